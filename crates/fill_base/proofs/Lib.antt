@@ -1,0 +1,4 @@
+pub mod Signed
+pub mod Counting
+pub mod Between
+pub mod Areas

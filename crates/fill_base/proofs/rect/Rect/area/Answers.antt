@@ -1,0 +1,8 @@
+use Rattle.fill_base.proofs.Areas.{area_of_fits, area_of_is}
+use Rattle.fill_base.proofs.rect.Rect.area.Goals as goal
+
+pub overflow_mul-result : goal.overflow_mul-result
+overflow_mul-result c = area_of_fits c.args.self.now
+
+pub returns : goal.returns
+returns c = area_of_is c.args.self.now
