@@ -132,6 +132,18 @@ fn a_writer_that_fails_keeps_the_bytes_before(rt: HostRuntime) {
 }
 
 #[test]
+fn a_failed_flush_is_passed_on(rt: HostRuntime) {
+    let mut tap = Tap::new(Slow {
+        rest: b"",
+        taken: Vec::new(rt.alloc()),
+        step: 1,
+        good_calls: Some(0),
+    });
+    assert!(rt; tap.flush().is_err());
+    assert!(rt; tap.failed());
+}
+
+#[test]
 fn a_writer_that_takes_no_byte_has_failed(rt: HostRuntime) {
     let mut tap = Tap::new(Slow {
         rest: b"",

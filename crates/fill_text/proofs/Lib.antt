@@ -1,0 +1,4 @@
+pub mod Digits
+pub mod RowSteps
+pub mod Rectangles
+pub mod Scripts
