@@ -1,10 +1,13 @@
 -- Four numbers make a rectangle exactly where the test of them says so.
-use Rattle.std.proofs.Common.{◌≡◌, ℤ, ◌<ℤ◌, arith, refl, Bool, true, false, ◌&&◌, inl, inr}
+use Rattle.std.proofs.Common.{◌↔◌, Some, None, if◌then◌else◌, Result, Ok, Err, option_map, IsOk, IfOk, ◌≡◌, ℤ, ◌<ℤ◌, arith, refl, Bool, true, false, ◌&&◌, inl, inr}
 use Rattle.std.specs.Prelude.{int_lt}
 use Rattle.std.proofs.lemmas.Bool.{cases_Bool}
 use Rattle.std.proofs.lemmas.Int.{ints}
+use Rattle.std.specs.Result.{result_ok}
+use Rattle.fill_base.specs.declared.rect.Rect.{Rect}
+use Rattle.fill_base.specs.declared.rect.RectError.{RectError}
 use Rattle.fill_base.specs.Coordinates.{AreCoordinates, IsCoordinate}
-use Rattle.fill_text.specs.Script.{Corners, is_coordinate, is_rect}
+use Rattle.fill_text.specs.Corners.{Corners, corners_of, is_coordinate, is_rect, rect_with}
 
 both : (a b : Bool) → a && b ≡ true → (a ≡ true) × (b ≡ true)
 both true b e = (refl, e)
@@ -50,9 +53,24 @@ is_rect_facts c test =
       int_lt_facts c.y1 c.y2 tall,
     )
 
--- where the test would give a rectangle and there is none, the test fails
-pub refused_test : (c : Corners) → (AreCoordinates c.x1 c.y1 c.x2 c.y2 × (c.x1 <ℤ c.x2) × (c.y1 <ℤ c.y2) → false ≡ true) → is_rect c ≡ false
-refused_test c none = elim (cases_Bool (is_rect c)) [
-  | inl test ↦ let never : false ≡ true = none (is_rect_facts c test) in cc never
-  | inr test ↦ test
+-- what `Rect::new` gives is the rectangle with these corners, if there is one
+pub rect_kept : (c : Corners) (r : Result Rect RectError) → (IsOk r ↔ (AreCoordinates c.x1 c.y1 c.x2 c.y2 × (c.x1 <ℤ c.x2) × (c.y1 <ℤ c.y2)))
+    → IfOk r (λ q. (q.x1 ≡ c.x1) × (q.y1 ≡ c.y1) × (q.x2 ≡ c.x2) × (q.y2 ≡ c.y2)) → option_map corners_of (result_ok r) ≡ rect_with c
+unfolding rect_with
+rect_kept c (Ok q) whole corners =
+    let (within, wide, tall) = whole.0 refl in
+    let test = is_rect_true c within wide tall in
+    rw (test, corners.0, corners.1, corners.2, corners.3) refl
+rect_kept c (Err e) whole corners = elim (cases_Bool (is_rect c)) [
+  | inl test ↦ let never : false ≡ true = whole.1 (is_rect_facts c test) in cc never
+  | inr test ↦ rw test refl
 ]
+
+-- the rectangle of four corners has these corners
+pub rect_with_same : (c q : Corners) → Some q ≡ rect_with c → q ≡ c
+unfolding rect_with
+rect_with_same c q e = by (is_rect c) e
+  where
+    by : (b : Bool) → Some q ≡ (if b then Some c else None) → q ≡ c
+    by true e = cc e
+    by false e = cc e

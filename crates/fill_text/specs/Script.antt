@@ -1,8 +1,7 @@
 -- What a script says: the changes that its records ask for, in turn, or the first refusal.
-use Rattle.std.specs.Prelude.{ℕ, ℤ, ◌+◌, ◌==◌, ◌&&◌, Bool, List, [], ◌∷◌, length, get_or, Option, Some, None, ok_or, Result, Ok, Err, bytes_eq, codes, int_le, int_lt, nat_lt, if◌then◌else◌}
-use Rattle.fill_base.specs.Coordinates.{lowest, highest}
-use Rattle.fill_base.specs.declared.rect.Rect.{Rect}
+use Rattle.std.specs.Prelude.{ℕ, ℤ, ◌+◌, ◌==◌, List, [], ◌∷◌, length, get_or, Option, Some, None, ok_or, Result, Ok, Err, bytes_eq, codes, nat_lt, if◌then◌else◌}
 use Rattle.fill_text.specs.Answers.{◌>>=◌, with_front}
+use Rattle.fill_text.specs.Corners.{Corners, corners_of, rect_with}
 use Rattle.fill_text.specs.Numbers.{number_of}
 use Rattle.fill_text.specs.Rows.{rows_of}
 use Rattle.fill_text.specs.declared.script.Edit.{Edit}
@@ -11,23 +10,6 @@ use Rattle.fill_text.specs.declared.script.Kind.{Kind}
 use Rattle.fill_text.specs.declared.script.Kind.TheVariants as kind
 use Rattle.fill_text.specs.declared.script.ScriptError.{ScriptError}
 use Rattle.fill_text.specs.declared.script.ScriptError.TheVariants.{BadRow, BadNumber, TooManyLines}
-
--- a rectangle by its four numbers
-pub record Corners : Type 0 where
-  pub x1 : ℤ
-  pub y1 : ℤ
-  pub x2 : ℤ
-  pub y2 : ℤ
-
-abbrev pub corners_of : Rect → Corners
-corners_of r = record { x1 = r.x1; y1 = r.y1; x2 = r.x2; y2 = r.y2 }
-
-abbrev pub is_coordinate : ℤ → Bool
-is_coordinate z = int_le lowest z && int_le z highest
-
--- the corners are in range, and hold a square
-abbrev pub is_rect : Corners → Bool
-is_rect c = is_coordinate c.x1 && is_coordinate c.y1 && is_coordinate c.x2 && is_coordinate c.y2 && int_lt c.x1 c.x2 && int_lt c.y1 c.y2
 
 -- a change of the metal: a kind and a rectangle
 pub record Change : Type 0 where
@@ -45,9 +27,6 @@ kind_of word = if bytes_eq word (codes "add") then Some kind.Add else (if bytes_
 abbrev pub number_at : ℕ → List (List ℕ) → ℕ → Result ℤ ScriptError
 number_at line row i = ok_or (number_of (get_or row i [])) (BadNumber line)
 
-unfoldable pub rect_at : ℕ → Corners → Result Corners ScriptError
-rect_at line c = if is_rect c then Ok c else Err (BadRow line)
-
 -- what a record says: five fields, of which the first is `add` or `cut` and the others are a rectangle's numbers
 unfoldable pub change_at : ℕ → List (List ℕ) → Result Change ScriptError
 change_at line row = if length row == 5 then (do
@@ -56,7 +35,7 @@ change_at line row = if length row == 5 then (do
   y1 ← number_at line row 2
   x2 ← number_at line row 3
   y2 ← number_at line row 4
-  rect ← rect_at line (record { x1 = x1; y1 = y1; x2 = x2; y2 = y2 })
+  rect ← ok_or (rect_with (record { x1 = x1; y1 = y1; x2 = x2; y2 = y2 })) (BadRow line)
   Ok (record { kind = kind; rect = rect })) else Err (BadRow line)
 
 -- the changes of the records behind the first `line` ones; a script has at most 100,000 records

@@ -5,8 +5,18 @@
 //! number of [`Rules`] is in the range of its key.
 #![tactic(auto)]
 
+mod corners;
+mod keys;
 mod numbers;
+mod reading;
+mod refusal;
 mod rows;
+mod rules;
 mod script;
+mod slots;
 
+pub use keys::{Key, NumberKey, TextKey};
+pub use reading::read_rules;
+pub use refusal::RuleError;
+pub use rules::{Numbers, Rules, Texts};
 pub use script::{Edit, ScriptError, read_script};

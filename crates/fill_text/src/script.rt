@@ -1,8 +1,9 @@
 ghost use Rattle.std.specs.Prelude.{◌≡◌, map};
 ghost use Rattle.csv.specs.Records.{fields_of};
 ghost use Rattle.fill_text.specs.Answers.{seen, Gives};
-ghost use Rattle.fill_text.specs.Script.{kind_of, number_at, rect_at, change_at, corners_of, change_of, edits_of};
+ghost use Rattle.fill_text.specs.Script.{kind_of, number_at, change_at, change_of, edits_of};
 
+use crate::corners::rect_from;
 use crate::numbers::number;
 use crate::rows::{field, rows};
 use csv::ByteRecord;
@@ -64,15 +65,6 @@ fn number_in(row: &ByteRecord, i: usize, line: u64) -> Result<i64, ScriptError>
     number(field(row, i)).ok_or(ScriptError::BadNumber { line })
 }
 
-fn rect_in(line: u64, x1: i64, y1: i64, x2: i64, y2: i64) -> Result<Rect, ScriptError>
-    ensures { seen corners_of result ≡ rect_at line (record { x1 = x1; y1 = y1; x2 = x2; y2 = y2 }) }
-{
-    match Rect::new(x1, y1, x2, y2) {
-        Ok(rect) => Ok(rect),
-        Err(_) => Err(ScriptError::BadRow { line }),
-    }
-}
-
 /// The edit that one record writes.
 #[tactic(auto, unfolding(crate::specs::Script::change_at))]
 fn edit_in(row: &ByteRecord, line: u64) -> Result<Edit, ScriptError>
@@ -86,7 +78,7 @@ fn edit_in(row: &ByteRecord, line: u64) -> Result<Edit, ScriptError>
     let y1 = number_in(row, 2, line)?;
     let x2 = number_in(row, 3, line)?;
     let y2 = number_in(row, 4, line)?;
-    let rect = rect_in(line, x1, y1, x2, y2)?;
+    let rect = rect_from(x1, y1, x2, y2).ok_or(ScriptError::BadRow { line })?;
     Ok(match kind {
         Kind::Add => Edit::Add(rect),
         Kind::Cut => Edit::Cut(rect),
