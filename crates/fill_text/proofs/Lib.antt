@@ -5,3 +5,4 @@ pub mod Scripts
 pub mod Found
 pub mod Ranges
 pub mod RuleFiles
+pub mod SameRules

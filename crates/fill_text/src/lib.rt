@@ -8,6 +8,7 @@
 mod corners;
 mod keys;
 mod numbers;
+mod readers;
 mod reading;
 mod refusal;
 mod rows;

@@ -1,4 +1,4 @@
-ghost use Rattle.std.specs.Prelude.{◌≡◌, ◌≤ℤ◌};
+ghost use Rattle.std.specs.Prelude.{◌≡◌, ◌≤ℤ◌, ◌↔◌, IfOk, IsTrue};
 ghost use Rattle.fill_text.specs.Corners.{corners_of};
 ghost use Rattle.fill_text.specs.Keys.{number_rule};
 ghost use Rattle.fill_text.specs.Rules as spec;
@@ -6,6 +6,7 @@ ghost use Rattle.fill_text.specs.declared.keys.NumberKey.{NumberKey};
 
 use crate::keys::NumberKey;
 use fill_base::Rect;
+use std::alloc::{AllocError, Global};
 
 /// The numbers of the rules, each in the range of its key.
 #[derive(Clone, Copy, Debug, PartialEq, Eq)]
@@ -43,12 +44,30 @@ pub struct Texts {
 }
 
 /// The rules of a check and a fill: the value of each key of a rule file, and the frame that four of them make.
-#[derive(Debug, Drop, PartialEq, Eq)]
+#[derive(Drop)]
+#[derive_where(Debug, PartialEq, Eq)]
 pub struct Rules {
     pub(crate) numbers: Numbers,
     pub(crate) texts: Texts,
+    // It follows from the numbers, so a comparison leaves it out.
+    #[derive_where(skip(EqHashOrd))]
     pub(crate) frame: Rect,
     pub ghost framed: { corners_of frame ≡ spec.frame_of numbers.values },
+}
+
+impl Texts {
+    ghost use Rattle.fill_text.specs.Views.{SameTexts};
+
+    fn copy(&self, alloc: Global) -> Result<Texts, AllocError>
+        ensures { IfOk result (λ t. SameTexts t self.now) }
+    {
+        Ok(Texts {
+            top: self.top.to_vec(alloc)?,
+            fill_lib: self.fill_lib.to_vec(alloc)?,
+            fill_cell: self.fill_cell.to_vec(alloc)?,
+            fill_top: self.fill_top.to_vec(alloc)?,
+        })
+    }
 }
 
 impl Rules {
@@ -61,5 +80,23 @@ impl Rules {
         ensures high { result ≤ℤ (number_rule key).high }
     {
         self.numbers.value(key)
+    }
+
+    /// The same rules once more.
+    pub fn copy(&self, alloc: Global) -> Result<Rules, AllocError>
+        ensures { IfOk result (λ r. values_of r ≡ values_of self.now) }
+    {
+        Ok(Rules {
+            numbers: self.numbers,
+            texts: self.texts.copy(alloc)?,
+            frame: self.frame,
+        })
+    }
+
+    /// Whether all values are the same, which `==` tells.
+    pub fn same_as(&self, other: &Rules) -> bool
+        ensures { IsTrue result ↔ (values_of self.now ≡ values_of other.now) }
+    {
+        self == other
     }
 }
