@@ -21,3 +21,6 @@ pub use reading::read_rules;
 pub use refusal::RuleError;
 pub use rules::{Numbers, Rules, Texts};
 pub use script::{Edit, ScriptError, read_script};
+
+#[cfg(test)]
+mod tests;
