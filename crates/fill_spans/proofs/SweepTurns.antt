@@ -62,6 +62,14 @@ turn_keeps op a b i j after_i after_j out new next_a next_b at ca cb m s pa pb t
 neither : (p q : ℤ) → (p ≡ int_min p q → ⊥) → (q ≡ int_min p q → ⊥) → ⊥
 neither p q h k = by_lt_z q p (λ lt. k (omega (arith, ints, clamps))) (λ le. h (omega (arith, ints, clamps)))
 
+-- of two places that a sweep passes by its nearer edge, one goes on
+pub passes_one : (m n i j after_i after_j : ℕ) (p q : ℤ) → after_i ≤ m → after_j ≤ n → Passed i p (int_min p q) after_i → Passed j q (int_min p q) after_j
+    → (m - after_i) + (n - after_j) < (m - i) + (n - j)
+passes_one m n i j after_i after_j p q in_a in_b (inl h) (inl k) = let e : after_i ≡ i + 1 = h.1 in let f : after_j ≡ j + 1 = k.1 in omega arith
+passes_one m n i j after_i after_j p q in_a in_b (inl h) (inr k) = let e : after_i ≡ i + 1 = h.1 in let f : after_j ≡ j = k.1 in omega arith
+passes_one m n i j after_i after_j p q in_a in_b (inr h) (inl k) = let e : after_i ≡ i = h.1 in let f : after_j ≡ j + 1 = k.1 in omega arith
+passes_one m n i j after_i after_j p q in_a in_b (inr h) (inr k) = absurd (neither p q h.0 k.0)
+
 -- each turn goes past an edge
 pub turn_smaller : (op : Operation) (a b : List ℤ) (i j after_i after_j : ℕ) (out : List ℤ) (next_a next_b at : ℤ)
     → Merged op a b i j out → Stands a b i j next_a next_b at
@@ -70,11 +78,4 @@ pub turn_smaller : (op : Operation) (a b : List ℤ) (i j after_i after_j : ℕ)
 turn_smaller op a b i j after_i after_j out next_a next_b at m s pa pb =
     let pa' : Passed i (next_edge a i) (front a b i j) after_i = rw (s.a_is, s.at_is) at pa in
     let pb' : Passed j (next_edge b j) (front a b i j) after_j = rw (s.b_is, s.at_is) at pb in
-    goes (length a) (length b) i j after_i after_j (next_edge a i) (next_edge b j) (passed_in a i after_i _ m.a_in s.below pa') (passed_in b j after_j _ m.b_in s.below pb') pa' pb'
-  where
-    goes : (m n i j after_i after_j : ℕ) (p q : ℤ) → after_i ≤ m → after_j ≤ n → Passed i p (int_min p q) after_i → Passed j q (int_min p q) after_j
-        → (m - after_i) + (n - after_j) < (m - i) + (n - j)
-    goes m n i j after_i after_j p q in_a in_b (inl h) (inl k) = let e : after_i ≡ i + 1 = h.1 in let f : after_j ≡ j + 1 = k.1 in omega arith
-    goes m n i j after_i after_j p q in_a in_b (inl h) (inr k) = let e : after_i ≡ i + 1 = h.1 in let f : after_j ≡ j = k.1 in omega arith
-    goes m n i j after_i after_j p q in_a in_b (inr h) (inl k) = let e : after_i ≡ i = h.1 in let f : after_j ≡ j + 1 = k.1 in omega arith
-    goes m n i j after_i after_j p q in_a in_b (inr h) (inr k) = absurd (neither p q h.0 k.0)
+    passes_one (length a) (length b) i j after_i after_j (next_edge a i) (next_edge b j) (passed_in a i after_i _ m.a_in s.below pa') (passed_in b j after_j _ m.b_in s.below pb') pa' pb'

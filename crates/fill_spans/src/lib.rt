@@ -5,6 +5,7 @@
 pub mod laws;
 pub mod operation;
 pub mod spans;
+pub mod sweep;
 
 pub use operation::Operation;
 pub use spans::Spans;

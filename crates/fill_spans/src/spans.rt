@@ -8,9 +8,10 @@ ghost use Rattle.fill_base.specs.Counts.{is_between, count_between};
 ghost use Rattle.fill_spans.specs.Spans.{inside, next_edge, IsCanonical};
 ghost use Rattle.fill_spans.specs.Search.{IsFirstAbove, IsEdgeBelow, stretch_of};
 ghost use Rattle.fill_spans.specs.Operations.{applied};
-ghost use Rattle.fill_spans.specs.Sweep.{Passed, Turned};
+ghost use Rattle.fill_spans.specs.Sweep.{Turned};
 
 use crate::operation::Operation;
+use crate::sweep::{edge_at, passed};
 use fill_base::rect::{HIGHEST, LOWEST};
 use std::alloc::{AllocError, Global};
 use std::marker::Model;
@@ -51,7 +52,8 @@ impl Eq for Spans {
 impl Spans {
     /// The set without members.
     pub fn empty(alloc: Global) -> Spans
-        ensures { (x : ℤ) → inside result x ≡ false }
+        ensures edges { result ≡ [] }
+        ensures members { (x : ℤ) → inside result x ≡ false }
     {
         Spans {
             edges: Vec::new(alloc),
@@ -147,24 +149,6 @@ impl Spans {
     {
         &self.edges
     }
-}
-
-/// Stands for the next edge where there is none: above every coordinate.
-const CEILING: i32 = 1_073_741_825;
-
-/// The edge at `k`, or the ceiling past the last one.
-fn edge_at(edges: &[i32], k: usize) -> i32
-    ensures { result ≡ next_edge edges.now k }
-{
-    if k < edges.len() { edges[k] } else { CEILING }
-}
-
-/// The place after the edge `next`, where the sweep has come to `at`.
-fn passed(k: usize, next: i32, at: i32) -> usize
-    requires { k < 2 ^ 63 }
-    ensures { Passed k next at result }
-{
-    if next == at { k + 1 } else { k }
 }
 
 /// Appends the edge `at` where the set has to begin or end there.
