@@ -37,7 +37,8 @@ pub struct Rect {
     pub ghost top: { y2 ≤ℤ highest },
 }
 
-fn is_coordinate(x: i64) -> bool
+/// Whether a number is a coordinate: from -2^30 to 2^30.
+pub fn is_coordinate(x: i64) -> bool
     ensures { IsTrue result ↔ IsCoordinate x }
 {
     LOWEST <= x && x <= HIGHEST

@@ -1,0 +1,3 @@
+pub mod Grid
+pub mod Density
+pub mod GridOf
