@@ -1,5 +1,5 @@
 -- The area that a set of squares has in a window, and when that is too little or too much.
-use Rattle.std.specs.Prelude.{◌≡◌, ℕ, ◌+◌, ◌*◌, ◌<◌, ℤ, pos, ◌*ℤ◌, ◌<ℤ◌, Bool, List, length, get_or}
+use Rattle.std.specs.Prelude.{◌≡◌, ℕ, ◌+◌, ◌*◌, ◌<◌, ◌^◌, ℤ, pos, ◌*ℤ◌, ◌<ℤ◌, ◌≤ℤ◌, Bool, List, length, get_or}
 use Rattle.fill_base.specs.Squares.{area_between}
 use Rattle.fill_area.specs.Grid.{Grid, window_left, window_right, window_bottom, window_top}
 
@@ -19,3 +19,13 @@ IsBelow total least area = (total *ℤ pos 1000000) <ℤ (least *ℤ area)
 -- the share is above `most` parts in a million
 abbrev pub IsAbove : ℤ → ℤ → ℤ → Type 0
 IsAbove total most area = (most *ℤ area) <ℤ (total *ℤ pos 1000000)
+
+-- a number of squares: from 0 to 2^40
+pub record IsArea (n : ℤ) : Type 0 where
+  pub least : pos 0 ≤ℤ n
+  pub most : n ≤ℤ pos (2 ^ 40)
+
+-- a share: from 0 to 1000000 parts in a million
+pub record IsShare (n : ℤ) : Type 0 where
+  pub least : pos 0 ≤ℤ n
+  pub most : n ≤ℤ pos 1000000

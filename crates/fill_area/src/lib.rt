@@ -2,6 +2,10 @@
 //! squares: the layers above rely on that, and on the windows' places.
 #![tactic(auto)]
 
+pub mod area;
+pub mod measure;
 pub mod windows;
 
+pub use area::{area_in, is_high, is_low};
+pub use measure::measure_all;
 pub use windows::{BadWindows, Windows};

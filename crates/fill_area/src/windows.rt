@@ -1,4 +1,4 @@
-ghost use Rattle.std.specs.Prelude.{◌≡◌, ◌↔◌, ℕ, ◌<◌, ◌-◌, ◌*◌, ◌≤◌, ℤ, pos, ◌+ℤ◌, ◌*ℤ◌, ◌≤ℤ◌, ◌<ℤ◌, IsTrue, IsOk, IfOk};
+ghost use Rattle.std.specs.Prelude.{◌≡◌, ◌↔◌, ℕ, ◌<◌, ◌-◌, ◌*◌, ◌/◌, ◌%◌, ◌≤◌, ℤ, pos, ◌+ℤ◌, ◌*ℤ◌, ◌≤ℤ◌, ◌<ℤ◌, IsTrue, IsOk, IfOk};
 ghost use Rattle.fill_base.specs.Coordinates.{lowest, highest, IsCoordinate};
 ghost use Rattle.fill_area.specs.Grid.{Grid, IsLength, IsCount, IsAxis, IsGrid, window_left, window_right, window_bottom, window_top, IsExtent};
 ghost use Rattle.fill_area.specs.GridOf.{grid_of};
@@ -154,6 +154,28 @@ impl Windows {
         let (x1, x2) = extent(self.x, self.width, self.step_x, self.columns, a);
         let (y1, y2) = extent(self.y, self.height, self.step_y, self.rows, b);
         Rect::from_edges(x1, y1, x2, y2)
+    }
+}
+
+impl Windows {
+    /// How many windows there are, at most 2^20.
+    pub fn len(&self) -> usize
+        ensures count { result ≡ self.now.columns * self.now.rows }
+        ensures few { result ≤ 1048576 }
+    {
+        self.columns as usize * self.rows as usize
+    }
+
+    /// The window at place `k` of the list of all windows, row by row.
+    pub fn nth(&self, k: usize) -> Rect
+        requires { k < self.now.columns * self.now.rows }
+        ensures left { result.x1 ≡ window_left self.now (k % self.now.columns) }
+        ensures bottom { result.y1 ≡ window_bottom self.now (k / self.now.columns) }
+        ensures right { result.x2 ≡ window_right self.now (k % self.now.columns) }
+        ensures top { result.y2 ≡ window_top self.now (k / self.now.columns) }
+    {
+        let columns = self.columns as usize;
+        self.rect((k % columns) as u32, (k / columns) as u32)
     }
 }
 

@@ -30,7 +30,7 @@ not_here_lt : (e y : ℤ) → int_le e y ≡ false → y <ℤ e
 not_here_lt e y h = grind (arith, ints)
 
 -- bottoms rise from place to place
-bottoms_rise : (lo hi : ℤ) (d : List ℤ) (bs : List Band) (i j : ℕ) → AreBands lo d bs hi → i ≤ j → j < length bs → bottom_or hi bs i ≤ℤ bottom_or hi bs j
+pub bottoms_rise : (lo hi : ℤ) (d : List ℤ) (bs : List Band) (i j : ℕ) → AreBands lo d bs hi → i ≤ j → j < length bs → bottom_or hi bs i ≤ℤ bottom_or hi bs j
 bottoms_rise lo hi d [] i j h le lt = absurd (omega arith)
 bottoms_rise lo hi d (b ∷ bs) zero zero h le lt = omega (arith, ints)
 bottoms_rise lo hi d (b ∷ bs) zero (suc j) h le lt = lt_le b.0 _ (bottom_within b.0 hi b.1 bs j (omega arith) h.1.1.1).0
@@ -52,7 +52,7 @@ is_first_above bs y n z within point = record {
 }
 
 -- the row of a line is that of the last band up to it
-row_of_place : (lo hi y : ℤ) (d : List ℤ) (bs : List Band) (n : ℕ) → AreBands lo d bs hi → n ≤ length bs
+pub row_of_place : (lo hi y : ℤ) (d : List ℤ) (bs : List Band) (n : ℕ) → AreBands lo d bs hi → n ≤ length bs
     → ((k : ℕ) → k < n → bottom_or hi bs k ≤ℤ y) → (n < length bs → y <ℤ bottom_or hi bs n) → row_from d bs y ≡ last_row d (take n bs)
 row_of_place lo hi y d [] zero h within before after = refl
 row_of_place lo hi y d [] (suc n) h within before after = absurd (omega arith)

@@ -52,7 +52,7 @@ grows_push p row bs h canonical other = record {
 }
 
 -- a bottom at which the sweep stands below the ceiling is one of the list
-bottom_inside : (bs : List Band) (k : ℕ) (p : ℤ) → p <ℤ ceiling → next_bottom bs k ≡ p → k < length bs
+pub bottom_inside : (bs : List Band) (k : ℕ) (p : ℤ) → p <ℤ ceiling → next_bottom bs k ≡ p → k < length bs
 bottom_inside bs k p high is = elim (cases_lt k (length bs)) [
   | inl lt ↦ lt
   | inr past ↦ absurd (lt_not_same p ceiling high (sym is ∙ bottom_past ceiling bs k past))

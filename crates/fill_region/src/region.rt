@@ -194,7 +194,7 @@ fn pair(alloc: Global, bottom: i32, row: Spans, top: i32) -> Result<Vec<(i32, Sp
 }
 
 /// The place of the first band above the line `y`.
-fn first_above(bands: &[(i32, Spans)], y: i64) -> usize
+pub fn first_above(bands: &[(i32, Spans)], y: i64) -> usize
     requires { IsRegion bands.now }
     ensures { IsFirstAbove bands.now y result }
 {
@@ -259,7 +259,7 @@ fn piece_at(edges: &[i32], k: usize, bottom: i32, top: i32) -> Rect
 }
 
 /// The bottom of the band at `k`, or the ceiling past the last one.
-fn bottom_at(bands: &[(i32, Spans)], k: usize) -> i32
+pub fn bottom_at(bands: &[(i32, Spans)], k: usize) -> i32
     requires { IsRegion bands.now }
     ensures { result ≡ next_bottom bands.now k }
 {
