@@ -6,3 +6,4 @@ pub mod Found
 pub mod Ranges
 pub mod RuleFiles
 pub mod SameRules
+pub mod GridTests

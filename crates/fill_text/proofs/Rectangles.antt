@@ -9,14 +9,14 @@ use Rattle.fill_base.specs.declared.rect.RectError.{RectError}
 use Rattle.fill_base.specs.Coordinates.{AreCoordinates, IsCoordinate}
 use Rattle.fill_text.specs.Corners.{Corners, corners_of, is_coordinate, is_rect, rect_with}
 
-both : (a b : Bool) → a && b ≡ true → (a ≡ true) × (b ≡ true)
+pub both : (a b : Bool) → a && b ≡ true → (a ≡ true) × (b ≡ true)
 both true b e = (refl, e)
 both false b e = cc e
 
-is_coordinate_true : (z : ℤ) → IsCoordinate z → is_coordinate z ≡ true
+pub is_coordinate_true : (z : ℤ) → IsCoordinate z → is_coordinate z ≡ true
 is_coordinate_true z within = grind (arith, ints)
 
-is_coordinate_facts : (z : ℤ) → is_coordinate z ≡ true → IsCoordinate z
+pub is_coordinate_facts : (z : ℤ) → is_coordinate z ≡ true → IsCoordinate z
 is_coordinate_facts z test = record { least = grind (arith, ints); most = grind (arith, ints) }
 
 int_lt_true : (a b : ℤ) → a <ℤ b → int_lt a b ≡ true

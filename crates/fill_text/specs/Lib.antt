@@ -1,6 +1,7 @@
 -- What the two texts say.
 pub mod Answers
 pub mod Corners
+pub mod Grids
 pub mod Keys
 pub mod Numbers
 pub mod Rows

@@ -1,8 +1,10 @@
 -- What a rule file says: the value of each key, or the first refusal.
-use Rattle.std.specs.Prelude.{◌≤ℤ◌, IfSome, ℕ, ℤ, pos, ◌+◌, ◌==◌, ◌&&◌, ◌||◌, Bool, List, [], ◌∷◌, length, get_or, replicate, slice_set, Option, Some, None, ok_or, is_some, Result, Ok, Err, bytes_eq, int_le, int_lt, nat_lt, nat_le, if◌then◌else◌}
+use Rattle.std.specs.Prelude.{unsigned_abs, ◌≤ℤ◌, IfSome, ℕ, ℤ, pos, ◌+◌, ◌==◌, ◌&&◌, ◌||◌, Bool, List, [], ◌∷◌, length, get_or, replicate, slice_set, Option, Some, None, ok_or, is_some, Result, Ok, Err, bytes_eq, int_le, int_lt, nat_lt, nat_le, if◌then◌else◌}
 use Rattle.std.specs.List.{list_all}
 use Rattle.fill_text.specs.Answers.{◌>>=◌, with_front}
 use Rattle.fill_text.specs.Corners.{Corners, rect_with}
+use Rattle.fill_area.specs.Grid.{Grid}
+use Rattle.fill_text.specs.Grids.{grid_with}
 use Rattle.fill_text.specs.Keys.{all_number_keys, key_named, number_rule}
 use Rattle.fill_text.specs.Numbers.{number_of}
 use Rattle.fill_text.specs.Rows.{rows_of}
@@ -13,7 +15,7 @@ use Rattle.fill_text.specs.declared.keys.NumberKey.TheVariants as number
 use Rattle.fill_text.specs.declared.keys.TextKey.{TextKey}
 use Rattle.fill_text.specs.declared.keys.TextKey.TheVariants as text
 use Rattle.fill_text.specs.declared.refusal.RuleError.{RuleError}
-use Rattle.fill_text.specs.declared.refusal.RuleError.TheVariants.{BadRow, BadNumber, BadRule, BadRect}
+use Rattle.fill_text.specs.declared.refusal.RuleError.TheVariants.{BadRow, BadNumber, BadRule, BadRect, BadWindows}
 
 -- a number or a text for each key that has stood in a record
 pub record Found : Type 0 where
@@ -136,6 +138,18 @@ all_values found = do
 abbrev pub frame_of : List ℤ → Corners
 frame_of numbers = record { x1 = number_in numbers number.FrameX1; y1 = number_in numbers number.FrameY1; x2 = number_in numbers number.FrameX2; y2 = number_in numbers number.FrameY2 }
 
+abbrev pub windows_of : List ℤ → Grid
+windows_of numbers = record {
+  x = number_in numbers number.WinX;
+  y = number_in numbers number.WinY;
+  width = number_in numbers number.WinW;
+  height = number_in numbers number.WinH;
+  step_x = number_in numbers number.WinStepX;
+  step_y = number_in numbers number.WinStepY;
+  columns = unsigned_abs (number_in numbers number.WinNx);
+  rows = unsigned_abs (number_in numbers number.WinNy);
+}
+
 -- what is asked of the values together, in this order
 unfoldable pub checked : Values → Result Values RuleError
 checked values =
@@ -143,6 +157,7 @@ checked values =
     else if bytes_eq values.fill_top values.fill_cell then Err (BadRule (Text text.FillTop))
     else (do
       frame ← ok_or (rect_with (frame_of values.numbers)) BadRect
+      windows ← ok_or (grid_with (windows_of values.numbers)) BadWindows
       Ok values)
 
 -- the rules that were found

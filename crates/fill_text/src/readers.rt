@@ -7,6 +7,7 @@ ghost use Rattle.fill_text.specs.Views.{values_of};
 
 use crate::keys::NumberKey;
 use crate::rules::Rules;
+use fill_area::Windows;
 use fill_base::Rect;
 
 impl Rules {
@@ -15,6 +16,13 @@ impl Rules {
         ensures { corners_of result ≡ spec.frame_of (values_of self.now).numbers }
     {
         self.frame
+    }
+
+    /// The density windows.
+    pub fn windows(&self) -> Windows
+        ensures { result ≡ spec.windows_of (values_of self.now).numbers }
+    {
+        self.windows
     }
 
     /// The frame's left edge.

@@ -1,6 +1,7 @@
 ghost use Rattle.std.specs.Prelude.{◌≡◌, option_map};
 ghost use Rattle.fill_text.specs.Answers.{seen, Gives};
 ghost use Rattle.fill_text.specs.Corners.{corners_of, rect_with};
+ghost use Rattle.fill_text.specs.Grids.{grid_with};
 ghost use Rattle.fill_text.specs.Rules as spec;
 ghost use Rattle.fill_text.specs.Slots.{found_in};
 ghost use Rattle.fill_text.specs.Views.{values_from, values_of};
@@ -11,7 +12,8 @@ use crate::refusal::RuleError;
 use crate::rows::rows;
 use crate::rules::{Numbers, Rules, Texts};
 use crate::slots::Slots;
-use fill_base::Rect;
+use fill_area::Windows;
+use fill_base::{Point, Rect};
 use std::alloc::Global;
 
 /// The frame that the numbers make, if it holds a square.
@@ -24,6 +26,26 @@ fn frame_in(numbers: &Numbers) -> Option<Rect>
         numbers.value(NumberKey::FrameX2),
         numbers.value(NumberKey::FrameY2),
     )
+}
+
+/// The windows that the numbers make, if there are at most 2^20, each within the coordinates.
+fn windows_in(numbers: &Numbers) -> Option<Windows>
+    ensures { result ≡ grid_with (spec.windows_of numbers.now.values) }
+{
+    let origin = Point {
+        x: numbers.value(NumberKey::WinX),
+        y: numbers.value(NumberKey::WinY),
+    };
+    let size = (
+        numbers.value(NumberKey::WinW),
+        numbers.value(NumberKey::WinH),
+    );
+    let step = (
+        numbers.value(NumberKey::WinStepX),
+        numbers.value(NumberKey::WinStepY),
+    );
+    let count = (numbers.window_columns(), numbers.window_rows());
+    Windows::new(origin, size, step, count).ok()
 }
 
 /// What is asked of the values together.
@@ -42,10 +64,12 @@ fn checked(numbers: Numbers, texts: Texts) -> Result<Rules, RuleError>
         });
     }
     let frame = frame_in(&numbers).ok_or(RuleError::BadRect)?;
+    let windows = windows_in(&numbers).ok_or(RuleError::BadWindows)?;
     Ok(Rules {
         numbers,
         texts,
         frame,
+        windows,
     })
 }
 
@@ -93,7 +117,8 @@ fn missing(key: TextKey) -> RuleError
 /// The first refusal. Record by record: `BadRow` for other than two fields and for a key that is unknown or has stood
 /// before, then `BadNumber` for a value that writes no number, then `BadRule` for one that its key doesn't allow. Then
 /// `BadRule` for the first key in table order that is missing, for `max` below `min` and for `fill_top` equal to
-/// `fill_cell`; then `BadRect` for a frame that holds no square. `Memory` where memory runs out.
+/// `fill_cell`; then `BadRect` for a frame that holds no square, and
+/// `BadWindows` for more than 2^20 windows or one that leaves the coordinates. `Memory` where memory runs out.
 pub fn read_rules(alloc: Global, text: &[u8]) -> Result<Rules, RuleError>
     ensures { Gives RuleError.Memory values_of result (spec.rules_of text.now) }
 {

@@ -1,10 +1,11 @@
-ghost use Rattle.std.specs.Prelude.{◌≡◌, ◌≤ℤ◌, ◌↔◌, IfOk, IsTrue};
+ghost use Rattle.std.specs.Prelude.{◌≡◌, ◌≤ℤ◌, ◌↔◌, IfOk, IsTrue, unsigned_abs};
 ghost use Rattle.fill_text.specs.Corners.{corners_of};
 ghost use Rattle.fill_text.specs.Keys.{number_rule};
 ghost use Rattle.fill_text.specs.Rules as spec;
 ghost use Rattle.fill_text.specs.declared.keys.NumberKey.{NumberKey};
 
 use crate::keys::NumberKey;
+use fill_area::Windows;
 use fill_base::Rect;
 use std::alloc::{AllocError, Global};
 
@@ -32,6 +33,20 @@ impl Numbers {
     {
         self.values[key.place()]
     }
+
+    /// How many columns of windows there are.
+    pub fn window_columns(&self) -> u32
+        ensures { result ≡ unsigned_abs (spec.number_in self.now.values NumberKey.WinNx) }
+    {
+        self.value(NumberKey::WinNx) as u32
+    }
+
+    /// How many rows of windows there are.
+    pub fn window_rows(&self) -> u32
+        ensures { result ≡ unsigned_abs (spec.number_in self.now.values NumberKey.WinNy) }
+    {
+        self.value(NumberKey::WinNy) as u32
+    }
 }
 
 /// The texts of the rules.
@@ -43,15 +58,19 @@ pub struct Texts {
     pub fill_top: Vec<u8>,
 }
 
-/// The rules of a check and a fill: the value of each key of a rule file, and the frame that four of them make.
+/// The rules of a check and a fill: the value of each key of a rule file, and the frame and
+/// the windows that they make.
 #[derive(Drop)]
 #[derive_where(Debug, PartialEq, Eq)]
 pub struct Rules {
     pub(crate) numbers: Numbers,
     pub(crate) texts: Texts,
-    // It follows from the numbers, so a comparison leaves it out.
+    // These follow from the numbers, so a comparison leaves them out.
     #[derive_where(skip(EqHashOrd))]
     pub(crate) frame: Rect,
+    #[derive_where(skip(EqHashOrd))]
+    pub(crate) windows: Windows,
+    pub ghost windowed: { windows ≡ spec.windows_of numbers.values },
     pub ghost framed: { corners_of frame ≡ spec.frame_of numbers.values },
 }
 
@@ -90,6 +109,7 @@ impl Rules {
             numbers: self.numbers,
             texts: self.texts.copy(alloc)?,
             frame: self.frame,
+            windows: self.windows,
         })
     }
 

@@ -1,5 +1,6 @@
 use crate::{Edit, Key, NumberKey, RuleError, ScriptError, TextKey, read_rules, read_script};
-use fill_base::Rect;
+use fill_area::Windows;
+use fill_base::{Point, Rect};
 use std::alloc::Global;
 use std::process::Abort;
 use std::test::Fail;
@@ -103,6 +104,8 @@ fn every_rule_has_its_value(rt: HostRuntime) -> Result<(), Fail> {
         rules.fill_datatype(),
     ];
     assert_eq!(rt; layers, [7, 0, 10, 1]);
+    let want = Windows::new(Point { x: 0, y: 0 }, (50, 50), (25, 25), (3, 3))?;
+    assert_eq!(rt; rules.windows(), want);
     assert!(rt; rules.top() == b"TOP".as_slice());
     assert!(rt; rules.fill_lib() == b"FILL".as_slice());
     assert!(rt; rules.fill_cell() == b"BOX4".as_slice());
@@ -219,10 +222,13 @@ fn the_values_together_are_checked(rt: HostRuntime) -> Result<(), Fail> {
         ),
         (3, "frame_x2,0", RuleError::BadRect),
         (3, "frame_x2,-5", RuleError::BadRect),
+        (17, "win_x,1073741800", RuleError::BadWindows),
+        (19, "win_nx,349526", RuleError::BadWindows),
     ] {
         assert_refused(&rt, alloc, &rules_with(alloc, at, record)?, want);
     }
     for (at, record) in [
+        (19, "win_nx,349525"),
         (22, "max,300000"),
         (32, "fill_top,TOP"),
         (26, "datatype,-0"),
