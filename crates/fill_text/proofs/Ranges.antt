@@ -145,12 +145,12 @@ take_value_ranged line (Text key) word found new e ranged =
     let same : found.numbers ≡ new.numbers = sym (with_text_numbers found key word) ∙ ap (λ (f : Found). f.numbers) (ok_same _ new rest) in
     rw (← same) ranged
 
-take_row_ranged : (line : ℕ) (row : List (List ℕ)) (found new : Found) → take_row line row found ≡ Ok new → AreRanged found.numbers → AreRanged new.numbers
+take_row_ranged : (line : ℕ) (fields : List (List ℕ)) (found new : Found) → take_row line fields found ≡ Ok new → AreRanged found.numbers → AreRanged new.numbers
 unfolding take_row
-take_row_ranged line row found new e ranged =
-    let (two, rest) = passed_test (length row == 2) (new_key line (get_or row 0 []) found >>= λ key. take_value line key (get_or row 1 []) found) (BadRow line) new e in
-    let (key, named, value) = then_ok (new_key line (get_or row 0 []) found) (λ key. take_value line key (get_or row 1 []) found) new rest in
-    take_value_ranged line key (get_or row 1 []) found new value ranged
+take_row_ranged line fields found new e ranged =
+    let (two, rest) = passed_test (length fields == 2) (new_key line (get_or fields 0 []) found >>= λ key. take_value line key (get_or fields 1 []) found) (BadRow line) new e in
+    let (key, named, value) = then_ok (new_key line (get_or fields 0 []) found) (λ key. take_value line key (get_or fields 1 []) found) new rest in
+    take_value_ranged line key (get_or fields 1 []) found new value ranged
 
 take_rows_ranged : (line : ℕ) (rows : List (List (List ℕ))) (found new : Found) → take_rows line rows found ≡ Ok new → AreRanged found.numbers → AreRanged new.numbers
 unfolding take_rows

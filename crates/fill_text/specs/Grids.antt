@@ -1,5 +1,5 @@
 -- The density windows that the rules ask for.
-use Rattle.std.specs.Prelude.{ℕ, ◌-◌, ◌*◌, ℤ, pos, ◌+ℤ◌, ◌*ℤ◌, ◌&&◌, Bool, List, Option, Some, None, int_le, nat_le, unsigned_abs, if◌then◌else◌}
+use Rattle.std.specs.Prelude.{ℕ, ◌-◌, ◌*◌, ℤ, pos, ◌+ℤ◌, ◌*ℤ◌, ◌&&◌, Bool, Option, Some, None, int_le, nat_le, if◌then◌else◌}
 use Rattle.fill_area.specs.Grid.{Grid}
 use Rattle.fill_base.specs.Coordinates.{highest}
 use Rattle.fill_text.specs.Corners.{is_coordinate}

@@ -96,9 +96,9 @@ new_key line word found = do
 
 -- what a record adds: two fields, a key and its value
 unfoldable pub take_row : ℕ → List (List ℕ) → Found → Result Found RuleError
-take_row line row found = if length row == 2 then (do
-  key ← new_key line (get_or row 0 []) found
-  take_value line key (get_or row 1 []) found) else Err (BadRow line)
+take_row line fields found = if length fields == 2 then (do
+  key ← new_key line (get_or fields 0 []) found
+  take_value line key (get_or fields 1 []) found) else Err (BadRow line)
 
 -- what the records behind the first `line` ones add
 unfoldable pub take_rows : ℕ → List (List (List ℕ)) → Found → Result Found RuleError

@@ -25,16 +25,16 @@ kind_of word = if bytes_eq word (codes "add") then Some kind.Add else (if bytes_
 
 -- the number in a field of a record
 abbrev pub number_at : ℕ → List (List ℕ) → ℕ → Result ℤ ScriptError
-number_at line row i = ok_or (number_of (get_or row i [])) (BadNumber line)
+number_at line fields i = ok_or (number_of (get_or fields i [])) (BadNumber line)
 
 -- what a record says: five fields, of which the first is `add` or `cut` and the others are a rectangle's numbers
 unfoldable pub change_at : ℕ → List (List ℕ) → Result Change ScriptError
-change_at line row = if length row == 5 then (do
-  kind ← ok_or (kind_of (get_or row 0 [])) (BadRow line)
-  x1 ← number_at line row 1
-  y1 ← number_at line row 2
-  x2 ← number_at line row 3
-  y2 ← number_at line row 4
+change_at line fields = if length fields == 5 then (do
+  kind ← ok_or (kind_of (get_or fields 0 [])) (BadRow line)
+  x1 ← number_at line fields 1
+  y1 ← number_at line fields 2
+  x2 ← number_at line fields 3
+  y2 ← number_at line fields 4
   rect ← ok_or (rect_with (record { x1 = x1; y1 = y1; x2 = x2; y2 = y2 })) (BadRow line)
   Ok (record { kind = kind; rect = rect })) else Err (BadRow line)
 

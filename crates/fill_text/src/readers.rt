@@ -81,14 +81,14 @@ impl Rules {
         self.number(NumberKey::StepY)
     }
 
-    /// Where the box of the raster's column 0 has its left edge.
+    /// Where the boxes of the raster's column zero have their left edge.
     pub fn origin_x(&self) -> i64
         ensures { result ≡ value_of (values_of self.now) NumberKey.OriginX }
     {
         self.number(NumberKey::OriginX)
     }
 
-    /// Where the box of the raster's row 0 has its lower edge.
+    /// Where the boxes of the raster's line zero have their lower edge.
     pub fn origin_y(&self) -> i64
         ensures { result ≡ value_of (values_of self.now) NumberKey.OriginY }
     {
@@ -137,14 +137,14 @@ impl Rules {
         self.number(NumberKey::WinStepY)
     }
 
-    /// The left edge of the windows of column 0.
+    /// The left edge of the windows of the first column.
     pub fn win_x(&self) -> i64
         ensures { result ≡ value_of (values_of self.now) NumberKey.WinX }
     {
         self.number(NumberKey::WinX)
     }
 
-    /// The lower edge of the windows of row 0.
+    /// The lower edge of the windows of the first row.
     pub fn win_y(&self) -> i64
         ensures { result ≡ value_of (values_of self.now) NumberKey.WinY }
     {

@@ -1,4 +1,3 @@
-use Rattle.std.proofs.Common.{rules}
 use Rattle.fill_text.proofs.GridTests.{grid_with_same}
 use Rattle.fill_text.proofs.Rectangles.{rect_with_same}
 use Rattle.fill_text.proofs.reading.checked.Goals as goal

@@ -1,4 +1,4 @@
-use Rattle.std.proofs.Common.{◌≡◌, ◌∙◌, ap, rules, FitsSigned, w64}
+use Rattle.std.proofs.Common.{◌≡◌, ◌∙◌, ap, rules}
 use Rattle.fill_base.proofs.Signed.{read, read_is}
 use Rattle.fill_text.specs.Grids.{grid_with}
 use Rattle.fill_text.specs.Rules.{number_in}
