@@ -4,6 +4,7 @@ use Rattle.std.proofs.lemmas.Int.{ints}
 use Rattle.std.proofs.Math.Nat.{mul-le-mul}
 use Rattle.fill_base.specs.Coordinates.{lowest, highest, IsCoordinate}
 use Rattle.fill_base.proofs.Signed.{read, read_is, coordinate_fits, lt_le, le_trans}
+use Rattle.fill_area.specs.Density.{IsArea}
 use Rattle.fill_area.specs.Grid.{Grid, IsLength, IsCount, IsAxis, IsGrid, IsExtent}
 
 -- a step many times is a natural number of at most 2^40
@@ -160,3 +161,26 @@ pub ends_at : (first length step : ℤ) {count : ℕ} (a : ℕ) (lo hi edge : �
 ends_at first length step {count} a lo hi edge is axis edge_is =
     let e = same_extent first length step count a lo hi axis is in
     edge_is ∙ ((extent_read first length step a lo hi e).1 ∙ e.ends)
+
+-- a window's size is an area
+pub size_area : (w h : ℤ) → IsLength w → IsLength h → IsArea (w *ℤ h)
+size_area (pos w) (pos h) iw ih =
+    let a : w ≤ 1048576 = let most : pos w ≤ℤ pos 1048576 = iw.most in omega (arith, ints) in
+    let b : h ≤ 1048576 = let most : pos h ≤ℤ pos 1048576 = ih.most in omega (arith, ints) in
+    area (w * h) (mul-le-mul a b)
+  where
+    area : (m : ℕ) → m ≤ 1048576 * 1048576 → IsArea (pos m)
+    area m most = record { least = omega (arith, ints); most = omega (arith, ints) }
+size_area (pos w) (negsuc h) iw ih = absurd (let least : pos 1 ≤ℤ negsuc h = ih.least in omega (arith, ints))
+size_area (negsuc w) h iw ih = absurd (let least : pos 1 ≤ℤ negsuc w = iw.least in omega (arith, ints))
+
+pub size_some : (w h : ℤ) → IsLength w → IsLength h → pos 1 ≤ℤ (w *ℤ h)
+size_some (pos w) (pos h) iw ih =
+    let a : 1 ≤ w = let least : pos 1 ≤ℤ pos w = iw.least in omega (arith, ints) in
+    let b : 1 ≤ h = let least : pos 1 ≤ℤ pos h = ih.least in omega (arith, ints) in
+    let product : 1 * 1 ≤ w * h = mul-le-mul a b in some (w * h) product
+  where
+    some : (m : ℕ) → 1 ≤ m → pos 1 ≤ℤ pos m
+    some m le = omega (arith, ints)
+size_some (pos w) (negsuc h) iw ih = absurd (let least : pos 1 ≤ℤ negsuc h = ih.least in omega (arith, ints))
+size_some (negsuc w) h iw ih = absurd (let least : pos 1 ≤ℤ negsuc w = iw.least in omega (arith, ints))

@@ -1,10 +1,15 @@
 -- The list of all windows' areas.
-use Rattle.std.proofs.Common.{◌≡◌, ℕ, ◌+◌, ◌*◌, ◌/◌, ◌%◌, ◌<◌, ℤ, pos, Bool, List, length, map, get_or, arith, ap, ◌∙◌}
+use Rattle.std.proofs.Common.{◌≡◌, ◌+ℤ◌, ◌≤ℤ◌, ◌≤◌, ◌^◌, ℕ, ◌+◌, ◌*◌, ◌/◌, ◌%◌, ◌<◌, ℤ, pos, Bool, List, length, map, get_or, arith, ap, ◌∙◌}
 use Rattle.std.specs.List.{range_with_len}
 use Rattle.std.proofs.lemmas.List.FromFn.{length-map-range_with_len, get_or-map-range_with_len}
 use Rattle.std.proofs.lemmas.Nat.{mul-add-lt, div-mul-add, mod-mul-add}
-use Rattle.fill_area.specs.Grid.{Grid}
-use Rattle.fill_area.specs.Density.{AreMeasured, window_area}
+use Rattle.std.specs.List.{All}
+use Rattle.std.proofs.lemmas.Int.{ints}
+use Rattle.std.proofs.Math.Nat.{mul-le-mul}
+use Rattle.fill_base.specs.Counts.{span_len, count_between}
+use Rattle.fill_base.proofs.Counting.{sum_between_le, count_between_le}
+use Rattle.fill_area.specs.Grid.{Grid, IsGrid, IsLength, window_left, window_right, window_bottom, window_top}
+use Rattle.fill_area.specs.Density.{AreMeasured, IsArea, window_area}
 
 -- the area of the window at place `k` of the list
 abbrev pub area_at : (ℤ → ℤ → Bool) → Grid → ℕ → ℤ
@@ -20,3 +25,26 @@ measured p g totals is = record {
       ∙ (ap (λ k. pos (window_area p g k ((b * g.columns + a) / g.columns))) (mod-mul-add b g.columns a a_in)
       ∙ ap (λ k. pos (window_area p g a k)) (div-mul-add b g.columns a a_in)));
 }
+
+-- a window has at most 2^40 squares
+window_small : (p : ℤ → ℤ → Bool) (g : Grid) (a b : ℕ) → IsGrid g → window_area p g a b ≤ 2 ^ 40
+window_small p g a b grid =
+    let wide : span_len (window_left g a) (window_right g a) ≤ 1048576 = short (window_left g a) g.width grid.across.length_is in
+    let tall : span_len (window_bottom g b) (window_top g b) ≤ 1048576 = short (window_bottom g b) g.height grid.up.length_is in
+    let lines : window_area p g a b ≤ span_len (window_bottom g b) (window_top g b) * span_len (window_left g a) (window_right g a) =
+      sum_between_le (λ y. count_between (λ x. p x y) (window_left g a) (window_right g a)) (window_bottom g b) (window_top g b) (span_len (window_left g a) (window_right g a))
+        (λ y. count_between_le (λ x. p x y) (window_left g a) (window_right g a)) in
+    let product : span_len (window_bottom g b) (window_top g b) * span_len (window_left g a) (window_right g a) ≤ 1048576 * 1048576 = mul-le-mul tall wide in
+    omega (arith, lines, product)
+  where
+    short : (lo length : ℤ) → IsLength length → span_len lo (lo +ℤ length) ≤ 1048576
+    short lo length is = let least : pos 1 ≤ℤ length = is.least in let most : length ≤ℤ pos 1048576 = is.most in omega (arith, ints)
+
+pub bounded : (p : ℤ → ℤ → Bool) (g : Grid) (totals : List ℤ) → IsGrid g → totals ≡ map (area_at p g) (range_with_len 0 (g.columns * g.rows)) → All IsArea totals
+bounded p g totals grid is k d lt =
+    let inner : k < g.columns * g.rows = rw (is, length-map-range_with_len (area_at p g) 0 (g.columns * g.rows)) at lt in
+    let at_k : get_or totals k d ≡ area_at p g k = ap (λ xs. get_or xs k d) is ∙ get_or-map-range_with_len (area_at p g) 0 (g.columns * g.rows) k k d inner (omega arith) in
+    rw at_k (area_of_count (window_area p g (k % g.columns) (k / g.columns)) (window_small p g (k % g.columns) (k / g.columns) grid))
+  where
+    area_of_count : (n : ℕ) → n ≤ 2 ^ 40 → IsArea (pos n)
+    area_of_count n small = record { least = omega (arith, ints); most = omega (arith, ints) }

@@ -1,6 +1,6 @@
-ghost use Rattle.std.specs.Prelude.{◌≡◌, ◌/◌, ◌%◌, ◌*◌, ◌<◌, IfOk, pos};
+ghost use Rattle.std.specs.Prelude.{◌≡◌, ◌/◌, ◌%◌, ◌*◌, ◌<◌, IfOk, All, pos};
 ghost use Rattle.fill_region.specs.Bands.{holds};
-ghost use Rattle.fill_area.specs.Density.{AreMeasured, window_area};
+ghost use Rattle.fill_area.specs.Density.{AreMeasured, IsArea, window_area};
 
 use crate::area::area_in;
 use crate::windows::Windows;
@@ -18,7 +18,8 @@ pub fn measure_all(
     region: &Region,
     windows: &Windows,
 ) -> Result<Vec<i64>, AllocError>
-    ensures { IfOk result (λ v. AreMeasured (holds region.now) windows.now v.items) }
+    ensures areas { IfOk result (λ v. AreMeasured (holds region.now) windows.now v.items) }
+    ensures bounded { IfOk result (λ v. All IsArea v.items) }
 {
     let count = windows.len();
     (0..count)

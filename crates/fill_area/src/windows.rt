@@ -1,6 +1,7 @@
 ghost use Rattle.std.specs.Prelude.{◌≡◌, ◌↔◌, ℕ, ◌<◌, ◌-◌, ◌*◌, ◌/◌, ◌%◌, ◌≤◌, ℤ, pos, ◌+ℤ◌, ◌*ℤ◌, ◌≤ℤ◌, ◌<ℤ◌, IsTrue, IsOk, IfOk};
 ghost use Rattle.fill_base.specs.Coordinates.{lowest, highest, IsCoordinate};
 ghost use Rattle.fill_area.specs.Grid.{Grid, IsLength, IsCount, IsAxis, IsGrid, window_left, window_right, window_bottom, window_top, IsExtent};
+ghost use Rattle.fill_area.specs.Density.{IsArea};
 ghost use Rattle.fill_area.specs.GridOf.{grid_of};
 
 use fill_base::rect::{HIGHEST, is_coordinate};
@@ -137,7 +138,9 @@ impl Windows {
 
     /// How many squares a window holds.
     pub fn window_size(&self) -> i64
-        ensures { result ≡ self.now.width *ℤ self.now.height }
+        ensures size { result ≡ self.now.width *ℤ self.now.height }
+        ensures area { IsArea result }
+        ensures some { pos 1 ≤ℤ result }
     {
         self.width * self.height
     }
@@ -162,6 +165,7 @@ impl Windows {
     pub fn len(&self) -> usize
         ensures count { result ≡ self.now.columns * self.now.rows }
         ensures few { result ≤ 1048576 }
+        ensures grid { IsGrid self.now }
     {
         self.columns as usize * self.rows as usize
     }
