@@ -1,1 +1,2 @@
 mod FaultLines
+mod Patches

@@ -2,8 +2,10 @@
 #![tactic(auto)]
 
 mod fault;
+mod metal;
 
 pub use fault::{Fault, Part, fault_line};
+pub use metal::metal_left;
 
 #[cfg(test)]
 mod tests;
