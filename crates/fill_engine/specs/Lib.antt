@@ -1,0 +1,2 @@
+-- The table of faults.
+pub mod Faults
