@@ -1,3 +1,6 @@
 pub mod Runs
 pub mod Along
 pub mod Back
+pub mod Fresh
+pub mod Ending
+pub mod Why
