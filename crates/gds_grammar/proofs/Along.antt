@@ -13,7 +13,7 @@ use Rattle.gds_grammar.specs.Forms.{among}
 use Rattle.gds_grammar.specs.Values.{Shape, Cell, Contents}
 use Rattle.gds_grammar.specs.Elements.{opening, may_stand, kinds_in, is_whole, has_string, shapes_in}
 use Rattle.gds_grammar.specs.Grammar.{Rules, ElementPart, property_records, element_records, MayStand, AreStrings, IsProperty, IsElement, element_shapes, CellPart, cell_records, AtMostOne, IsCell, cell_value, AreCells, library_kinds, IsLibraryPart, LibraryPart, library_records, IsLibraryOf, library_value}
-use Rattle.gds_grammar.specs.Machine.{State, Start, Headed, Dated, Titled, Between, Opened, Named, Within, Body, Unlettered, Tail, Paired, Done, fine, expect, with_cell, behind_xy, opened, within, at_xy, move}
+use Rattle.gds_grammar.specs.Machine.{State, Start, Headed, Dated, Titled, Between, Opened, Named, Within, Body, Unlettered, Tail, Paired, Done, fine, expect, with_cell, behind_xy, opened, within, at_xy, next_state}
 use Rattle.gds_grammar.proofs.Runs.{apart, expected, moves, leads_nil, leads_cons, leads_append}
 
 -- XY stands in no body
@@ -44,59 +44,59 @@ opening_not_class kind element h = apart opening kind kinds.STRCLASS (λ e. let 
 module _ (ρ : Rules) where
   -- ---- one record
 
-  move_opens : (l : Contents) (n : List ℕ) (sh : List Shape) (r : Rec) (o : ElementKind) → opening r.kind ≡ Some o → move ρ (Within l n sh) r ≡ fine (Body l n sh o [])
-  unfolding move
+  move_opens : (l : Contents) (n : List ℕ) (sh : List Shape) (r : Rec) (o : ElementKind) → opening r.kind ≡ Some o → next_state ρ (Within l n sh) r ≡ fine (Body l n sh o [])
+  unfolding next_state
   move_opens l n sh r o e = rw e refl
 
   move_before : (l : Contents) (n : List ℕ) (sh : List Shape) (o : ElementKind) (seen : List Rec) (r : Rec) → may_stand o (kinds_in seen) r.kind ≡ true
-      → move ρ (Body l n sh o seen) r ≡ fine (Body l n sh o (seen ++ r ∷ []))
-  unfolding move
+      → next_state ρ (Body l n sh o seen) r ≡ fine (Body l n sh o (seen ++ r ∷ []))
+  unfolding next_state
   move_before l n sh o seen r h = rw (not_xy o (kinds_in seen) r.kind h, h) refl
 
   move_xy : (l : Contents) (n : List ℕ) (sh : List Shape) (o : ElementKind) (before : List Rec) (r : Rec) → r.kind ≡ kinds.XY → is_whole o (kinds_in before) ≡ true
       → ρ.points o r.body ≡ true → ρ.closed o r.body ≡ true
-      → move ρ (Body l n sh o before) r ≡ fine (behind_xy (has_string o) l n (sh ++ shapes_in o before r.body))
-  unfolding move
+      → next_state ρ (Body l n sh o before) r ≡ fine (behind_xy (has_string o) l n (sh ++ shapes_in o before r.body))
+  unfolding next_state
   move_xy l n sh o before r k whole points closed = rw (eq-eqb r.kind kinds.XY k, whole, points, closed) refl
 
-  move_string : (l : Contents) (n : List ℕ) (sh : List Shape) (r : Rec) → r.kind ≡ kinds.STRING → move ρ (Unlettered l n sh) r ≡ fine (Tail l n sh)
-  unfolding move
+  move_string : (l : Contents) (n : List ℕ) (sh : List Shape) (r : Rec) → r.kind ≡ kinds.STRING → next_state ρ (Unlettered l n sh) r ≡ fine (Tail l n sh)
+  unfolding next_state
   move_string l n sh r e = expected kinds.STRING r (Tail l n sh) e
 
-  move_attribute : (l : Contents) (n : List ℕ) (sh : List Shape) (r : Rec) → r.kind ≡ kinds.PROPATTR → move ρ (Tail l n sh) r ≡ fine (Paired l n sh)
-  unfolding move
+  move_attribute : (l : Contents) (n : List ℕ) (sh : List Shape) (r : Rec) → r.kind ≡ kinds.PROPATTR → next_state ρ (Tail l n sh) r ≡ fine (Paired l n sh)
+  unfolding next_state
   move_attribute l n sh r e = rw (eq-eqb r.kind kinds.PROPATTR e) refl
 
-  move_value : (l : Contents) (n : List ℕ) (sh : List Shape) (r : Rec) → r.kind ≡ kinds.PROPVALUE → move ρ (Paired l n sh) r ≡ fine (Tail l n sh)
-  unfolding move
+  move_value : (l : Contents) (n : List ℕ) (sh : List Shape) (r : Rec) → r.kind ≡ kinds.PROPVALUE → next_state ρ (Paired l n sh) r ≡ fine (Tail l n sh)
+  unfolding next_state
   move_value l n sh r e = expected kinds.PROPVALUE r (Tail l n sh) e
 
-  move_endel : (l : Contents) (n : List ℕ) (sh : List Shape) (r : Rec) → r.kind ≡ kinds.ENDEL → move ρ (Tail l n sh) r ≡ fine (Within l n sh)
-  unfolding move
+  move_endel : (l : Contents) (n : List ℕ) (sh : List Shape) (r : Rec) → r.kind ≡ kinds.ENDEL → next_state ρ (Tail l n sh) r ≡ fine (Within l n sh)
+  unfolding next_state
   move_endel l n sh r e = rw (ap (λ k. eqb k kinds.PROPATTR) e) (expected kinds.ENDEL r (Within l n sh) e)
 
-  pub move_endstr : (l : Contents) (n : List ℕ) (sh : List Shape) (r : Rec) → r.kind ≡ kinds.ENDSTR → move ρ (Within l n sh) r ≡ fine (Between (with_cell l n sh))
-  unfolding move
+  pub move_endstr : (l : Contents) (n : List ℕ) (sh : List Shape) (r : Rec) → r.kind ≡ kinds.ENDSTR → next_state ρ (Within l n sh) r ≡ fine (Between (with_cell l n sh))
+  unfolding next_state
   move_endstr l n sh r e = rw (ap opening e ∙ end_opens_nothing) (expected kinds.ENDSTR r (Between (with_cell l n sh)) e)
 
-  move_class : (l : Contents) (n : List ℕ) (r : Rec) → r.kind ≡ kinds.STRCLASS → move ρ (Named l n) r ≡ fine (Within l n [])
-  unfolding move
+  move_class : (l : Contents) (n : List ℕ) (r : Rec) → r.kind ≡ kinds.STRCLASS → next_state ρ (Named l n) r ≡ fine (Within l n [])
+  unfolding next_state
   move_class l n r e = rw (eq-eqb r.kind kinds.STRCLASS e) refl
 
-  pub named_is_within : (l : Contents) (n : List ℕ) (r : Rec) → eqb r.kind kinds.STRCLASS ≡ false → move ρ (Named l n) r ≡ move ρ (Within l n []) r
-  unfolding move
+  pub named_is_within : (l : Contents) (n : List ℕ) (r : Rec) → eqb r.kind kinds.STRCLASS ≡ false → next_state ρ (Named l n) r ≡ next_state ρ (Within l n []) r
+  unfolding next_state
   named_is_within l n r e = rw e refl
 
-  move_name : (l : Contents) (r : Rec) → r.kind ≡ kinds.STRNAME → ρ.taken l.cells (trimmed r.body) ≡ false → move ρ (Opened l) r ≡ fine (Named l (trimmed r.body))
-  unfolding move
+  move_name : (l : Contents) (r : Rec) → r.kind ≡ kinds.STRNAME → ρ.taken l.cells (trimmed r.body) ≡ false → next_state ρ (Opened l) r ≡ fine (Named l (trimmed r.body))
+  unfolding next_state
   move_name l r e fresh = rw (eq-eqb r.kind kinds.STRNAME e, fresh) refl
 
-  pub move_bgnstr : (l : Contents) (r : Rec) → r.kind ≡ kinds.BGNSTR → move ρ (Between l) r ≡ fine (Opened l)
-  unfolding move
+  pub move_bgnstr : (l : Contents) (r : Rec) → r.kind ≡ kinds.BGNSTR → next_state ρ (Between l) r ≡ fine (Opened l)
+  unfolding next_state
   move_bgnstr l r e = rw (eq-eqb r.kind kinds.BGNSTR e) refl
 
-  pub move_endlib : (l : Contents) (r : Rec) → r.kind ≡ kinds.ENDLIB → move ρ (Between l) r ≡ fine (Done l)
-  unfolding move
+  pub move_endlib : (l : Contents) (r : Rec) → r.kind ≡ kinds.ENDLIB → next_state ρ (Between l) r ≡ fine (Done l)
+  unfolding next_state
   move_endlib l r e = rw (ap (λ k. eqb k kinds.BGNSTR) e) (expected kinds.ENDLIB r (Done l) e)
 
   -- ---- an element
@@ -176,31 +176,31 @@ module _ (ρ : Rules) where
 
   -- ---- the library
 
-  move_header : (r : Rec) → r.kind ≡ kinds.HEADER → move ρ Start r ≡ fine Headed
-  unfolding move
+  move_header : (r : Rec) → r.kind ≡ kinds.HEADER → next_state ρ Start r ≡ fine Headed
+  unfolding next_state
   move_header r e = expected kinds.HEADER r Headed e
 
-  move_bgnlib : (r : Rec) → r.kind ≡ kinds.BGNLIB → move ρ Headed r ≡ fine (Dated r.body)
-  unfolding move
+  move_bgnlib : (r : Rec) → r.kind ≡ kinds.BGNLIB → next_state ρ Headed r ≡ fine (Dated r.body)
+  unfolding next_state
   move_bgnlib r e = expected kinds.BGNLIB r (Dated r.body) e
 
   not_libname : (kind : ℕ) → among library_kinds kind ≡ true → eqb kind kinds.LIBNAME ≡ false
   not_libname kind h = apart (among library_kinds) kind kinds.LIBNAME (λ e. let both = sym h ∙ e in cc)
 
-  move_part : (dates : List ℕ) (r : Rec) → IsLibraryPart r → move ρ (Dated dates) r ≡ fine (Dated dates)
-  unfolding move
+  move_part : (dates : List ℕ) (r : Rec) → IsLibraryPart r → next_state ρ (Dated dates) r ≡ fine (Dated dates)
+  unfolding next_state
   move_part dates r h = rw (not_libname r.kind h, h) refl
 
-  pub move_title : (dates : List ℕ) (r : Rec) → r.kind ≡ kinds.LIBNAME → move ρ (Dated dates) r ≡ fine (Titled dates)
-  unfolding move
+  pub move_title : (dates : List ℕ) (r : Rec) → r.kind ≡ kinds.LIBNAME → next_state ρ (Dated dates) r ≡ fine (Titled dates)
+  unfolding next_state
   move_title dates r e = rw (eq-eqb r.kind kinds.LIBNAME e) refl
 
-  move_later_part : (dates : List ℕ) (r : Rec) → IsLibraryPart r → move ρ (Titled dates) r ≡ fine (Titled dates)
-  unfolding move
+  move_later_part : (dates : List ℕ) (r : Rec) → IsLibraryPart r → next_state ρ (Titled dates) r ≡ fine (Titled dates)
+  unfolding next_state
   move_later_part dates r h = rw h refl
 
-  pub move_units : (dates : List ℕ) (r : Rec) → r.kind ≡ kinds.UNITS → move ρ (Titled dates) r ≡ fine (Between (record { dates = dates; units = r.body; cells = [] }))
-  unfolding move
+  pub move_units : (dates : List ℕ) (r : Rec) → r.kind ≡ kinds.UNITS → next_state ρ (Titled dates) r ≡ fine (Between (record { dates = dates; units = r.body; cells = [] }))
+  unfolding next_state
   move_units dates r e = rw (ap (among library_kinds) e) (expected kinds.UNITS r (Between (record { dates = dates; units = r.body; cells = [] })) e)
 
   parts_lead : (dates : List ℕ) (rs : List Rec) → AllByRecursion IsLibraryPart rs → moves ρ (Dated dates) rs ≡ fine (Dated dates)

@@ -15,7 +15,7 @@ use Rattle.gds_grammar.specs.Forms.{among, IsWell}
 use Rattle.gds_grammar.specs.Values.{Shape, Cell, Contents}
 use Rattle.gds_grammar.specs.Elements.{opening, may_stand, kinds_in, is_whole, has_string, shapes_in}
 use Rattle.gds_grammar.specs.Grammar.{Rules, ElementPart, property_records, element_records, MayStand, AreStrings, IsProperty, IsElement, element_shapes, CellPart, cell_records, AtMostOne, IsCell, cell_value, AreCells, library_kinds, IsLibraryPart, LibraryPart, library_records, IsLibraryOf, library_value, AreWell, IsLibrary}
-use Rattle.gds_grammar.specs.Machine.{State, Start, Headed, Dated, Titled, Between, Opened, Named, Within, Body, Unlettered, Tail, Paired, Done, fine, refuse, expect, with_cell, behind_xy, opened, within, at_xy, move, ◌>>=◌, run}
+use Rattle.gds_grammar.specs.Machine.{State, Start, Headed, Dated, Titled, Between, Opened, Named, Within, Body, Unlettered, Tail, Paired, Done, fine, refuse, expect, with_cell, behind_xy, opened, within, at_xy, next_state, ◌>>=◌, run}
 use Rattle.gds_grammar.proofs.Runs.{fine_is, not_fine, chosen, only_true, only_false, expect_ok, bind_ok, moves, run_is_moves, run_well}
 use Rattle.gds_grammar.proofs.Along.{library_leads}
 
@@ -150,8 +150,8 @@ module _ (ρ : Rules) where
 
   -- ---- one record in front of the rest
 
-  front_dated : (dates : List ℕ) (r : Rec) (t : State) (xs : List Rec) (v : Contents) → move ρ (Dated dates) r ≡ fine t → Left t xs v → DatedLeft dates (r ∷ xs) v
-  unfolding move
+  front_dated : (dates : List ℕ) (r : Rec) (t : State) (xs : List Rec) (v : Contents) → next_state ρ (Dated dates) r ≡ fine t → Left t xs v → DatedLeft dates (r ∷ xs) v
+  unfolding next_state
   front_dated dates r t xs v e h =
       elim (chosen (eqb r.kind kinds.LIBNAME) (fine (Titled dates)) (cond (among library_kinds r.kind) (fine (Dated dates)) (refuse Unexpected)) (fine t) e) [
         | inl p ↦
@@ -163,8 +163,8 @@ module _ (ρ : Rules) where
             record { before = r ∷ d.before; name = d.name; rest = d.rest; parts = ap (λ ys. r ∷ ys) d.parts; each = (q.0, d.each); kind = d.kind; left = d.left }
       ]
 
-  front_titled : (dates : List ℕ) (r : Rec) (t : State) (xs : List Rec) (v : Contents) → move ρ (Titled dates) r ≡ fine t → Left t xs v → TitledLeft dates (r ∷ xs) v
-  unfolding move
+  front_titled : (dates : List ℕ) (r : Rec) (t : State) (xs : List Rec) (v : Contents) → next_state ρ (Titled dates) r ≡ fine t → Left t xs v → TitledLeft dates (r ∷ xs) v
+  unfolding next_state
   front_titled dates r t xs v e h =
       let next : State = Between (record { dates = dates; units = r.body; cells = [] }) in
       elim (chosen (among library_kinds r.kind) (fine (Titled dates)) (expect kinds.UNITS r next) (fine t) e) [
@@ -177,8 +177,8 @@ module _ (ρ : Rules) where
             record { after = []; units = r; rest = xs; parts = refl; each = tt; kind = q.0; left = d }
       ]
 
-  front_between : (l : Contents) (r : Rec) (t : State) (xs : List Rec) (v : Contents) → move ρ (Between l) r ≡ fine t → Left t xs v → BetweenLeft l (r ∷ xs) v
-  unfolding move
+  front_between : (l : Contents) (r : Rec) (t : State) (xs : List Rec) (v : Contents) → next_state ρ (Between l) r ≡ fine t → Left t xs v → BetweenLeft l (r ∷ xs) v
+  unfolding next_state
   front_between l r t xs v e h =
       elim (chosen (eqb r.kind kinds.BGNSTR) (fine (Opened l)) (expect kinds.ENDLIB r (Done l)) (fine t) e) [
         | inl p ↦
@@ -211,8 +211,8 @@ module _ (ρ : Rules) where
             }
       ]
 
-  front_opened : (l : Contents) (r : Rec) (t : State) (xs : List Rec) (v : Contents) → move ρ (Opened l) r ≡ fine t → Left t xs v → OpenedLeft l (r ∷ xs) v
-  unfolding move
+  front_opened : (l : Contents) (r : Rec) (t : State) (xs : List Rec) (v : Contents) → next_state ρ (Opened l) r ≡ fine t → Left t xs v → OpenedLeft l (r ∷ xs) v
+  unfolding next_state
   front_opened l r t xs v e h =
       let p = only_true (eqb r.kind kinds.STRNAME) (cond (ρ.taken l.cells (trimmed r.body)) (refuse DuplicateCell) (fine (Named l (trimmed r.body)))) Unexpected t e in
       let q = only_false (ρ.taken l.cells (trimmed r.body)) (fine (Named l (trimmed r.body))) DuplicateCell t p.1 in
@@ -247,12 +247,12 @@ module _ (ρ : Rules) where
         left = subst (λ shapes. BetweenLeft (with_cell l n shapes) xs v) (sym (append-nil sh)) d;
       }
 
-  front_within : (l : Contents) (n : List ℕ) (sh : List Shape) (r : Rec) (t : State) (xs : List Rec) (v : Contents) → move ρ (Within l n sh) r ≡ fine t → Left t xs v → WithinLeft l n sh (r ∷ xs) v
-  unfolding move
+  front_within : (l : Contents) (n : List ℕ) (sh : List Shape) (r : Rec) (t : State) (xs : List Rec) (v : Contents) → next_state ρ (Within l n sh) r ≡ fine t → Left t xs v → WithinLeft l n sh (r ∷ xs) v
+  unfolding next_state
   front_within l n sh r t xs v e h = front_opening l n sh (opening r.kind) r t xs v refl e h
 
-  front_named : (l : Contents) (n : List ℕ) (r : Rec) (t : State) (xs : List Rec) (v : Contents) → move ρ (Named l n) r ≡ fine t → Left t xs v → NamedLeft l n (r ∷ xs) v
-  unfolding move
+  front_named : (l : Contents) (n : List ℕ) (r : Rec) (t : State) (xs : List Rec) (v : Contents) → next_state ρ (Named l n) r ≡ fine t → Left t xs v → NamedLeft l n (r ∷ xs) v
+  unfolding next_state
   front_named l n r t xs v e h =
       elim (chosen (eqb r.kind kinds.STRCLASS) (fine (Within l n [])) (within l n [] r) (fine t) e) [
         | inl p ↦
@@ -265,8 +265,8 @@ module _ (ρ : Rules) where
   behind true l n sh xs v h = record { strings = h.string ∷ []; rest = h.rest; parts = h.parts; are = h.kind; left = h.left }
   behind false l n sh xs v h = record { strings = []; rest = xs; parts = refl; are = tt; left = h }
 
-  front_body : (l : Contents) (n : List ℕ) (sh : List Shape) (o : ElementKind) (before : List Rec) (r : Rec) (t : State) (xs : List Rec) (v : Contents) → move ρ (Body l n sh o before) r ≡ fine t → Left t xs v → BodyLeft l n sh o before (r ∷ xs) v
-  unfolding move
+  front_body : (l : Contents) (n : List ℕ) (sh : List Shape) (o : ElementKind) (before : List Rec) (r : Rec) (t : State) (xs : List Rec) (v : Contents) → next_state ρ (Body l n sh o before) r ≡ fine t → Left t xs v → BodyLeft l n sh o before (r ∷ xs) v
+  unfolding next_state
   front_body l n sh o before r t xs v e h =
       let next : State = behind_xy (has_string o) l n (sh ++ shapes_in o before r.body) in
       let more : State = Body l n sh o (before ++ r ∷ []) in
@@ -297,8 +297,8 @@ module _ (ρ : Rules) where
             }
       ]
 
-  front_tail : (l : Contents) (n : List ℕ) (sh : List Shape) (r : Rec) (t : State) (xs : List Rec) (v : Contents) → move ρ (Tail l n sh) r ≡ fine t → Left t xs v → TailLeft l n sh (r ∷ xs) v
-  unfolding move
+  front_tail : (l : Contents) (n : List ℕ) (sh : List Shape) (r : Rec) (t : State) (xs : List Rec) (v : Contents) → next_state ρ (Tail l n sh) r ≡ fine t → Left t xs v → TailLeft l n sh (r ∷ xs) v
+  unfolding next_state
   front_tail l n sh r t xs v e h =
       elim (chosen (eqb r.kind kinds.PROPATTR) (fine (Paired l n sh)) (expect kinds.ENDEL r (Within l n sh)) (fine t) e) [
         | inl p ↦
@@ -314,8 +314,8 @@ module _ (ρ : Rules) where
             record { properties = []; stop = r; rest = xs; parts = refl; each = tt; stops = q.0; left = at (Within l n sh) t xs v q.1 h }
       ]
 
-  in_front : (s : State) (r : Rec) (t : State) (xs : List Rec) (v : Contents) → move ρ s r ≡ fine t → Left t xs v → Left s (r ∷ xs) v
-  unfolding move
+  in_front : (s : State) (r : Rec) (t : State) (xs : List Rec) (v : Contents) → next_state ρ s r ≡ fine t → Left t xs v → Left s (r ∷ xs) v
+  unfolding next_state
   in_front Start r t xs v e h = let q = expect_ok kinds.HEADER r Headed t e in record { header = r; rest = xs; parts = refl; kind = q.0; left = at Headed t xs v q.1 h }
   in_front Headed r t xs v e h = let q = expect_ok kinds.BGNLIB r (Dated r.body) t e in record { start = r; rest = xs; parts = refl; kind = q.0; left = at (Dated r.body) t xs v q.1 h }
   in_front (Dated dates) r t xs v e h = front_dated dates r t xs v e h
@@ -334,7 +334,7 @@ module _ (ρ : Rules) where
   unfolding moves
   all_left s [] v e = at s (Done v) [] v (fine_is s (Done v) e) (record { none = refl; is = refl })
   all_left s (r ∷ xs) v e =
-      let b = bind_ok (move ρ s r) (λ t. moves ρ t xs) (Done v) e in
+      let b = bind_ok (next_state ρ s r) (λ t. moves ρ t xs) (Done v) e in
       in_front s r b.0 xs v b.1 (all_left b.0 xs v b.2)
 
   -- ---- both ways

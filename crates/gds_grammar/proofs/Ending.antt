@@ -19,7 +19,7 @@ use Rattle.gds_grammar.specs.Forms.{among, has_form, has_size, has_name_if_asked
 use Rattle.gds_grammar.specs.Values.{Shape, Cell, Contents}
 use Rattle.gds_grammar.specs.Elements.{opening, may_stand, kinds_in, is_whole, required, has_string, shapes_in, are_points, is_closed}
 use Rattle.gds_grammar.specs.Grammar.{Rules, has_name, no_rules, points_alone, points_and_closing, all_rules}
-use Rattle.gds_grammar.specs.Machine.{State, Start, Headed, Dated, Titled, Between, Opened, Named, Within, Body, Unlettered, Tail, Paired, Done, fine, with_cell, behind_xy, move, step, run}
+use Rattle.gds_grammar.specs.Machine.{State, Start, Headed, Dated, Titled, Between, Opened, Named, Within, Body, Unlettered, Tail, Paired, Done, fine, with_cell, behind_xy, next_state, step, run}
 use Rattle.gds_grammar.proofs.Runs.{run_cons}
 use Rattle.gds_grammar.proofs.Along.{not_xy}
 use Rattle.gds_grammar.proofs.Fresh.{OneToOne, fresh}
@@ -251,7 +251,7 @@ pub record CanEnd (ρ : Rules) (s : State) : Type 0 where
   pub runs : run ρ s more ≡ fine (Done value)
 
 module _ (ρ : Rules) (AreFew : List Cell → Type 0) (good : TakesBlank ρ AreFew) where
-  after_move : (s t : State) (r : Rec) (kind : ℕ) → IsBlank r kind → move ρ s r ≡ fine t → CanEnd ρ t → CanEnd ρ s
+  after_move : (s t : State) (r : Rec) (kind : ℕ) → IsBlank r kind → next_state ρ s r ≡ fine t → CanEnd ρ t → CanEnd ρ s
   after_move s t r kind b h c =
       let led : step ρ s r ≡ fine t = rw b.well h in
       record { more = r ∷ c.more; value = c.value; fit = (b.fits, c.fit); runs = run_cons ρ s t r c.more led ∙ c.runs }
@@ -261,27 +261,27 @@ module _ (ρ : Rules) (AreFew : List Cell → Type 0) (good : TakesBlank ρ AreF
   ends_done l = record { more = []; value = l; fit = tt; runs = refl }
 
   ends_between : (l : Contents) → CanEnd ρ (Between l)
-  unfolding move
+  unfolding next_state
   ends_between l = after_move (Between l) (Done l) _ kinds.ENDLIB blank_endlib refl (ends_done l)
 
   ends_within : (l : Contents) (n : List ℕ) (sh : List Shape) → CanEnd ρ (Within l n sh)
-  unfolding move opening
+  unfolding next_state opening
   ends_within l n sh = after_move (Within l n sh) (Between (with_cell l n sh)) _ kinds.ENDSTR blank_endstr refl (ends_between (with_cell l n sh))
 
   ends_named : (l : Contents) (n : List ℕ) → CanEnd ρ (Named l n)
-  unfolding move opening
+  unfolding next_state opening
   ends_named l n = after_move (Named l n) (Between (with_cell l n [])) _ kinds.ENDSTR blank_endstr refl (ends_between (with_cell l n []))
 
   ends_tail : (l : Contents) (n : List ℕ) (sh : List Shape) → CanEnd ρ (Tail l n sh)
-  unfolding move
+  unfolding next_state
   ends_tail l n sh = after_move (Tail l n sh) (Within l n sh) _ kinds.ENDEL blank_endel refl (ends_within l n sh)
 
   ends_paired : (l : Contents) (n : List ℕ) (sh : List Shape) → CanEnd ρ (Paired l n sh)
-  unfolding move
+  unfolding next_state
   ends_paired l n sh = after_move (Paired l n sh) (Tail l n sh) _ kinds.PROPVALUE blank_value refl (ends_tail l n sh)
 
   ends_unlettered : (l : Contents) (n : List ℕ) (sh : List Shape) → CanEnd ρ (Unlettered l n sh)
-  unfolding move
+  unfolding next_state
   ends_unlettered l n sh = after_move (Unlettered l n sh) (Tail l n sh) _ kinds.STRING blank_string refl (ends_tail l n sh)
 
   ends_behind : (b : Bool) (l : Contents) (n : List ℕ) (sh : List Shape) → CanEnd ρ (behind_xy b l n sh)
@@ -289,14 +289,14 @@ module _ (ρ : Rules) (AreFew : List Cell → Type 0) (good : TakesBlank ρ AreF
   ends_behind false l n sh = ends_tail l n sh
 
   put_xy : (l : Contents) (n : List ℕ) (sh : List Shape) (o : ElementKind) (before : List Rec) → is_whole o (kinds_in before) ≡ true → CanEnd ρ (Body l n sh o before)
-  unfolding move
+  unfolding next_state
   put_xy l n sh o before whole =
       after_move (Body l n sh o before) (behind_xy (has_string o) l n (sh ++ shapes_in o before (blank_points o))) _ kinds.XY (blank_xy o) (rw (whole, good.points o, good.closed o) refl)
         (ends_behind (has_string o) l n (sh ++ shapes_in o before (blank_points o)))
 
   put_before : (l : Contents) (n : List ℕ) (sh : List Shape) (o : ElementKind) (before : List Rec) (r : Rec) → may_stand o (kinds_in before) r.kind ≡ true
-      → move ρ (Body l n sh o before) r ≡ fine (Body l n sh o (before ++ r ∷ []))
-  unfolding move
+      → next_state ρ (Body l n sh o before) r ≡ fine (Body l n sh o (before ++ r ∷ []))
+  unfolding next_state
   put_before l n sh o before r h = rw (not_xy o (kinds_in before) r.kind h, h) refl
 
   -- the records of these kinds that are still missing are put, and then the rest follows
@@ -329,25 +329,25 @@ module _ (ρ : Rules) (AreFew : List Cell → Type 0) (good : TakesBlank ρ AreF
   ends_body l n sh o before = fill l n sh o (required o) before (can_fill o) (λ extra whole. put_xy l n sh o (before ++ extra) whole)
 
   ends_opened : (l : Contents) → AreFew l.cells → CanEnd ρ (Opened l)
-  unfolding move
+  unfolding next_state
   ends_opened l few =
       let f = good.names l.cells few in
       after_move (Opened l) (Named l (trimmed f.name.body)) f.name kinds.STRNAME f.blank (rw (eq-eqb f.name.kind kinds.STRNAME f.blank.kind_is, f.free) refl) (ends_named l (trimmed f.name.body))
 
   ends_titled : (dates : List ℕ) → CanEnd ρ (Titled dates)
-  unfolding move
+  unfolding next_state
   ends_titled dates = after_move (Titled dates) (Between (record { dates = dates; units = zeros_8 ++ zeros_8; cells = [] })) _ kinds.UNITS blank_units refl (ends_between _)
 
   ends_dated : (dates : List ℕ) → CanEnd ρ (Dated dates)
-  unfolding move
+  unfolding next_state
   ends_dated dates = after_move (Dated dates) (Titled dates) _ kinds.LIBNAME blank_libname refl (ends_titled dates)
 
   ends_headed : CanEnd ρ Headed
-  unfolding move
+  unfolding next_state
   ends_headed = after_move Headed (Dated (zeros_8 ++ zeros_8 ++ zeros_8)) _ kinds.BGNLIB blank_bgnlib refl (ends_dated _)
 
   ends_start : CanEnd ρ Start
-  unfolding move
+  unfolding next_state
   ends_start = after_move Start Headed _ kinds.HEADER blank_header refl ends_headed
 
   pub ends : (s : State) → AreFew (cells_before s) → CanEnd ρ s

@@ -4,3 +4,5 @@ pub mod Back
 pub mod Fresh
 pub mod Ending
 pub mod Why
+pub mod Paths
+pub mod Bodies

@@ -8,7 +8,7 @@ use Rattle.gds_grammar.specs.declared.refusal.Refusal.{Refusal}
 use Rattle.gds_grammar.specs.declared.refusal.Refusal.TheVariants.{Unexpected}
 use Rattle.gds_grammar.specs.Forms.{is_well, IsWell}
 use Rattle.gds_grammar.specs.Grammar.{Rules}
-use Rattle.gds_grammar.specs.Machine.{State, fine, refuse, expect, ◌>>=◌, move, step, run}
+use Rattle.gds_grammar.specs.Machine.{State, fine, refuse, expect, ◌>>=◌, next_state, step, run}
 
 -- ---- tests and results
 
@@ -70,26 +70,26 @@ module _ (ρ : Rules) where
   -- where records lead whose forms nobody asks for
   unfoldable pub moves : State → List Rec → Result State Refusal
   moves s [] = fine s
-  moves s (r ∷ rs) = move ρ s r >>= λ t. moves t rs
+  moves s (r ∷ rs) = next_state ρ s r >>= λ t. moves t rs
 
   pub moves_append : (s : State) (xs ys : List Rec) → moves s (xs ++ ys) ≡ (moves s xs >>= λ t. moves t ys)
   unfolding moves
   moves_append s [] ys = refl
   moves_append s (x ∷ xs) ys =
-      bind_cong (move ρ s x) (λ t. moves t (xs ++ ys)) (λ t. moves t xs >>= λ u. moves u ys) (λ t. moves_append t xs ys)
-      ∙ sym (bind_assoc (move ρ s x) (λ t. moves t xs) (λ u. moves u ys))
+      bind_cong (next_state ρ s x) (λ t. moves t (xs ++ ys)) (λ t. moves t xs >>= λ u. moves u ys) (λ t. moves_append t xs ys)
+      ∙ sym (bind_assoc (next_state ρ s x) (λ t. moves t xs) (λ u. moves u ys))
 
   pub run_is_moves : (s : State) (rs : List Rec) → AllByRecursion IsWell rs → run ρ s rs ≡ moves s rs
   unfolding run moves
   run_is_moves s [] well = refl
-  run_is_moves s (r ∷ rs) well = rw well.0 (bind_cong (move ρ s r) (λ t. run ρ t rs) (λ t. moves t rs) (λ t. run_is_moves t rs well.1))
+  run_is_moves s (r ∷ rs) well = rw well.0 (bind_cong (next_state ρ s r) (λ t. run ρ t rs) (λ t. moves t rs) (λ t. run_is_moves t rs well.1))
 
   pub run_well : (s t : State) (rs : List Rec) → run ρ s rs ≡ fine t → AllByRecursion IsWell rs × (moves s rs ≡ fine t)
   unfolding run moves
   run_well s t [] e = (tt, e)
   run_well s t (r ∷ rs) e =
       let b = bind_ok (step ρ s r) (λ u. run ρ u rs) t e in
-      let p = only_true (is_well r) (move ρ s r) Unexpected b.0 b.1 in
+      let p = only_true (is_well r) (next_state ρ s r) Unexpected b.0 b.1 in
       let q = run_well b.0 t rs b.2 in
       ((p.0, q.0), rw p.1 q.1)
 
@@ -99,7 +99,7 @@ module _ (ρ : Rules) where
   unfolding moves
   leads_nil s = refl
 
-  pub leads_cons : (s t u : State) (r : Rec) (rs : List Rec) → move ρ s r ≡ fine t → moves t rs ≡ fine u → moves s (r ∷ rs) ≡ fine u
+  pub leads_cons : (s t u : State) (r : Rec) (rs : List Rec) → next_state ρ s r ≡ fine t → moves t rs ≡ fine u → moves s (r ∷ rs) ≡ fine u
   unfolding moves
   leads_cons s t u r rs h k = rw h k
 

@@ -12,7 +12,7 @@ use Rattle.gds_grammar.specs.Forms.{among, is_well}
 use Rattle.gds_grammar.specs.Values.{Shape, Cell, Contents}
 use Rattle.gds_grammar.specs.Elements.{opening, may_stand, kinds_in, is_whole, are_points, is_closed, has_string, shapes_in}
 use Rattle.gds_grammar.specs.Grammar.{Rules, has_name, no_rules, points_alone, points_and_closing, all_rules, library_kinds, IsLibrary, IsViable}
-use Rattle.gds_grammar.specs.Machine.{State, Start, Headed, Dated, Titled, Between, Opened, Named, Within, Body, Unlettered, Tail, Paired, Done, fine, refuse, expect, with_cell, behind_xy, opened, within, at_xy, move, step, ◌>>=◌, run}
+use Rattle.gds_grammar.specs.Machine.{State, Start, Headed, Dated, Titled, Between, Opened, Named, Within, Body, Unlettered, Tail, Paired, Done, fine, refuse, expect, with_cell, behind_xy, opened, within, at_xy, next_state, step, ◌>>=◌, run}
 use Rattle.gds_grammar.specs.Laws.{IsWhy, RefusedAtTheFirst}
 use Rattle.gds_grammar.proofs.Runs.{fine_is, not_fine, chosen, only_true, only_false, expect_ok, bind_ok, run_append, run_one, run_refused}
 use Rattle.gds_grammar.proofs.Back.{run_is_library, library_runs}
@@ -43,8 +43,8 @@ module _ (ρ : Rules) where
   few_behind true l n sh = refl
   few_behind false l n sh = refl
 
-  few_more : (s t : State) (r : Rec) → move ρ s r ≡ fine t → few t ≤ suc (few s)
-  unfolding move
+  few_more : (s t : State) (r : Rec) → next_state ρ s r ≡ fine t → few t ≤ suc (few s)
+  unfolding next_state
   few_more Start t r e = few_expected kinds.HEADER r Headed t 1 e (omega arith)
   few_more Headed t r e = few_expected kinds.BGNLIB r (Dated r.body) t 1 e (omega arith)
   few_more (Dated dates) t r e =
@@ -98,7 +98,7 @@ module _ (ρ : Rules) where
   few_after s t [] e = few_at s t (few s + 0) e (omega arith)
   few_after s t (r ∷ rs) e =
       let b = bind_ok (step ρ s r) (λ u. run ρ u rs) t e in
-      let p = only_true (is_well r) (move ρ s r) Unexpected b.0 b.1 in
+      let p = only_true (is_well r) (next_state ρ s r) Unexpected b.0 b.1 in
       let here = few_more s b.0 r p.1 in
       let later = few_after b.0 t rs b.2 in
       omega (arith, here, later)
@@ -129,8 +129,8 @@ record IsLooser (σ ρ : Rules) : Type 0 where
   taken : (cells : List Cell) (n : List ℕ) → ρ.taken cells n ≡ false → σ.taken cells n ≡ false
 
 module _ (σ ρ : Rules) (looser : IsLooser σ ρ) where
-  move_looser : (s t : State) (r : Rec) → move ρ s r ≡ fine t → move σ s r ≡ fine t
-  unfolding move
+  move_looser : (s t : State) (r : Rec) → next_state ρ s r ≡ fine t → next_state σ s r ≡ fine t
+  unfolding next_state
   move_looser Start t r e = e
   move_looser Headed t r e = e
   move_looser (Dated dates) t r e = e
@@ -163,7 +163,7 @@ module _ (σ ρ : Rules) (looser : IsLooser σ ρ) where
   run_looser s t [] e = e
   run_looser s t (r ∷ rs) e =
       let b = bind_ok (step ρ s r) (λ u. run ρ u rs) t e in
-      let p = only_true (is_well r) (move ρ s r) Unexpected b.0 b.1 in
+      let p = only_true (is_well r) (next_state ρ s r) Unexpected b.0 b.1 in
       rw (p.0, move_looser s b.0 r p.1) (run_looser b.0 t rs b.2)
 
 none_looser : IsLooser no_rules all_rules
@@ -195,35 +195,35 @@ expect_err kind r s e h =
     elim (chosen (eqb r.kind kind) (fine s) (refuse Unexpected) (refuse e) h) [ inl p ↦ not_refused s e p.1 | inr p ↦ refusal_is Unexpected e p.1 ]
 
 -- where no rule is asked, only Unexpected comes
-plain : (s : State) (r : Rec) (e : Refusal) → ((ρ : Rules) → move ρ s r ≡ move all_rules s r) → Unexpected ≡ e → move all_rules s r ≡ refuse e → WhyAt (λ ρ. move ρ s r) e
-plain s r e same is h = subst (λ d. move all_rules s r ≡ refuse d → WhyAt (λ ρ. move ρ s r) d) is (λ k. same no_rules ∙ k) h
+plain : (s : State) (r : Rec) (e : Refusal) → ((ρ : Rules) → next_state ρ s r ≡ next_state all_rules s r) → Unexpected ≡ e → next_state all_rules s r ≡ refuse e → WhyAt (λ ρ. next_state ρ s r) e
+plain s r e same is h = subst (λ d. next_state all_rules s r ≡ refuse d → WhyAt (λ ρ. next_state ρ s r) d) is (λ k. same no_rules ∙ k) h
 
 opened_err : (l : Contents) (n : List ℕ) (sh : List Shape) (r : Rec) (o : Option ElementKind) (e : Refusal) → opened l n sh r o ≡ refuse e → Unexpected ≡ e
 opened_err l n sh r (Some o) e h = not_refused (Body l n sh o []) e h
 opened_err l n sh r None e h = expect_err kinds.ENDSTR r (Between (with_cell l n sh)) e h
 
 -- the name is taken, or the record is no STRNAME
-why_opened : (l : Contents) (r : Rec) (e : Refusal) → move all_rules (Opened l) r ≡ refuse e → WhyAt (λ ρ. move ρ (Opened l) r) e
-unfolding move
+why_opened : (l : Contents) (r : Rec) (e : Refusal) → next_state all_rules (Opened l) r ≡ refuse e → WhyAt (λ ρ. next_state ρ (Opened l) r) e
+unfolding next_state
 why_opened l r e h =
     let named : State = Named l (trimmed r.body) in
     elim (chosen (eqb r.kind kinds.STRNAME) (cond (has_name l.cells (trimmed r.body)) (refuse DuplicateCell) (fine named)) (refuse Unexpected) (refuse e) h) [
       | inl p ↦ elim (chosen (has_name l.cells (trimmed r.body)) (refuse DuplicateCell) (fine named) (refuse e) p.1) [
           | inl q ↦
-              let shown : WhyAt (λ ρ. move ρ (Opened l) r) DuplicateCell = (named, rw p.0 refl, rw (p.0, q.0) refl) in
-              subst (WhyAt (λ ρ. move ρ (Opened l) r)) (refusal_is DuplicateCell e q.1) shown
+              let shown : WhyAt (λ ρ. next_state ρ (Opened l) r) DuplicateCell = (named, rw p.0 refl, rw (p.0, q.0) refl) in
+              subst (WhyAt (λ ρ. next_state ρ (Opened l) r)) (refusal_is DuplicateCell e q.1) shown
           | inr q ↦ not_refused named e q.1
         ]
       | inr p ↦
-          let shown : WhyAt (λ ρ. move ρ (Opened l) r) Unexpected = rw p.0 refl in
-          subst (WhyAt (λ ρ. move ρ (Opened l) r)) (refusal_is Unexpected e p.1) shown
+          let shown : WhyAt (λ ρ. next_state ρ (Opened l) r) Unexpected = rw p.0 refl in
+          subst (WhyAt (λ ρ. next_state ρ (Opened l) r)) (refusal_is Unexpected e p.1) shown
     ]
 
 why_body : (l : Contents) (n : List ℕ) (sh : List Shape) (o : ElementKind) (before : List Rec) (r : Rec) (e : Refusal)
-    → move all_rules (Body l n sh o before) r ≡ refuse e → WhyAt (λ ρ. move ρ (Body l n sh o before) r) e
-unfolding move
+    → next_state all_rules (Body l n sh o before) r ≡ refuse e → WhyAt (λ ρ. next_state ρ (Body l n sh o before) r) e
+unfolding next_state
 why_body l n sh o before r e h =
-    let f : Rules → Result State Refusal = λ ρ. move ρ (Body l n sh o before) r in
+    let f : Rules → Result State Refusal = λ ρ. next_state ρ (Body l n sh o before) r in
     let next : State = behind_xy (has_string o) l n (sh ++ shapes_in o before r.body) in
     let more : State = Body l n sh o (before ++ r ∷ []) in
     elim (chosen (eqb r.kind kinds.XY) (at_xy all_rules l n sh o before r.body) (cond (may_stand o (kinds_in before) r.kind) (fine more) (refuse Unexpected)) (refuse e) h) [
@@ -232,27 +232,27 @@ why_body l n sh o before r e h =
               | inl k ↦ elim (chosen (is_closed o r.body) (fine next) (refuse NotClosed) (refuse e) k.1) [
                   | inl m ↦ not_refused next e m.1
                   | inr m ↦
-                      let shown : WhyAt (λ ρ. move ρ (Body l n sh o before) r) NotClosed = (next, rw (p.0, q.0, k.0) refl, rw (p.0, q.0, k.0, m.0) refl) in
-                      subst (WhyAt (λ ρ. move ρ (Body l n sh o before) r)) (refusal_is NotClosed e m.1) shown
+                      let shown : WhyAt (λ ρ. next_state ρ (Body l n sh o before) r) NotClosed = (next, rw (p.0, q.0, k.0) refl, rw (p.0, q.0, k.0, m.0) refl) in
+                      subst (WhyAt (λ ρ. next_state ρ (Body l n sh o before) r)) (refusal_is NotClosed e m.1) shown
                 ]
               | inr k ↦
-                  let shown : WhyAt (λ ρ. move ρ (Body l n sh o before) r) BadXY = (next, rw (p.0, q.0) refl, rw (p.0, q.0, k.0) refl) in
-                  subst (WhyAt (λ ρ. move ρ (Body l n sh o before) r)) (refusal_is BadXY e k.1) shown
+                  let shown : WhyAt (λ ρ. next_state ρ (Body l n sh o before) r) BadXY = (next, rw (p.0, q.0) refl, rw (p.0, q.0, k.0) refl) in
+                  subst (WhyAt (λ ρ. next_state ρ (Body l n sh o before) r)) (refusal_is BadXY e k.1) shown
             ]
           | inr q ↦
-              let shown : WhyAt (λ ρ. move ρ (Body l n sh o before) r) Unexpected = rw (p.0, q.0) refl in
-              subst (WhyAt (λ ρ. move ρ (Body l n sh o before) r)) (refusal_is Unexpected e q.1) shown
+              let shown : WhyAt (λ ρ. next_state ρ (Body l n sh o before) r) Unexpected = rw (p.0, q.0) refl in
+              subst (WhyAt (λ ρ. next_state ρ (Body l n sh o before) r)) (refusal_is Unexpected e q.1) shown
         ]
       | inr p ↦ elim (chosen (may_stand o (kinds_in before) r.kind) (fine more) (refuse Unexpected) (refuse e) p.1) [
           | inl q ↦ not_refused more e q.1
           | inr q ↦
-              let shown : WhyAt (λ ρ. move ρ (Body l n sh o before) r) Unexpected = rw (p.0, q.0) refl in
-              subst (WhyAt (λ ρ. move ρ (Body l n sh o before) r)) (refusal_is Unexpected e q.1) shown
+              let shown : WhyAt (λ ρ. next_state ρ (Body l n sh o before) r) Unexpected = rw (p.0, q.0) refl in
+              subst (WhyAt (λ ρ. next_state ρ (Body l n sh o before) r)) (refusal_is Unexpected e q.1) shown
         ]
     ]
 
-why_move : (s : State) (r : Rec) (e : Refusal) → move all_rules s r ≡ refuse e → WhyAt (λ ρ. move ρ s r) e
-unfolding move
+why_move : (s : State) (r : Rec) (e : Refusal) → next_state all_rules s r ≡ refuse e → WhyAt (λ ρ. next_state ρ s r) e
+unfolding next_state
 why_move Start r e h = plain Start r e (λ ρ. refl) (expect_err kinds.HEADER r Headed e h) h
 why_move Headed r e h = plain Headed r e (λ ρ. refl) (expect_err kinds.BGNLIB r (Dated r.body) e h) h
 why_move (Dated dates) r e h =
@@ -288,10 +288,10 @@ why_move (Tail l n sh) r e h =
 why_move (Paired l n sh) r e h = plain (Paired l n sh) r e (λ ρ. refl) (expect_err kinds.PROPVALUE r (Tail l n sh) e h) h
 why_move (Done l) r e h = plain (Done l) r e (λ ρ. refl) (refusal_is Unexpected e h) h
 
-step_well : (ρ : Rules) (s : State) (r : Rec) → is_well r ≡ true → step ρ s r ≡ move ρ s r
+step_well : (ρ : Rules) (s : State) (r : Rec) → is_well r ≡ true → step ρ s r ≡ next_state ρ s r
 step_well ρ s r h = rw h refl
 
-why_well : (s : State) (r : Rec) (e : Refusal) → is_well r ≡ true → WhyAt (λ ρ. move ρ s r) e → WhyAt (λ ρ. step ρ s r) e
+why_well : (s : State) (r : Rec) (e : Refusal) → is_well r ≡ true → WhyAt (λ ρ. next_state ρ s r) e → WhyAt (λ ρ. step ρ s r) e
 why_well s r Unexpected w h = step_well no_rules s r w ∙ h
 why_well s r BadXY w h = (h.0, step_well no_rules s r w ∙ h.1, step_well points_alone s r w ∙ h.2)
 why_well s r NotClosed w h = (h.0, step_well points_alone s r w ∙ h.1, step_well points_and_closing s r w ∙ h.2)
@@ -299,7 +299,7 @@ why_well s r DuplicateCell w h = (h.0, step_well points_and_closing s r w ∙ h.
 
 why_step : (s : State) (r : Rec) (e : Refusal) → step all_rules s r ≡ refuse e → WhyAt (λ ρ. step ρ s r) e
 why_step s r e h =
-    elim (chosen (is_well r) (move all_rules s r) (refuse Unexpected) (refuse e) h) [
+    elim (chosen (is_well r) (next_state all_rules s r) (refuse Unexpected) (refuse e) h) [
       | inl p ↦ why_well s r e p.0 (why_move s r e p.1)
       | inr p ↦
           let shown : WhyAt (λ ρ. step ρ s r) Unexpected = rw p.0 refl in

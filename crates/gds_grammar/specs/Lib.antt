@@ -4,3 +4,4 @@ pub mod Elements
 pub mod Grammar
 pub mod Machine
 pub mod Laws
+pub mod Reading

@@ -70,27 +70,27 @@ at_xy ρ l name shapes element before xy =
     (refuse Unexpected)
 
 -- where a well-formed record leads
-unfoldable pub move : Rules → State → Rec → Result State Refusal
-move ρ Start r = expect kinds.HEADER r Headed
-move ρ Headed r = expect kinds.BGNLIB r (Dated r.body)
-move ρ (Dated dates) r = cond (r.kind == kinds.LIBNAME) (fine (Titled dates)) (cond (among library_kinds r.kind) (fine (Dated dates)) (refuse Unexpected))
-move ρ (Titled dates) r =
+unfoldable pub next_state : Rules → State → Rec → Result State Refusal
+next_state ρ Start r = expect kinds.HEADER r Headed
+next_state ρ Headed r = expect kinds.BGNLIB r (Dated r.body)
+next_state ρ (Dated dates) r = cond (r.kind == kinds.LIBNAME) (fine (Titled dates)) (cond (among library_kinds r.kind) (fine (Dated dates)) (refuse Unexpected))
+next_state ρ (Titled dates) r =
   cond (among library_kinds r.kind) (fine (Titled dates)) (expect kinds.UNITS r (Between (record { dates = dates; units = r.body; cells = [] })))
-move ρ (Between l) r = cond (r.kind == kinds.BGNSTR) (fine (Opened l)) (expect kinds.ENDLIB r (Done l))
-move ρ (Opened l) r = cond (r.kind == kinds.STRNAME) (cond (ρ.taken l.cells (trimmed r.body)) (refuse DuplicateCell) (fine (Named l (trimmed r.body)))) (refuse Unexpected)
-move ρ (Named l name) r = cond (r.kind == kinds.STRCLASS) (fine (Within l name [])) (within l name [] r)
-move ρ (Within l name shapes) r = within l name shapes r
-move ρ (Body l name shapes element before) r =
+next_state ρ (Between l) r = cond (r.kind == kinds.BGNSTR) (fine (Opened l)) (expect kinds.ENDLIB r (Done l))
+next_state ρ (Opened l) r = cond (r.kind == kinds.STRNAME) (cond (ρ.taken l.cells (trimmed r.body)) (refuse DuplicateCell) (fine (Named l (trimmed r.body)))) (refuse Unexpected)
+next_state ρ (Named l name) r = cond (r.kind == kinds.STRCLASS) (fine (Within l name [])) (within l name [] r)
+next_state ρ (Within l name shapes) r = within l name shapes r
+next_state ρ (Body l name shapes element before) r =
   cond (r.kind == kinds.XY) (at_xy ρ l name shapes element before r.body)
     (cond (may_stand element (kinds_in before) r.kind) (fine (Body l name shapes element (before ++ r ∷ []))) (refuse Unexpected))
-move ρ (Unlettered l name shapes) r = expect kinds.STRING r (Tail l name shapes)
-move ρ (Tail l name shapes) r = cond (r.kind == kinds.PROPATTR) (fine (Paired l name shapes)) (expect kinds.ENDEL r (Within l name shapes))
-move ρ (Paired l name shapes) r = expect kinds.PROPVALUE r (Tail l name shapes)
-move ρ (Done l) r = refuse Unexpected
+next_state ρ (Unlettered l name shapes) r = expect kinds.STRING r (Tail l name shapes)
+next_state ρ (Tail l name shapes) r = cond (r.kind == kinds.PROPATTR) (fine (Paired l name shapes)) (expect kinds.ENDEL r (Within l name shapes))
+next_state ρ (Paired l name shapes) r = expect kinds.PROPVALUE r (Tail l name shapes)
+next_state ρ (Done l) r = refuse Unexpected
 
 -- where a record leads
 abbrev pub step : Rules → State → Rec → Result State Refusal
-step ρ s r = cond (is_well r) (move ρ s r) (refuse Unexpected)
+step ρ s r = cond (is_well r) (next_state ρ s r) (refuse Unexpected)
 
 infixl 10 ◌>>=◌
 abbrev pub ◌>>=◌ : {A B E : Type 0} → Result A E → (A → Result B E) → Result B E

@@ -1,6 +1,6 @@
 //! The kinds of elements.
 
-/// The kinds of elements that a structure holds. Texts, nodes and boxes carry no metal, and are read over.
+/// What an element is. Texts, nodes and boxes carry no metal, and are read over.
 #[derive(Clone, Copy, Debug, PartialEq, Eq)]
 pub enum ElementKind {
     Boundary,
