@@ -63,7 +63,7 @@ module _ (ρ : Rules) where
   unfolding next_state
   move_string l n sh r e = expected kinds.STRING r (Tail l n sh) e
 
-  move_attribute : (l : Contents) (n : List ℕ) (sh : List Shape) (r : Rec) → r.kind ≡ kinds.PROPATTR → next_state ρ (Tail l n sh) r ≡ fine (Paired l n sh)
+  pub move_attribute : (l : Contents) (n : List ℕ) (sh : List Shape) (r : Rec) → r.kind ≡ kinds.PROPATTR → next_state ρ (Tail l n sh) r ≡ fine (Paired l n sh)
   unfolding next_state
   move_attribute l n sh r e = rw (eq-eqb r.kind kinds.PROPATTR e) refl
 
@@ -71,7 +71,7 @@ module _ (ρ : Rules) where
   unfolding next_state
   move_value l n sh r e = expected kinds.PROPVALUE r (Tail l n sh) e
 
-  move_endel : (l : Contents) (n : List ℕ) (sh : List Shape) (r : Rec) → r.kind ≡ kinds.ENDEL → next_state ρ (Tail l n sh) r ≡ fine (Within l n sh)
+  pub move_endel : (l : Contents) (n : List ℕ) (sh : List Shape) (r : Rec) → r.kind ≡ kinds.ENDEL → next_state ρ (Tail l n sh) r ≡ fine (Within l n sh)
   unfolding next_state
   move_endel l n sh r e = rw (ap (λ k. eqb k kinds.PROPATTR) e) (expected kinds.ENDEL r (Within l n sh) e)
 
@@ -108,7 +108,7 @@ module _ (ρ : Rules) where
       let kinds_are : kinds_in (seen ++ r ∷ []) ≡ kinds_in seen ++ r.kind ∷ [] = map_push (λ r. r.kind) seen r in
       let rest = before_leads l n sh o (seen ++ r ∷ []) rs (subst (λ ks. MayStand o ks rs) (sym kinds_are) h.1) in
       leads_cons ρ (Body l n sh o seen) (Body l n sh o (seen ++ r ∷ [])) (Body l n sh o (seen ++ r ∷ rs)) r rs
-        (move_before l n sh o seen r h.0) (rest ∙ ap (λ b. fine (Body l n sh o b)) (append_assoc seen (r ∷ []) rs))
+      (move_before l n sh o seen r h.0) (rest ∙ ap (λ b. fine (Body l n sh o b)) (append_assoc seen (r ∷ []) rs))
 
   strings_lead : (b : Bool) (l : Contents) (n : List ℕ) (sh : List Shape) (rs : List Rec) → AreStrings b rs → moves ρ (behind_xy b l n sh) rs ≡ fine (Tail l n sh)
   strings_lead true l n sh [] h = absurd h
@@ -121,7 +121,7 @@ module _ (ρ : Rules) where
   properties_lead l n sh [] h = leads_nil ρ (Tail l n sh)
   properties_lead l n sh (p ∷ ps) h =
       leads_cons ρ (Tail l n sh) (Paired l n sh) (Tail l n sh) p.0 (p.1 ∷ flat_map property_records ps) (move_attribute l n sh p.0 h.0.0)
-        (leads_cons ρ (Paired l n sh) (Tail l n sh) (Tail l n sh) p.1 (flat_map property_records ps) (move_value l n sh p.1 h.0.1) (properties_lead l n sh ps h.1))
+      (leads_cons ρ (Paired l n sh) (Tail l n sh) (Tail l n sh) p.1 (flat_map property_records ps) (move_value l n sh p.1 h.0.1) (properties_lead l n sh ps h.1))
 
   element_leads : (l : Contents) (n : List ℕ) (sh : List Shape) (e : ElementPart) → IsElement ρ e
       → moves ρ (Within l n sh) (element_records e) ≡ fine (Within l n (sh ++ element_shapes e))
@@ -130,7 +130,7 @@ module _ (ρ : Rules) where
       let last = leads_cons ρ (Tail l n sh') (Within l n sh') (Within l n sh') e.stop [] (move_endel l n sh' e.stop h.stop) (leads_nil ρ (Within l n sh')) in
       let tail = leads_append ρ (Tail l n sh') (Tail l n sh') (Within l n sh') (flat_map property_records e.properties) (e.stop ∷ []) (properties_lead l n sh' e.properties h.properties) last in
       let behind = leads_append ρ (behind_xy (has_string e.element) l n sh') (Tail l n sh') (Within l n sh') e.strings (flat_map property_records e.properties ++ e.stop ∷ [])
-                     (strings_lead (has_string e.element) l n sh' e.strings h.strings) tail in
+      (strings_lead (has_string e.element) l n sh' e.strings h.strings) tail in
       let at = leads_cons ρ (Body l n sh e.element e.before) _ _ e.xy _ (move_xy l n sh e.element e.before e.xy h.xy h.whole h.points h.closed) behind in
       let body = leads_append ρ (Body l n sh e.element []) (Body l n sh e.element e.before) (Within l n sh') e.before _ (before_leads l n sh e.element [] e.before h.stand) at in
       leads_cons ρ (Within l n sh) (Body l n sh e.element []) (Within l n sh') e.start _ (move_opens l n sh e.start e.element h.opens) body

@@ -189,14 +189,15 @@ module _ (ρ : Rules) where
             let c : CellPart = record { start = r; name = o.name; class = n.class; elements = w.elements; stop = w.stop } in
             let shapes = flat_map element_shapes w.elements in
             let whole : xs ≡ o.name ∷ (n.class ++ (flat_map element_records w.elements ++ w.stop ∷ (flat_map cell_records b.cells ++ b.stop ∷ []))) =
-              o.parts ∙ ap (λ ys. o.name ∷ ys) (n.parts ∙ ap (λ ys. n.class ++ ys) (w.parts ∙ ap (λ ys. flat_map element_records w.elements ++ w.stop ∷ ys) b.parts)) in
+            o.parts ∙ ap (λ ys. o.name ∷ ys) (n.parts ∙ ap (λ ys. n.class ++ ys) (w.parts ∙ ap (λ ys. flat_map element_records w.elements ++ w.stop ∷ ys) b.parts)) in
             let tail : List Rec = flat_map cell_records b.cells ++ b.stop ∷ [] in
             let inside : List Rec = flat_map element_records w.elements ++ w.stop ∷ [] in
             let grouped : n.class ++ (flat_map element_records w.elements ++ w.stop ∷ tail) ≡ (n.class ++ inside) ++ tail =
-              ap (λ ys. n.class ++ ys) (sym (append_assoc (flat_map element_records w.elements) (w.stop ∷ []) tail)) ∙ sym (append_assoc n.class inside tail) in
+            ap (λ ys. n.class ++ ys) (sym (append_assoc (flat_map element_records w.elements) (w.stop ∷ []) tail)) ∙ sym (append_assoc n.class inside tail) in
             let regrouped : cell_records c ++ tail ≡ (cell_records c ++ flat_map cell_records b.cells) ++ b.stop ∷ [] = sym (append_assoc (cell_records c) (flat_map cell_records b.cells) (b.stop ∷ [])) in
             record {
-              cells = c ∷ b.cells; stop = b.stop;
+              cells = c ∷ b.cells;
+              stop = b.stop;
               parts = ap (λ ys. r ∷ ys) (whole ∙ ap (λ ys. o.name ∷ ys) grouped) ∙ regrouped;
               each = (record { start = eqb-true r.kind kinds.BGNSTR p.0; name = o.kind; class = n.one; elements = w.each; stop = w.stops }, o.fresh, b.each);
               stops = b.stops;
@@ -206,7 +207,11 @@ module _ (ρ : Rules) where
             let q = expect_ok kinds.ENDLIB r (Done l) t p.1 in
             let d : DoneLeft l xs v = at (Done l) t xs v q.1 h in
             record {
-              cells = []; stop = r; parts = ap (λ ys. r ∷ ys) d.none; each = tt; stops = q.0;
+              cells = [];
+              stop = r;
+              parts = ap (λ ys. r ∷ ys) d.none;
+              each = tt;
+              stops = q.0;
               is = d.is ∙ ap (λ cells. record { dates = l.dates; units = l.units; cells = cells }) (sym (append-nil l.cells));
             }
       ]
@@ -233,7 +238,9 @@ module _ (ρ : Rules) where
       let e3 : b.rest ≡ (s.strings ++ end) ++ tail = s.parts ∙ ap (λ ys. s.strings ++ ys) e2 ∙ sym (append_assoc s.strings end tail) in
       let e4 : xs ≡ (b.more ++ b.xy ∷ (s.strings ++ end)) ++ tail = b.parts ∙ ap (λ ys. b.more ++ b.xy ∷ ys) e3 ∙ sym (append_assoc b.more (b.xy ∷ (s.strings ++ end)) tail) in
       record {
-        elements = part ∷ w.elements; stop = w.stop; rest = w.rest;
+        elements = part ∷ w.elements;
+        stop = w.stop;
+        rest = w.rest;
         parts = ap (λ ys. r ∷ ys) e4 ∙ sym (append_assoc (element_records part) (flat_map element_records w.elements) (w.stop ∷ w.rest));
         each = (record { opens = is; stand = b.stand; whole = b.whole; xy = b.kind; points = b.points; closed = b.closed; strings = s.are; properties = k.each; stop = k.stops }, w.each);
         stops = w.stops;
@@ -243,7 +250,12 @@ module _ (ρ : Rules) where
       let q = expect_ok kinds.ENDSTR r (Between (with_cell l n sh)) t e in
       let d : BetweenLeft (with_cell l n sh) xs v = at (Between (with_cell l n sh)) t xs v q.1 h in
       record {
-        elements = []; stop = r; rest = xs; parts = refl; each = tt; stops = q.0;
+        elements = [];
+        stop = r;
+        rest = xs;
+        parts = refl;
+        each = tt;
+        stops = q.0;
         left = subst (λ shapes. BetweenLeft (with_cell l n shapes) xs v) (sym (append-nil sh)) d;
       }
 
@@ -278,9 +290,15 @@ module _ (ρ : Rules) where
             let d : Left next xs v = at next t xs v (fine_is _ _ m.1) h in
             let same : before ++ [] ≡ before = append-nil before in
             record {
-              more = []; xy = r; rest = xs; parts = refl; stand = tt;
+              more = [];
+              xy = r;
+              rest = xs;
+              parts = refl;
+              stand = tt;
               whole = ap (λ b. is_whole o (kinds_in b)) same ∙ q.0;
-              kind = eqb-true r.kind kinds.XY p.0; points = k.0; closed = m.0;
+              kind = eqb-true r.kind kinds.XY p.0;
+              points = k.0;
+              closed = m.0;
               left = subst (λ b. BehindLeft (has_string o) l n (sh ++ shapes_in o b r.body) xs v) (sym same) (behind (has_string o) l n (sh ++ shapes_in o before r.body) xs v d);
             }
         | inr p ↦
@@ -289,10 +307,15 @@ module _ (ρ : Rules) where
             let kinds_are : kinds_in (before ++ r ∷ []) ≡ kinds_in before ++ r.kind ∷ [] = map_push (λ r. r.kind) before r in
             let grouped : (before ++ r ∷ []) ++ d.more ≡ before ++ r ∷ d.more = append_assoc before (r ∷ []) d.more in
             record {
-              more = r ∷ d.more; xy = d.xy; rest = d.rest; parts = ap (λ ys. r ∷ ys) d.parts;
+              more = r ∷ d.more;
+              xy = d.xy;
+              rest = d.rest;
+              parts = ap (λ ys. r ∷ ys) d.parts;
               stand = (q.0, subst (λ ks. MayStand o ks d.more) kinds_are d.stand);
               whole = ap (λ b. is_whole o (kinds_in b)) (sym grouped) ∙ d.whole;
-              kind = d.kind; points = d.points; closed = d.closed;
+              kind = d.kind;
+              points = d.points;
+              closed = d.closed;
               left = subst (λ b. BehindLeft (has_string o) l n (sh ++ shapes_in o b d.xy.body) d.rest v) grouped d.left;
             }
       ]
@@ -305,9 +328,13 @@ module _ (ρ : Rules) where
             let d : PairedLeft l n sh xs v = at (Paired l n sh) t xs v (fine_is _ _ p.1) h in
             let k = d.left in
             record {
-              properties = (r, d.value) ∷ k.properties; stop = k.stop; rest = k.rest;
+              properties = (r, d.value) ∷ k.properties;
+              stop = k.stop;
+              rest = k.rest;
               parts = ap (λ ys. r ∷ ys) (d.parts ∙ ap (λ ys. d.value ∷ ys) k.parts);
-              each = ((eqb-true r.kind kinds.PROPATTR p.0, d.kind), k.each); stops = k.stops; left = k.left;
+              each = ((eqb-true r.kind kinds.PROPATTR p.0, d.kind), k.each);
+              stops = k.stops;
+              left = k.left;
             }
         | inr p ↦
             let q = expect_ok kinds.ENDEL r (Within l n sh) t p.1 in

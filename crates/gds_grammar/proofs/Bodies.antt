@@ -91,9 +91,9 @@ all_points xs e =
     let two : length (drop 8 xs) ≡ 16 = omega (arith, length-drop 8 xs) in
     let one : length (drop 8 (drop 8 xs)) ≡ 8 = omega (arith, length-drop 8 (drop 8 xs)) in
     points_front xs (omega arith) ∙ ap (λ ps. point_of (take 8 xs) ∷ ps) (points_front (drop 8 xs) (omega arith)
-      ∙ ap (λ ps. point_of (take 8 (drop 8 xs)) ∷ ps) (last_one (drop 8 (drop 8 xs)) one)) where
-  last_one : (ys : List ℕ) → length ys ≡ 8 → points_of ys ≡ point_of ys ∷ []
-  last_one ys h = points_front ys (omega arith) ∙ rw (take_all 8 ys (omega arith), drop_all 8 ys (omega arith)) refl
+    ∙ ap (λ ps. point_of (take 8 (drop 8 xs)) ∷ ps) (last_one (drop 8 (drop 8 xs)) one)) where
+      last_one : (ys : List ℕ) → length ys ≡ 8 → points_of ys ≡ point_of ys ∷ []
+      last_one ys h = points_front ys (omega arith) ∙ rw (take_all 8 ys (omega arith), drop_all 8 ys (omega arith)) refl
 
 -- ---- a ring
 

@@ -292,7 +292,7 @@ module _ (ρ : Rules) (AreFew : List Cell → Type 0) (good : TakesBlank ρ AreF
   unfolding next_state
   put_xy l n sh o before whole =
       after_move (Body l n sh o before) (behind_xy (has_string o) l n (sh ++ shapes_in o before (blank_points o))) _ kinds.XY (blank_xy o) (rw (whole, good.points o, good.closed o) refl)
-        (ends_behind (has_string o) l n (sh ++ shapes_in o before (blank_points o)))
+      (ends_behind (has_string o) l n (sh ++ shapes_in o before (blank_points o)))
 
   put_before : (l : Contents) (n : List ℕ) (sh : List Shape) (o : ElementKind) (before : List Rec) (r : Rec) → may_stand o (kinds_in before) r.kind ≡ true
       → next_state ρ (Body l n sh o before) r ≡ fine (Body l n sh o (before ++ r ∷ []))
@@ -308,6 +308,7 @@ module _ (ρ : Rules) (AreFew : List Cell → Type 0) (good : TakesBlank ρ AreF
     stays_among : (first extra : List Rec) → among (kinds_in first) k ≡ true → among (kinds_in (first ++ extra)) k ≡ true
     stays_among first extra h =
         ap (λ ks. among ks k) (map-append (λ r. r.kind) first extra) ∙ list_any-append (λ j. eqb j k) (kinds_in first) (kinds_in extra) ∙ rw h refl
+
     cases : (b : Bool) → among (kinds_in before) k ≡ b
         → ((first : List Rec) → ((extra : List Rec) → list_all (λ j. among (kinds_in (first ++ extra)) j) ks ≡ true → CanEnd ρ (Body l n sh o (first ++ extra))) → CanEnd ρ (Body l n sh o first))
         → CanEnd ρ (Body l n sh o before)
@@ -316,14 +317,14 @@ module _ (ρ : Rules) (AreFew : List Cell → Type 0) (good : TakesBlank ρ AreF
         let put = can.0 in
         let r = put.filler in
         let here : among (kinds_in (before ++ r ∷ [])) k ≡ true =
-          ap (λ ks. among ks k) (map_push (λ r. r.kind) before r) ∙ list_any-append (λ j. eqb j k) (kinds_in before) (r.kind ∷ []) ∙ rw (h, eq-eqb r.kind k put.blank.kind_is) refl in
+        ap (λ ks. among ks k) (map_push (λ r. r.kind) before r) ∙ list_any-append (λ j. eqb j k) (kinds_in before) (r.kind ∷ []) ∙ rw (h, eq-eqb r.kind k put.blank.kind_is) refl in
         let stands : may_stand o (kinds_in before) r.kind ≡ true = subst (λ j. may_stand o (kinds_in before) j ≡ true) (sym put.blank.kind_is) (put.stands (kinds_in before) h) in
         after_move (Body l n sh o before) (Body l n sh o (before ++ r ∷ [])) r k put.blank (put_before l n sh o before r stands)
-          (again (before ++ r ∷ []) (λ extra whole.
-            let grouped : (before ++ r ∷ []) ++ extra ≡ before ++ r ∷ extra = append_assoc before (r ∷ []) extra in
-            let all : list_all (λ j. among (kinds_in (before ++ r ∷ extra)) j) ks ≡ true = subst (λ b. list_all (λ j. among (kinds_in b) j) ks ≡ true) grouped whole in
-            let first : among (kinds_in (before ++ r ∷ extra)) k ≡ true = subst (λ b. among (kinds_in b) k ≡ true) grouped (stays_among (before ++ r ∷ []) extra here) in
-            subst (λ b. CanEnd ρ (Body l n sh o b)) (sym grouped) (ends (r ∷ extra) (rw first all))))
+        (again (before ++ r ∷ []) (λ extra whole.
+        let grouped : (before ++ r ∷ []) ++ extra ≡ before ++ r ∷ extra = append_assoc before (r ∷ []) extra in
+        let all : list_all (λ j. among (kinds_in (before ++ r ∷ extra)) j) ks ≡ true = subst (λ b. list_all (λ j. among (kinds_in b) j) ks ≡ true) grouped whole in
+        let first : among (kinds_in (before ++ r ∷ extra)) k ≡ true = subst (λ b. among (kinds_in b) k ≡ true) grouped (stays_among (before ++ r ∷ []) extra here) in
+        subst (λ b. CanEnd ρ (Body l n sh o b)) (sym grouped) (ends (r ∷ extra) (rw first all))))
 
   ends_body : (l : Contents) (n : List ℕ) (sh : List Shape) (o : ElementKind) (before : List Rec) → CanEnd ρ (Body l n sh o before)
   ends_body l n sh o before = fill l n sh o (required o) before (can_fill o) (λ extra whole. put_xy l n sh o (before ++ extra) whole)

@@ -25,9 +25,9 @@ search_for f x (suc n) =
     elim (same_or_other (f n) x) [
       | inl e ↦ inl (n, omega arith, e)
       | inr other ↦ elim (search_for f x n) [
-          | inl p ↦ inl (p.0, omega (arith, p.1), p.2)
-          | inr none ↦ inr (λ j lt e. elim (cases_lt j n) [ inl below ↦ none j below e | inr le ↦ let is : j ≡ n = omega arith in other (ap f (sym is) ∙ e) ])
-        ]
+        | inl p ↦ inl (p.0, omega (arith, p.1), p.2)
+        | inr none ↦ inr (λ j lt e. elim (cases_lt j n) [ inl below ↦ none j below e | inr le ↦ let is : j ≡ n = omega arith in other (ap f (sym is) ∙ e) ])
+      ]
     ]
 
 -- all numbers but j

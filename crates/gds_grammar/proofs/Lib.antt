@@ -6,3 +6,5 @@ pub mod Ending
 pub mod Why
 pub mod Paths
 pub mod Bodies
+pub mod Cells
+pub mod Unique

@@ -5,20 +5,21 @@ use Rattle.std.proofs.lemmas.List.{append-nil}
 use Rattle.std.proofs.lemmas.Grind.{flat_map-append}
 use Rattle.gds_record.specs.Records.{Rec, IsRecord, spelling}
 use Rattle.gds_grammar.specs.declared.refusal.Refusal.{Refusal}
-use Rattle.gds_grammar.specs.declared.refusal.Refusal.TheVariants.{Unexpected}
+use Rattle.gds_grammar.specs.declared.refusal.Refusal.TheVariants.{Unexpected, DuplicateCell}
 use Rattle.gds_grammar.specs.Forms.{is_well, IsWell, has_form, has_size, has_name_if_asked}
 use Rattle.gds_grammar.specs.declared.stop.Cause.{Cause}
 use Rattle.gds_grammar.specs.declared.stop.Cause.TheVariants as causes
 use Rattle.gds_grammar.specs.declared.stop.Stop.{Stop}
 use Rattle.gds_grammar.specs.declared.stop.Stop.TheVariants as stops
-use Rattle.gds_grammar.specs.Grammar.{all_rules}
+use Rattle.gds_grammar.specs.Grammar.{all_rules, has_name}
+use Rattle.gds_record.specs.Numbers.{trimmed}
 use Rattle.gds_grammar.specs.Machine.{State, Start, Headed, Dated, Titled, Between, Opened, Named, Within, Body, Unlettered, Tail, Paired, Done, fine, refuse, expect, behind_xy, with_cell, next_state, step, run}
 use Rattle.gds_grammar.specs.declared.element_kind.ElementKind.{ElementKind}
 use Rattle.gds_grammar.specs.Values.{Shape, Contents}
 use Rattle.gds_record.specs.declared.kind.TheConstants as kinds
 use Rattle.std.specs.Prelude.{◌&&◌}
-use Rattle.std.proofs.lemmas.Bool.{eqb-true}
-use Rattle.gds_grammar.specs.Reading.{Reaches, IsNext, IsNextOf, IsOpen, OnlyTakes, FailsAt, FailsLater, Fails, parts_state}
+use Rattle.std.proofs.lemmas.Bool.{eqb-true, eq-eqb}
+use Rattle.gds_grammar.specs.Reading.{Reaches, IsNext, IsNextOf, IsOpen, OnlyTakes, FailsAt, FailsLater, Fails, parts_state, cell_state}
 use Rattle.gds_grammar.proofs.Runs.{apart, expected, run_append, run_one}
 use Rattle.gds_grammar.proofs.Why.{all_append}
 
@@ -44,7 +45,7 @@ pub and_then : (a b c : List ℕ) (s t u : State) → Reaches a s b t → Reache
 and_then a b c s t u h k = record {
   taken = h.taken ++ k.taken;
   parts = h.parts ∙ ap (λ x. flat_map spelling h.taken ++ x) k.parts ∙ sym (append_assoc (flat_map spelling h.taken) (flat_map spelling k.taken) c)
-    ∙ ap (λ x. x ++ c) (sym (flat_map-append spelling h.taken k.taken));
+      ∙ ap (λ x. x ++ c) (sym (flat_map-append spelling h.taken k.taken));
   fit = all_append IsRecord h.taken k.taken h.fit k.fit;
   runs = run_append all_rules s h.taken k.taken ∙ rw h.runs k.runs;
 }
@@ -168,3 +169,49 @@ reach_value bytes body rest l name sh n = reach_expected bytes body rest kinds.P
 
 pub dates_size : (bytes body rest : List ℕ) → IsNextOf bytes kinds.BGNLIB body rest → length body ≡ 24
 dates_size bytes body rest n = ap length (sym n.body_is) ∙ size_24 n.first n.next.well n.kind_is
+
+pub open_cell : (fresh : Bool) (x : Contents) (n : List ℕ) (sh : List Shape) → IsOpen (cell_state fresh x n sh)
+open_cell true x n sh l e = absurd cc
+open_cell false x n sh l e = absurd cc
+
+pub tail_refused : (l : Contents) (n : List ℕ) (sh : List Shape) (r : Rec) → (r.kind ≡ kinds.PROPATTR → ⊥) → (r.kind ≡ kinds.ENDEL → ⊥) → next_state all_rules (Tail l n sh) r ≡ refuse Unexpected
+unfolding next_state
+tail_refused l n sh r a b = rw (apart (λ k. k) r.kind kinds.PROPATTR a, apart (λ k. k) r.kind kinds.ENDEL b) refl
+
+-- what is left is no longer
+pub no_longer : (bytes rest : List ℕ) (s t : State) → Reaches bytes s rest t → length rest ≤ length bytes
+no_longer bytes rest s t h = rw h.parts (omega (arith, length-append (flat_map spelling h.taken) rest))
+
+pub string_none : (b : Bool) (bytes : List ℕ) (l : Contents) (n : List ℕ) (sh : List Shape) → b ≡ false → Reaches bytes (behind_xy b l n sh) bytes (Tail l n sh)
+string_none b bytes l n sh e = subst (λ c. Reaches bytes (behind_xy c l n sh) bytes (Tail l n sh)) (sym e) (stays_put bytes (Tail l n sh))
+
+pub string_read : (b : Bool) (bytes body rest : List ℕ) (l : Contents) (n : List ℕ) (sh : List Shape) → b ≡ true → IsNextOf bytes kinds.STRING body rest → Reaches bytes (behind_xy b l n sh) rest (Tail l n sh)
+string_read b bytes body rest l n sh e h = subst (λ c. Reaches bytes (behind_xy c l n sh) rest (Tail l n sh)) (sym e) (reach_string bytes body rest l n sh h)
+
+pub string_fails : (b : Bool) (bytes : List ℕ) (l : Contents) (n : List ℕ) (sh : List Shape) (stop : Stop) → b ≡ true → Fails bytes (Unlettered l n sh) stop → Fails bytes (behind_xy b l n sh) stop
+string_fails b bytes l n sh stop e h = subst (λ c. Fails bytes (behind_xy c l n sh) stop) (sym e) h
+
+-- ---- structures
+
+reads_name : (l : Contents) (r : Rec) → r.kind ≡ kinds.STRNAME → has_name l.cells (trimmed r.body) ≡ false → next_state all_rules (Opened l) r ≡ fine (Named l (trimmed r.body))
+unfolding next_state
+reads_name l r e fresh = rw (eq-eqb r.kind kinds.STRNAME e, fresh) refl
+
+refuses_name : (l : Contents) (r : Rec) → r.kind ≡ kinds.STRNAME → has_name l.cells (trimmed r.body) ≡ true → next_state all_rules (Opened l) r ≡ refuse DuplicateCell
+unfolding next_state
+refuses_name l r e taken = rw (eq-eqb r.kind kinds.STRNAME e, taken) refl
+
+pub name_fresh : (bytes body rest : List ℕ) (l : Contents) → IsNextOf bytes kinds.STRNAME body rest → has_name l.cells (trimmed body) ≡ false → Reaches bytes (Opened l) rest (Named l (trimmed body))
+name_fresh bytes body rest l n fresh =
+    subst (λ b. Reaches bytes (Opened l) rest (Named l (trimmed b))) n.body_is
+    (takes_one bytes rest n.first (Opened l) (Named l (trimmed n.first.body)) n.next
+    (reads_name l n.first n.kind_is (subst (λ b. has_name l.cells (trimmed b) ≡ false) (sym n.body_is) fresh)))
+
+pub name_taken : (bytes body rest : List ℕ) (l : Contents) → IsNextOf bytes kinds.STRNAME body rest → has_name l.cells (trimmed body) ≡ true → FailsLater bytes (Opened l) (causes.Refused DuplicateCell) (length bytes)
+name_taken bytes body rest l n taken =
+    refused_one bytes rest n.first (Opened l) DuplicateCell (length bytes) n.next (open_opened l) refl
+    (refuses_name l n.first n.kind_is (subst (λ b. has_name l.cells (trimmed b) ≡ true) (sym n.body_is) taken))
+
+pub between_refused : (l : Contents) (r : Rec) → (r.kind ≡ kinds.BGNSTR → ⊥) → (r.kind ≡ kinds.ENDLIB → ⊥) → next_state all_rules (Between l) r ≡ refuse Unexpected
+unfolding next_state
+between_refused l r a b = rw (apart (λ k. k) r.kind kinds.BGNSTR a, apart (λ k. k) r.kind kinds.ENDLIB b) refl

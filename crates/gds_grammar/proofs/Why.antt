@@ -209,11 +209,11 @@ why_opened l r e h =
     let named : State = Named l (trimmed r.body) in
     elim (chosen (eqb r.kind kinds.STRNAME) (cond (has_name l.cells (trimmed r.body)) (refuse DuplicateCell) (fine named)) (refuse Unexpected) (refuse e) h) [
       | inl p ↦ elim (chosen (has_name l.cells (trimmed r.body)) (refuse DuplicateCell) (fine named) (refuse e) p.1) [
-          | inl q ↦
-              let shown : WhyAt (λ ρ. next_state ρ (Opened l) r) DuplicateCell = (named, rw p.0 refl, rw (p.0, q.0) refl) in
-              subst (WhyAt (λ ρ. next_state ρ (Opened l) r)) (refusal_is DuplicateCell e q.1) shown
-          | inr q ↦ not_refused named e q.1
-        ]
+        | inl q ↦
+            let shown : WhyAt (λ ρ. next_state ρ (Opened l) r) DuplicateCell = (named, rw p.0 refl, rw (p.0, q.0) refl) in
+            subst (WhyAt (λ ρ. next_state ρ (Opened l) r)) (refusal_is DuplicateCell e q.1) shown
+        | inr q ↦ not_refused named e q.1
+      ]
       | inr p ↦
           let shown : WhyAt (λ ρ. next_state ρ (Opened l) r) Unexpected = rw p.0 refl in
           subst (WhyAt (λ ρ. next_state ρ (Opened l) r)) (refusal_is Unexpected e p.1) shown
@@ -228,27 +228,27 @@ why_body l n sh o before r e h =
     let more : State = Body l n sh o (before ++ r ∷ []) in
     elim (chosen (eqb r.kind kinds.XY) (at_xy all_rules l n sh o before r.body) (cond (may_stand o (kinds_in before) r.kind) (fine more) (refuse Unexpected)) (refuse e) h) [
       | inl p ↦ elim (chosen (is_whole o (kinds_in before)) (cond (are_points o r.body) (cond (is_closed o r.body) (fine next) (refuse NotClosed)) (refuse BadXY)) (refuse Unexpected) (refuse e) p.1) [
-          | inl q ↦ elim (chosen (are_points o r.body) (cond (is_closed o r.body) (fine next) (refuse NotClosed)) (refuse BadXY) (refuse e) q.1) [
-              | inl k ↦ elim (chosen (is_closed o r.body) (fine next) (refuse NotClosed) (refuse e) k.1) [
-                  | inl m ↦ not_refused next e m.1
-                  | inr m ↦
-                      let shown : WhyAt (λ ρ. next_state ρ (Body l n sh o before) r) NotClosed = (next, rw (p.0, q.0, k.0) refl, rw (p.0, q.0, k.0, m.0) refl) in
-                      subst (WhyAt (λ ρ. next_state ρ (Body l n sh o before) r)) (refusal_is NotClosed e m.1) shown
-                ]
-              | inr k ↦
-                  let shown : WhyAt (λ ρ. next_state ρ (Body l n sh o before) r) BadXY = (next, rw (p.0, q.0) refl, rw (p.0, q.0, k.0) refl) in
-                  subst (WhyAt (λ ρ. next_state ρ (Body l n sh o before) r)) (refusal_is BadXY e k.1) shown
-            ]
-          | inr q ↦
-              let shown : WhyAt (λ ρ. next_state ρ (Body l n sh o before) r) Unexpected = rw (p.0, q.0) refl in
-              subst (WhyAt (λ ρ. next_state ρ (Body l n sh o before) r)) (refusal_is Unexpected e q.1) shown
+        | inl q ↦ elim (chosen (are_points o r.body) (cond (is_closed o r.body) (fine next) (refuse NotClosed)) (refuse BadXY) (refuse e) q.1) [
+          | inl k ↦ elim (chosen (is_closed o r.body) (fine next) (refuse NotClosed) (refuse e) k.1) [
+            | inl m ↦ not_refused next e m.1
+            | inr m ↦
+                let shown : WhyAt (λ ρ. next_state ρ (Body l n sh o before) r) NotClosed = (next, rw (p.0, q.0, k.0) refl, rw (p.0, q.0, k.0, m.0) refl) in
+                subst (WhyAt (λ ρ. next_state ρ (Body l n sh o before) r)) (refusal_is NotClosed e m.1) shown
+          ]
+          | inr k ↦
+              let shown : WhyAt (λ ρ. next_state ρ (Body l n sh o before) r) BadXY = (next, rw (p.0, q.0) refl, rw (p.0, q.0, k.0) refl) in
+              subst (WhyAt (λ ρ. next_state ρ (Body l n sh o before) r)) (refusal_is BadXY e k.1) shown
         ]
+        | inr q ↦
+            let shown : WhyAt (λ ρ. next_state ρ (Body l n sh o before) r) Unexpected = rw (p.0, q.0) refl in
+            subst (WhyAt (λ ρ. next_state ρ (Body l n sh o before) r)) (refusal_is Unexpected e q.1) shown
+      ]
       | inr p ↦ elim (chosen (may_stand o (kinds_in before) r.kind) (fine more) (refuse Unexpected) (refuse e) p.1) [
-          | inl q ↦ not_refused more e q.1
-          | inr q ↦
-              let shown : WhyAt (λ ρ. next_state ρ (Body l n sh o before) r) Unexpected = rw (p.0, q.0) refl in
-              subst (WhyAt (λ ρ. next_state ρ (Body l n sh o before) r)) (refusal_is Unexpected e q.1) shown
-        ]
+        | inl q ↦ not_refused more e q.1
+        | inr q ↦
+            let shown : WhyAt (λ ρ. next_state ρ (Body l n sh o before) r) Unexpected = rw (p.0, q.0) refl in
+            subst (WhyAt (λ ρ. next_state ρ (Body l n sh o before) r)) (refusal_is Unexpected e q.1) shown
+      ]
     ]
 
 why_move : (s : State) (r : Rec) (e : Refusal) → next_state all_rules s r ≡ refuse e → WhyAt (λ ρ. next_state ρ s r) e
@@ -317,15 +317,18 @@ one_more ρ good rs s t r fit fits h k =
 
 pub is_why : (rs : List Rec) (s : State) (r : Rec) (e : Refusal) → AllByRecursion IsRecord rs → IsRecord r → run all_rules Start rs ≡ fine s → WhyAt (λ ρ. step ρ s r) e → IsWhy e (rs ++ r ∷ [])
 is_why rs s r Unexpected fit fits h w = not_viable no_rules rs s r Unexpected (run_looser no_rules all_rules none_looser Start s rs h) w
-is_why rs s r BadXY fit fits h w =
-    (one_more no_rules blank_none rs s w.0 r fit fits (run_looser no_rules all_rules none_looser Start s rs h) w.1,
-     not_viable points_alone rs s r BadXY (run_looser points_alone all_rules alone_looser Start s rs h) w.2)
-is_why rs s r NotClosed fit fits h w =
-    (one_more points_alone blank_alone rs s w.0 r fit fits (run_looser points_alone all_rules alone_looser Start s rs h) w.1,
-     not_viable points_and_closing rs s r NotClosed (run_looser points_and_closing all_rules closing_looser Start s rs h) w.2)
-is_why rs s r DuplicateCell fit fits h w =
-    (one_more points_and_closing blank_closing rs s w.0 r fit fits (run_looser points_and_closing all_rules closing_looser Start s rs h) w.1,
-     not_viable all_rules rs s r DuplicateCell h w.2)
+is_why rs s r BadXY fit fits h w = (
+  one_more no_rules blank_none rs s w.0 r fit fits (run_looser no_rules all_rules none_looser Start s rs h) w.1,
+  not_viable points_alone rs s r BadXY (run_looser points_alone all_rules alone_looser Start s rs h) w.2,
+)
+is_why rs s r NotClosed fit fits h w = (
+  one_more points_alone blank_alone rs s w.0 r fit fits (run_looser points_alone all_rules alone_looser Start s rs h) w.1,
+  not_viable points_and_closing rs s r NotClosed (run_looser points_and_closing all_rules closing_looser Start s rs h) w.2,
+)
+is_why rs s r DuplicateCell fit fits h w = (
+  one_more points_and_closing blank_closing rs s w.0 r fit fits (run_looser points_and_closing all_rules closing_looser Start s rs h) w.1,
+  not_viable all_rules rs s r DuplicateCell h w.2,
+)
 
 pub refused_at_the_first_lem : RefusedAtTheFirst
 refused_at_the_first_lem = record {

@@ -15,14 +15,14 @@ use Rattle.gds_grammar.specs.Values.{Shape, boundary, path, reference, array}
 -- the kind of element that a record of this kind opens
 unfoldable pub opening : ℕ → Option ElementKind
 opening kind =
-  if kind == kinds.BOUNDARY then Some Boundary
-  else if kind == kinds.PATH then Some Path
-  else if kind == kinds.SREF then Some Reference
-  else if kind == kinds.AREF then Some Array
-  else if kind == kinds.TEXT then Some Text
-  else if kind == kinds.NODE then Some Node
-  else if kind == kinds.BOX then Some Box
-  else None
+    if kind == kinds.BOUNDARY then Some Boundary
+    else if kind == kinds.PATH then Some Path
+    else if kind == kinds.SREF then Some Reference
+    else if kind == kinds.AREF then Some Array
+    else if kind == kinds.TEXT then Some Text
+    else if kind == kinds.NODE then Some Node
+    else if kind == kinds.BOX then Some Box
+    else None
 
 -- the records that have to stand before XY
 abbrev pub required : ElementKind → List ℕ
@@ -48,9 +48,9 @@ optional Box = []
 -- behind ELFLAGS, and the element's own records stand in any order, each once.
 abbrev pub may_stand : ElementKind → List ℕ → ℕ → Bool
 may_stand element seen kind =
-  if kind == kinds.ELFLAGS then length seen == 0
-  else if kind == kinds.PLEX then list_all (λ k. k == kinds.ELFLAGS) seen
-  else (among (required element) kind || among (optional element) kind) && not (among seen kind)
+    if kind == kinds.ELFLAGS then length seen == 0
+    else if kind == kinds.PLEX then list_all (λ k. k == kinds.ELFLAGS) seen
+    else (among (required element) kind || among (optional element) kind) && not (among seen kind)
 
 abbrev pub kinds_in : List Rec → List ℕ
 kinds_in records = map (λ r. r.kind) records
@@ -147,7 +147,7 @@ rows_in before = value_of (λ body. word_of (drop 2 body)) (body_of kinds.COLROW
 abbrev pub shapes_in : ElementKind → List Rec → List ℕ → List Shape
 shapes_in Boundary before xy = boundary (word_in kinds.LAYER before) (word_in kinds.DATATYPE before) (points_of xy) ∷ []
 shapes_in Path before xy =
-  path (word_in kinds.LAYER before) (word_in kinds.DATATYPE before) (value_if word_of (body_of kinds.PATHTYPE before))
+    path (word_in kinds.LAYER before) (word_in kinds.DATATYPE before) (value_if word_of (body_of kinds.PATHTYPE before))
     (value_if number_of (body_of kinds.WIDTH before)) (value_if number_of (body_of kinds.BGNEXTN before))
     (value_if number_of (body_of kinds.ENDEXTN before)) (points_of xy) ∷ []
 shapes_in Reference before xy = reference (name_in before) (transform_in before) (point_of xy) ∷ []

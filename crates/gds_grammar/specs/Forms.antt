@@ -41,14 +41,14 @@ loose_kinds = LIBDIRSIZE ∷ SRFNAME ∷ LIBSECUR ∷ STRCLASS ∷ []
 -- whether a record of the kind has that data type
 unfoldable pub has_form : ℕ → ℕ → Bool
 has_form kind form =
-  if among loose_kinds kind then true
-  else if form == NONE then among bare_kinds kind
-  else if form == BITS then among bit_kinds kind
-  else if form == WORDS then among word_kinds kind
-  else if form == NUMBERS then among number_kinds kind
-  else if form == REALS then among real_kinds kind
-  else if form == TEXT then among text_kinds kind
-  else false
+    if among loose_kinds kind then true
+    else if form == NONE then among bare_kinds kind
+    else if form == BITS then among bit_kinds kind
+    else if form == WORDS then among word_kinds kind
+    else if form == NUMBERS then among number_kinds kind
+    else if form == REALS then among real_kinds kind
+    else if form == TEXT then among text_kinds kind
+    else false
 
 -- kinds whose data has this many bytes; the data of others has any number
 abbrev pub kinds_of_24 : List ℕ
@@ -68,12 +68,12 @@ kinds_of_2 = LAYER ∷ DATATYPE ∷ PATHTYPE ∷ STRANS ∷ []
 
 unfoldable pub has_size : ℕ → ℕ → Bool
 has_size kind size =
-  if among kinds_of_24 kind then size == 24
-  else if among kinds_of_16 kind then size == 16
-  else if among kinds_of_8 kind then size == 8
-  else if among kinds_of_4 kind then size == 4
-  else if among kinds_of_2 kind then size == 2
-  else true
+    if among kinds_of_24 kind then size == 24
+    else if among kinds_of_16 kind then size == 16
+    else if among kinds_of_8 kind then size == 8
+    else if among kinds_of_4 kind then size == 4
+    else if among kinds_of_2 kind then size == 2
+    else true
 
 -- the names of structures are not empty once the zero bytes at their end are taken off
 abbrev pub naming_kinds : List ℕ

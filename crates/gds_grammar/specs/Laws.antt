@@ -11,7 +11,7 @@ use Rattle.gds_grammar.specs.Machine.{State, Start, Done, fine, refuse, run, ste
 -- The machine takes exactly the libraries, with the contents that the grammar gives them.
 abbrev pub MachineIsGrammar : Type 0
 MachineIsGrammar = (records : List Rec) (value : Contents) → AllByRecursion IsRecord records
-  → (run all_rules Start records ≡ fine (Done value)) ↔ IsLibrary all_rules records value
+    → (run all_rules Start records ≡ fine (Done value)) ↔ IsLibrary all_rules records value
 
 -- Why records are not viable, while all but the last of them are: the first of the rules that the last one breaks.
 abbrev pub IsWhy : Refusal → List Rec → Type 0
@@ -23,7 +23,7 @@ IsWhy DuplicateCell records = IsViable points_and_closing records × (IsViable a
 -- What the machine has taken is viable, what it refuses is not, and the refusal is the first of the rules that is broken.
 pub record RefusedAtTheFirst : Type 0 where
   pub taken : (records : List Rec) (s : State) → AllByRecursion IsRecord records → length records < 2 ^ 64
-    → run all_rules Start records ≡ fine s → IsViable all_rules records
+      → run all_rules Start records ≡ fine s → IsViable all_rules records
   pub refused : (records : List Rec) (s : State) (r : Rec) (e : Refusal) → AllByRecursion IsRecord records → IsRecord r
-    → run all_rules Start records ≡ fine s → step all_rules s r ≡ refuse e
-    → (IsViable all_rules (records ++ r ∷ []) → ⊥) × IsWhy e (records ++ r ∷ [])
+      → run all_rules Start records ≡ fine s → step all_rules s r ≡ refuse e
+      → (IsViable all_rules (records ++ r ∷ []) → ⊥) × IsWhy e (records ++ r ∷ [])

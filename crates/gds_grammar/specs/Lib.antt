@@ -5,3 +5,4 @@ pub mod Grammar
 pub mod Machine
 pub mod Laws
 pub mod Reading
+pub mod Outcomes

@@ -5,6 +5,8 @@ use Rattle.std.specs.Borrow.{Bor}
 use Rattle.gds_record.specs.declared.records.Record.{Record}
 use Rattle.gds_record.specs.Records.{Rec, IsRecord, view, spelling, IsBadLength, IsTruncated}
 use Rattle.gds_grammar.specs.declared.elements.Element.{Element}
+use Rattle.gds_grammar.specs.declared.cell_step.CellStep.{CellStep}
+use Rattle.gds_grammar.specs.declared.cell_step.CellStep.TheVariants as steps
 use Rattle.gds_grammar.specs.declared.head.Part.{Part}
 use Rattle.gds_grammar.specs.declared.head.Part.TheVariants as parts
 use Rattle.gds_grammar.specs.declared.refusal.Refusal.{Refusal}
@@ -18,7 +20,7 @@ use Rattle.gds_grammar.specs.declared.element_kind.ElementKind.{ElementKind}
 use Rattle.gds_grammar.specs.Elements.{kinds_in, is_whole, are_points, is_closed, has_string, shapes_in}
 use Rattle.gds_grammar.specs.Values.{Shape, Contents, shape_of}
 use Rattle.gds_grammar.specs.Grammar.{all_rules}
-use Rattle.gds_grammar.specs.Machine.{State, Dated, Titled, Between, Body, Done, behind_xy, fine, refuse, next_state, step, run}
+use Rattle.gds_grammar.specs.Machine.{State, Dated, Titled, Between, Named, Within, Body, Tail, Done, behind_xy, with_cell, fine, refuse, next_state, step, run}
 
 -- the bytes begin with well-formed records that lead from one state to the other, and with the rest behind them
 pub record Reaches (bytes : List ℕ) (s : State) (rest : List ℕ) (t : State) : Type 0 where
@@ -98,3 +100,28 @@ pub record IsBody (element : ElementKind) (before : List Rec) (xy : List ℕ) : 
 abbrev pub after_body : Bool → Contents → List ℕ → List Shape → ElementKind → List Rec → Rec → State
 after_body true l name shapes element before r = behind_xy (has_string element) l name (shapes ++ shapes_in element before r.body)
 after_body false l name shapes element before r = Body l name shapes element (before ++ r ∷ [])
+
+-- behind XY and string: behind one property, or the element's end
+abbrev pub after_tail : Bool → Contents → List ℕ → List Shape → State
+after_tail true l name shapes = Within l name shapes
+after_tail false l name shapes = Tail l name shapes
+
+-- in a structure: right behind STRNAME, or later
+abbrev pub cell_state : Bool → Contents → List ℕ → List Shape → State
+cell_state true l name shapes = Named l name
+cell_state false l name shapes = Within l name shapes
+
+abbrev pub after_step : CellStep → Contents → List ℕ → List Shape → State
+after_step steps.Class l name shapes = Within l name shapes
+after_step (steps.Opens element) l name shapes = Body l name shapes element []
+after_step steps.Ends l name shapes = Between (with_cell l name shapes)
+
+-- behind one element, or the structure's end
+abbrev pub after_elements : Bool → Contents → List ℕ → List Shape → State
+after_elements true l name shapes = Between (with_cell l name shapes)
+after_elements false l name shapes = Within l name shapes
+
+-- behind one structure, or the library's end
+abbrev pub after_cell : Bool → Contents → State
+after_cell true l = Done l
+after_cell false l = Between l

@@ -28,10 +28,10 @@ fn ends_body(
 ) -> Result<bool, Refusal>
     ensures leads { MatchResult result
         (λ last. (l : Contents) (n : List ℕ) (sh : List Shape) →
-            next_state all_rules (Body l n sh element (map view before.now)) (view found.entry)
-                ≡ fine (after_body last l n sh element (map view before.now) (view found.entry)))
+        next_state all_rules (Body l n sh element (map view before.now)) (view found.entry)
+        ≡ fine (after_body last l n sh element (map view before.now) (view found.entry)))
         (λ e. (l : Contents) (n : List ℕ) (sh : List Shape) →
-            next_state all_rules (Body l n sh element (map view before.now)) (view found.entry) ≡ refuse e) }
+        next_state all_rules (Body l n sh element (map view before.now)) (view found.entry) ≡ refuse e) }
     ensures whole { IfOk result (λ last. last ≡ true → IsBody element (map view before.now) found.entry.body.now) }
 {
     if found.kind != kind::XY {
@@ -82,7 +82,7 @@ pub fn read_body<'a>(
     ensures whole { IfOk result (λ b. IsBody element (map view b.before.items) b.xy.now) }
     ensures found { IfOk result (λ b. (l : Contents) (n : List ℕ) (sh : List Shape) →
         Reaches bytes.now (Body l n sh element []) b.rest.now
-            (behind_xy (has_string element) l n (sh ++ shapes_in element (map view b.before.items) b.xy.now))) }
+        (behind_xy (has_string element) l n (sh ++ shapes_in element (map view b.before.items) b.xy.now))) }
     ensures refused { IfErr result (λ e. (l : Contents) (n : List ℕ) (sh : List Shape) →
         Fails bytes.now (Body l n sh element []) e) }
 {
@@ -91,7 +91,11 @@ pub fn read_body<'a>(
     'body: loop {
         let (last, found, after) = next_in_body(element, &before, rest)?;
         if last {
-            return Ok(ElementBody { before, xy: found.body, rest: after });
+            return Ok(ElementBody {
+                before,
+                xy: found.body,
+                rest: after,
+            });
         }
         before.push(found)?;
         rest = after;

@@ -46,14 +46,21 @@ fn is_optional(element: ElementKind, kind: u8) -> bool
 {
     match element {
         ElementKind::Path => {
-            matches!(kind, kind::PATHTYPE | kind::WIDTH | kind::BGNEXTN | kind::ENDEXTN)
+            matches!(
+                kind,
+                kind::PATHTYPE | kind::WIDTH | kind::BGNEXTN | kind::ENDEXTN
+            )
         }
         ElementKind::Reference | ElementKind::Array => {
             matches!(kind, kind::STRANS | kind::MAG | kind::ANGLE)
         }
         ElementKind::Text => matches!(
             kind,
-            kind::PRESENTATION | kind::PATHTYPE | kind::WIDTH | kind::STRANS | kind::MAG
+            kind::PRESENTATION
+                | kind::PATHTYPE
+                | kind::WIDTH
+                | kind::STRANS
+                | kind::MAG
                 | kind::ANGLE
         ),
         ElementKind::Boundary | ElementKind::Node | ElementKind::Box => false,

@@ -106,11 +106,7 @@ fn points_of(alloc: Global, xy: &[u8]) -> Result<Vec<Point>, AllocError>
     Ok(points)
 }
 
-fn boundary_of(
-    alloc: Global,
-    before: &[Record<'_>],
-    xy: &[u8],
-) -> Result<Boundary, AllocError>
+fn boundary_of(alloc: Global, before: &[Record<'_>], xy: &[u8]) -> Result<Boundary, AllocError>
     requires well { AllByRecursion IsWell (map view before.now) }
     requires body { IsBody ElementKind.Boundary (map view before.now) xy.now }
     ensures { IfOk result (λ b. boundary b.layer b.data_type b.points.items ∷ [] ≡ shapes_in ElementKind.Boundary (map view before.now) xy.now) }
@@ -118,7 +114,11 @@ fn boundary_of(
     let layer = word_at(before, kind::LAYER);
     let data_type = word_at(before, kind::DATATYPE);
     let points = points_of(alloc, xy)?;
-    Ok(Boundary { layer, data_type, points })
+    Ok(Boundary {
+        layer,
+        data_type,
+        points,
+    })
 }
 
 fn path_of(alloc: Global, before: &[Record<'_>], xy: &[u8]) -> Result<Path, AllocError>
@@ -133,7 +133,15 @@ fn path_of(alloc: Global, before: &[Record<'_>], xy: &[u8]) -> Result<Path, Allo
     let begin_extension = number_if(before, kind::BGNEXTN);
     let end_extension = number_if(before, kind::ENDEXTN);
     let points = points_of(alloc, xy)?;
-    Ok(Path { layer, data_type, path_type, width, begin_extension, end_extension, points })
+    Ok(Path {
+        layer,
+        data_type,
+        path_type,
+        width,
+        begin_extension,
+        end_extension,
+        points,
+    })
 }
 
 fn ref_of(alloc: Global, before: &[Record<'_>], xy: &[u8]) -> Result<Ref, AllocError>
@@ -144,7 +152,11 @@ fn ref_of(alloc: Global, before: &[Record<'_>], xy: &[u8]) -> Result<Ref, AllocE
     let transform = transform_of(before);
     let origin = point(xy);
     let cell = name_of(alloc, before)?;
-    Ok(Ref { cell, transform, origin })
+    Ok(Ref {
+        cell,
+        transform,
+        origin,
+    })
 }
 
 /// The three points of an array.
@@ -168,11 +180,7 @@ fn columns_and_rows(before: &[Record<'_>]) -> (u16, u16)
     (word(columns), word(rows))
 }
 
-fn array_element_of(
-    alloc: Global,
-    before: &[Record<'_>],
-    xy: &[u8],
-) -> Result<Array, AllocError>
+fn array_element_of(alloc: Global, before: &[Record<'_>], xy: &[u8]) -> Result<Array, AllocError>
     requires well { AllByRecursion IsWell (map view before.now) }
     requires body { IsBody ElementKind.Array (map view before.now) xy.now }
     ensures { IfOk result (λ a. array a.cell.items a.transform a.columns a.rows a.points ∷ [] ≡ shapes_in ElementKind.Array (map view before.now) xy.now) }
@@ -181,7 +189,13 @@ fn array_element_of(
     let (columns, rows) = columns_and_rows(before);
     let points = three_points(xy);
     let cell = name_of(alloc, before)?;
-    Ok(Array { cell, transform, columns, rows, points })
+    Ok(Array {
+        cell,
+        transform,
+        columns,
+        rows,
+        points,
+    })
 }
 
 /// The element with these records before its points. Texts, nodes and boxes are none.

@@ -20,8 +20,16 @@ fn is_library_kind(kind: u8) -> bool
 {
     matches!(
         kind,
-        kind::REFLIBS | kind::FONTS | kind::ATTRTABLE | kind::GENERATIONS | kind::FORMAT
-            | kind::MASK | kind::ENDMASKS | kind::LIBDIRSIZE | kind::SRFNAME | kind::LIBSECUR
+        kind::REFLIBS
+            | kind::FONTS
+            | kind::ATTRTABLE
+            | kind::GENERATIONS
+            | kind::FORMAT
+            | kind::MASK
+            | kind::ENDMASKS
+            | kind::LIBDIRSIZE
+            | kind::SRFNAME
+            | kind::LIBSECUR
     )
 }
 
@@ -93,6 +101,9 @@ pub fn read_head(bytes: &[u8]) -> Result<(Head, &[u8]), Stop>
     let (_header, rest) = expect(bytes, kind::HEADER)?;
     let (dates, rest) = expect(rest, kind::BGNLIB)?;
     let (units, rest) = read_parts(rest)?;
-    let head = Head { dates: array_of(dates), units: array_of(units) };
+    let head = Head {
+        dates: array_of(dates),
+        units: array_of(units),
+    };
     Ok((head, rest))
 }

@@ -7,12 +7,10 @@ ghost use Rattle.gds_grammar.specs.Laws.{MachineIsGrammar, RefusedAtTheFirst};
 /// reading.
 pub fn machine_is_grammar()
     ensures { MachineIsGrammar }
-{
-}
+{}
 
 /// What the machine has taken is viable: some records after it make it a library. What it refuses is not, and the
 /// refusal says which rule is broken, the first in the order of `Refusal`.
 pub fn refused_at_the_first()
     ensures { RefusedAtTheFirst }
-{
-}
+{}

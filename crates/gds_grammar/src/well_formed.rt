@@ -28,8 +28,19 @@ fn is_of_words(kind: u8) -> bool
 {
     matches!(
         kind,
-        HEADER | BGNLIB | BGNSTR | LAYER | DATATYPE | COLROW | TEXTTYPE | PATHTYPE | GENERATIONS
-            | NODETYPE | PROPATTR | BOXTYPE | FORMAT
+        HEADER
+            | BGNLIB
+            | BGNSTR
+            | LAYER
+            | DATATYPE
+            | COLROW
+            | TEXTTYPE
+            | PATHTYPE
+            | GENERATIONS
+            | NODETYPE
+            | PROPATTR
+            | BOXTYPE
+            | FORMAT
     )
 }
 

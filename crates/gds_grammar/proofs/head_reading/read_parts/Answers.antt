@@ -17,10 +17,10 @@ pub returns-in-Last-clause-found : goal.returns-in-Last-clause-found
 returns-in-Last-clause-found c = λ dates.
     let here = parts_state c.parts.titled dates in
     and_then c.args.bytes.now c.parts.rest.now c.in_ok-part.after.now (Dated dates) here _ (c.parts.invariant dates)
-      (subst (λ part. Reaches c.parts.rest.now here c.in_ok-part.after.now (after_part part dates c.in_ok-part.body.now)) c.in-Last.is (c.in_ok-part.ensures.found dates))
+    (subst (λ part. Reaches c.parts.rest.now here c.in_ok-part.after.now (after_part part dates c.in_ok-part.body.now)) c.in-Last.is (c.in_ok-part.ensures.found dates))
 
 pub parts-preserved : goal.parts-preserved
 parts-preserved c = λ dates.
     let here = parts_state c.parts.titled dates in
     and_then c.args.bytes.now c.parts.rest.now c.in_ok-part.after.now (Dated dates) here _ (c.parts.invariant dates)
-      (subst (λ part. Reaches c.parts.rest.now here c.in_ok-part.after.now (after_part part dates c.in_ok-part.body.now)) c.in-More.is (c.in_ok-part.ensures.found dates))
+    (subst (λ part. Reaches c.parts.rest.now here c.in_ok-part.after.now (after_part part dates c.in_ok-part.body.now)) c.in-More.is (c.in_ok-part.ensures.found dates))
