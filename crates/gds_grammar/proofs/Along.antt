@@ -1,8 +1,8 @@
 -- What is in the grammar the machine takes.
-use Rattle.std.proofs.Common.{◌≡◌, ℕ, Bool, true, false, cond, eqb, List, [], ◌∷◌, ◌++◌, map, refl, sym, ap, subst, ◌∙◌, append_assoc}
-use Rattle.std.specs.Prelude.{Option, Some, None}
+use Rattle.std.proofs.Common.{◌≡◌, ℕ, Bool, true, false, eqb, List, [], ◌∷◌, ◌++◌, map, refl, sym, ap, subst, ◌∙◌, append_assoc}
+use Rattle.std.specs.Prelude.{Some, None}
 use Rattle.std.specs.List.{flat_map, AllByRecursion}
-use Rattle.std.proofs.lemmas.Bool.{eqb-true, eq-eqb}
+use Rattle.std.proofs.lemmas.Bool.{eq-eqb}
 use Rattle.std.proofs.lemmas.List.{append-nil, map_push}
 use Rattle.gds_record.specs.declared.kind.TheConstants as kinds
 use Rattle.gds_record.specs.Records.{Rec}
@@ -10,10 +10,10 @@ use Rattle.gds_record.specs.Numbers.{trimmed}
 use Rattle.gds_grammar.specs.declared.element_kind.ElementKind.{ElementKind}
 use Rattle.gds_grammar.specs.declared.element_kind.ElementKind.TheVariants.{Boundary, Path, Reference, Array, Text, Node, Box}
 use Rattle.gds_grammar.specs.Forms.{among}
-use Rattle.gds_grammar.specs.Values.{Shape, Cell, Contents}
+use Rattle.gds_grammar.specs.Values.{Shape, Contents}
 use Rattle.gds_grammar.specs.Elements.{opening, may_stand, kinds_in, is_whole, has_string, shapes_in}
 use Rattle.gds_grammar.specs.Grammar.{Rules, ElementPart, property_records, element_records, MayStand, AreStrings, IsProperty, IsElement, element_shapes, CellPart, cell_records, AtMostOne, IsCell, cell_value, AreCells, library_kinds, IsLibraryPart, LibraryPart, library_records, IsLibraryOf, library_value}
-use Rattle.gds_grammar.specs.Machine.{State, Start, Headed, Dated, Titled, Between, Opened, Named, Within, Body, Unlettered, Tail, Paired, Done, fine, expect, with_cell, behind_xy, opened, within, at_xy, next_state}
+use Rattle.gds_grammar.specs.Machine.{State, Start, Headed, Dated, Titled, Between, Opened, Named, Within, Body, Unlettered, Tail, Paired, Done, fine, with_cell, behind_xy, next_state}
 use Rattle.gds_grammar.proofs.Runs.{apart, expected, moves, leads_nil, leads_cons, leads_append}
 
 -- XY stands in no body

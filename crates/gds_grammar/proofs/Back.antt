@@ -1,21 +1,20 @@
 -- What the machine takes is in the grammar. From a state on, the records that are left are the rest of a library: each
 -- kind of state has a record that says so, and one record in front of the rest leads from one to the next.
 use Rattle.std.proofs.Common.{◌≡◌, ℕ, Bool, true, false, cond, eqb, List, [], ◌∷◌, ◌++◌, map, refl, sym, ap, subst, ◌∙◌, append_assoc, inl, inr}
-use Rattle.std.specs.Prelude.{Option, Some, None, ◌⊎◌}
+use Rattle.std.specs.Prelude.{Option, Some, None}
 use Rattle.std.specs.List.{flat_map, AllByRecursion}
-use Rattle.std.proofs.lemmas.Bool.{eqb-true, eq-eqb}
+use Rattle.std.proofs.lemmas.Bool.{eqb-true}
 use Rattle.std.proofs.lemmas.List.{append-nil, map_push}
 use Rattle.gds_record.specs.declared.kind.TheConstants as kinds
 use Rattle.gds_record.specs.Records.{Rec, IsRecord}
 use Rattle.gds_record.specs.Numbers.{trimmed}
 use Rattle.gds_grammar.specs.declared.element_kind.ElementKind.{ElementKind}
-use Rattle.gds_grammar.specs.declared.refusal.Refusal.{Refusal}
 use Rattle.gds_grammar.specs.declared.refusal.Refusal.TheVariants.{Unexpected, BadXY, NotClosed, DuplicateCell}
-use Rattle.gds_grammar.specs.Forms.{among, IsWell}
-use Rattle.gds_grammar.specs.Values.{Shape, Cell, Contents}
+use Rattle.gds_grammar.specs.Forms.{among}
+use Rattle.gds_grammar.specs.Values.{Shape, Contents}
 use Rattle.gds_grammar.specs.Elements.{opening, may_stand, kinds_in, is_whole, has_string, shapes_in}
-use Rattle.gds_grammar.specs.Grammar.{Rules, ElementPart, property_records, element_records, MayStand, AreStrings, IsProperty, IsElement, element_shapes, CellPart, cell_records, AtMostOne, IsCell, cell_value, AreCells, library_kinds, IsLibraryPart, LibraryPart, library_records, IsLibraryOf, library_value, AreWell, IsLibrary}
-use Rattle.gds_grammar.specs.Machine.{State, Start, Headed, Dated, Titled, Between, Opened, Named, Within, Body, Unlettered, Tail, Paired, Done, fine, refuse, expect, with_cell, behind_xy, opened, within, at_xy, next_state, ◌>>=◌, run}
+use Rattle.gds_grammar.specs.Grammar.{Rules, ElementPart, property_records, element_records, MayStand, AreStrings, IsProperty, IsElement, element_shapes, CellPart, cell_records, AtMostOne, cell_value, AreCells, library_kinds, IsLibraryPart, AreWell, IsLibrary}
+use Rattle.gds_grammar.specs.Machine.{State, Start, Headed, Dated, Titled, Between, Opened, Named, Within, Body, Unlettered, Tail, Paired, Done, fine, refuse, expect, with_cell, behind_xy, opened, within, at_xy, next_state, run}
 use Rattle.gds_grammar.proofs.Runs.{fine_is, not_fine, chosen, only_true, only_false, expect_ok, bind_ok, moves, run_is_moves, run_well}
 use Rattle.gds_grammar.proofs.Along.{library_leads}
 

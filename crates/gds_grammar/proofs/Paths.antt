@@ -1,6 +1,6 @@
 -- From place to place along the bytes.
-use Rattle.std.proofs.Common.{◌≡◌, ℕ, ◌+◌, ◌<◌, ◌≤◌, Bool, true, false, cond, List, [], ◌∷◌, ◌++◌, length, Result, Ok, Err, refl, sym, ap, subst, ◌∙◌, append_assoc, length-append, arith}
-use Rattle.std.specs.List.{flat_map, AllByRecursion}
+use Rattle.std.proofs.Common.{◌≡◌, ℕ, ◌<◌, ◌≤◌, Bool, true, false, List, [], ◌∷◌, ◌++◌, length, Result, refl, sym, ap, subst, ◌∙◌, append_assoc, length-append, arith}
+use Rattle.std.specs.List.{flat_map}
 use Rattle.std.proofs.lemmas.List.{append-nil}
 use Rattle.std.proofs.lemmas.Grind.{flat_map-append}
 use Rattle.gds_record.specs.Records.{Rec, IsRecord, spelling}
@@ -13,7 +13,7 @@ use Rattle.gds_grammar.specs.declared.stop.Stop.{Stop}
 use Rattle.gds_grammar.specs.declared.stop.Stop.TheVariants as stops
 use Rattle.gds_grammar.specs.Grammar.{all_rules, has_name}
 use Rattle.gds_record.specs.Numbers.{trimmed}
-use Rattle.gds_grammar.specs.Machine.{State, Start, Headed, Dated, Titled, Between, Opened, Named, Within, Body, Unlettered, Tail, Paired, Done, fine, refuse, expect, behind_xy, with_cell, next_state, step, run}
+use Rattle.gds_grammar.specs.Machine.{State, Start, Headed, Dated, Between, Opened, Named, Body, Unlettered, Tail, Paired, fine, refuse, expect, behind_xy, next_state, step, run}
 use Rattle.gds_grammar.specs.declared.element_kind.ElementKind.{ElementKind}
 use Rattle.gds_grammar.specs.Values.{Shape, Contents}
 use Rattle.gds_record.specs.declared.kind.TheConstants as kinds

@@ -1,10 +1,7 @@
 -- One text has one reading.
-use Rattle.std.proofs.Common.{◌≡◌, ℕ, ◌+◌, ◌-◌, ◌^◌, ◌<◌, ◌≤◌, Bool, true, false, cond, List, [], ◌∷◌, ◌++◌, length, Result, Ok, Err, refl, sym, ap, subst, ◌∙◌, append_assoc, length-append, arith, inl, inr}
+use Rattle.std.proofs.Common.{◌≡◌, ℕ, ◌+◌, ◌-◌, ◌^◌, ◌<◌, ◌≤◌, List, [], ◌∷◌, ◌++◌, length, refl, sym, ap, subst, ◌∙◌, append_assoc, length-append, arith, inl, inr}
 use Rattle.std.specs.Prelude.{◌⊎◌}
 use Rattle.std.specs.List.{flat_map, AllByRecursion}
-use Rattle.std.proofs.lemmas.List.{append-nil}
-use Rattle.gds_record.specs.declared.records.RecordError.{RecordError}
-use Rattle.gds_record.specs.declared.records.RecordError.TheVariants.{Truncated, BadLength}
 use Rattle.gds_record.specs.Records.{Rec, IsRecord, spelling, IsTruncated, IsBadLength}
 use Rattle.gds_record.specs.Reading.{record_at}
 use Rattle.gds_record.proofs.Spellings.{one_front, at_again, at_bad, at_short}
@@ -17,10 +14,9 @@ use Rattle.gds_grammar.specs.declared.stop.Stop.TheVariants as stops
 use Rattle.gds_grammar.specs.declared.library_error.LibraryError.TheVariants as errors
 use Rattle.gds_grammar.specs.Forms.{is_well}
 use Rattle.gds_grammar.specs.Values.{Contents}
-use Rattle.gds_grammar.specs.Grammar.{all_rules, IsLibrary, IsViable}
-use Rattle.gds_grammar.specs.Machine.{State, Start, Done, fine, refuse, ◌>>=◌, next_state, step, run}
-use Rattle.gds_grammar.specs.Laws.{IsWhy}
-use Rattle.gds_grammar.specs.Reading.{Reaches, IsOpen, IsRefusedAt, FailsAt, FailsLater, Fails}
+use Rattle.gds_grammar.specs.Grammar.{all_rules}
+use Rattle.gds_grammar.specs.Machine.{State, Start, Done, fine, next_state, step, run}
+use Rattle.gds_grammar.specs.Reading.{Reaches, IsOpen, FailsAt, FailsLater, Fails}
 use Rattle.gds_grammar.specs.Outcomes.{Spells, SoFar, LacksRecord, RefusesRecord, IsRefused, left_of, error_of}
 use Rattle.gds_grammar.proofs.Runs.{fine_is, not_fine, only_true, bind_ok, run_append}
 use Rattle.gds_grammar.proofs.Back.{run_is_library, library_runs}

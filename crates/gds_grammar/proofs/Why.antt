@@ -1,6 +1,6 @@
 -- What is taken is viable, what is refused is not, and which rule it breaks.
-use Rattle.std.proofs.Common.{◌≡◌, ℕ, zero, suc, ◌+◌, ◌^◌, ◌<◌, ◌≤◌, Bool, true, false, cond, eqb, List, [], ◌∷◌, ◌++◌, length, Result, Ok, Err, refl, sym, ap, subst, ◌∙◌, append_assoc, arith, inl, inr, length-append}
-use Rattle.std.specs.Prelude.{◌⊎◌, Option, Some, None}
+use Rattle.std.proofs.Common.{◌≡◌, ℕ, suc, ◌+◌, ◌^◌, ◌<◌, ◌≤◌, Bool, true, false, cond, eqb, List, [], ◌∷◌, ◌++◌, length, Result, refl, sym, subst, ◌∙◌, arith, inl, inr, length-append}
+use Rattle.std.specs.Prelude.{Option, Some, None}
 use Rattle.std.specs.List.{AllByRecursion}
 use Rattle.gds_record.specs.declared.kind.TheConstants as kinds
 use Rattle.gds_record.specs.Records.{Rec, IsRecord}
@@ -11,8 +11,8 @@ use Rattle.gds_grammar.specs.declared.refusal.Refusal.TheVariants.{Unexpected, B
 use Rattle.gds_grammar.specs.Forms.{among, is_well}
 use Rattle.gds_grammar.specs.Values.{Shape, Cell, Contents}
 use Rattle.gds_grammar.specs.Elements.{opening, may_stand, kinds_in, is_whole, are_points, is_closed, has_string, shapes_in}
-use Rattle.gds_grammar.specs.Grammar.{Rules, has_name, no_rules, points_alone, points_and_closing, all_rules, library_kinds, IsLibrary, IsViable}
-use Rattle.gds_grammar.specs.Machine.{State, Start, Headed, Dated, Titled, Between, Opened, Named, Within, Body, Unlettered, Tail, Paired, Done, fine, refuse, expect, with_cell, behind_xy, opened, within, at_xy, next_state, step, ◌>>=◌, run}
+use Rattle.gds_grammar.specs.Grammar.{Rules, has_name, no_rules, points_alone, points_and_closing, all_rules, library_kinds, IsViable}
+use Rattle.gds_grammar.specs.Machine.{State, Start, Headed, Dated, Titled, Between, Opened, Named, Within, Body, Unlettered, Tail, Paired, Done, fine, refuse, expect, with_cell, behind_xy, opened, within, at_xy, next_state, step, run}
 use Rattle.gds_grammar.specs.Laws.{IsWhy, RefusedAtTheFirst}
 use Rattle.gds_grammar.proofs.Runs.{fine_is, not_fine, chosen, only_true, only_false, expect_ok, bind_ok, run_append, run_one, run_refused}
 use Rattle.gds_grammar.proofs.Back.{run_is_library, library_runs}

@@ -1,7 +1,7 @@
 -- Elements: which records stand in them, and what they say.
-use Rattle.std.specs.Prelude.{◌≡◌, ℕ, zero, suc, ℤ, Bool, true, false, cond, List, [], ◌∷◌, ◌++◌, length, map, take, drop, Option, Some, None, ◌==◌, nat_lt, ◌/◌, ◌%◌, ◌&&◌, ◌||◌, not, if◌then◌else◌, slice_get}
+use Rattle.std.specs.Prelude.{ℕ, Bool, true, false, List, [], ◌∷◌, length, map, take, drop, Option, Some, None, ◌==◌, nat_lt, ◌/◌, ◌%◌, ◌&&◌, ◌||◌, not, if◌then◌else◌}
 use Rattle.std.specs.Ordering.{int_eq}
-use Rattle.std.specs.List.{list_any, list_all}
+use Rattle.std.specs.List.{list_all}
 use Rattle.fill_base.specs.declared.place.Point.{Point}
 use Rattle.gds_record.specs.declared.kind.TheConstants as kinds
 use Rattle.gds_record.specs.Records.{Rec}

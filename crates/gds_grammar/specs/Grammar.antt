@@ -1,6 +1,6 @@
 -- The grammar: which lists of records are a library, and what it says. A library is a tree of parts; its records are
 -- those of its parts from left to right.
-use Rattle.std.specs.Prelude.{◌≡◌, ℕ, Bool, true, false, List, [], ◌∷◌, ◌++◌, map, Option, Some, ◌==◌}
+use Rattle.std.specs.Prelude.{◌≡◌, ℕ, Bool, true, false, List, [], ◌∷◌, ◌++◌, map, Some}
 use Rattle.std.specs.List.{flat_map, list_any, AllByRecursion}
 use Rattle.std.specs.Str.{bytes_eq}
 use Rattle.gds_record.specs.declared.kind.TheConstants as kinds

@@ -1,11 +1,11 @@
 -- The laws of the grammar, and which refusal a record gets.
-use Rattle.std.specs.Prelude.{◌≡◌, ◌↔◌, ℕ, ◌<◌, ◌^◌, List, [], ◌∷◌, ◌++◌, length, Result, Ok, Err}
+use Rattle.std.specs.Prelude.{◌≡◌, ◌↔◌, ◌<◌, ◌^◌, List, [], ◌∷◌, ◌++◌, length}
 use Rattle.std.specs.List.{AllByRecursion}
 use Rattle.gds_record.specs.Records.{Rec, IsRecord}
 use Rattle.gds_grammar.specs.declared.refusal.Refusal.{Refusal}
 use Rattle.gds_grammar.specs.declared.refusal.Refusal.TheVariants.{Unexpected, BadXY, NotClosed, DuplicateCell}
 use Rattle.gds_grammar.specs.Values.{Contents}
-use Rattle.gds_grammar.specs.Grammar.{Rules, no_rules, points_alone, points_and_closing, all_rules, IsLibrary, IsViable}
+use Rattle.gds_grammar.specs.Grammar.{no_rules, points_alone, points_and_closing, all_rules, IsLibrary, IsViable}
 use Rattle.gds_grammar.specs.Machine.{State, Start, Done, fine, refuse, run, step}
 
 -- The machine takes exactly the libraries, with the contents that the grammar gives them.

@@ -1,5 +1,5 @@
 -- The reader as a machine that takes one record after another.
-use Rattle.std.specs.Prelude.{◌≡◌, ℕ, Bool, true, false, cond, List, [], ◌∷◌, ◌++◌, Option, Some, None, Result, Ok, Err, ◌==◌}
+use Rattle.std.specs.Prelude.{ℕ, Bool, true, false, cond, List, [], ◌∷◌, ◌++◌, Option, Some, None, Result, Ok, Err, ◌==◌}
 use Rattle.gds_record.specs.declared.kind.TheConstants as kinds
 use Rattle.gds_record.specs.Records.{Rec}
 use Rattle.gds_record.specs.Numbers.{trimmed}
@@ -7,7 +7,7 @@ use Rattle.gds_grammar.specs.declared.element_kind.ElementKind.{ElementKind}
 use Rattle.gds_grammar.specs.declared.refusal.Refusal.{Refusal}
 use Rattle.gds_grammar.specs.declared.refusal.Refusal.TheVariants.{Unexpected, BadXY, NotClosed, DuplicateCell}
 use Rattle.gds_grammar.specs.Forms.{among, is_well}
-use Rattle.gds_grammar.specs.Values.{Shape, Cell, Contents}
+use Rattle.gds_grammar.specs.Values.{Shape, Contents}
 use Rattle.gds_grammar.specs.Elements.{opening, may_stand, kinds_in, is_whole, has_string, shapes_in}
 use Rattle.gds_grammar.specs.Grammar.{Rules, library_kinds}
 

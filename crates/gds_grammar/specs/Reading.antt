@@ -1,9 +1,7 @@
 -- How bytes lead from state to state, and where they stop.
-use Rattle.std.specs.Prelude.{◌≡◌, ℕ, Bool, true, false, List, [], ◌∷◌, ◌++◌, length, map, Option, Some, None}
+use Rattle.std.specs.Prelude.{◌≡◌, ℕ, Bool, true, false, List, [], ◌∷◌, ◌++◌, length, Option, Some, None}
 use Rattle.std.specs.List.{flat_map, AllByRecursion}
-use Rattle.std.specs.Borrow.{Bor}
-use Rattle.gds_record.specs.declared.records.Record.{Record}
-use Rattle.gds_record.specs.Records.{Rec, IsRecord, view, spelling, IsBadLength, IsTruncated}
+use Rattle.gds_record.specs.Records.{Rec, IsRecord, spelling, IsBadLength, IsTruncated}
 use Rattle.gds_grammar.specs.declared.elements.Element.{Element}
 use Rattle.gds_grammar.specs.declared.cell_step.CellStep.{CellStep}
 use Rattle.gds_grammar.specs.declared.cell_step.CellStep.TheVariants as steps

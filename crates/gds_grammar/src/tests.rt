@@ -165,18 +165,27 @@ fn library_names(rt: HostRuntime) -> Result<(), Fail> {
     Ok(())
 }
 
+/// The points of the wire, and four bytes more.
+const LONGER: &[u8] = &[
+    0x00, 0x30, 0x10, 0x03, 0, 0, 0, 9, 0, 0, 0, 0, 0, 0, 0, 9, 0, 0, 0, 0x14, 0, 0, 0, 0x14, 0, 0,
+    0, 0x14, 0, 0, 0, 0x14, 0, 0, 0, 0, 0, 0, 0, 9, 0, 0, 0, 0, 0, 0, 0, 0,
+];
+
+const TRIANGLE: &[u8] = &[
+    0, 0x1c, 0x10, 3, 0, 0, 0, 0, 0, 0, 0, 0, 0, 0, 0, 1, 0, 0, 0, 0, 0, 0, 0, 1, 0, 0, 0, 1,
+];
+
+const OPEN: &[u8] = &[
+    0, 0x24, 0x10, 3, 0, 0, 0, 0, 0, 0, 0, 0, 0, 0, 0, 1, 0, 0, 0, 0, 0, 0, 0, 1, 0, 0, 0, 1, 0, 0,
+    0, 0, 0, 0, 0, 1,
+];
+
+const NO_POINT: &[u8] = &[0x00, 0x04, 0x10, 0x03];
+
+const WIDE_LAYER: &[u8] = &[0x00, 0x08, 0x0d, 0x02, 0x00, 0x07, 0x00, 0x00];
+
 #[test]
 fn faulty_boundaries(rt: HostRuntime) -> Result<(), Fail> {
-    let longer: &[u8] = &[0, 0x30, 0x10, 0x03];
-    let triangle: &[u8] = &[
-        0, 0x1c, 0x10, 3, 0, 0, 0, 0, 0, 0, 0, 0, 0, 0, 0, 1, 0, 0, 0, 0, 0, 0, 0, 1, 0, 0, 0, 1,
-    ];
-    let open: &[u8] = &[
-        0, 0x24, 0x10, 3, 0, 0, 0, 0, 0, 0, 0, 0, 0, 0, 0, 1, 0, 0, 0, 0, 0, 0, 0, 1, 0, 0, 0, 1,
-        0, 0, 0, 0, 0, 0, 0, 1,
-    ];
-    let empty: &[u8] = &[0x00, 0x04, 0x10, 0x03];
-    let wide_layer: &[u8] = &[0x00, 0x08, 0x0d, 0x02, 0x00, 0x07, 0x00, 0x00];
     let cases: [(&[&[u8]], LibraryError); 9] = [
         (
             &[BOUNDARY, LAYER, LAYER, XY, ENDEL],
@@ -187,27 +196,27 @@ fn faulty_boundaries(rt: HostRuntime) -> Result<(), Fail> {
             LibraryError::Unexpected { at: 108 },
         ),
         (
-            &[BOUNDARY, LAYER, DATATYPE, longer, &XY[4..], &[0; 4], ENDEL],
+            &[BOUNDARY, LAYER, DATATYPE, LONGER, ENDEL],
             LibraryError::BadXY,
         ),
         (
-            &[BOUNDARY, LAYER, DATATYPE, triangle, ENDEL],
+            &[BOUNDARY, LAYER, DATATYPE, TRIANGLE, ENDEL],
             LibraryError::BadXY,
         ),
         (
-            &[BOUNDARY, LAYER, DATATYPE, empty, ENDEL],
+            &[BOUNDARY, LAYER, DATATYPE, NO_POINT, ENDEL],
             LibraryError::BadXY,
         ),
         (
-            &[BOUNDARY, LAYER, empty, ENDEL],
+            &[BOUNDARY, LAYER, NO_POINT, ENDEL],
             LibraryError::Unexpected { at: 108 },
         ),
         (
-            &[BOUNDARY, LAYER, DATATYPE, open, ENDEL],
+            &[BOUNDARY, LAYER, DATATYPE, OPEN, ENDEL],
             LibraryError::NotClosed,
         ),
         (
-            &[BOUNDARY, wide_layer, DATATYPE, XY, ENDEL],
+            &[BOUNDARY, WIDE_LAYER, DATATYPE, XY, ENDEL],
             LibraryError::Unexpected { at: 102 },
         ),
         (

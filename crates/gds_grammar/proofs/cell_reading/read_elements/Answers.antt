@@ -1,7 +1,6 @@
-use Rattle.std.proofs.Common.{◌≡◌, Bool, false, true, List, map, subst}
+use Rattle.std.proofs.Common.{Bool, map, subst}
 use Rattle.std.proofs.lemmas.Result.{err_from_is_err_and}
 use Rattle.gds_grammar.specs.Values.{shape_of}
-use Rattle.gds_grammar.specs.Machine.{Named}
 use Rattle.gds_grammar.specs.Reading.{Reaches, cell_state, after_elements}
 use Rattle.gds_grammar.proofs.Paths.{stays_put, and_then, fails_after}
 use Rattle.gds_grammar.proofs.cell_reading.read_elements.Goals as goal

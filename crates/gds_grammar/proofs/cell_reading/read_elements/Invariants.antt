@@ -1,4 +1,4 @@
-use Rattle.std.proofs.Common.{◌≡◌, ℕ, Bool, true, List, [], length, map}
+use Rattle.std.proofs.Common.{◌≡◌, ℕ, true, List, [], length, map}
 use Rattle.gds_grammar.specs.Values.{Contents, shape_of}
 use Rattle.gds_grammar.specs.Machine.{Named}
 use Rattle.gds_grammar.specs.Reading.{Reaches, cell_state}

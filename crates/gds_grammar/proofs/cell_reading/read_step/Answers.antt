@@ -1,4 +1,4 @@
-use Rattle.std.proofs.Common.{◌≡◌, ℕ, List, [], ◌++◌, map, ap, sym, subst, arith}
+use Rattle.std.proofs.Common.{List, [], ◌++◌, map, ap, sym, subst, arith}
 use Rattle.std.proofs.lemmas.Result.{err_from_is_err_and}
 use Rattle.gds_grammar.specs.declared.cell_step.CellStep.{CellStep}
 use Rattle.gds_grammar.specs.Values.{Shape, Contents, shape_of}

@@ -1,7 +1,6 @@
 use Rattle.std.proofs.Common.{lit<}
 use Rattle.std.proofs.lemmas.Result.{err_from_is_err_and}
-use Rattle.gds_grammar.specs.Machine.{Start, Headed, Dated, Between}
-use Rattle.gds_grammar.specs.Reading.{Reaches}
+use Rattle.gds_grammar.specs.Machine.{Start, Headed, Dated}
 use Rattle.gds_grammar.proofs.Paths.{and_then, fails_after, open_start, open_headed, only_header, only_bgnlib, reach_headed, reach_dated, dates_size}
 use Rattle.gds_grammar.proofs.head_reading.read_head.Goals as goal
 

@@ -1,6 +1,6 @@
-use Rattle.std.proofs.Common.{◌≡◌, Bool, List, map, ap, sym, subst}
+use Rattle.std.proofs.Common.{Bool, List, map, ap, sym, subst}
 use Rattle.std.proofs.lemmas.Result.{err_from_is_err_and}
-use Rattle.gds_grammar.specs.Values.{Contents, Cell, cell_of, contents_of}
+use Rattle.gds_grammar.specs.Values.{Cell, cell_of, contents_of}
 use Rattle.gds_grammar.specs.Machine.{Start, Between}
 use Rattle.gds_grammar.specs.Reading.{Reaches, after_cell}
 use Rattle.gds_grammar.proofs.Paths.{and_then, fails_after}

@@ -1,10 +1,10 @@
-use Rattle.std.proofs.Common.{◌≡◌, ℕ, Bool, true, false, List, [], ◌∷◌, ◌++◌, map, sym, ap, subst, ◌∙◌}
+use Rattle.std.proofs.Common.{◌≡◌, ℕ, true, false, List, [], ◌∷◌, ◌++◌, map, sym, ap, subst, ◌∙◌}
 use Rattle.std.proofs.lemmas.Result.{err_from_is_err_and}
 use Rattle.gds_record.specs.Numbers.{trimmed}
-use Rattle.gds_grammar.specs.Values.{Shape, Cell, Contents, cell_of, shape_of, contents_of}
+use Rattle.gds_grammar.specs.Values.{Cell, cell_of, shape_of, contents_of}
 use Rattle.gds_grammar.specs.Grammar.{has_name}
 use Rattle.gds_grammar.specs.Machine.{Opened, Named, Between, with_cell}
-use Rattle.gds_grammar.specs.Reading.{Reaches, Fails}
+use Rattle.gds_grammar.specs.Reading.{Reaches}
 use Rattle.gds_grammar.proofs.Paths.{and_then, fails_after, open_opened, only_strname, name_fresh, name_taken}
 use Rattle.gds_grammar.proofs.library_reading.read_cell.Goals as goal
 

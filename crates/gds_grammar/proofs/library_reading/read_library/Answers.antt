@@ -1,7 +1,7 @@
 use Rattle.std.proofs.Common.{◌<◌, ◌^◌, length, sym, subst, ◌∙◌, arith}
 use Rattle.gds_grammar.specs.Values.{contents_of}
 use Rattle.gds_grammar.specs.Outcomes.{IsRefused}
-use Rattle.gds_grammar.proofs.Unique.{spells, one_value, only_memory, is_refused, within}
+use Rattle.gds_grammar.proofs.Unique.{spells, one_value, only_memory, is_refused}
 use Rattle.gds_grammar.proofs.library_reading.read_library.Goals as goal
 
 pub returns-in-Ok-clause-ok : goal.returns-in-Ok-clause-ok
