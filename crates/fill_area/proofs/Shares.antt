@@ -9,7 +9,7 @@ use Rattle.fill_area.specs.Density.{IsBelow, IsAbove, IsArea, IsShare}
 lt_is : (a b : ℤ) → a <ℤ b → int_lt a b ≡ true
 lt_is a b h = grind (arith, ints)
 
-area_read : (n : ℤ) → IsArea n → read n ≡ n
+pub area_read : (n : ℤ) → IsArea n → read n ≡ n
 area_read n is = let least : pos 0 ≤ℤ n = is.least in let most : n ≤ℤ pos (2 ^ 40) = is.most in read_is n (omega (arith, ints))
 
 share_read : (n : ℤ) → IsShare n → read n ≡ n

@@ -178,8 +178,20 @@ impl Windows {
         ensures right { result.x2 ≡ window_right self.now (k % self.now.columns) }
         ensures top { result.y2 ≡ window_top self.now (k / self.now.columns) }
     {
+        let (a, b) = self.place(k);
+        self.rect(a, b)
+    }
+
+    /// The column and the row of the window at place `k` of the list.
+    pub fn place(&self, k: usize) -> (u32, u32)
+        requires { k < self.now.columns * self.now.rows }
+        ensures column { result.0 ≡ k % self.now.columns }
+        ensures row { result.1 ≡ k / self.now.columns }
+        ensures in_columns { result.0 < self.now.columns }
+        ensures in_rows { result.1 < self.now.rows }
+    {
         let columns = self.columns as usize;
-        self.rect((k % columns) as u32, (k / columns) as u32)
+        ((k % columns) as u32, (k / columns) as u32)
     }
 }
 

@@ -22,9 +22,9 @@ returns-clause-areas g c =
     let whole : n - 0 ≡ n = omega arith in
     let area = area_at (holds c.args.region.now) c.args.windows.now in
     IfOk-then c.collect.result _ _ c.collect.ensures (λ v h.
-      let chain = rw (c.map.ensures.base, c.with_min_len.ensures.base, c.map.ensures.f) at h.1 in
-      let places = chain.1 ∙ (λ i. nat_range (ends.0 i) ((ends.1 ∙ c.len-count.ensures.count) i)) ∙ ap (range_with_len 0) whole in
-      measured (holds c.args.region.now) c.args.windows.now v.items (h.2 ∙ AllZip-map area chain.0 h.0 chain.2 ∙ ap (map area) places))
+    let chain = rw (c.map.ensures.base, c.with_min_len.ensures.base, c.map.ensures.f) at h.1 in
+    let places = chain.1 ∙ (λ i. nat_range (ends.0 i) ((ends.1 ∙ c.len-count.ensures.count) i)) ∙ ap (range_with_len 0) whole in
+    measured (holds c.args.region.now) c.args.windows.now v.items c.len-count.ensures.grid (h.2 ∙ AllZip-map area chain.0 h.0 chain.2 ∙ ap (map area) places))
 
 pub returns-clause-bounded : goal.returns-clause-bounded
 returns-clause-bounded g c =
@@ -33,6 +33,6 @@ returns-clause-bounded g c =
     let whole : n - 0 ≡ n = omega arith in
     let area = area_at (holds c.args.region.now) c.args.windows.now in
     IfOk-then c.collect.result _ _ c.collect.ensures (λ v h.
-      let chain = rw (c.map.ensures.base, c.with_min_len.ensures.base, c.map.ensures.f) at h.1 in
-      let places = chain.1 ∙ (λ i. nat_range (ends.0 i) ((ends.1 ∙ c.len-count.ensures.count) i)) ∙ ap (range_with_len 0) whole in
-      bounded (holds c.args.region.now) c.args.windows.now v.items c.len-count.ensures.grid (h.2 ∙ AllZip-map area chain.0 h.0 chain.2 ∙ ap (map area) places))
+    let chain = rw (c.map.ensures.base, c.with_min_len.ensures.base, c.map.ensures.f) at h.1 in
+    let places = chain.1 ∙ (λ i. nat_range (ends.0 i) ((ends.1 ∙ c.len-count.ensures.count) i)) ∙ ap (range_with_len 0) whole in
+    bounded (holds c.args.region.now) c.args.windows.now v.items c.len-count.ensures.grid (h.2 ∙ AllZip-map area chain.0 h.0 chain.2 ∙ ap (map area) places))

@@ -1,0 +1,19 @@
+use Rattle.std.proofs.Common.{◌<◌, ◌^◌, length, sym, subst, ◌∙◌, arith}
+use Rattle.gds_grammar.specs.Values.{contents_of}
+use Rattle.gds_grammar.specs.Outcomes.{IsRefused}
+use Rattle.gds_grammar.proofs.Unique.{spells, one_value, only_memory, is_refused}
+use Rattle.gds_grammar.proofs.library_reading.read_library.Goals as goal
+
+pub returns-in-Ok-clause-ok : goal.returns-in-Ok-clause-ok
+returns-in-Ok-clause-ok c = spells c.args.bytes.now _ (contents_of c.in-Ok.library) c.in-Ok.ensures.found
+
+pub returns-in-Ok-clause-only : goal.returns-in-Ok-clause-only
+returns-in-Ok-clause-only c = λ value s. one_value c.args.bytes.now _ (contents_of c.in-Ok.library) value c.in-Ok.ensures.found s
+
+pub returns-in-Err-clause-only : goal.returns-in-Err-clause-only
+returns-in-Err-clause-only c = λ value s. c.error_of.ensures ∙ only_memory c.args.bytes.now c.in-Err.stop value c.in-Err.ensures.refused s
+
+pub returns-in-Err-clause-refused : goal.returns-in-Err-clause-refused
+returns-in-Err-clause-refused c =
+    let few : length c.args.bytes.now < 2 ^ 64 = omega arith in
+    subst (IsRefused c.args.bytes.now) (sym c.error_of.ensures) (is_refused c.args.bytes.now c.in-Err.stop c.in-Err.ensures.refused few)

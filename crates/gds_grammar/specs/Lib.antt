@@ -1,0 +1,8 @@
+pub mod Forms
+pub mod Values
+pub mod Elements
+pub mod Grammar
+pub mod Machine
+pub mod Laws
+pub mod Reading
+pub mod Outcomes

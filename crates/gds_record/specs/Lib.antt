@@ -1,0 +1,4 @@
+pub mod Records
+pub mod Reading
+pub mod Numbers
+pub mod Reals
