@@ -1,2 +1,3 @@
 mod FaultLines
 mod Patches
+mod Reasons
