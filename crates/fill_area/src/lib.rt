@@ -9,3 +9,6 @@ pub mod windows;
 pub use area::{area_in, is_high, is_low};
 pub use measure::measure_all;
 pub use windows::{BadWindows, Windows};
+
+#[cfg(test)]
+mod tests;

@@ -7,3 +7,6 @@ pub mod laws;
 pub mod region;
 
 pub use region::Region;
+
+#[cfg(test)]
+mod tests;

@@ -6,4 +6,4 @@ pub mod line;
 pub mod report;
 
 pub use line::{Density, Measures};
-pub use report::windows_report;
+pub use report::report_of;

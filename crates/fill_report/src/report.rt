@@ -1,19 +1,38 @@
 ghost use Rattle.std.specs.Prelude.{◌≡◌, ◌++◌, ◌*◌, ◌/◌, ◌%◌, ◌<◌, length, ℕ, List, ℤ, pos, ◌≤ℤ◌, Some, IfOk, OnOk, All};
 ghost use Rattle.fill_region.specs.Bands.{holds};
+ghost use Rattle.fill_text.specs.Views.{values_of};
 ghost use Rattle.fill_area.specs.Density.{IsArea, IsShare, AreMeasured};
 ghost use Rattle.fill_report.specs.Report.{density_of, share_of, window_line, windows_text, report_text, drawn_only, nothing};
+ghost use Rattle.fill_report.specs.RulesReport.{metal_report};
 ghost use Rattle.fill_report.specs.Writing.{IsReady, written};
 
 use crate::line::{Density, Measures, put_line};
 use csv::{ByteRecord, Writer};
 use fill_area::{Windows, is_high, is_low, measure_all};
 use fill_region::Region;
+use fill_text::{NumberKey, Rules};
 use std::alloc::{AllocError, Global};
 use std::thread::Threads;
 
+/// The report of a region's metal without fill, over the windows of the rules: one line a window with
+/// its column and row, its edges, the areas of metal, of fill (0) and of both, the share in parts of a
+/// million rounded down, and `LOW`, `HIGH` or `OK` (this project's profile).
+pub fn report_of(
+    rt: &(impl Threads + Sync),
+    alloc: Global,
+    region: &Region,
+    rules: &Rules,
+) -> Result<Vec<u8>, AllocError>
+    ensures { IfOk result (λ v. v.items ≡ metal_report (holds region.now) (values_of rules.now)) }
+{
+    let least = rules.number(NumberKey::Min);
+    let most = rules.number(NumberKey::Max);
+    windows_report(rt, alloc, region, &rules.windows(), least, most)
+}
+
 /// The report of a region's metal without fill: one line a window, row by row from the lowest, in a
 /// row from the left. A window is `LOW` below `least` parts in a million and `HIGH` above `most`.
-pub fn windows_report(
+fn windows_report(
     rt: &(impl Threads + Sync),
     alloc: Global,
     region: &Region,
