@@ -139,12 +139,24 @@ fn three_rectangles_and_none_are_reported(rt: HostRuntime) -> Result<(), Fail> {
     for (script, first) in [
         (three, "0,0,0,0,50,50,150,0,150,60000,LOW\n"),
         (b"", "0,0,0,0,50,50,0,0,0,0,LOW\n"),
-        (b"add,0,0,50,50\ncut,0,0,50,50", "0,0,0,0,50,50,0,0,0,0,LOW\n"),
-        (b"cut,0,0,50,50\nadd,1,1,2,3\n", "0,0,0,0,50,50,2,0,2,800,LOW\n"),
+        (
+            b"add,0,0,50,50\ncut,0,0,50,50",
+            "0,0,0,0,50,50,0,0,0,0,LOW\n",
+        ),
+        (
+            b"cut,0,0,50,50\nadd,1,1,2,3\n",
+            "0,0,0,0,50,50,2,0,2,800,LOW\n",
+        ),
     ] {
         let mut written = Vec::new(rt.alloc());
         let mut out = Tap::new(&mut written);
-        let done = rects(&rt, rt.alloc(), &mut Tap::new(RULES), &mut Tap::new(script), &mut out);
+        let done = rects(
+            &rt,
+            rt.alloc(),
+            &mut Tap::new(RULES),
+            &mut Tap::new(script),
+            &mut out,
+        );
         assert_eq!(rt; done, Ok(()));
         let want = format!(in rt.alloc(); "{first}{OTHER_LINES}")?;
         assert!(rt; written.as_slice() == want.as_bytes());
@@ -152,22 +164,66 @@ fn three_rectangles_and_none_are_reported(rt: HostRuntime) -> Result<(), Fail> {
     Ok(())
 }
 
-fn refusal<R: Read, S: Read>(rt: &(impl Threads + Sync), alloc: Global, rules: R, script: S) -> Option<Refusal> {
+fn refusal<R: Read + Drop, S: Read + Drop>(
+    rt: &(impl Threads + Sync),
+    alloc: Global,
+    rules: R,
+    script: S,
+) -> Option<Refusal> {
     let mut out = Tap::new(Vec::new(alloc));
-    rects(rt, alloc, &mut Tap::new(rules), &mut Tap::new(script), &mut out).err()
+    rects(
+        rt,
+        alloc,
+        &mut Tap::new(rules),
+        &mut Tap::new(script),
+        &mut out,
+    )
+    .err()
 }
 
 #[test]
 fn the_first_fault_is_answered_with_its_part(rt: HostRuntime) {
     let alloc = rt.alloc();
     let script = b"cut,0,0,x,9".as_slice();
-    let missing = Fault::BadRule { key: Key::Number(NumberKey::FrameX1) };
+    let missing = Fault::BadRule {
+        key: Key::Number(NumberKey::FrameX1),
+    };
     let bad_number = Fault::BadNumber { line: 1 };
-    assert_eq!(rt; refusal(&rt, alloc, b"".as_slice(), script), Some(Refusal { part: Part::Rules, fault: missing }));
-    assert_eq!(rt; refusal(&rt, alloc, RULES, script), Some(Refusal { part: Part::Script, fault: bad_number }));
-    assert_eq!(rt; refusal(&rt, alloc, Broken, script), Some(Refusal { part: Part::Rules, fault: Fault::Device }));
-    assert_eq!(rt; refusal(&rt, alloc, RULES, Broken), Some(Refusal { part: Part::Script, fault: Fault::Device }));
-    assert_eq!(rt; refusal(&rt, alloc, b"".as_slice(), Broken), Some(Refusal { part: Part::Rules, fault: missing }));
+    assert_eq!(rt;
+        refusal(&rt, alloc, b"".as_slice(), script),
+        Some(Refusal {
+            part: Part::Rules,
+            fault: missing
+        })
+    );
+    assert_eq!(rt;
+        refusal(&rt, alloc, RULES, script),
+        Some(Refusal {
+            part: Part::Script,
+            fault: bad_number
+        })
+    );
+    assert_eq!(rt;
+        refusal(&rt, alloc, Broken, script),
+        Some(Refusal {
+            part: Part::Rules,
+            fault: Fault::Device
+        })
+    );
+    assert_eq!(rt;
+        refusal(&rt, alloc, RULES, Broken),
+        Some(Refusal {
+            part: Part::Script,
+            fault: Fault::Device
+        })
+    );
+    assert_eq!(rt;
+        refusal(&rt, alloc, b"".as_slice(), Broken),
+        Some(Refusal {
+            part: Part::Rules,
+            fault: missing
+        })
+    );
 }
 
 /// A writer that takes so many bytes, one at a time, and then fails.
@@ -200,11 +256,28 @@ impl Write for Short {
 fn a_writer_that_fails_keeps_a_prefix(rt: HostRuntime) -> Result<(), Fail> {
     let want = format!(in rt.alloc(); "0,0,0,0,50,50,0,0,0,0,LOW\n{OTHER_LINES}")?;
     for room in [0, 1, 25, 100] {
-        let mut short = Short { taken: Vec::new(rt.alloc()), room };
+        let mut short = Short {
+            taken: Vec::new(rt.alloc()),
+            room,
+        };
         let mut out = Tap::new(&mut short);
-        let done = rects(&rt, rt.alloc(), &mut Tap::new(RULES), &mut Tap::new(b"".as_slice()), &mut out);
-        assert_eq!(rt; done, Err(Refusal { part: Part::Report, fault: Fault::Device }));
-        assert!(rt; want.as_bytes().starts_with(short.taken.as_slice()) && short.taken.len() == room);
+        let done = rects(
+            &rt,
+            rt.alloc(),
+            &mut Tap::new(RULES),
+            &mut Tap::new(b"".as_slice()),
+            &mut out,
+        );
+        assert_eq!(rt;
+            done,
+            Err(Refusal {
+                part: Part::Report,
+                fault: Fault::Device
+            })
+        );
+        assert!(rt;
+            want.as_bytes().starts_with(short.taken.as_slice()) && short.taken.len() == room
+        );
     }
     Ok(())
 }
