@@ -1,5 +1,5 @@
 //! The density report of the metal that a script leaves of nothing, from bytes to bytes.
-ghost use Rattle.std.specs.Prelude.{◌≡◌, ◌≢◌, ◌↔◌, ℕ, true, false, take, IfOk, IfErr, IfSome, IsErrOf, IsOkAnd, OnOk, map};
+ghost use Rattle.std.specs.Prelude.{◌≡◌, ◌≢◌, ◌↔◌, ◌⊎◌, ℕ, true, false, take, IfOk, IfErr, IfSome, IsErrOf, IsOkAnd, OnOk, map};
 ghost use Rattle.std.specs.Io.KnownBytes.{Appends};
 ghost use Rattle.fill_device.specs.Taps.{has_failed, under};
 ghost use Rattle.fill_report.specs.RulesReport.{metal_report};
@@ -90,6 +90,8 @@ pub fn rects<R: Read, S: Read, W: Write>(
     ensures rules_device { (result ≡ Err (record { part = Part.Rules; fault = Fault.Device })) ↔ (has_failed rules.new ≡ true) }
     ensures script_device { (result ≡ Err (record { part = Part.Script; fault = Fault.Device })) ↔ (has_failed script.new ≡ true) }
     ensures report_device { (result ≡ Err (record { part = Part.Report; fault = Fault.Device })) ↔ (has_failed out.new ≡ true) }
+    ensures device { IfErr result (λ e. e.fault ≡ Fault.Device → (has_failed rules.new ≡ true) ⊎ (has_failed script.new ≡ true) ⊎ (has_failed out.new ≡ true)) }
+    ensures memory { IfErr result (λ e. e.fault ≡ Fault.Memory → (e.part ≡ Part.Rules) ⊎ (e.part ≡ Part.Script) ⊎ (e.part ≡ Part.Run)) }
 
     // What is answered is what the bytes of the two inputs say.
     ensures written { OnOk result (IfSome (R.remaining (under rules.old)) (λ r. IfSome (S.remaining (under script.old)) (λ s.
