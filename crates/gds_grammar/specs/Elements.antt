@@ -44,8 +44,8 @@ optional Text = kinds.PRESENTATION ∷ kinds.PATHTYPE ∷ kinds.WIDTH ∷ kinds.
 optional Node = []
 optional Box = []
 
--- Whether a record of the kind may stand before XY behind records of these kinds: ELFLAGS stands first, PLEX first or
--- behind ELFLAGS, and the element's own records stand in any order, each once.
+-- Whether a record of the kind may stand before XY behind records of these kinds: ELFLAGS stands
+-- first, PLEX first or behind ELFLAGS, and the element's own records stand in any order, each once.
 abbrev pub may_stand : ElementKind → List ℕ → ℕ → Bool
 may_stand element seen kind =
     if kind == kinds.ELFLAGS then length seen == 0

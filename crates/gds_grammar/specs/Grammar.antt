@@ -1,5 +1,5 @@
--- The grammar: which lists of records are a library, and what it says. A library is a tree of parts; its records are
--- those of its parts from left to right.
+-- The grammar: which lists of records are a library, and what it says. A library is a tree of
+-- parts; its records are those of its parts from left to right.
 use Rattle.std.specs.Prelude.{◌≡◌, ℕ, Bool, true, false, List, [], ◌∷◌, ◌++◌, map, Some}
 use Rattle.std.specs.List.{flat_map, list_any, AllByRecursion}
 use Rattle.std.specs.Str.{bytes_eq}
@@ -11,8 +11,9 @@ use Rattle.gds_grammar.specs.Forms.{among, IsWell}
 use Rattle.gds_grammar.specs.Values.{Shape, Cell, Contents}
 use Rattle.gds_grammar.specs.Elements.{opening, may_stand, kinds_in, is_whole, are_points, is_closed, has_string, shapes_in}
 
--- The three rules that a list of records keeps beside its order: what points an element has, that a boundary is closed,
--- and that no two structures have one name. They are parameters, so that it can be said which of them is broken.
+-- The three rules that a list of records keeps beside its order: what points an element has, that a
+-- boundary is closed, and that no two structures have one name. They are parameters, so that it can
+-- be said which of them is broken.
 pub record Rules : Type 0 where
   pub points : ElementKind → List ℕ → Bool
   pub closed : ElementKind → List ℕ → Bool

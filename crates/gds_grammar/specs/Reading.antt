@@ -20,7 +20,8 @@ use Rattle.gds_grammar.specs.Values.{Shape, Contents, shape_of}
 use Rattle.gds_grammar.specs.Grammar.{all_rules}
 use Rattle.gds_grammar.specs.Machine.{State, Dated, Titled, Between, Named, Within, Body, Tail, Done, behind_xy, with_cell, fine, refuse, next_state, step, run}
 
--- the bytes begin with well-formed records that lead from one state to the other, and with the rest behind them
+-- the bytes begin with well-formed records that lead from one state to the other, and with the rest
+-- behind them
 pub record Reaches (bytes : List ℕ) (s : State) (rest : List ℕ) (t : State) : Type 0 where
   pub taken : List Rec
   pub parts : bytes ≡ flat_map spelling taken ++ rest
