@@ -1,6 +1,7 @@
 use crate::Region;
 use fill_base::Rect;
 use fill_spans::Spans;
+use std::alloc::{AllocError, Global};
 use std::process::Abort;
 use std::test::Fail;
 
@@ -25,8 +26,8 @@ fn rect(rt: &impl Abort, corners: [i64; 4]) -> Rect {
 }
 
 /// The rectangles whose bit is set in `chosen`.
-fn some_rects(rt: &(impl Abort + Alloc), chosen: usize) -> Result<Vec<Rect>, Fail> {
-    let mut rects = Vec::new(rt.alloc());
+fn some_rects(rt: &impl Abort, alloc: Global, chosen: usize) -> Result<Vec<Rect>, AllocError> {
+    let mut rects = Vec::new(alloc);
     for (i, corners) in RECTS.iter().enumerate() {
         if (chosen >> (i % 8)) & 1 == 1 {
             rects.push(rect(rt, *corners))?;
@@ -43,8 +44,8 @@ fn some_holds(rects: &[Rect], x: i64, y: i64) -> bool {
 fn every_operation_is_a_count_over_squares(rt: HostRuntime) -> Result<(), Fail> {
     let alloc = rt.alloc();
     for chosen in 0..64usize {
-        let first = some_rects(&rt, chosen * 5 % 256)?;
-        let second = some_rects(&rt, chosen * 37 % 256)?;
+        let first = some_rects(&rt, alloc, chosen * 5 % 256)?;
+        let second = some_rects(&rt, alloc, chosen * 37 % 256)?;
         let a = Region::from_rects(alloc, &first)?;
         let b = Region::from_rects(alloc, &second)?;
         let window = rect(&rt, [1, 1, 5, 6]);
