@@ -4,6 +4,12 @@
 //! want of memory or a usage fault with the text to print, and a call for help is a usage fault too.
 #![tactic(auto)]
 
+ghost use Rattle.std.specs.Prelude.{◌≡◌, Some, true, IfErr, IfOk, IsSome, map, option_map};
+ghost use Rattle.clap.specs.Words.{app_of, found_of, kind_of, rows_of, takes};
+ghost use Rattle.fill_line.specs.Grammar.{program_words, said_by, said_in};
+ghost use Rattle.fill_line.specs.Lines.{text_of};
+ghost use Rattle.fill_line.specs.declared.LineError.TheVariants.{Memory};
+
 use clap::error::ErrorKind;
 use clap::{Arg, ArgMatches, Command};
 use std::alloc::{AllocError, Global};
@@ -36,70 +42,81 @@ impl fmt::Display for LineError {
 }
 
 impl From<AllocError> for LineError {
+    ghost from_gives = { λ _ e. e ≡ Memory };
+
     fn from(_error: AllocError) -> LineError {
         LineError::Memory
     }
 }
 
-impl From<clap::Error> for LineError {
-    fn from(error: clap::Error) -> LineError {
-        if error.kind() == ErrorKind::OutOfMemory {
-            LineError::Memory
-        } else {
-            LineError::Usage(error)
-        }
-    }
-}
-
 /// Every line that the program takes.
-fn grammar<'a>(alloc: Global) -> Result<Command<'a>, AllocError> {
-    let rules = Arg::new(alloc, "RULES")
-        .required(true)
-        .help("The rule file");
-    let script = Arg::new(alloc, "SCRIPT")
-        .required(true)
-        .help("The script of added and cut rectangles");
+fn grammar<'a>(alloc: Global) -> Result<Command<'a>, AllocError>
+    ensures { IfOk result (λ c. app_of c ≡ program_words) }
+{
+    let rules = Arg::new(alloc, "RULES").help("The rule file");
+    let rules = rules.required(true);
+    let script = Arg::new(alloc, "SCRIPT").help("The script of added and cut rectangles");
+    let script = script.required(true);
     let rects = Command::new(alloc, "rects")
         .about("Reports the density of the metal that a script leaves of nothing")
         .arg(rules)?
         .arg(script)?;
-    Command::new(alloc, "densfill")
+    let program = Command::new(alloc, "densfill")
         .about("Checks the metal density of a layout")
         .subcommand_required(true)
-        .subcommand(rects)
+        .subcommand(rects)?;
+    Ok(program)
 }
 
 /// The line of a subcommand that was found.
-fn line_in<'a>(name: &str, found: &ArgMatches<'a>) -> Option<Line<'a>> {
-    match name {
-        "rects" => Some(Line::Rects {
-            rules: found.get_str("RULES")?,
-            script: found.get_str("SCRIPT")?,
-        }),
-        _ => None,
+fn line_in<'a>(name: &str, found: &ArgMatches<'a>) -> Option<Line<'a>>
+    ensures { option_map text_of result ≡ said_by name.now (rows_of (found_of found.now)) }
+{
+    if name != "rects" {
+        return None;
     }
+    let rules = found.get_str("RULES")?;
+    let script = found.get_str("SCRIPT")?;
+    Some(Line::Rects { rules, script })
 }
 
 /// The line that the program's words make, the program's own name first.
 ///
 /// # Errors
 /// `Usage` where they make none, also where they ask for help; `Memory` where memory runs out.
-pub fn read_line<'a, S: AsStr>(alloc: Global, words: &'a [S]) -> Result<Line<'a>, LineError> {
-    let matches = grammar(alloc)?.try_get_matches_from(words)?;
+pub fn read_line<'a, S: AsStr>(alloc: Global, words: &'a [S]) -> Result<Line<'a>, LineError>
+    ensures line { IfOk result (λ line. said_in (map S.text words.entry.now) ≡ Some (text_of line)) }
+    ensures usage { takes program_words (map S.text words.entry.now) ≡ true → IsSome (said_in (map S.text words.entry.now)) → IfErr result (λ e. e ≡ LineError.Memory) }
+{
+    let matches = match grammar(alloc)?.try_get_matches_from(words) {
+        Ok(matches) => matches,
+        Err(error) => return Err(refused(error)),
+    };
     let line = match matches.subcommand() {
         Some((name, found)) => line_in(name, found),
         None => None,
     };
     match line {
         Some(line) => Ok(line),
-        None => {
-            let error = grammar(alloc)?.error(
-                ErrorKind::MissingSubcommand,
-                "a subcommand is missing",
-            )?;
-            Err(LineError::Usage(error))
-        }
+        None => Err(refused(no_line(alloc)?)),
     }
+}
+
+/// A refusal of `clap` is want of memory or a usage fault.
+fn refused(error: clap::Error) -> LineError
+    ensures { kind_of error ≡ ErrorKind.OutOfMemory → result ≡ LineError.Memory }
+{
+    if error.kind() == ErrorKind::OutOfMemory {
+        LineError::Memory
+    } else {
+        LineError::Usage(error)
+    }
+}
+
+/// The usage fault of words that name no subcommand.
+fn no_line(alloc: Global) -> Result<clap::Error, AllocError> {
+    let mut grammar = grammar(alloc)?;
+    grammar.error(ErrorKind::MissingSubcommand, "a subcommand is missing")
 }
 
 #[cfg(test)]

@@ -7,3 +7,4 @@ pub mod Ranges
 pub mod RuleFiles
 pub mod SameRules
 pub mod GridTests
+pub mod Written

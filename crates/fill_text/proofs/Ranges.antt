@@ -17,19 +17,19 @@ use Rattle.fill_text.specs.declared.refusal.RuleError.{RuleError}
 use Rattle.fill_text.specs.declared.refusal.RuleError.TheVariants.{BadNumber, BadRow, BadRule}
 
 -- what an answer of two steps was made of
-then_ok : {A B E : Type 0} (r : Result A E) (f : A → Result B E) (y : B) → (r >>= f) ≡ Ok y → (x : A) × (r ≡ Ok x) × (f x ≡ Ok y)
+pub then_ok : {A B E : Type 0} (r : Result A E) (f : A → Result B E) (y : B) → (r >>= f) ≡ Ok y → (x : A) × (r ≡ Ok x) × (f x ≡ Ok y)
 then_ok (Ok x) f y e = (x, refl, e)
 then_ok (Err why) f y e = cc e
 
-passed_test : {B E : Type 0} (b : Bool) (r : Result B E) (why : E) (y : B) → (if b then r else Err why) ≡ Ok y → (b ≡ true) × (r ≡ Ok y)
+pub passed_test : {B E : Type 0} (b : Bool) (r : Result B E) (why : E) (y : B) → (if b then r else Err why) ≡ Ok y → (b ≡ true) × (r ≡ Ok y)
 passed_test true r why y e = (refl, e)
 passed_test false r why y e = cc e
 
-passed_other : {B E : Type 0} (b : Bool) (r : Result B E) (why : E) (y : B) → (if b then Err why else r) ≡ Ok y → (b ≡ false) × (r ≡ Ok y)
+pub passed_other : {B E : Type 0} (b : Bool) (r : Result B E) (why : E) (y : B) → (if b then Err why else r) ≡ Ok y → (b ≡ false) × (r ≡ Ok y)
 passed_other true r why y e = cc e
 passed_other false r why y e = (refl, e)
 
-ok_same : {B : Type 0} (x y : B) → (let same : Result B RuleError = Ok x in same ≡ Ok y) → x ≡ y
+pub ok_same : {B : Type 0} (x y : B) → (let same : Result B RuleError = Ok x in same ≡ Ok y) → x ≡ y
 ok_same x y e = cc e
 
 -- each key stands at its place
@@ -63,10 +63,10 @@ key_at Datatype = refl
 key_at FillLayer = refl
 key_at FillDatatype = refl
 
-places_differ : (a b : NumberKey) → (number_rule a).place ≡ (number_rule b).place → a ≡ b
+pub places_differ : (a b : NumberKey) → (number_rule a).place ≡ (number_rule b).place → a ≡ b
 places_differ a b e = sym (key_at a) ∙ ap (λ i. get_or all_number_keys i FrameX1) e ∙ key_at b
 
-place_below : (key : NumberKey) → (number_rule key).place < 28
+pub place_below : (key : NumberKey) → (number_rule key).place < 28
 place_below FrameX1 = lit< tt
 place_below FrameY1 = lit< tt
 place_below FrameX2 = lit< tt
@@ -113,7 +113,7 @@ nothing_ranged : AreRanged nothing_found.numbers
 nothing_ranged key = let none : number_found nothing_found.numbers key ≡ None = get_or-replicate 28 (number_rule key).place None None (place_below key) in rw none tt
 
 -- a write changes the number at its place alone
-get_or_set : (numbers : List (Option ℤ)) (i j : ℕ) (n : Option ℤ)
+pub get_or_set : (numbers : List (Option ℤ)) (i j : ℕ) (n : Option ℤ)
     → (get_or (set numbers i n) j None ≡ get_or numbers j None) ⊎ ((j ≡ i) × (get_or (set numbers i n) j None ≡ n))
 get_or_set [] i j n = inl refl
 get_or_set (m ∷ numbers) zero zero n = inr (refl, refl)
@@ -128,7 +128,7 @@ set_ranged numbers key n ranged within other = elim (get_or_set numbers (number_
   | inr (e, this) ↦ rw (this, places_differ other key e) within
 ]
 
-with_text_numbers : (found : Found) (key : TextKey) (word : List ℕ) → (with_text found key word).numbers ≡ found.numbers
+pub with_text_numbers : (found : Found) (key : TextKey) (word : List ℕ) → (with_text found key word).numbers ≡ found.numbers
 with_text_numbers found text.Top word = refl
 with_text_numbers found text.FillLib word = refl
 with_text_numbers found text.FillCell word = refl
@@ -169,7 +169,7 @@ front_ok n (Ok more) values e = (more, refl, ok_same (n ∷ more) values e)
 front_ok n (Err why) values e = cc e
 
 -- the numbers of the keys are those that were found
-number_kept : (keys : List NumberKey) (numbers : List (Option ℤ)) (values : List ℤ) → all_numbers keys numbers ≡ Ok values
+pub number_kept : (keys : List NumberKey) (numbers : List (Option ℤ)) (values : List ℤ) → all_numbers keys numbers ≡ Ok values
     → (i : ℕ) → i < length keys → get_or numbers i None ≡ Some (get_or values i (pos 0))
 unfolding all_numbers
 number_kept [] numbers values e i below = absurd (omega arith)

@@ -3,6 +3,7 @@ pub mod Answers
 pub mod Corners
 pub mod Grids
 pub mod Keys
+pub mod Laws
 pub mod Numbers
 pub mod Rows
 pub mod Rules

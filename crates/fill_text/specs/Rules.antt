@@ -125,6 +125,12 @@ number_in numbers key = get_or numbers (number_rule key).place (pos 0)
 abbrev pub value_of : Values → NumberKey → ℤ
 value_of values key = number_in values.numbers key
 
+abbrev pub text_of : Values → TextKey → List ℕ
+text_of values text.Top = values.top
+text_of values text.FillLib = values.fill_lib
+text_of values text.FillCell = values.fill_cell
+text_of values text.FillTop = values.fill_top
+
 -- the values, none of which may miss: the first missing key in table order is refused
 unfoldable pub all_values : Found → Result Values RuleError
 all_values found = do

@@ -7,6 +7,7 @@
 
 mod corners;
 mod keys;
+pub mod laws;
 mod numbers;
 mod readers;
 mod reading;

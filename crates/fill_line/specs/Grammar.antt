@@ -1,0 +1,36 @@
+-- The command lines that the program takes, as `clap` reads them.
+use Rattle.std.specs.Prelude.{List, Option, None, true, bytes_eq, codes, if◌then◌else◌, option_map}
+use Rattle.std.specs.Option.{option_and_then}
+use Rattle.clap.specs.Words.{App, Row, Rule, Text, first_of, new_app, new_rule, subcommand_of, with_rule, with_subcommand}
+
+-- a required path
+abbrev pub path : Text → Rule
+path name = record (new_rule name) { required = true }
+
+-- `rects RULES SCRIPT`
+abbrev pub rects_words : App
+rects_words = with_rule (with_rule (new_app (codes "rects")) (path (codes "RULES"))) (path (codes "SCRIPT"))
+
+-- one subcommand, which must be there
+abbrev pub program_words : App
+program_words = with_subcommand (record (new_app (codes "densfill")) { top = record (new_app (codes "densfill")).top { subcommand_required = true } }) rects_words.top
+
+-- what `clap` finds in the words: the subcommand's name and a row for each of its arguments
+abbrev pub found_in : List Text → Option (Text × List Row)
+found_in words = subcommand_of program_words words
+
+-- a line by its paths
+pub record Said : Type 0 where
+  pub rules : Text
+  pub script : Text
+
+-- what the rows of the subcommand of a name say
+abbrev pub said_by : Text → List Row → Option Said
+said_by name rows =
+    if bytes_eq name (codes "rects")
+    then option_and_then (λ rules. option_map (λ script. record { rules = rules; script = script }) (first_of (codes "SCRIPT") rows)) (first_of (codes "RULES") rows)
+    else None
+
+-- the line that the words make, the program's own name first
+abbrev pub said_in : List Text → Option Said
+said_in words = option_and_then (λ found. said_by found.0 found.1) (found_in words)

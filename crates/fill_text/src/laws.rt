@@ -1,0 +1,14 @@
+//! What holds of rule files whatever the code does. Each function's contract is the law.
+ghost use Rattle.fill_text.specs.Laws.{EachNumberIsWritten, EachTextIsWritten};
+
+/// Where a rule file is accepted, each number is what some record writes: a record of two fields, the key's name and
+/// the number in decimal.
+pub fn each_number_is_written()
+    ensures { EachNumberIsWritten }
+{}
+
+/// Where a rule file is accepted, each text is what some record writes: a record of two fields, the key's name and the
+/// text.
+pub fn each_text_is_written()
+    ensures { EachTextIsWritten }
+{}
