@@ -17,7 +17,7 @@ for crate in fill_base gds_record gds_grammar; do
     grep "^$crate:" "$root/crates.txt" >> "$work/repository/crates.txt"
 done
 echo "read_design: gds_grammar anyhow" >> "$work/repository/crates.txt"
-cp "$here/read_design.rt" "$work/repository/crates/read_design/src/main.rt"
+cp "$here/read_design.rt.txt" "$work/repository/crates/read_design/src/main.rt"
 python3 "$here/generate.py" 1000 "$work/first.gds"
 (cd "$work/repository/crates/read_design" && rt run -- "$work/first.gds") > "$work/build.log" 2>&1 ||
     { tail -20 "$work/build.log"; exit 1; }

@@ -37,7 +37,8 @@ pub struct Rect {
     pub ghost top: { y2 ≤ℤ highest },
 }
 
-fn is_coordinate(x: i64) -> bool
+/// Whether a number is a coordinate: from -2^30 to 2^30.
+pub fn is_coordinate(x: i64) -> bool
     ensures { IsTrue result ↔ IsCoordinate x }
 {
     LOWEST <= x && x <= HIGHEST
@@ -63,6 +64,19 @@ impl Rect {
             return Err(RectError::BadRect);
         }
         Ok(Rect { x1, y1, x2, y2 })
+    }
+
+    /// The rectangle with these edges, which the caller knows to be in order and in range.
+    pub fn from_edges(x1: i64, y1: i64, x2: i64, y2: i64) -> Rect
+        requires wide { x1 <ℤ x2 }
+        requires tall { y1 <ℤ y2 }
+        requires left { lowest ≤ℤ x1 }
+        requires bottom { lowest ≤ℤ y1 }
+        requires right { x2 ≤ℤ highest }
+        requires top { y2 ≤ℤ highest }
+        ensures { (result.x1 ≡ x1) × (result.y1 ≡ y1) × (result.x2 ≡ x2) × (result.y2 ≡ y2) }
+    {
+        Rect { x1, y1, x2, y2 }
     }
 
     /// The left edge.

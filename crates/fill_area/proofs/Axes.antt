@@ -1,0 +1,186 @@
+-- Windows along one axis.
+use Rattle.std.proofs.Common.{◌≡◌, ℕ, ◌*◌, ◌-◌, ◌≤◌, ◌<◌, ℤ, pos, negsuc, ◌+ℤ◌, ◌*ℤ◌, ◌≤ℤ◌, ◌<ℤ◌, refl, arith, ap, ◌∙◌, w64, FitsSigned}
+use Rattle.std.proofs.lemmas.Int.{ints}
+use Rattle.std.proofs.Math.Nat.{mul-le-mul}
+use Rattle.fill_base.specs.Coordinates.{lowest, highest, IsCoordinate}
+use Rattle.fill_base.proofs.Signed.{read, read_is, coordinate_fits, lt_le, le_trans}
+use Rattle.fill_area.specs.Density.{IsArea}
+use Rattle.fill_area.specs.Grid.{Grid, IsLength, IsCount, IsAxis, IsGrid, IsExtent}
+
+-- a step many times is a natural number of at most 2^40
+pub record IsMove (a : ℕ) (step : ℤ) (m : ℕ) : Type 0 where
+  pub is : pos a *ℤ step ≡ pos m
+  pub most : m ≤ 1048576 * 1048576
+
+moved : (a : ℕ) (step : ℤ) → a ≤ 1048576 → IsLength step → (m : ℕ) × IsMove a step m
+moved a (pos s) few length =
+    let short : s ≤ 1048576 = let most : pos s ≤ℤ pos 1048576 = length.most in omega (arith, ints) in
+    (a * s, record { is = refl; most = mul-le-mul few short })
+moved a (negsuc s) few length = absurd (let least : pos 1 ≤ℤ negsuc s = length.least in omega (arith, ints))
+
+pub move_fits : (a : ℕ) (step : ℤ) → a ≤ 1048576 → IsLength step → FitsSigned w64 (pos a *ℤ step)
+move_fits a step few length = let m = moved a step few length in rw m.1.is (fits m.0 m.1.most)
+  where
+    fits : (m : ℕ) → m ≤ 1048576 * 1048576 → FitsSigned w64 (pos m)
+    fits m most = omega (arith, ints)
+
+pub begin_fits : (first : ℤ) (a : ℕ) (step : ℤ) → IsCoordinate first → a ≤ 1048576 → IsLength step → FitsSigned w64 (first +ℤ (pos a *ℤ step))
+begin_fits first a step coordinate few length = let m = moved a step few length in rw m.1.is (fits first m.0 coordinate m.1.most)
+  where
+    fits : (first : ℤ) (m : ℕ) → IsCoordinate first → m ≤ 1048576 * 1048576 → FitsSigned w64 (first +ℤ pos m)
+    fits first m c most = let low : lowest ≤ℤ first = c.least in let high : first ≤ℤ highest = c.most in omega (arith, ints)
+
+pub end_fits : (first length : ℤ) (a : ℕ) (step : ℤ) → IsCoordinate first → IsLength length → a ≤ 1048576 → IsLength step → FitsSigned w64 ((first +ℤ (pos a *ℤ step)) +ℤ length)
+end_fits first length a step coordinate long few is = let m = moved a step few is in rw m.1.is (fits first length m.0 coordinate long m.1.most)
+  where
+    fits : (first length : ℤ) (m : ℕ) → IsCoordinate first → IsLength length → m ≤ 1048576 * 1048576 → FitsSigned w64 ((first +ℤ pos m) +ℤ length)
+    fits first length m c l most =
+        let low : lowest ≤ℤ first = c.least in let high : first ≤ℤ highest = c.most in
+        let one : pos 1 ≤ℤ length = l.least in let long : length ≤ℤ pos 1048576 = l.most in omega (arith, ints)
+
+-- an earlier window lies within the coordinates as the last one does
+pub extent : (first length step : ℤ) (count a : ℕ) → IsAxis first length step count → a < count
+    → IsExtent first length step a (first +ℤ (pos a *ℤ step)) ((first +ℤ (pos a *ℤ step)) +ℤ length)
+extent first length (pos s) count a axis lt =
+    let one : pos 1 ≤ℤ length = axis.length_is.least in
+    let le : a * s ≤ (count - 1) * s = mul-le-mul (before a count lt) (same s) in
+    let low : lowest ≤ℤ first = axis.first_is.least in
+    let last : ((first +ℤ (pos ((count - 1) * s))) +ℤ length) ≤ℤ highest = axis.last in
+    record {
+      begins = refl;
+      ends = refl;
+      some = longer (first +ℤ pos (a * s)) length one;
+      low = later first (a * s) low;
+      high = sooner first length (a * s) ((count - 1) * s) le last;
+    }
+  where
+    before : (a count : ℕ) → a < count → a ≤ count - 1
+    before a count lt = omega arith
+
+    same : (s : ℕ) → s ≤ s
+    same s = omega arith
+
+    longer : (z length : ℤ) → pos 1 ≤ℤ length → z <ℤ (z +ℤ length)
+    longer z length one = omega (arith, ints)
+
+    later : (first : ℤ) (m : ℕ) → lowest ≤ℤ first → lowest ≤ℤ (first +ℤ pos m)
+    later first m low = omega (arith, ints)
+
+    sooner : (first length : ℤ) (m n : ℕ) → m ≤ n → ((first +ℤ pos n) +ℤ length) ≤ℤ highest → ((first +ℤ pos m) +ℤ length) ≤ℤ highest
+    sooner first length m n le last = omega (arith, ints)
+extent first length (negsuc s) count a axis lt = absurd (let least : pos 1 ≤ℤ negsuc s = axis.step_is.least in omega (arith, ints))
+
+pub length_fits : (z : ℤ) → IsLength z → FitsSigned w64 z
+length_fits z is = let low : pos 1 ≤ℤ z = is.least in let high : z ≤ℤ pos 1048576 = is.most in omega (arith, ints)
+
+-- what the code adds up is what the definition adds up
+pub begin_is : (first step p : ℤ) (a : ℕ) → IsCoordinate first → IsLength step → a ≤ 1048576 → p ≡ pos a
+    → FitsSigned w64 (read first +ℤ read (read p *ℤ read step)) × (read first +ℤ read (read p *ℤ read step) ≡ first +ℤ (pos a *ℤ step))
+begin_is first step p a coordinate is few p_is =
+    let sum : read first +ℤ read (read p *ℤ read step) ≡ first +ℤ (pos a *ℤ step) =
+    rw (p_is, read_is first (coordinate_fits first coordinate.least coordinate.most), read_is (pos a) (small a few), read_is step (length_fits step is), read_is (pos a *ℤ step) (move_fits a step few is)) refl in
+    (rw sum (begin_fits first a step coordinate few is), sum)
+  where
+    small : (a : ℕ) → a ≤ 1048576 → FitsSigned w64 (pos a)
+    small a few = omega (arith, ints)
+
+pub end_is : (first length step p : ℤ) (a : ℕ) → IsCoordinate first → IsLength length → IsLength step → a ≤ 1048576 → p ≡ pos a
+    → FitsSigned w64 (read (read first +ℤ read (read p *ℤ read step)) +ℤ read length)
+    × (read (read first +ℤ read (read p *ℤ read step)) +ℤ read length ≡ (first +ℤ (pos a *ℤ step)) +ℤ length)
+end_is first length step p a coordinate long is few p_is =
+    let begin = begin_is first step p a coordinate is few p_is in
+    let sum : read (read first +ℤ read (read p *ℤ read step)) +ℤ read length ≡ (first +ℤ (pos a *ℤ step)) +ℤ length =
+    rw (begin.1, read_is (first +ℤ (pos a *ℤ step)) (begin_fits first a step coordinate few is), read_is length (length_fits length long)) refl in
+    (rw sum (end_fits first length a step coordinate long few is), sum)
+
+pub extent_is : (first length step p : ℤ) (count a : ℕ) → IsAxis first length step count → a < count → p ≡ pos a
+    → IsExtent first length step a (read (read first +ℤ read (read p *ℤ read step))) (read (read (read first +ℤ read (read p *ℤ read step)) +ℤ read length))
+extent_is first length step p count a axis lt p_is =
+    let few = under a count lt axis.count_is in
+    let begin = begin_is first step p a axis.first_is axis.step_is few p_is in
+    let «end» = end_is first length step p a axis.first_is axis.length_is axis.step_is few p_is in
+    let b : read (read first +ℤ read (read p *ℤ read step)) ≡ first +ℤ (pos a *ℤ step) = ap read begin.1 ∙ read_is _ (begin_fits first a step axis.first_is few axis.step_is) in
+    let e : read (read (read first +ℤ read (read p *ℤ read step)) +ℤ read length) ≡ (first +ℤ (pos a *ℤ step)) +ℤ length = ap read «end».1 ∙ read_is _ (end_fits first length a step axis.first_is axis.length_is few axis.step_is) in
+    rw (e, b) (extent first length step count a axis lt)
+  where
+    under : (a count : ℕ) → a < count → IsCount count → a ≤ 1048576
+    under a count lt is = let most : count ≤ 1048576 = is.most in omega arith
+
+pub place_few : (a count : ℕ) → a < count → IsCount count → a ≤ 1048576
+place_few a count lt is = let most : count ≤ 1048576 = is.most in omega arith
+
+-- the grid's numbers, as the code reads them
+pub grid_reads : (g : Grid) → IsGrid g → IsGrid (record { x = read g.x; y = read g.y; width = read g.width; height = read g.height; step_x = read g.step_x; step_y = read g.step_y; columns = g.columns; rows = g.rows })
+grid_reads g is = rw (
+  coordinate_read g.x is.across.first_is,
+  coordinate_read g.y is.up.first_is,
+  length_read g.width is.across.length_is,
+  length_read g.height is.up.length_is,
+  length_read g.step_x is.across.step_is,
+  length_read g.step_y is.up.step_is,
+) is
+  where
+    coordinate_read : (z : ℤ) → IsCoordinate z → read z ≡ z
+    coordinate_read z c = read_is z (coordinate_fits z c.least c.most)
+
+    length_read : (z : ℤ) → IsLength z → read z ≡ z
+    length_read z l = read_is z (length_fits z l)
+
+-- a window's size is a product of two lengths
+pub size_fits : (w h : ℤ) → IsLength w → IsLength h → FitsSigned w64 (w *ℤ h)
+size_fits (pos w) (pos h) iw ih =
+    let a : w ≤ 1048576 = let most : pos w ≤ℤ pos 1048576 = iw.most in omega (arith, ints) in
+    let b : h ≤ 1048576 = let most : pos h ≤ℤ pos 1048576 = ih.most in omega (arith, ints) in
+    fits (w * h) (mul-le-mul a b)
+  where
+    fits : (m : ℕ) → m ≤ 1048576 * 1048576 → FitsSigned w64 (pos m)
+    fits m most = omega (arith, ints)
+size_fits (pos w) (negsuc h) iw ih = absurd (let least : pos 1 ≤ℤ negsuc h = ih.least in omega (arith, ints))
+size_fits (negsuc w) h iw ih = absurd (let least : pos 1 ≤ℤ negsuc w = iw.least in omega (arith, ints))
+
+pub size_is : (w h : ℤ) → IsLength w → IsLength h → (read w *ℤ read h ≡ w *ℤ h) × FitsSigned w64 (read w *ℤ read h)
+size_is w h iw ih = let e : read w *ℤ read h ≡ w *ℤ h = rw (read_is w (length_fits w iw), read_is h (length_fits h ih)) refl in (e, rw e (size_fits w h iw ih))
+
+-- an extent that the code has found, read back
+same_extent : (first length step : ℤ) (count a : ℕ) (lo hi : ℤ) → IsAxis first length step count → IsExtent (read first) (read length) (read step) a lo hi → IsExtent first length step a lo hi
+same_extent first length step count a lo hi axis is =
+    rw (read_is first (coordinate_fits first axis.first_is.least axis.first_is.most), read_is step (length_fits step axis.step_is), read_is length (length_fits length axis.length_is)) at is
+
+extent_read : (first length step : ℤ) (a : ℕ) (lo hi : ℤ) → IsExtent first length step a lo hi → (read lo ≡ lo) × (read hi ≡ hi)
+extent_read first length step a lo hi is =
+    (read_is lo (coordinate_fits lo is.low (le_trans lo hi _ (lt_le lo hi is.some) is.high)), read_is hi (coordinate_fits hi (le_trans _ lo hi is.low (lt_le lo hi is.some)) is.high))
+
+pub begins_at : (first length step : ℤ) {count : ℕ} (a : ℕ) (lo hi edge : ℤ) → IsExtent (read first) (read length) (read step) a lo hi → IsAxis first length step count
+    → edge ≡ read lo → edge ≡ first +ℤ (pos a *ℤ step)
+begins_at first length step {count} a lo hi edge is axis edge_is =
+    let e = same_extent first length step count a lo hi axis is in
+    edge_is ∙ ((extent_read first length step a lo hi e).0 ∙ e.begins)
+
+pub ends_at : (first length step : ℤ) {count : ℕ} (a : ℕ) (lo hi edge : ℤ) → IsExtent (read first) (read length) (read step) a lo hi → IsAxis first length step count
+    → edge ≡ read hi → edge ≡ (first +ℤ (pos a *ℤ step)) +ℤ length
+ends_at first length step {count} a lo hi edge is axis edge_is =
+    let e = same_extent first length step count a lo hi axis is in
+    edge_is ∙ ((extent_read first length step a lo hi e).1 ∙ e.ends)
+
+-- a window's size is an area
+pub size_area : (w h : ℤ) → IsLength w → IsLength h → IsArea (w *ℤ h)
+size_area (pos w) (pos h) iw ih =
+    let a : w ≤ 1048576 = let most : pos w ≤ℤ pos 1048576 = iw.most in omega (arith, ints) in
+    let b : h ≤ 1048576 = let most : pos h ≤ℤ pos 1048576 = ih.most in omega (arith, ints) in
+    area (w * h) (mul-le-mul a b)
+  where
+    area : (m : ℕ) → m ≤ 1048576 * 1048576 → IsArea (pos m)
+    area m most = record { least = omega (arith, ints); most = omega (arith, ints) }
+size_area (pos w) (negsuc h) iw ih = absurd (let least : pos 1 ≤ℤ negsuc h = ih.least in omega (arith, ints))
+size_area (negsuc w) h iw ih = absurd (let least : pos 1 ≤ℤ negsuc w = iw.least in omega (arith, ints))
+
+pub size_some : (w h : ℤ) → IsLength w → IsLength h → pos 1 ≤ℤ (w *ℤ h)
+size_some (pos w) (pos h) iw ih =
+    let a : 1 ≤ w = let least : pos 1 ≤ℤ pos w = iw.least in omega (arith, ints) in
+    let b : 1 ≤ h = let least : pos 1 ≤ℤ pos h = ih.least in omega (arith, ints) in
+    let product : 1 * 1 ≤ w * h = mul-le-mul a b in some (w * h) product
+  where
+    some : (m : ℕ) → 1 ≤ m → pos 1 ≤ℤ pos m
+    some m le = omega (arith, ints)
+size_some (pos w) (negsuc h) iw ih = absurd (let least : pos 1 ≤ℤ negsuc h = ih.least in omega (arith, ints))
+size_some (negsuc w) h iw ih = absurd (let least : pos 1 ≤ℤ negsuc w = iw.least in omega (arith, ints))

@@ -1,0 +1,71 @@
+-- The list of all windows' areas.
+use Rattle.std.proofs.Common.{◌≡◌, ◌+ℤ◌, ◌≤ℤ◌, ◌≤◌, ◌^◌, ℕ, ◌+◌, ◌*◌, ◌/◌, ◌%◌, ◌<◌, ℤ, pos, Bool, false, List, length, map, get_or, refl, arith, ap, ◌∙◌}
+use Rattle.std.specs.List.{range_with_len}
+use Rattle.std.proofs.lemmas.List.FromFn.{length-map-range_with_len, get_or-map-range_with_len}
+use Rattle.std.proofs.lemmas.Nat.{mul-add-lt, div-mul-add, mod-mul-add}
+use Rattle.std.specs.List.{All}
+use Rattle.std.proofs.lemmas.Int.{ints}
+use Rattle.std.proofs.Math.Nat.{mul-le-mul}
+use Rattle.fill_base.specs.Counts.{span_len, count_between}
+use Rattle.fill_base.proofs.Counting.{sum_between_le, sum_between_same, sum_between_const, count_between_le, count_between_same, count_between_const}
+use Rattle.fill_base.specs.Squares.{area_between}
+use Rattle.fill_area.specs.Grid.{Grid, IsGrid, IsLength, window_left, window_right, window_bottom, window_top}
+use Rattle.fill_area.specs.Density.{AreMeasured, IsArea, window_area}
+
+-- the area of the window at place `k` of the list
+abbrev pub area_at : (ℤ → ℤ → Bool) → Grid → ℕ → ℤ
+area_at p g k = pos (window_area p g (k % g.columns) (k / g.columns))
+
+pub measured : (p : ℤ → ℤ → Bool) (g : Grid) (totals : List ℤ) → IsGrid g → totals ≡ map (area_at p g) (range_with_len 0 (g.columns * g.rows)) → AreMeasured p g totals
+measured p g totals grid is = record {
+  grid = grid;
+  count = ap length is ∙ length-map-range_with_len (area_at p g) 0 (g.columns * g.rows);
+  each = λ a b a_in b_in.
+      let within : b * g.columns + a < g.columns * g.rows = mul-add-lt b g.columns a g.rows b_in a_in in
+      ap (λ xs. get_or xs (b * g.columns + a) (pos 0)) is
+      ∙ (get_or-map-range_with_len (area_at p g) 0 (g.columns * g.rows) (b * g.columns + a) (b * g.columns + a) (pos 0) within (omega arith)
+      ∙ (ap (λ k. pos (window_area p g k ((b * g.columns + a) / g.columns))) (mod-mul-add b g.columns a a_in)
+      ∙ ap (λ k. pos (window_area p g a k)) (div-mul-add b g.columns a a_in)));
+}
+
+-- a window has at most 2^40 squares
+window_small : (p : ℤ → ℤ → Bool) (g : Grid) (a b : ℕ) → IsGrid g → window_area p g a b ≤ 2 ^ 40
+window_small p g a b grid =
+    let wide : span_len (window_left g a) (window_right g a) ≤ 1048576 = short (window_left g a) g.width grid.across.length_is in
+    let tall : span_len (window_bottom g b) (window_top g b) ≤ 1048576 = short (window_bottom g b) g.height grid.up.length_is in
+    let lines : window_area p g a b ≤ span_len (window_bottom g b) (window_top g b) * span_len (window_left g a) (window_right g a) =
+    sum_between_le (λ y. count_between (λ x. p x y) (window_left g a) (window_right g a)) (window_bottom g b) (window_top g b) (span_len (window_left g a) (window_right g a))
+    (λ y. count_between_le (λ x. p x y) (window_left g a) (window_right g a)) in
+    let product : span_len (window_bottom g b) (window_top g b) * span_len (window_left g a) (window_right g a) ≤ 1048576 * 1048576 = mul-le-mul tall wide in
+    omega (arith, lines, product)
+  where
+    short : (lo length : ℤ) → IsLength length → span_len lo (lo +ℤ length) ≤ 1048576
+    short lo length is = let least : pos 1 ≤ℤ length = is.least in let most : length ≤ℤ pos 1048576 = is.most in omega (arith, ints)
+
+pub bounded : (p : ℤ → ℤ → Bool) (g : Grid) (totals : List ℤ) → IsGrid g → totals ≡ map (area_at p g) (range_with_len 0 (g.columns * g.rows)) → All IsArea totals
+bounded p g totals grid is k d lt =
+    let inner : k < g.columns * g.rows = rw (is, length-map-range_with_len (area_at p g) 0 (g.columns * g.rows)) at lt in
+    let at_k : get_or totals k d ≡ area_at p g k = ap (λ xs. get_or xs k d) is ∙ get_or-map-range_with_len (area_at p g) 0 (g.columns * g.rows) k k d inner (omega arith) in
+    rw at_k (area_of_count (window_area p g (k % g.columns) (k / g.columns)) (window_small p g (k % g.columns) (k / g.columns) grid))
+  where
+    area_of_count : (n : ℕ) → n ≤ 2 ^ 40 → IsArea (pos n)
+    area_of_count n small = record { least = omega (arith, ints); most = omega (arith, ints) }
+
+-- a window's upper ends are above its lower ones
+pub longer : (lo length : ℤ) → IsLength length → lo ≤ℤ (lo +ℤ length)
+longer lo length is = let least : pos 1 ≤ℤ length = is.least in omega (arith, ints)
+
+-- sets with the same squares have the same area
+pub same_area : (p q : ℤ → ℤ → Bool) (left bottom right top : ℤ) → left ≤ℤ right → bottom ≤ℤ top → ((x y : ℤ) → p x y ≡ q x y)
+    → area_between p left bottom right top ≡ area_between q left bottom right top
+same_area p q left bottom right top wide tall same =
+    sum_between_same (λ y. count_between (λ x. p x y) left right) (λ y. count_between (λ x. q x y) left right) bottom top tall
+    (λ y low high. count_between_same (λ x. p x y) (λ x. q x y) left right wide (λ x from to. same x y))
+
+-- a set without squares has no area
+pub no_area : (left bottom right top : ℤ) → left ≤ℤ right → bottom ≤ℤ top → area_between (λ x y. false) left bottom right top ≡ 0
+no_area left bottom right top wide tall =
+    let line : count_between (λ x. false) left right ≡ span_len left right * 0 = count_between_const (λ x. false) left right false wide (λ x from to. refl) in
+    let z : span_len left right * 0 ≡ 0 = omega arith in
+    let whole = sum_between_const (λ y. count_between (λ x. false) left right) bottom top 0 tall (λ y low high. line ∙ z) in
+    let none : span_len bottom top * 0 ≡ 0 = omega arith in whole ∙ none

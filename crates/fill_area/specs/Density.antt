@@ -1,0 +1,32 @@
+-- The area that a set of squares has in a window, and when that is too little or too much.
+use Rattle.std.specs.Prelude.{◌≡◌, ℕ, ◌+◌, ◌*◌, ◌<◌, ◌^◌, ℤ, pos, ◌*ℤ◌, ◌<ℤ◌, ◌≤ℤ◌, Bool, List, length, get_or}
+use Rattle.fill_base.specs.Squares.{area_between}
+use Rattle.fill_area.specs.Grid.{Grid, IsGrid, window_left, window_right, window_bottom, window_top}
+
+-- how many squares of the window in column `a` and row `b` are in the set
+abbrev pub window_area : (ℤ → ℤ → Bool) → Grid → ℕ → ℕ → ℕ
+window_area p g a b = area_between p (window_left g a) (window_bottom g b) (window_right g a) (window_top g b)
+
+-- a list of the areas of all windows of a grid, row by row
+pub record AreMeasured (p : ℤ → ℤ → Bool) (g : Grid) (totals : List ℤ) : Type 0 where
+  pub grid : IsGrid g
+  pub count : length totals ≡ g.columns * g.rows
+  pub each : (a b : ℕ) → a < g.columns → b < g.rows → get_or totals (b * g.columns + a) (pos 0) ≡ pos (window_area p g a b)
+
+-- the share is below `least` parts in a million
+abbrev pub IsBelow : ℤ → ℤ → ℤ → Type 0
+IsBelow total least area = (total *ℤ pos 1000000) <ℤ (least *ℤ area)
+
+-- the share is above `most` parts in a million
+abbrev pub IsAbove : ℤ → ℤ → ℤ → Type 0
+IsAbove total most area = (most *ℤ area) <ℤ (total *ℤ pos 1000000)
+
+-- a number of squares: from 0 to 2^40
+pub record IsArea (n : ℤ) : Type 0 where
+  pub least : pos 0 ≤ℤ n
+  pub most : n ≤ℤ pos (2 ^ 40)
+
+-- a share: from 0 to 1000000 parts in a million
+pub record IsShare (n : ℤ) : Type 0 where
+  pub least : pos 0 ≤ℤ n
+  pub most : n ≤ℤ pos 1000000

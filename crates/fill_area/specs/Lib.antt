@@ -1,0 +1,4 @@
+pub mod Grid
+pub mod Density
+pub mod GridOf
+pub mod Slabs

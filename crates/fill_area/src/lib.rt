@@ -1,0 +1,14 @@
+//! Density windows, and the exact area that a region has in each. An area is a count of unit
+//! squares: the layers above rely on that, and on the windows' places.
+#![tactic(auto)]
+
+pub mod area;
+pub mod measure;
+pub mod windows;
+
+pub use area::{area_in, is_high, is_low};
+pub use measure::measure_all;
+pub use windows::{BadWindows, Windows};
+
+#[cfg(test)]
+mod tests;

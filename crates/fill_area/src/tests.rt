@@ -1,0 +1,66 @@
+use crate::{Windows, area_in, is_high, is_low, measure_all};
+use fill_base::{Point, Rect};
+use fill_region::Region;
+use std::process::Abort;
+use std::test::Fail;
+
+fn rect(rt: &impl Abort, corners: [i64; 4]) -> Rect {
+    let [x1, y1, x2, y2] = corners;
+    match Rect::new(x1, y1, x2, y2) {
+        Ok(rect) => rect,
+        Err(error) => panic!(rt; "{error:?}"),
+    }
+}
+
+#[test]
+fn windows_of_a_strip(rt: HostRuntime) -> Result<(), Fail> {
+    let alloc = rt.alloc();
+    let strip = Region::one(alloc, &rect(&rt, [0, 0, 1000, 5]))?;
+    let Ok(windows) = Windows::new(Point { x: 0, y: 0 }, (10, 10), (10, 10), (100, 100)) else {
+        panic!(&rt; "the windows are refused");
+    };
+    let totals = measure_all(&rt, alloc, &strip, &windows)?;
+    assert_eq!(rt; totals.len(), 10_000);
+    for (k, total) in totals.iter().enumerate() {
+        assert_eq!(rt; *total, if k < 100 { 50 } else { 0 });
+    }
+    Ok(())
+}
+
+#[test]
+fn an_area_is_a_count_of_squares(rt: HostRuntime) -> Result<(), Fail> {
+    let alloc = rt.alloc();
+    let rects = [
+        rect(&rt, [0, 0, 4, 4]),
+        rect(&rt, [2, 2, 6, 6]),
+        rect(&rt, [5, 0, 7, 1]),
+    ];
+    let region = Region::from_rects(alloc, &rects)?;
+    assert_eq!(rt; area_in(&region, &rect(&rt, [0, 0, 6, 6])), 29);
+    assert_eq!(rt; area_in(&region, &rect(&rt, [-9, -9, 9, 9])), 30);
+    assert_eq!(rt; area_in(&region, &rect(&rt, [1, 1, 3, 3])), 4);
+    assert_eq!(rt; area_in(&region, &rect(&rt, [7, 0, 9, 9])), 0);
+    Ok(())
+}
+
+#[test]
+fn windows_beyond_the_range_are_refused(rt: HostRuntime) {
+    let near = Point {
+        x: 1_073_741_800,
+        y: 0,
+    };
+    assert!(rt; Windows::new(near, (50, 50), (25, 25), (3, 3)).is_err());
+    let origin = Point { x: 0, y: 0 };
+    assert!(rt; Windows::new(origin, (50, 50), (25, 25), (3, 3)).is_ok());
+    assert!(rt; Windows::new(origin, (0, 50), (25, 25), (3, 3)).is_err());
+    assert!(rt; Windows::new(origin, (50, 50), (25, 1_048_577), (3, 3)).is_err());
+    assert!(rt; Windows::new(origin, (50, 50), (25, 25), (3, 0)).is_err());
+    assert!(rt; Windows::new(origin, (50, 50), (1, 1), (1024, 1025)).is_err());
+    assert!(rt; Windows::new(origin, (50, 50), (1, 1), (1024, 1024)).is_ok());
+}
+
+#[test]
+fn an_equal_share_passes(rt: HostRuntime) {
+    assert!(rt; !is_low(400, 160_000, 2500) && is_low(399, 160_000, 2500));
+    assert!(rt; !is_high(2000, 800_000, 2500) && is_high(2001, 800_000, 2500));
+}

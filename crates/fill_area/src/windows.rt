@@ -1,0 +1,206 @@
+ghost use Rattle.std.specs.Prelude.{◌≡◌, ◌↔◌, ℕ, ◌<◌, ◌-◌, ◌*◌, ◌/◌, ◌%◌, ◌≤◌, ℤ, pos, ◌+ℤ◌, ◌*ℤ◌, ◌≤ℤ◌, ◌<ℤ◌, IsTrue, IsOk, IfOk};
+ghost use Rattle.fill_base.specs.Coordinates.{lowest, highest, IsCoordinate};
+ghost use Rattle.fill_area.specs.Grid.{Grid, IsLength, IsCount, IsAxis, IsGrid, window_left, window_right, window_bottom, window_top, IsExtent};
+ghost use Rattle.fill_area.specs.Density.{IsArea};
+ghost use Rattle.fill_area.specs.GridOf.{grid_of};
+
+use fill_base::rect::{HIGHEST, is_coordinate};
+use fill_base::{Point, Rect};
+use std::marker::Model;
+use thiserror::Error;
+
+/// Numbers that make no grid of windows.
+#[derive(Clone, Copy, Debug, PartialEq, Eq, Error)]
+#[error("a window's size, step, count or place is out of its limits")]
+pub struct BadWindows;
+
+/// The longest side and step of a window, in database units, and the largest number of windows.
+pub const LONGEST: i64 = 1_048_576;
+
+/// A grid of equal density windows, in database units: they may overlap, touch or leave gaps. The
+/// window in column `a` and row `b` has its lower left corner at the first corner moved by `a` and
+/// `b` steps. (KLayout's `with_density` with a tile size, step, origin and count.)
+#[derive(Clone, Copy, Debug, PartialEq, Eq)]
+pub struct Windows {
+    x: i64,
+    y: i64,
+    width: i64,
+    height: i64,
+    step_x: i64,
+    step_y: i64,
+    columns: u32,
+    rows: u32,
+}
+
+impl Model for Windows {
+    ghost Value = { Grid };
+
+    ghost view = { λ w. record { x = w.x; y = w.y; width = w.width; height = w.height; step_x = w.step_x; step_y = w.step_y; columns = w.columns; rows = w.rows } };
+
+    ghost invariant = { λ w. IsGrid (record { x = w.x; y = w.y; width = w.width; height = w.height; step_x = w.step_x; step_y = w.step_y; columns = w.columns; rows = w.rows }) };
+
+    ghost inverse = { λ g. record { x = g.x; y = g.y; width = g.width; height = g.height; step_x = g.step_x; step_y = g.step_y; columns = g.columns; rows = g.rows } };
+}
+
+fn is_length(z: i64) -> bool
+    ensures { IsTrue result ↔ IsLength z }
+{
+    1 <= z && z <= LONGEST
+}
+
+fn is_count(n: u32) -> bool
+    ensures { IsTrue result ↔ IsCount n }
+{
+    1 <= n && n <= 1_048_576
+}
+
+/// Whether `count` windows of this length, one a step from `first` on, lie within the coordinates.
+fn is_axis(first: i64, length: i64, step: i64, count: u32) -> bool
+    ensures { IsTrue result ↔ IsAxis first length step count }
+{
+    if !(is_length(length) & is_length(step) & is_count(count) & is_coordinate(first)) {
+        return false;
+    }
+    last_end(first, length, step, count) <= HIGHEST
+}
+
+/// Where the last of `count` windows ends.
+fn last_end(first: i64, length: i64, step: i64, count: u32) -> i64
+    requires length { IsLength length }
+    requires step { IsLength step }
+    requires count { IsCount count }
+    requires first { IsCoordinate first }
+    ensures { result ≡ (first +ℤ (pos (count - 1) *ℤ step)) +ℤ length }
+{
+    first + i64::from(count - 1) * step + length
+}
+
+/// Whether there are at most 2^20 windows.
+fn are_few(columns: u32, rows: u32) -> bool
+    ensures { IsTrue result ↔ (columns * rows ≤ 1048576) }
+{
+    u64::from(columns) * u64::from(rows) <= 1_048_576
+}
+
+/// Whether these numbers make a grid of windows.
+fn is_grid(origin: Point, size: (i64, i64), step: (i64, i64), count: (u32, u32)) -> bool
+    ensures { IsTrue result ↔ IsGrid (grid_of origin size step count) }
+{
+    is_axis(origin.x, size.0, step.0, count.0)
+        & is_axis(origin.y, size.1, step.1, count.1)
+        & are_few(count.0, count.1)
+}
+
+impl Windows {
+    /// The windows with their first lower left corner, their size (width, height), their steps to
+    /// the right and upwards, and their numbers of columns and rows.
+    ///
+    /// # Errors
+    /// `BadWindows` where a side, a step or a count is not from 1 to 2^20, where there are more than
+    /// 2^20 windows, or where a window leaves the range of coordinates.
+    pub fn new(
+        origin: Point,
+        size: (i64, i64),
+        step: (i64, i64),
+        count: (u32, u32),
+    ) -> Result<Windows, BadWindows>
+        ensures ok { IsOk result ↔ IsGrid (grid_of origin size step count) }
+        ensures grid { IfOk result (λ w. w ≡ grid_of origin size step count) }
+    {
+        if !is_grid(origin, size, step, count) {
+            return Err(BadWindows);
+        }
+        Ok(Windows {
+            x: origin.x,
+            y: origin.y,
+            width: size.0,
+            height: size.1,
+            step_x: step.0,
+            step_y: step.1,
+            columns: count.0,
+            rows: count.1,
+        })
+    }
+
+    /// How many columns of windows there are.
+    pub fn columns(&self) -> u32
+        ensures { result ≡ self.now.columns }
+    {
+        self.columns
+    }
+
+    /// How many rows of windows there are.
+    pub fn rows(&self) -> u32
+        ensures { result ≡ self.now.rows }
+    {
+        self.rows
+    }
+
+    /// How many squares a window holds.
+    pub fn window_size(&self) -> i64
+        ensures size { result ≡ self.now.width *ℤ self.now.height }
+        ensures area { IsArea result }
+        ensures some { pos 1 ≤ℤ result }
+    {
+        self.width * self.height
+    }
+
+    /// The window in column `a` and row `b`.
+    pub fn rect(&self, a: u32, b: u32) -> Rect
+        requires column { a < self.now.columns }
+        requires row { b < self.now.rows }
+        ensures left { result.x1 ≡ window_left self.now a }
+        ensures bottom { result.y1 ≡ window_bottom self.now b }
+        ensures right { result.x2 ≡ window_right self.now a }
+        ensures top { result.y2 ≡ window_top self.now b }
+    {
+        let (x1, x2) = extent(self.x, self.width, self.step_x, self.columns, a);
+        let (y1, y2) = extent(self.y, self.height, self.step_y, self.rows, b);
+        Rect::from_edges(x1, y1, x2, y2)
+    }
+}
+
+impl Windows {
+    /// How many windows there are, at most 2^20.
+    pub fn len(&self) -> usize
+        ensures count { result ≡ self.now.columns * self.now.rows }
+        ensures few { result ≤ 1048576 }
+        ensures grid { IsGrid self.now }
+    {
+        self.columns as usize * self.rows as usize
+    }
+
+    /// The window at place `k` of the list of all windows, row by row.
+    pub fn nth(&self, k: usize) -> Rect
+        requires { k < self.now.columns * self.now.rows }
+        ensures left { result.x1 ≡ window_left self.now (k % self.now.columns) }
+        ensures bottom { result.y1 ≡ window_bottom self.now (k / self.now.columns) }
+        ensures right { result.x2 ≡ window_right self.now (k % self.now.columns) }
+        ensures top { result.y2 ≡ window_top self.now (k / self.now.columns) }
+    {
+        let (a, b) = self.place(k);
+        self.rect(a, b)
+    }
+
+    /// The column and the row of the window at place `k` of the list.
+    pub fn place(&self, k: usize) -> (u32, u32)
+        requires { k < self.now.columns * self.now.rows }
+        ensures column { result.0 ≡ k % self.now.columns }
+        ensures row { result.1 ≡ k / self.now.columns }
+        ensures in_columns { result.0 < self.now.columns }
+        ensures in_rows { result.1 < self.now.rows }
+    {
+        let columns = self.columns as usize;
+        ((k % columns) as u32, (k / columns) as u32)
+    }
+}
+
+/// Both ends of the window at place `a` of `count` windows in a row.
+fn extent(first: i64, length: i64, step: i64, count: u32, a: u32) -> (i64, i64)
+    requires axis { IsAxis first length step count }
+    requires place { a < count }
+    ensures { IsExtent first length step a result.0 result.1 }
+{
+    let lo = first + i64::from(a) * step;
+    (lo, lo + length)
+}

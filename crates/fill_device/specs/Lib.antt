@@ -1,0 +1,2 @@
+-- What a tap shows of the reader or the writer behind it.
+pub mod Taps

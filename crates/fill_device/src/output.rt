@@ -1,0 +1,31 @@
+ghost use Rattle.std.specs.Prelude.{◌≡◌, ◌↔◌, ℕ, true, false, take, IsErr, OnOk};
+ghost use Rattle.std.specs.Io.KnownBytes.{Appends};
+ghost use Rattle.fill_device.specs.Taps.{has_failed, under};
+
+use crate::taps::Tap;
+use std::io::Write;
+use thiserror::Error;
+
+/// A write failed or took no byte.
+#[derive(Clone, Copy, Debug, PartialEq, Eq, Error)]
+#[error("a write failed")]
+pub struct DeviceError;
+
+/// Writes the whole text, by as many writes as it takes. Whatever comes of it, what was written is a prefix of the text.
+///
+/// `DeviceError` exactly where a write fails or takes no byte; nothing is written after that.
+pub fn write_text<W: Write>(tap: &mut Tap<W>, text: &[u8]) -> Result<(), DeviceError>
+    requires { has_failed tap.old ≡ false }
+    ensures device { IsErr result ↔ (has_failed tap.new ≡ true) }
+    ensures whole { OnOk result (Appends (W.contents (under tap.old)) (W.contents (under tap.new)) text.now) }
+    ensures prefix { (k : ℕ) × Appends (W.contents (under tap.old)) (W.contents (under tap.new)) (take k text.now) }
+{
+    let mut at = 0;
+    'writing: while at < text.len() {
+        match tap.write(&text[at..]) {
+            Ok(count) if count > 0 => at += count,
+            _ => return Err(DeviceError),
+        }
+    }
+    Ok(())
+}

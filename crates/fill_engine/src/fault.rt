@@ -1,0 +1,157 @@
+//! The table of faults: for each its number, its name and what follows the name in the fault line.
+ghost use Rattle.std.specs.Prelude.{◌≡◌, IfOk, string_bytes};
+ghost use Rattle.fill_engine.specs.Faults.{fault_ending, fault_name, fault_number, fault_text, fault_status, part_name};
+ghost use Rattle.fill_engine.specs.Faults as spec;
+
+use fill_device::{DeviceError, InputError};
+use fill_text::{Key, RuleError, ScriptError};
+use std::alloc::{AllocError, Global};
+
+/// The input, the run or the output at which a fault arose.
+#[derive(Clone, Copy, Debug, PartialEq, Eq)]
+pub enum Part {
+    Rules,
+    Design,
+    Script,
+    /// The command line, and all that comes after the inputs are interpreted and before the outputs are written.
+    Run,
+    Out,
+    Report,
+}
+
+/// Why the program gave up. A line is the number of a record, counted from 1.
+#[derive(Clone, Copy, Debug, PartialEq, Eq)]
+pub enum Fault {
+    BadRow { line: u64 },
+    BadNumber { line: u64 },
+    BadRule { key: Key },
+    TooManyLines,
+    BadRect,
+    BadWindows,
+    TooLong,
+    Device,
+    Memory,
+}
+
+/// Why the program gave up, and where.
+#[derive(Clone, Copy, Debug, PartialEq, Eq)]
+pub struct Refusal {
+    pub part: Part,
+    pub fault: Fault,
+}
+
+impl Part {
+    /// The part as a fault line names it.
+    pub fn name(self) -> &'static str
+        ensures { result.now ≡ part_name self }
+    {
+        match self {
+            Part::Rules => "rules",
+            Part::Design => "design",
+            Part::Script => "script",
+            Part::Run => "run",
+            Part::Out => "out",
+            Part::Report => "report",
+        }
+    }
+}
+
+impl Fault {
+    /// The fault's row of the table: its number and its name (this project's profile).
+    fn row(self) -> (u8, &'static str)
+        ensures number { result.0 ≡ fault_number self }
+        ensures name { result.1.now ≡ fault_name self }
+    {
+        match self {
+            Fault::BadRow { line: _ } => (21, "BadRow"),
+            Fault::BadNumber { line: _ } => (22, "BadNumber"),
+            Fault::BadRule { key: _ } => (23, "BadRule"),
+            Fault::TooManyLines => (24, "TooManyLines"),
+            Fault::BadRect => (25, "BadRect"),
+            Fault::BadWindows => (26, "BadWindows"),
+            Fault::TooLong => (29, "TooLong"),
+            Fault::Device => (30, "Device"),
+            Fault::Memory => (31, "Memory"),
+        }
+    }
+
+    /// The exit status of the program: 4 for a device fault, 3 for want of memory, and 2 for a refused input.
+    pub fn status(self) -> u8
+        ensures { result ≡ fault_status (fault_number self) }
+    {
+        match self.row().0 {
+            30 => 4,
+            31 => 3,
+            _ => 2,
+        }
+    }
+
+    /// What follows the name in the fault line.
+    fn ending(self, alloc: Global) -> Result<String, AllocError>
+        ensures { IfOk result (λ s. string_bytes s ≡ fault_ending self) }
+    {
+        match self {
+            Fault::BadRow { line } | Fault::BadNumber { line } => format!(in alloc; " line {line}"),
+            Fault::BadRule { key } => format!(in alloc; " key {}", key.name()),
+            _ => Ok(String::new(alloc)),
+        }
+    }
+}
+
+/// The line that tells of a fault, with its line feed: `densfill: PART: NUMBER NAME`, and then ` line N` for a bad
+/// record or number and ` key KEY` for a bad rule.
+pub fn fault_line(alloc: Global, part: Part, fault: Fault) -> Result<String, AllocError>
+    ensures { IfOk result (λ s. string_bytes s ≡ fault_text part fault) }
+{
+    let (number, name) = fault.row();
+    let ending = fault.ending(alloc)?;
+    format!(in alloc; "densfill: {}: {number} {name}{ending}\n", part.name())
+}
+
+impl From<RuleError> for Fault {
+    ghost from_gives = { λ error fault. fault ≡ spec.rule_fault error };
+
+    fn from(error: RuleError) -> Fault {
+        match error {
+            RuleError::BadRow { line } => Fault::BadRow { line },
+            RuleError::BadNumber { line } => Fault::BadNumber { line },
+            RuleError::BadRule { key } => Fault::BadRule { key },
+            RuleError::BadRect => Fault::BadRect,
+            RuleError::BadWindows => Fault::BadWindows,
+            RuleError::Memory => Fault::Memory,
+        }
+    }
+}
+
+impl From<ScriptError> for Fault {
+    ghost from_gives = { λ error fault. fault ≡ spec.script_fault error };
+
+    fn from(error: ScriptError) -> Fault {
+        match error {
+            ScriptError::BadRow { line } => Fault::BadRow { line },
+            ScriptError::BadNumber { line } => Fault::BadNumber { line },
+            ScriptError::TooManyLines => Fault::TooManyLines,
+            ScriptError::Memory => Fault::Memory,
+        }
+    }
+}
+
+impl From<InputError> for Fault {
+    ghost from_gives = { λ error fault. fault ≡ spec.input_fault error };
+
+    fn from(error: InputError) -> Fault {
+        match error {
+            InputError::TooLong => Fault::TooLong,
+            InputError::Device => Fault::Device,
+            InputError::Memory => Fault::Memory,
+        }
+    }
+}
+
+impl From<DeviceError> for Fault {
+    ghost from_gives = { λ _ fault. fault ≡ spec.device_fault };
+
+    fn from(_error: DeviceError) -> Fault {
+        Fault::Device
+    }
+}

@@ -1,0 +1,13 @@
+//! What the program does, over readers and writers that are handed in, and the line that it prints of a fault.
+#![tactic(auto)]
+
+mod fault;
+mod metal;
+mod subcommands;
+
+pub use fault::{Fault, Part, Refusal, fault_line};
+pub use metal::metal_left;
+pub use subcommands::rects;
+
+#[cfg(test)]
+mod tests;

@@ -1,0 +1,73 @@
+-- One turn of the sweep over bands, as the code's calls describe it.
+use Rattle.std.proofs.Common.{◌≡◌, ℕ, ◌+◌, ◌-◌, ◌≤◌, ◌<◌, ℤ, ◌≤ℤ◌, ◌<ℤ◌, List, length, take, refl, arith, ◌⊎◌, inl, inr, w32, FitsSigned, []}
+use Rattle.std.specs.Int.{int_min}
+use Rattle.std.proofs.lemmas.Int.{ints, clamps}
+use Rattle.fill_base.proofs.Signed.{read32, read32_is}
+use Rattle.fill_spans.specs.declared.operation.Operation.{Operation}
+use Rattle.fill_spans.specs.Spans.{floor, ceiling}
+use Rattle.fill_spans.specs.Sweep.{Passed}
+use Rattle.fill_spans.proofs.SweepTurns.{edge_fits, passes_one}
+use Rattle.fill_region.specs.Bands.{Band, last_row, next_bottom, IsRegion}
+use Rattle.fill_region.specs.Sweep.{IsRowOf, RowPut}
+use Rattle.fill_region.proofs.Stack.{bottom_range, bottom_within}
+use Rattle.fill_region.proofs.Sweeping.{Merged, merged_step, front, passed_in}
+
+pub bottom_read : (bs : List Band) (k : ℕ) → IsRegion bs → read32 (next_bottom bs k) ≡ next_bottom bs k
+bottom_read bs k region = let in_range = bottom_range floor ceiling [] bs k region.bands in read32_is _ (edge_fits (next_bottom bs k) in_range.0 in_range.1)
+
+-- where the sweep stands
+pub record Stands (a b : List Band) (i j : ℕ) (next_a next_b at : ℤ) : Type 0 where
+  pub a_is : read32 next_a ≡ next_bottom a i
+  pub b_is : read32 next_b ≡ next_bottom b j
+  pub at_is : read32 at ≡ front a b i j
+  pub below : front a b i j <ℤ ceiling
+
+pub stands : (a b : List Band) (i j : ℕ) (next_a next_b at : ℤ) → IsRegion a → IsRegion b → (i < length a) ⊎ (j < length b)
+    → next_a ≡ next_bottom a i → next_b ≡ next_bottom b j → at ≡ int_min (read32 next_a) (read32 next_b) → Stands a b i j next_a next_b at
+stands a b i j next_a next_b at ra rb more is_a is_b is_at =
+    let at_front : at ≡ front a b i j = rw (is_a, is_b, bottom_read a i ra, bottom_read b j rb) at is_at in
+    let range_a = bottom_range floor ceiling [] a i ra.bands in
+    let range_b = bottom_range floor ceiling [] b j rb.bands in
+    let fits : FitsSigned w32 (front a b i j) = min_fits (next_bottom a i) (next_bottom b j) range_a.0 range_b.0 range_a.1 in
+    record {
+      a_is = rw is_a (bottom_read a i ra);
+      b_is = rw is_b (bottom_read b j rb);
+      at_is = rw at_front (read32_is _ fits);
+      below = elim more [
+        | inl lt ↦ min_below_left (next_bottom a i) (next_bottom b j) (bottom_within floor ceiling [] a i lt ra.bands).1
+        | inr lt ↦ min_below_right (next_bottom a i) (next_bottom b j) (bottom_within floor ceiling [] b j lt rb.bands).1
+      ];
+    }
+  where
+    min_fits : (p q : ℤ) → floor <ℤ p → floor <ℤ q → p ≤ℤ ceiling → FitsSigned w32 (int_min p q)
+    min_fits p q h k l = omega (arith, ints, clamps)
+
+    min_below_left : (p q : ℤ) → p <ℤ ceiling → int_min p q <ℤ ceiling
+    min_below_left p q h = omega (arith, ints, clamps)
+
+    min_below_right : (p q : ℤ) → q <ℤ ceiling → int_min p q <ℤ ceiling
+    min_below_right p q h = omega (arith, ints, clamps)
+
+pub turn_keeps : (op : Operation) (a b : List Band) (i j after_i after_j : ℕ) (out new : List Band) (next_a next_b at : ℤ) (row : List ℤ)
+    → IsRegion a → IsRegion b → Merged op a b i j out → Stands a b i j next_a next_b at
+    → Passed i (read32 next_a) (read32 at) after_i → Passed j (read32 next_b) (read32 at) after_j
+    → IsRowOf op (last_row [] (take after_i a)) (last_row [] (take after_j b)) row → RowPut (read32 at) row out new → Merged op a b after_i after_j new
+turn_keeps op a b i j after_i after_j out new next_a next_b at row ra rb m s pa pb made put =
+    merged_step op a b i j after_i after_j out new (front a b i j) row ra rb m refl s.below
+    (rw (s.a_is, s.at_is) at pa) (rw (s.b_is, s.at_is) at pb) made (rw s.at_is at put)
+
+-- both places stay within their lists
+pub turn_within : (op : Operation) (a b : List Band) (i j after_i after_j : ℕ) (out : List Band) (next_a next_b at : ℤ)
+    → Merged op a b i j out → Stands a b i j next_a next_b at
+    → Passed i (read32 next_a) (read32 at) after_i → Passed j (read32 next_b) (read32 at) after_j → (after_i ≤ length a) × (after_j ≤ length b)
+turn_within op a b i j after_i after_j out next_a next_b at m s pa pb =
+    (passed_in a i after_i _ m.a_in s.below (rw (s.a_is, s.at_is) at pa), passed_in b j after_j _ m.b_in s.below (rw (s.b_is, s.at_is) at pb))
+
+-- each turn goes past a bottom
+pub turn_smaller : (op : Operation) (a b : List Band) (i j after_i after_j : ℕ) (out : List Band) (next_a next_b at : ℤ)
+    → Merged op a b i j out → Stands a b i j next_a next_b at
+    → Passed i (read32 next_a) (read32 at) after_i → Passed j (read32 next_b) (read32 at) after_j
+    → (length a - after_i) + (length b - after_j) < (length a - i) + (length b - j)
+turn_smaller op a b i j after_i after_j out next_a next_b at m s pa pb =
+    let in_both = turn_within op a b i j after_i after_j out next_a next_b at m s pa pb in
+    passes_one (length a) (length b) i j after_i after_j (next_bottom a i) (next_bottom b j) in_both.0 in_both.1 (rw (s.a_is, s.at_is) at pa) (rw (s.b_is, s.at_is) at pb)

@@ -1,0 +1,16 @@
+-- Looking up a line among bands, and comparing bands.
+use Rattle.std.specs.Prelude.{ℕ, ◌<◌, ◌≤◌, ℤ, ◌≤ℤ◌, ◌<ℤ◌, List, length, ◌&&◌}
+use Rattle.std.specs.Ordering.{int_eq}
+use Rattle.std.specs.Cmp.{IsPartialEquivalence, int_eq_equiv, partial_equiv_from_equiv, on_per, and_per}
+use Rattle.std.specs.Cmp.Lexicographic.{pointwise, lists_per}
+use Rattle.fill_region.specs.Bands.{Band, next_bottom}
+
+-- the bands before `n` begin at `y` or below, and the one at `n` above it
+pub record IsFirstAbove (bs : List Band) (y : ℤ) (n : ℕ) : Type 0 where
+  pub within : n ≤ length bs
+  pub before : (k : ℕ) → k < n → next_bottom bs k ≤ℤ y
+  pub after : n < length bs → y <ℤ next_bottom bs n
+
+-- comparing bands keeps the laws of a comparison
+pub bands_per : IsPartialEquivalence (λ (p q : ℤ × List ℤ). int_eq p.0 q.0 && pointwise int_eq p.1 q.1)
+bands_per = and_per (on_per (λ (b : ℤ × List ℤ). b.0) (partial_equiv_from_equiv int_eq_equiv)) (on_per (λ (b : ℤ × List ℤ). b.1) (lists_per (partial_equiv_from_equiv int_eq_equiv)))

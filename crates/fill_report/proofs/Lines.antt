@@ -1,0 +1,93 @@
+-- The lines of a report, one after another.
+use Rattle.std.proofs.Common.{◌≡◌, ℕ, zero, suc, ◌+◌, ◌*◌, ◌/◌, ◌%◌, ◌≤◌, ◌<◌, ℤ, pos, List, ◌++◌, get_or, length, refl, arith, ap, ◌∙◌, sym, w64, FitsSigned, Some, Bool, false, true, ◌||◌}
+use Rattle.std.specs.List.{flat_map, range_with_len, All}
+use Rattle.std.proofs.lemmas.List.{append-nil, append_assoc}
+use Rattle.std.proofs.Math.Nat.{div-add-mod, div-lt_iff_lt-mul}
+use Rattle.fill_base.proofs.Signed.{read, read_is}
+use Rattle.fill_area.specs.Grid.{Grid, IsGrid, window_left, window_right, window_bottom, window_top}
+use Rattle.fill_area.specs.Density.{IsArea, AreMeasured, window_area}
+use Rattle.fill_area.proofs.Measuring.{same_area, no_area, longer}
+use Rattle.fill_report.specs.declared.line.Measures.{Measures}
+use Rattle.fill_report.specs.Report.{first_lines, line_at, window_line, windows_text, report_text, measures_of, drawn_only, nothing}
+use Rattle.fill_report.specs.Writing.{Lines, written}
+use Rattle.fill_area.proofs.Shares.{area_read}
+
+-- one line more
+one_more : (f : ℕ → List ℕ) (a n : ℕ) → flat_map f (range_with_len a (n + 1)) ≡ flat_map f (range_with_len a n) ++ f (a + n)
+one_more f a zero = let e : a + zero ≡ a = omega arith in append-nil (f a) ∙ ap f (sym e)
+one_more f a (suc n) =
+    let e : suc n + 1 ≡ suc (n + 1) = omega arith in
+    let at : (a + 1) + n ≡ a + suc n = omega arith in
+    rw e (ap (λ t. f a ++ t) (one_more f (a + 1) n) ∙ (ap (λ k. f a ++ (flat_map f (range_with_len (a + 1) n) ++ f k)) at ∙ sym (append_assoc (f a) (flat_map f (range_with_len (a + 1) n)) (f (a + suc n)))))
+
+-- the measures of a window with this area of metal
+measures_at : (g : Grid) (totals : List ℤ) (k : ℕ) → k < length totals → All IsArea totals
+    → let m : Measures = record { drawn = read (get_or totals k (pos 0)); fill = pos 0; total = read (get_or totals k (pos 0)) } in m ≡ drawn_only g totals (k % g.columns) (k / g.columns)
+measures_at g totals k lt areas =
+    let place : k / g.columns * g.columns + k % g.columns ≡ k = let d = div-add-mod k g.columns in omega (arith, d) in
+    let is : read (get_or totals k (pos 0)) ≡ get_or totals (k / g.columns * g.columns + k % g.columns) (pos 0) = area_read _ (areas k (pos 0) lt) ∙ ap (λ i. get_or totals i (pos 0)) (sym place) in
+    ap (λ (z : ℤ). let m : Measures = record { drawn = z; fill = pos 0; total = z } in m) is
+
+pub lines_more : (g : Grid) (least most : ℤ) (totals : List ℤ) (k : ℕ) (w new : Lines) → k < length totals → All IsArea totals
+    → written w ≡ Some (first_lines g least most (drawn_only g totals) k)
+    → ((front : List ℕ) → written w ≡ Some front → written new ≡ Some (front ++ window_line g least most (record { drawn = read (get_or totals k (pos 0)); fill = pos 0; total = read (get_or totals k (pos 0)) }) (k % g.columns) (k / g.columns)))
+    → written new ≡ Some (first_lines g least most (drawn_only g totals) (k + 1))
+lines_more g least most totals k w new lt areas so_far put =
+    put (first_lines g least most (drawn_only g totals) k) so_far
+    ∙ ap (λ (t : List ℕ). Some t) (ap (λ m. first_lines g least most (drawn_only g totals) k ++ window_line g least most m (k % g.columns) (k / g.columns)) (measures_at g totals k lt areas)
+    ∙ sym (one_more (line_at g least most (drawn_only g totals)) 0 k ∙ ap (λ i. first_lines g least most (drawn_only g totals) k ++ line_at g least most (drawn_only g totals) i) (from_zero k)))
+  where
+    from_zero : (k : ℕ) → 0 + k ≡ k
+    from_zero k = omega arith
+
+-- lines that agree make the same text
+same_lines : (f h : ℕ → List ℕ) (a n : ℕ) → ((k : ℕ) → a ≤ k → k < a + n → f k ≡ h k) → flat_map f (range_with_len a n) ≡ flat_map h (range_with_len a n)
+same_lines f h a zero each = refl
+same_lines f h a (suc n) each = ap (λ t. t ++ flat_map f (range_with_len (a + 1) n)) (each a (omega arith) (omega arith))
+    ∙ ap (λ t. h a ++ t) (same_lines f h (a + 1) n (λ k low high. each k (omega arith) (omega arith)))
+
+-- a set with no square more has the same area, and no set none
+area_or_nothing : (p : ℤ → ℤ → Bool) (g : Grid) (a b : ℕ) → IsGrid g → window_area (λ x y. p x y || nothing x y) g a b ≡ window_area p g a b
+area_or_nothing p g a b grid = same_area (λ x y. p x y || nothing x y) p (window_left g a) (window_bottom g b) (window_right g a) (window_top g b)
+    (longer (window_left g a) g.width grid.across.length_is) (longer (window_bottom g b) g.height grid.up.length_is) (λ x y. or_false (p x y))
+  where
+    or_false : (t : Bool) → t || false ≡ t
+    or_false true = refl
+    or_false false = refl
+
+area_of_nothing : (g : Grid) (a b : ℕ) → IsGrid g → window_area nothing g a b ≡ 0
+area_of_nothing g a b grid = no_area (window_left g a) (window_bottom g b) (window_right g a) (window_top g b)
+    (longer (window_left g a) g.width grid.across.length_is) (longer (window_bottom g b) g.height grid.up.length_is)
+
+same_measures : (p : ℤ → ℤ → Bool) (g : Grid) (totals : List ℤ) (a b : ℕ) → IsGrid g → get_or totals (b * g.columns + a) (pos 0) ≡ pos (window_area p g a b)
+    → drawn_only g totals a b ≡ measures_of p nothing g a b
+same_measures p g totals a b grid is =
+    parts (get_or totals (b * g.columns + a) (pos 0)) (pos (window_area p g a b)) (pos (window_area nothing g a b)) (pos (window_area (λ x y. p x y || nothing x y) g a b))
+    is (ap pos (sym (area_of_nothing g a b grid))) (ap pos (sym (area_or_nothing p g a b grid)))
+  where
+    parts : (t d f u : ℤ) → t ≡ d → pos 0 ≡ f → d ≡ u
+        → let m : Measures = record { drawn = t; fill = pos 0; total = t } in let n : Measures = record { drawn = d; fill = f; total = u } in m ≡ n
+    parts t d f u a b c = let e = a ∙ c in cc
+
+-- a place of the list has a column and a row of the grid
+in_columns : (k columns rows : ℕ) → k < columns * rows → k % columns < columns
+in_columns k zero rows lt = let z : zero * rows ≡ 0 = omega arith in absurd (omega (arith, lt, z))
+in_columns k (suc c) rows lt = omega arith
+
+in_rows : (k columns rows : ℕ) → k < columns * rows → k / columns < rows
+in_rows k zero rows lt = let z : zero * rows ≡ 0 = omega arith in absurd (omega (arith, lt, z))
+in_rows k (suc c) rows lt = let over : k < rows * suc c = omega (arith, lt) in (div-lt_iff_lt-mul {k = suc c} {x = k} {y = rows} (omega arith)).1 over
+
+-- the measured list is the report's
+pub report_is : (p : ℤ → ℤ → Bool) (g : Grid) (least most : ℤ) (totals : List ℤ) → AreMeasured p g totals
+    → windows_text g least most (drawn_only g totals) ≡ report_text p nothing g least most
+report_is p g least most totals measured =
+    same_lines (line_at g least most (drawn_only g totals)) (line_at g least most (measures_of p nothing g)) 0 (g.columns * g.rows) (λ k low high.
+    let a = k % g.columns in
+    let b = k / g.columns in
+    let lt : k < g.columns * g.rows = omega arith in
+    ap (λ m. window_line g least most m a b) (same_measures p g totals a b measured.grid (measured.each a b (in_columns k g.columns g.rows lt) (in_rows k g.columns g.rows lt))))
+
+-- what the code reads back is the number itself
+pub read_at : (z t : ℤ) → FitsSigned w64 z → z ≡ t → read z ≡ t
+read_at z t fits is = read_is z fits ∙ is

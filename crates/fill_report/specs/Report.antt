@@ -1,0 +1,73 @@
+-- The density report: one line a window, row by row from the lowest, in a row from the left.
+use Rattle.std.specs.Prelude.{ℕ, ◌+◌, ◌*◌, ◌/◌, ◌%◌, ℤ, pos, ◌*ℤ◌, Bool, false, ◌||◌, cond, List, [], ◌∷◌, ◌++◌, map, codes, get_or, int_lt, unsigned_abs}
+use Rattle.std.specs.List.{flat_map, range_with_len, join_with_byte}
+use Rattle.std.specs.Fmt.{signed_decimal}
+use Rattle.fill_area.specs.Grid.{Grid, window_left, window_right, window_bottom, window_top}
+use Rattle.fill_area.specs.Density.{window_area}
+use Rattle.fill_report.specs.declared.line.Measures.{Measures}
+use Rattle.fill_report.specs.declared.line.Density.{Density}
+use Rattle.fill_report.specs.declared.line.Density.TheVariants.{Low, High, Within}
+
+-- how many squares a window holds
+abbrev pub window_size : Grid → ℤ
+window_size g = g.width *ℤ g.height
+
+-- a share in parts of a million, rounded down
+abbrev pub share_of : ℤ → ℤ → ℤ
+share_of total size = pos (unsigned_abs total * 1000000 / unsigned_abs size)
+
+-- below the minimum, above the maximum, or neither
+abbrev pub density_of : ℤ → ℤ → ℤ → ℤ → Density
+density_of total least most size =
+    cond (int_lt (total *ℤ pos 1000000) (least *ℤ size)) Low
+    (cond (int_lt (most *ℤ size) (total *ℤ pos 1000000)) High Within)
+
+abbrev pub density_word : Density → List ℕ
+density_word Low = codes "LOW"
+density_word High = codes "HIGH"
+density_word Within = codes "OK"
+
+-- the numbers of the line of the window in column `a` and row `b`
+abbrev pub line_numbers : Grid → ℕ → ℕ → Measures → List ℤ
+line_numbers g a b m =
+    pos a ∷ pos b ∷ window_left g a ∷ window_bottom g b ∷ window_right g a ∷ window_top g b
+    ∷ m.drawn ∷ m.fill ∷ m.total ∷ share_of m.total (window_size g) ∷ []
+
+-- numbers and a word, with commas between, ended by a line feed
+abbrev pub line_text : List ℤ → Density → List ℕ
+line_text numbers density = join_with_byte 44 (map signed_decimal numbers ++ density_word density ∷ []) ++ 10 ∷ []
+
+-- what a set of metal and a set of fill have in the window
+abbrev pub measures_of : (ℤ → ℤ → Bool) → (ℤ → ℤ → Bool) → Grid → ℕ → ℕ → Measures
+measures_of drawn fill g a b = record {
+  drawn = pos (window_area drawn g a b);
+  fill = pos (window_area fill g a b);
+  total = pos (window_area (λ x y. drawn x y || fill x y) g a b);
+}
+
+abbrev pub window_line : Grid → ℤ → ℤ → Measures → ℕ → ℕ → List ℕ
+window_line g least most measures a b = line_text (line_numbers g a b measures) (density_of measures.total least most (window_size g))
+
+-- the line at place `k` of the report
+abbrev pub line_at : Grid → ℤ → ℤ → (ℕ → ℕ → Measures) → ℕ → List ℕ
+line_at g least most measures k = window_line g least most (measures (k % g.columns) (k / g.columns)) (k % g.columns) (k / g.columns)
+
+-- the first `n` lines
+abbrev pub first_lines : Grid → ℤ → ℤ → (ℕ → ℕ → Measures) → ℕ → List ℕ
+first_lines g least most measures n = flat_map (line_at g least most measures) (range_with_len 0 n)
+
+-- the lines of all windows
+abbrev pub windows_text : Grid → ℤ → ℤ → (ℕ → ℕ → Measures) → List ℕ
+windows_text g least most measures = first_lines g least most measures (g.columns * g.rows)
+
+-- areas of metal in a list, row by row, and no fill
+abbrev pub drawn_only : Grid → List ℤ → ℕ → ℕ → Measures
+drawn_only g totals a b = record { drawn = get_or totals (b * g.columns + a) (pos 0); fill = pos 0; total = get_or totals (b * g.columns + a) (pos 0) }
+
+-- the report of a set of metal and a set of fill
+abbrev pub report_text : (ℤ → ℤ → Bool) → (ℤ → ℤ → Bool) → Grid → ℤ → ℤ → List ℕ
+report_text drawn fill g least most = windows_text g least most (measures_of drawn fill g)
+
+-- no square
+abbrev pub nothing : ℤ → ℤ → Bool
+nothing x y = false

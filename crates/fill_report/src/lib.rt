@@ -1,0 +1,9 @@
+//! The density report: for each window its place, its areas, its share and whether that is too low or
+//! too high. The layers above rely on the bytes being the text of the squares, each line and digit.
+#![tactic(auto)]
+
+pub mod line;
+pub mod report;
+
+pub use line::{Density, Measures};
+pub use report::report_of;

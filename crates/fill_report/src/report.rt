@@ -1,0 +1,148 @@
+ghost use Rattle.std.specs.Prelude.{◌≡◌, ◌++◌, ◌*◌, ◌/◌, ◌%◌, ◌<◌, length, ℕ, List, ℤ, pos, ◌≤ℤ◌, Some, IfOk, OnOk, All};
+ghost use Rattle.fill_region.specs.Bands.{holds};
+ghost use Rattle.fill_text.specs.Views.{values_of};
+ghost use Rattle.fill_area.specs.Density.{IsArea, IsShare, AreMeasured};
+ghost use Rattle.fill_report.specs.Report.{density_of, share_of, window_line, windows_text, report_text, drawn_only, nothing};
+ghost use Rattle.fill_report.specs.RulesReport.{metal_report};
+ghost use Rattle.fill_report.specs.Writing.{IsReady, written};
+
+use crate::line::{Density, Measures, put_line};
+use csv::{ByteRecord, Writer};
+use fill_area::{Windows, is_high, is_low, measure_all};
+use fill_region::Region;
+use fill_text::{NumberKey, Rules};
+use std::alloc::{AllocError, Global};
+use std::thread::Threads;
+
+/// The report of a region's metal without fill, over the windows of the rules: one line a window with
+/// its column and row, its edges, the areas of metal, of fill (0) and of both, the share in parts of a
+/// million rounded down, and `LOW`, `HIGH` or `OK` (this project's profile).
+pub fn report_of(
+    rt: &(impl Threads + Sync),
+    alloc: Global,
+    region: &Region,
+    rules: &Rules,
+) -> Result<Vec<u8>, AllocError>
+    ensures { IfOk result (λ v. v.items ≡ metal_report (holds region.now) (values_of rules.now)) }
+{
+    let least = rules.number(NumberKey::Min);
+    let most = rules.number(NumberKey::Max);
+    windows_report(rt, alloc, region, &rules.windows(), least, most)
+}
+
+/// The report of a region's metal without fill: one line a window, row by row from the lowest, in a
+/// row from the left. A window is `LOW` below `least` parts in a million and `HIGH` above `most`.
+fn windows_report(
+    rt: &(impl Threads + Sync),
+    alloc: Global,
+    region: &Region,
+    windows: &Windows,
+    least: i64,
+    most: i64,
+) -> Result<Vec<u8>, AllocError>
+    requires least { IsShare least }
+    requires most { IsShare most }
+    ensures { IfOk result (λ v. v.items ≡ report_text (holds region.now) nothing windows.now least most) }
+{
+    let totals = measure_all(rt, alloc, region, windows)?;
+    drawn_lines(alloc, windows, &totals, least, most)
+}
+
+/// The lines of windows with these areas of metal, and no fill.
+fn drawn_lines(
+    alloc: Global,
+    windows: &Windows,
+    totals: &[i64],
+    least: i64,
+    most: i64,
+) -> Result<Vec<u8>, AllocError>
+    requires count { length totals.now ≡ windows.now.columns * windows.now.rows }
+    requires areas { All IsArea totals.now }
+    requires least { IsShare least }
+    requires most { IsShare most }
+    ensures { IfOk result (λ v. v.items ≡ windows_text windows.now least most (drawn_only windows.now totals.now)) }
+{
+    let mut writer = Writer::from_writer(Vec::new(alloc));
+    let mut row = ByteRecord::new(alloc);
+    for k in 0..totals.len() {
+        let drawn = totals[k];
+        let measures = Measures {
+            drawn,
+            fill: 0,
+            total: drawn,
+        };
+        put_window(&mut writer, &mut row, windows, k, measures, least, most)?;
+    }
+    let Ok(text) = writer.into_inner() else {
+        return Err(AllocError);
+    };
+    Ok(text)
+}
+
+/// Writes the line of the window at place `k`.
+fn put_window(
+    writer: &mut Writer<Vec<u8>>,
+    row: &mut ByteRecord,
+    windows: &Windows,
+    k: usize,
+    measures: Measures,
+    least: i64,
+    most: i64,
+) -> Result<(), AllocError>
+    requires ready { IsReady writer.old }
+    requires within { k < windows.now.columns * windows.now.rows }
+    requires total { IsArea measures.total }
+    requires least { IsShare least }
+    requires most { IsShare most }
+    ensures ready { OnOk result (IsReady writer.new) }
+    ensures text { (front : List ℕ) → written writer.old ≡ Some front
+        → OnOk result (written writer.new ≡ Some (front ++ window_line windows.now least most measures (k % windows.now.columns) (k / windows.now.columns))) }
+{
+    let (a, b) = windows.place(k);
+    let window = windows.rect(a, b);
+    let size = windows.window_size();
+    let numbers = [
+        i64::from(a),
+        i64::from(b),
+        window.x1(),
+        window.y1(),
+        window.x2(),
+        window.y2(),
+        measures.drawn,
+        measures.fill,
+        measures.total,
+        share(measures.total, size),
+    ];
+    put_line(
+        writer,
+        row,
+        &numbers,
+        density(measures.total, least, most, size),
+    )
+}
+
+/// A total in parts of a million of a window's size, rounded down.
+fn share(total: i64, size: i64) -> i64
+    requires total { IsArea total }
+    requires some { pos 1 ≤ℤ size }
+    ensures { result ≡ share_of total size }
+{
+    total * 1_000_000 / size
+}
+
+/// Whether a total is below the minimum of a window's size, above the maximum, or neither.
+fn density(total: i64, least: i64, most: i64, size: i64) -> Density
+    requires total { IsArea total }
+    requires least { IsShare least }
+    requires most { IsShare most }
+    requires size { IsArea size }
+    ensures { result ≡ density_of total least most size }
+{
+    if is_low(total, least, size) {
+        Density::Low
+    } else if is_high(total, most, size) {
+        Density::High
+    } else {
+        Density::Within
+    }
+}

@@ -1,0 +1,5 @@
+pub mod Chains
+pub mod Merging
+pub mod SweepTurns
+pub mod Canonical
+pub mod Searching

@@ -1,0 +1,5 @@
+pub mod Spans
+pub mod Operations
+pub mod Laws
+pub mod Sweep
+pub mod Search

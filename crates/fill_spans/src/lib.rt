@@ -1,0 +1,11 @@
+//! Sets of coordinates on a line, as sorted, disjoint, non-touching intervals. Every operation is
+//! that of sets of whole numbers, and equal sets are equal values: the layers above rely on both.
+#![tactic(auto)]
+
+pub mod laws;
+pub mod operation;
+pub mod spans;
+pub mod sweep;
+
+pub use operation::Operation;
+pub use spans::Spans;

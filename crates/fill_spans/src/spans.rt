@@ -1,0 +1,241 @@
+ghost use Rattle.std.specs.Prelude.{◌≡◌, ◌⊎◌, ◌↔◌, ◌&&◌, ◌||◌, not, false, ◌+◌, ◌≤◌, ◌<◌, ◌^◌, length, List, [], ◌∷◌, ℤ, pos, ◌≤ℤ◌, ◌<ℤ◌, IsTrue, IfOk, IfSome, IfNone, OnOk};
+ghost use Rattle.std.specs.Int.{int_max};
+ghost use Rattle.std.specs.Ordering.{int_eq};
+ghost use Rattle.std.specs.Cmp.Lexicographic.{pointwise, lists_per, lists_equiv};
+ghost use Rattle.std.specs.Cmp.{int_eq_equiv, partial_equiv_from_equiv};
+ghost use Rattle.fill_base.specs.Coordinates.{lowest, highest};
+ghost use Rattle.fill_base.specs.Counts.{is_between, count_between};
+ghost use Rattle.fill_spans.specs.Spans.{inside, next_edge, IsCanonical};
+ghost use Rattle.fill_spans.specs.Search.{IsFirstAbove, IsEdgeBelow, stretch_of};
+ghost use Rattle.fill_spans.specs.Operations.{applied};
+ghost use Rattle.fill_spans.specs.Sweep.{Turned};
+
+use crate::operation::Operation;
+use crate::sweep::{edge_at, passed};
+use fill_base::rect::{HIGHEST, LOWEST};
+use std::alloc::{AllocError, Global};
+use std::marker::Model;
+
+/// A set of coordinates: sorted, disjoint, non-touching intervals, half open, in database units.
+/// It is kept as one rising list of edges, of four bytes each.
+#[derive(Drop)]
+pub struct Spans {
+    edges: Vec<i32>,
+}
+
+impl Model for Spans {
+    ghost Value = { List ℤ };
+
+    ghost view = { λ s. s.edges.items };
+
+    ghost invariant = { λ s. IsCanonical s.edges.items };
+}
+
+impl PartialEq for Spans {
+    ghost eq = { pointwise int_eq };
+
+    ghost laws = { lists_per (partial_equiv_from_equiv int_eq_equiv) };
+
+    /// Whether both sets have the same members.
+    fn eq(&self, other: &Spans) -> bool
+        ensures eq { result ≡ pointwise int_eq self.now other.now }
+        ensures same { IsTrue result ↔ ((x : ℤ) → inside self.now x ≡ inside other.now x) }
+    {
+        self.edges == other.edges
+    }
+}
+
+impl Eq for Spans {
+    ghost laws = { lists_equiv int_eq_equiv };
+}
+
+impl Spans {
+    /// The set without members.
+    pub fn empty(alloc: Global) -> Spans
+        ensures edges { result ≡ [] }
+        ensures members { (x : ℤ) → inside result x ≡ false }
+    {
+        Spans {
+            edges: Vec::new(alloc),
+        }
+    }
+
+    /// The coordinates from `lo` on and below `hi`.
+    pub fn one(alloc: Global, lo: i64, hi: i64) -> Result<Spans, AllocError>
+        requires ordered { lo <ℤ hi }
+        requires low { lowest ≤ℤ lo }
+        requires high { hi ≤ℤ highest }
+        ensures canonical { IfOk result IsCanonical }
+        ensures members { IfOk result (λ r. (x : ℤ) → inside r x ≡ is_between lo hi x) }
+    {
+        let edges = pair(alloc, lo as i32, hi as i32)?;
+        Ok(Spans { edges })
+    }
+
+    /// The members of `self` and `other` that `operation` keeps, in one sweep over both.
+    pub fn combined(
+        &self,
+        alloc: Global,
+        operation: Operation,
+        other: &Spans,
+    ) -> Result<Spans, AllocError>
+        ensures canonical { IfOk result IsCanonical }
+        ensures members { IfOk result (λ r. (x : ℤ) → inside r x ≡ applied operation (inside self.now x) (inside other.now x)) }
+    {
+        let edges = merged(alloc, operation, &self.edges, &other.edges)?;
+        Ok(Spans { edges })
+    }
+
+    /// What is in either set.
+    pub fn union(&self, alloc: Global, other: &Spans) -> Result<Spans, AllocError>
+        ensures { IfOk result (λ r. (x : ℤ) → inside r x ≡ inside self.now x || inside other.now x) }
+    {
+        self.combined(alloc, Operation::Union, other)
+    }
+
+    /// What is in this set and not in the other.
+    pub fn minus(&self, alloc: Global, other: &Spans) -> Result<Spans, AllocError>
+        ensures { IfOk result (λ r. (x : ℤ) → inside r x ≡ inside self.now x && not (inside other.now x)) }
+    {
+        self.combined(alloc, Operation::Minus, other)
+    }
+
+    /// What is in both sets.
+    pub fn meet(&self, alloc: Global, other: &Spans) -> Result<Spans, AllocError>
+        ensures { IfOk result (λ r. (x : ℤ) → inside r x ≡ inside self.now x && inside other.now x) }
+    {
+        self.combined(alloc, Operation::Meet, other)
+    }
+
+    /// The same set once more.
+    pub fn copy(&self, alloc: Global) -> Result<Spans, AllocError>
+        ensures { IfOk result (λ r. r ≡ self.now) }
+    {
+        let edges = Vec::from_slice(alloc, &self.edges)?;
+        Ok(Spans { edges })
+    }
+
+    /// Whether the set has no member.
+    pub fn is_empty(&self) -> bool
+        ensures { IsTrue result ↔ (self.now ≡ []) }
+    {
+        self.edges.is_empty()
+    }
+
+    /// Whether `x` is a member.
+    pub fn has(&self, x: i64) -> bool
+        ensures { result ≡ inside self.now x }
+    {
+        first_above(&self.edges, x) % 2 == 1
+    }
+
+    /// How many members lie from `lo` on and below `hi`.
+    pub fn length_in(&self, lo: i64, hi: i64) -> i64
+        ensures { result ≡ pos (count_between (inside self.now) lo (int_max lo hi)) }
+    {
+        let from = lo.max(LOWEST);
+        let to = hi.min(HIGHEST);
+        if from < to {
+            length_between(&self.edges, from, to)
+        } else {
+            0
+        }
+    }
+
+    /// The edges in rising order: the set begins at the first, ends at the second, and so on.
+    pub fn edges(&self) -> &[i32]
+        ensures edges { result.now ≡ self.now }
+        ensures canonical { IsCanonical result.now }
+    {
+        &self.edges
+    }
+}
+
+/// Appends the edge `at` where the set has to begin or end there.
+fn put_edge(out: &mut Vec<i32>, at: i32, wanted: bool) -> Result<(), AllocError>
+    ensures { OnOk result (Turned at wanted out.old.items out.new.items) }
+{
+    if (out.len() % 2 == 1) != wanted {
+        out.push(at)?;
+    }
+    Ok(())
+}
+
+/// The edges of the result of an operation on two sets: one sweep over both lists.
+fn merged(alloc: Global, operation: Operation, a: &[i32], b: &[i32]) -> Result<Vec<i32>, AllocError>
+    requires first { IsCanonical a.now }
+    requires second { IsCanonical b.now }
+    ensures canonical { IfOk result (λ v. IsCanonical v.items) }
+    ensures members { IfOk result (λ v. (x : ℤ) → inside v.items x ≡ applied operation (inside a.now x) (inside b.now x)) }
+{
+    let mut out = Vec::new(alloc);
+    let mut i = 0;
+    let mut j = 0;
+    'sweep: while i < a.len() || j < b.len() {
+        let next_a = edge_at(a, i);
+        let next_b = edge_at(b, j);
+        let at = next_a.min(next_b);
+        i = passed(i, next_a, at);
+        j = passed(j, next_b, at);
+        put_edge(&mut out, at, operation.apply(i % 2 == 1, j % 2 == 1))?;
+    }
+    Ok(out)
+}
+
+/// The edges of one interval.
+fn pair(alloc: Global, lo: i32, hi: i32) -> Result<Vec<i32>, AllocError>
+    ensures { IfOk result (λ v. v.items ≡ lo ∷ hi ∷ []) }
+{
+    let mut edges = Vec::with_capacity(alloc, 2)?;
+    edges.push(lo)?;
+    edges.push(hi)?;
+    Ok(edges)
+}
+
+/// The place of the first edge above `x`.
+fn first_above(edges: &[i32], x: i64) -> usize
+    requires { IsCanonical edges.now }
+    ensures { IsFirstAbove edges.now x result }
+{
+    edges.partition_point(|edge| i64::from(*edge) <= x)
+}
+
+/// How many members lie from `lo` on and below `hi`: a search for the first edge above `lo`, and
+/// a walk over the edges up to `hi`.
+fn length_between(edges: &[i32], lo: i64, hi: i64) -> i64
+    requires canonical { IsCanonical edges.now }
+    requires low { lowest ≤ℤ lo }
+    requires ordered { lo ≤ℤ hi }
+    requires high { hi ≤ℤ highest }
+    ensures { result ≡ pos (count_between (inside edges.now) lo hi) }
+{
+    let mut k = first_above(edges, lo);
+    let mut from = lo;
+    let mut total = 0;
+    'walk: while let Some(to) = edge_below(edges, k, hi) {
+        total += stretch(k, from, to);
+        from = to;
+        k += 1;
+    }
+    total + stretch(k, from, hi)
+}
+
+/// The edge at `k`, where there is one below `hi`.
+fn edge_below(edges: &[i32], k: usize, hi: i64) -> Option<i64>
+    requires { IsCanonical edges.now }
+    ensures some { IfSome result (λ edge. IsEdgeBelow edges.now k hi edge) }
+    ensures none { IfNone result (k < length edges.now → hi ≤ℤ next_edge edges.now k) }
+{
+    let edge = i64::from(*edges.get(k)?);
+    if edge < hi { Some(edge) } else { None }
+}
+
+/// How many members lie from `from` on and below `to`, between the edges at `k - 1` and at `k`.
+fn stretch(k: usize, from: i64, to: i64) -> i64
+    requires low { lowest ≤ℤ from }
+    requires ordered { from ≤ℤ to }
+    requires high { to ≤ℤ highest }
+    ensures { result ≡ pos (stretch_of k from to) }
+{
+    if k % 2 == 1 { to - from } else { 0 }
+}

@@ -1,0 +1,108 @@
+-- The numbers make a grid of windows exactly where the test of them says so.
+use Rattle.std.proofs.Common.{negsuc, Fits, w32, if◌then◌else◌, ◌↔◌, ◌≡◌, ◌≤◌, ◌*◌, ◌-◌, ℕ, ℤ, pos, ◌+ℤ◌, ◌*ℤ◌, ◌≤ℤ◌, Bool, true, false, Result, Ok, Err, Some, None, IsOk, IfOk, arith, refl, inl, inr}
+use Rattle.std.specs.Prelude.{int_le, nat_le, unsigned_abs}
+use Rattle.std.specs.Int.{IsNonNegative}
+use Rattle.std.specs.Result.{result_ok}
+use Rattle.std.proofs.lemmas.Bool.{cases_Bool}
+use Rattle.std.proofs.lemmas.Bool.Decides.{nat_tests}
+use Rattle.std.proofs.lemmas.Int.{ints}
+use Rattle.fill_base.specs.Coordinates.{highest}
+use Rattle.fill_area.specs.Grid.{Grid, IsAxis, IsCount, IsGrid, IsLength}
+use Rattle.fill_text.specs.Grids.{grid_with, is_axis, is_count, is_grid, is_length}
+use Rattle.fill_text.proofs.Rectangles.{both, is_coordinate_facts, is_coordinate_true}
+
+abbrev pub grid_of_numbers : ℤ → ℤ → ℤ → ℤ → ℤ → ℤ → ℕ → ℕ → Grid
+grid_of_numbers x y w h s t m n = record { x = x; y = y; width = w; height = h; step_x = s; step_y = t; columns = m; rows = n }
+
+int_le_true : (a b : ℤ) → a ≤ℤ b → int_le a b ≡ true
+int_le_true a b order = grind (arith, ints)
+
+int_le_facts : (a b : ℤ) → int_le a b ≡ true → a ≤ℤ b
+int_le_facts a b test = grind (arith, ints)
+
+nat_le_true : (a b : ℕ) → a ≤ b → nat_le a b ≡ true
+nat_le_true a b order = grind (arith, nat_tests)
+
+nat_le_facts : (a b : ℕ) → nat_le a b ≡ true → a ≤ b
+nat_le_facts a b test = grind (arith, nat_tests)
+
+is_length_true : (z : ℤ) → IsLength z → is_length z ≡ true
+is_length_true z h = rw (int_le_true (pos 1) z h.least, int_le_true z (pos 1048576) h.most) refl
+
+is_length_facts : (z : ℤ) → is_length z ≡ true → IsLength z
+is_length_facts z test =
+    let (least, most) = both _ _ test in
+    record { least = int_le_facts (pos 1) z least; most = int_le_facts z (pos 1048576) most }
+
+is_count_true : (n : ℕ) → IsCount n → is_count n ≡ true
+is_count_true n h = rw (nat_le_true 1 n h.least, nat_le_true n 1048576 h.most) refl
+
+is_count_facts : (n : ℕ) → is_count n ≡ true → IsCount n
+is_count_facts n test =
+    let (least, most) = both _ _ test in
+    record { least = nat_le_facts 1 n least; most = nat_le_facts n 1048576 most }
+
+is_axis_true : (first length step : ℤ) (count : ℕ) → IsAxis first length step count → is_axis first length step count ≡ true
+is_axis_true first length step count h =
+    rw (
+      is_length_true length h.length_is,
+      is_length_true step h.step_is,
+      is_count_true count h.count_is,
+      is_coordinate_true first h.first_is,
+      int_le_true ((first +ℤ (pos (count - 1) *ℤ step)) +ℤ length) highest h.last,
+    ) refl
+
+is_axis_facts : (first length step : ℤ) (count : ℕ) → is_axis first length step count ≡ true → IsAxis first length step count
+is_axis_facts first length step count test =
+    let (four, last) = both _ _ test in
+    let (three, at) = both _ _ four in
+    let (two, many) = both _ _ three in
+    let (long, far) = both _ _ two in
+    record {
+      length_is = is_length_facts length long;
+      step_is = is_length_facts step far;
+      count_is = is_count_facts count many;
+      first_is = is_coordinate_facts first at;
+      last = int_le_facts _ highest last;
+    }
+
+is_grid_true : (g : Grid) → IsGrid g → is_grid g ≡ true
+is_grid_true g h =
+    rw (is_axis_true g.x g.width g.step_x g.columns h.across, is_axis_true g.y g.height g.step_y g.rows h.up, nat_le_true (g.columns * g.rows) 1048576 h.few) refl
+
+is_grid_facts : (g : Grid) → is_grid g ≡ true → IsGrid g
+is_grid_facts g test =
+    let (axes, few) = both _ _ test in
+    let (across, up) = both _ _ axes in
+    record {
+      across = is_axis_facts g.x g.width g.step_x g.columns across;
+      up = is_axis_facts g.y g.height g.step_y g.rows up;
+      few = nat_le_facts (g.columns * g.rows) 1048576 few;
+    }
+
+-- what `Windows::new` gives is the grid with these numbers, if there is one
+pub grid_kept : {E : Type 0} (g : Grid) (r : Result Grid E) → (IsOk r ↔ IsGrid g) → IfOk r (λ w. w ≡ g) → result_ok r ≡ grid_with g
+unfolding grid_with
+grid_kept g (Ok w) whole same = rw (is_grid_true g (whole.0 refl), same) refl
+grid_kept g (Err e) whole same = elim (cases_Bool (is_grid g)) [
+  | inl test ↦ let never : false ≡ true = whole.1 (is_grid_facts g test) in cc never
+  | inr test ↦ rw test refl
+]
+
+pub grid_with_same : (g w : Grid) → Some w ≡ grid_with g → w ≡ g
+unfolding grid_with
+grid_with_same g w e = by (is_grid g) e
+  where
+    by : (b : Bool) → Some w ≡ (if b then Some g else None) → w ≡ g
+    by true e = cc e
+    by false e = cc e
+
+-- two grids of the same numbers
+pub grids_same : (x x' y y' w w' h h' s s' t t' : ℤ) (m m' n n' : ℕ) → x ≡ x' → y ≡ y' → w ≡ w' → h ≡ h' → s ≡ s' → t ≡ t' → m ≡ m' → n ≡ n'
+    → grid_of_numbers x y w h s t m n ≡ grid_of_numbers x' y' w' h' s' t' m' n'
+grids_same x x' y y' w w' h h' s s' t t' m m' n n' a b c d e f g i = rw (a, b, c, d, e, f, g, i) refl
+
+-- a count from 1 to 2^20 fits 32 bits without a sign
+pub count_fits : (z : ℤ) → pos 1 ≤ℤ z → z ≤ℤ pos 1048576 → IsNonNegative z × Fits w32 (unsigned_abs z)
+count_fits (pos n) least most = (tt, omega (arith, ints))
+count_fits (negsuc n) least most = absurd (omega (arith, ints))

@@ -1,0 +1,225 @@
+ghost use Rattle.std.specs.Prelude.{◌≡◌, ◌<◌, find, bytes_eq};
+ghost use Rattle.fill_text.specs.Keys.{all_number_keys, all_text_keys, key_name, key_named, number_rule, text_name};
+
+use fill_base::rect::{HIGHEST, LOWEST};
+
+/// The longest side, step, spacing and count that a rule may ask for.
+const LARGEST: i64 = 1_048_576;
+
+/// A rule whose value is a number, in the order of the table of rules.
+#[derive(Clone, Copy, Debug, PartialEq, Eq)]
+pub enum NumberKey {
+    FrameX1,
+    FrameY1,
+    FrameX2,
+    FrameY2,
+    BoxW,
+    BoxH,
+    StepX,
+    StepY,
+    OriginX,
+    OriginY,
+    Spacing,
+    FillSpacing,
+    WinW,
+    WinH,
+    WinStepX,
+    WinStepY,
+    WinX,
+    WinY,
+    WinNx,
+    WinNy,
+    Min,
+    Max,
+    TileNx,
+    TileNy,
+    Layer,
+    Datatype,
+    FillLayer,
+    FillDatatype,
+}
+
+/// A rule whose value is a text, in the order of the table of rules.
+#[derive(Clone, Copy, Debug, PartialEq, Eq)]
+pub enum TextKey {
+    Top,
+    FillLib,
+    FillCell,
+    FillTop,
+}
+
+/// The key of a rule. In the table of rules the numbers stand before the texts.
+#[derive(Clone, Copy, Debug, PartialEq, Eq)]
+pub enum Key {
+    Number(NumberKey),
+    Text(TextKey),
+}
+
+/// The keys of the numbers, in table order.
+pub const NUMBER_KEYS: [NumberKey; 28] = [
+    NumberKey::FrameX1,
+    NumberKey::FrameY1,
+    NumberKey::FrameX2,
+    NumberKey::FrameY2,
+    NumberKey::BoxW,
+    NumberKey::BoxH,
+    NumberKey::StepX,
+    NumberKey::StepY,
+    NumberKey::OriginX,
+    NumberKey::OriginY,
+    NumberKey::Spacing,
+    NumberKey::FillSpacing,
+    NumberKey::WinW,
+    NumberKey::WinH,
+    NumberKey::WinStepX,
+    NumberKey::WinStepY,
+    NumberKey::WinX,
+    NumberKey::WinY,
+    NumberKey::WinNx,
+    NumberKey::WinNy,
+    NumberKey::Min,
+    NumberKey::Max,
+    NumberKey::TileNx,
+    NumberKey::TileNy,
+    NumberKey::Layer,
+    NumberKey::Datatype,
+    NumberKey::FillLayer,
+    NumberKey::FillDatatype,
+];
+
+/// The keys of the texts, in table order.
+pub const TEXT_KEYS: [TextKey; 4] = [
+    TextKey::Top,
+    TextKey::FillLib,
+    TextKey::FillCell,
+    TextKey::FillTop,
+];
+
+/// What the table says of a number: its name in the rule file, and the least and the greatest value that it may have.
+#[derive(Clone, Copy)]
+struct NumberRule {
+    name: &'static str,
+    low: i64,
+    high: i64,
+}
+
+impl NumberKey {
+    /// The row of the table (this project's profile).
+    fn rule(self) -> NumberRule
+        ensures name { result.name.now ≡ (number_rule self).name }
+        ensures low { result.low ≡ (number_rule self).low }
+        ensures high { result.high ≡ (number_rule self).high }
+    {
+        let (name, low, high) = match self {
+            NumberKey::FrameX1 => ("frame_x1", LOWEST, HIGHEST),
+            NumberKey::FrameY1 => ("frame_y1", LOWEST, HIGHEST),
+            NumberKey::FrameX2 => ("frame_x2", LOWEST, HIGHEST),
+            NumberKey::FrameY2 => ("frame_y2", LOWEST, HIGHEST),
+            NumberKey::BoxW => ("box_w", 1, LARGEST),
+            NumberKey::BoxH => ("box_h", 1, LARGEST),
+            NumberKey::StepX => ("step_x", 1, LARGEST),
+            NumberKey::StepY => ("step_y", 1, LARGEST),
+            NumberKey::OriginX => ("origin_x", LOWEST, HIGHEST),
+            NumberKey::OriginY => ("origin_y", LOWEST, HIGHEST),
+            NumberKey::Spacing => ("spacing", 0, LARGEST),
+            NumberKey::FillSpacing => ("fill_spacing", 0, LARGEST),
+            NumberKey::WinW => ("win_w", 1, LARGEST),
+            NumberKey::WinH => ("win_h", 1, LARGEST),
+            NumberKey::WinStepX => ("win_step_x", 1, LARGEST),
+            NumberKey::WinStepY => ("win_step_y", 1, LARGEST),
+            NumberKey::WinX => ("win_x", LOWEST, HIGHEST),
+            NumberKey::WinY => ("win_y", LOWEST, HIGHEST),
+            NumberKey::WinNx => ("win_nx", 1, LARGEST),
+            NumberKey::WinNy => ("win_ny", 1, LARGEST),
+            NumberKey::Min => ("min", 0, 1_000_000),
+            NumberKey::Max => ("max", 0, 1_000_000),
+            NumberKey::TileNx => ("tile_nx", 1, 4096),
+            NumberKey::TileNy => ("tile_ny", 1, 4096),
+            NumberKey::Layer => ("layer", 0, 65535),
+            NumberKey::Datatype => ("datatype", 0, 65535),
+            NumberKey::FillLayer => ("fill_layer", 0, 65535),
+            NumberKey::FillDatatype => ("fill_datatype", 0, 65535),
+        };
+        NumberRule { name, low, high }
+    }
+
+    /// The key's name in a rule file.
+    pub fn name(self) -> &'static str
+        ensures { result.now ≡ (number_rule self).name }
+    {
+        self.rule().name
+    }
+
+    /// The least and the greatest value that the number may have.
+    pub fn range(self) -> (i64, i64)
+        ensures low { result.0 ≡ (number_rule self).low }
+        ensures high { result.1 ≡ (number_rule self).high }
+    {
+        let rule = self.rule();
+        (rule.low, rule.high)
+    }
+
+    /// The key's place in the table, from 0.
+    pub fn place(self) -> usize
+        ensures place { result ≡ (number_rule self).place }
+        ensures within { result < 28 }
+    {
+        self as usize
+    }
+
+    /// The key of a name.
+    pub fn named(word: &[u8]) -> Option<NumberKey>
+        ensures { result ≡ find (λ k. bytes_eq word.now (number_rule k).name) all_number_keys }
+    {
+        NUMBER_KEYS
+            .iter()
+            .copied()
+            .find(|key| word == key.name().as_bytes())
+    }
+}
+
+impl TextKey {
+    /// The key's name in a rule file.
+    pub fn name(self) -> &'static str
+        ensures { result.now ≡ text_name self }
+    {
+        match self {
+            TextKey::Top => "top",
+            TextKey::FillLib => "fill_lib",
+            TextKey::FillCell => "fill_cell",
+            TextKey::FillTop => "fill_top",
+        }
+    }
+
+    /// The key of a name.
+    pub fn named(word: &[u8]) -> Option<TextKey>
+        ensures { result ≡ find (λ k. bytes_eq word.now (text_name k)) all_text_keys }
+    {
+        TEXT_KEYS
+            .iter()
+            .copied()
+            .find(|key| word == key.name().as_bytes())
+    }
+}
+
+impl Key {
+    /// The key's name in a rule file.
+    pub fn name(self) -> &'static str
+        ensures { result.now ≡ key_name self }
+    {
+        match self {
+            Key::Number(key) => key.name(),
+            Key::Text(key) => key.name(),
+        }
+    }
+
+    /// The key of a name.
+    pub fn named(word: &[u8]) -> Option<Key>
+        ensures { result ≡ key_named word.now }
+    {
+        match NumberKey::named(word) {
+            Some(key) => Some(Key::Number(key)),
+            None => TextKey::named(word).map(Key::Text),
+        }
+    }
+}

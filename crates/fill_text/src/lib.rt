@@ -1,0 +1,26 @@
+//! The two texts that a user writes: the rule file and the script of edits, both records of comma-separated fields.
+//!
+//! [`read_rules`] gives the rules and [`read_script`] the edits, or the first refusal. The layer above may rely on this:
+//! what is answered is what the definitions `rules_of` and `edits_of` say of the bytes, but for want of memory, and every
+//! number of [`Rules`] is in the range of its key.
+#![tactic(auto)]
+
+mod corners;
+mod keys;
+mod numbers;
+mod readers;
+mod reading;
+mod refusal;
+mod rows;
+mod rules;
+mod script;
+mod slots;
+
+pub use keys::{Key, NumberKey, TextKey};
+pub use reading::read_rules;
+pub use refusal::RuleError;
+pub use rules::{Numbers, Rules, Texts};
+pub use script::{Edit, ScriptError, read_script};
+
+#[cfg(test)]
+mod tests;

@@ -1,0 +1,251 @@
+//! A reader for each rule. Lengths, gaps and coordinates are in database units.
+ghost use Rattle.std.specs.Prelude.{◌≡◌};
+ghost use Rattle.fill_text.specs.Corners.{corners_of};
+ghost use Rattle.fill_text.specs.Rules as spec;
+ghost use Rattle.fill_text.specs.Rules.{value_of};
+ghost use Rattle.fill_text.specs.Views.{values_of};
+
+use crate::keys::NumberKey;
+use crate::rules::Rules;
+use fill_area::Windows;
+use fill_base::Rect;
+
+impl Rules {
+    /// The frame, in which every fill box lies.
+    pub fn frame(&self) -> Rect
+        ensures { corners_of result ≡ spec.frame_of (values_of self.now).numbers }
+    {
+        self.frame
+    }
+
+    /// The density windows.
+    pub fn windows(&self) -> Windows
+        ensures { result ≡ spec.windows_of (values_of self.now).numbers }
+    {
+        self.windows
+    }
+
+    /// The frame's left edge.
+    pub fn frame_x1(&self) -> i64
+        ensures { result ≡ value_of (values_of self.now) NumberKey.FrameX1 }
+    {
+        self.number(NumberKey::FrameX1)
+    }
+
+    /// The frame's lower edge.
+    pub fn frame_y1(&self) -> i64
+        ensures { result ≡ value_of (values_of self.now) NumberKey.FrameY1 }
+    {
+        self.number(NumberKey::FrameY1)
+    }
+
+    /// The frame's right edge.
+    pub fn frame_x2(&self) -> i64
+        ensures { result ≡ value_of (values_of self.now) NumberKey.FrameX2 }
+    {
+        self.number(NumberKey::FrameX2)
+    }
+
+    /// The frame's upper edge.
+    pub fn frame_y2(&self) -> i64
+        ensures { result ≡ value_of (values_of self.now) NumberKey.FrameY2 }
+    {
+        self.number(NumberKey::FrameY2)
+    }
+
+    /// The width of a fill box, 1 to 2^20.
+    pub fn box_w(&self) -> i64
+        ensures { result ≡ value_of (values_of self.now) NumberKey.BoxW }
+    {
+        self.number(NumberKey::BoxW)
+    }
+
+    /// The height of a fill box, 1 to 2^20.
+    pub fn box_h(&self) -> i64
+        ensures { result ≡ value_of (values_of self.now) NumberKey.BoxH }
+    {
+        self.number(NumberKey::BoxH)
+    }
+
+    /// How far the next column of the raster is to the right, 1 to 2^20.
+    pub fn step_x(&self) -> i64
+        ensures { result ≡ value_of (values_of self.now) NumberKey.StepX }
+    {
+        self.number(NumberKey::StepX)
+    }
+
+    /// How far the next row of the raster is upwards, 1 to 2^20.
+    pub fn step_y(&self) -> i64
+        ensures { result ≡ value_of (values_of self.now) NumberKey.StepY }
+    {
+        self.number(NumberKey::StepY)
+    }
+
+    /// Where the boxes of the raster's column zero have their left edge.
+    pub fn origin_x(&self) -> i64
+        ensures { result ≡ value_of (values_of self.now) NumberKey.OriginX }
+    {
+        self.number(NumberKey::OriginX)
+    }
+
+    /// Where the boxes of the raster's line zero have their lower edge.
+    pub fn origin_y(&self) -> i64
+        ensures { result ≡ value_of (values_of self.now) NumberKey.OriginY }
+    {
+        self.number(NumberKey::OriginY)
+    }
+
+    /// The least gap between a fill box and drawn metal, 0 to 2^20.
+    pub fn spacing(&self) -> i64
+        ensures { result ≡ value_of (values_of self.now) NumberKey.Spacing }
+    {
+        self.number(NumberKey::Spacing)
+    }
+
+    /// The least gap between two fill boxes, 0 to 2^20.
+    pub fn fill_spacing(&self) -> i64
+        ensures { result ≡ value_of (values_of self.now) NumberKey.FillSpacing }
+    {
+        self.number(NumberKey::FillSpacing)
+    }
+
+    /// The width of a density window, 1 to 2^20.
+    pub fn win_w(&self) -> i64
+        ensures { result ≡ value_of (values_of self.now) NumberKey.WinW }
+    {
+        self.number(NumberKey::WinW)
+    }
+
+    /// The height of a density window, 1 to 2^20.
+    pub fn win_h(&self) -> i64
+        ensures { result ≡ value_of (values_of self.now) NumberKey.WinH }
+    {
+        self.number(NumberKey::WinH)
+    }
+
+    /// How far the next column of windows is to the right, 1 to 2^20.
+    pub fn win_step_x(&self) -> i64
+        ensures { result ≡ value_of (values_of self.now) NumberKey.WinStepX }
+    {
+        self.number(NumberKey::WinStepX)
+    }
+
+    /// How far the next row of windows is upwards, 1 to 2^20.
+    pub fn win_step_y(&self) -> i64
+        ensures { result ≡ value_of (values_of self.now) NumberKey.WinStepY }
+    {
+        self.number(NumberKey::WinStepY)
+    }
+
+    /// The left edge of the windows of the first column.
+    pub fn win_x(&self) -> i64
+        ensures { result ≡ value_of (values_of self.now) NumberKey.WinX }
+    {
+        self.number(NumberKey::WinX)
+    }
+
+    /// The lower edge of the windows of the first row.
+    pub fn win_y(&self) -> i64
+        ensures { result ≡ value_of (values_of self.now) NumberKey.WinY }
+    {
+        self.number(NumberKey::WinY)
+    }
+
+    /// How many columns of windows there are, 1 to 2^20.
+    pub fn win_nx(&self) -> i64
+        ensures { result ≡ value_of (values_of self.now) NumberKey.WinNx }
+    {
+        self.number(NumberKey::WinNx)
+    }
+
+    /// How many rows of windows there are, 1 to 2^20.
+    pub fn win_ny(&self) -> i64
+        ensures { result ≡ value_of (values_of self.now) NumberKey.WinNy }
+    {
+        self.number(NumberKey::WinNy)
+    }
+
+    /// The least density, in millionths.
+    pub fn min(&self) -> i64
+        ensures { result ≡ value_of (values_of self.now) NumberKey.Min }
+    {
+        self.number(NumberKey::Min)
+    }
+
+    /// The greatest density, in millionths, at least the least one.
+    pub fn max(&self) -> i64
+        ensures { result ≡ value_of (values_of self.now) NumberKey.Max }
+    {
+        self.number(NumberKey::Max)
+    }
+
+    /// How many columns of places a tile has, 1 to 4,096.
+    pub fn tile_nx(&self) -> i64
+        ensures { result ≡ value_of (values_of self.now) NumberKey.TileNx }
+    {
+        self.number(NumberKey::TileNx)
+    }
+
+    /// How many rows of places a tile has, 1 to 4,096.
+    pub fn tile_ny(&self) -> i64
+        ensures { result ≡ value_of (values_of self.now) NumberKey.TileNy }
+    {
+        self.number(NumberKey::TileNy)
+    }
+
+    /// The checked layer, 0 to 65,535.
+    pub fn layer(&self) -> i64
+        ensures { result ≡ value_of (values_of self.now) NumberKey.Layer }
+    {
+        self.number(NumberKey::Layer)
+    }
+
+    /// The checked data type, 0 to 65,535.
+    pub fn datatype(&self) -> i64
+        ensures { result ≡ value_of (values_of self.now) NumberKey.Datatype }
+    {
+        self.number(NumberKey::Datatype)
+    }
+
+    /// The layer of the fill boxes, 0 to 65,535.
+    pub fn fill_layer(&self) -> i64
+        ensures { result ≡ value_of (values_of self.now) NumberKey.FillLayer }
+    {
+        self.number(NumberKey::FillLayer)
+    }
+
+    /// The data type of the fill boxes, 0 to 65,535.
+    pub fn fill_datatype(&self) -> i64
+        ensures { result ≡ value_of (values_of self.now) NumberKey.FillDatatype }
+    {
+        self.number(NumberKey::FillDatatype)
+    }
+
+    /// The name of the design's top cell, 1 to 1,024 bytes.
+    pub fn top(&self) -> &[u8]
+        ensures { result.now ≡ (values_of self.now).top }
+    {
+        &self.texts.top
+    }
+
+    /// The name of the fill library, 1 to 32 of A-Z a-z 0-9 _ ? $.
+    pub fn fill_lib(&self) -> &[u8]
+        ensures { result.now ≡ (values_of self.now).fill_lib }
+    {
+        &self.texts.fill_lib
+    }
+
+    /// The name of the cell of one fill box, 1 to 32 of A-Z a-z 0-9 _ ? $.
+    pub fn fill_cell(&self) -> &[u8]
+        ensures { result.now ≡ (values_of self.now).fill_cell }
+    {
+        &self.texts.fill_cell
+    }
+
+    /// The name of the fill library's top cell, another one, 1 to 32 of A-Z a-z 0-9 _ ? $.
+    pub fn fill_top(&self) -> &[u8]
+        ensures { result.now ≡ (values_of self.now).fill_top }
+    {
+        &self.texts.fill_top
+    }
+}

@@ -1,0 +1,135 @@
+ghost use Rattle.std.specs.Prelude.{◌≡◌, option_map};
+ghost use Rattle.fill_text.specs.Answers.{seen, Gives};
+ghost use Rattle.fill_text.specs.Corners.{corners_of, rect_with};
+ghost use Rattle.fill_text.specs.Grids.{grid_with};
+ghost use Rattle.fill_text.specs.Rules as spec;
+ghost use Rattle.fill_text.specs.Slots.{found_in};
+ghost use Rattle.fill_text.specs.Views.{values_from, values_of};
+
+use crate::corners::rect_from;
+use crate::keys::{Key, NumberKey, TextKey};
+use crate::refusal::RuleError;
+use crate::rows::rows;
+use crate::rules::{Numbers, Rules, Texts};
+use crate::slots::Slots;
+use fill_area::Windows;
+use fill_base::{Point, Rect};
+use std::alloc::Global;
+
+/// The frame that the numbers make, if it holds a square.
+fn frame_in(numbers: &Numbers) -> Option<Rect>
+    ensures { option_map corners_of result ≡ rect_with (spec.frame_of numbers.now.values) }
+{
+    rect_from(
+        numbers.value(NumberKey::FrameX1),
+        numbers.value(NumberKey::FrameY1),
+        numbers.value(NumberKey::FrameX2),
+        numbers.value(NumberKey::FrameY2),
+    )
+}
+
+/// The windows that the numbers make, if there are at most 2^20, each within the coordinates.
+fn windows_in(numbers: &Numbers) -> Option<Windows>
+    ensures { result ≡ grid_with (spec.windows_of numbers.now.values) }
+{
+    let origin = Point {
+        x: numbers.value(NumberKey::WinX),
+        y: numbers.value(NumberKey::WinY),
+    };
+    let size = (
+        numbers.value(NumberKey::WinW),
+        numbers.value(NumberKey::WinH),
+    );
+    let step = (
+        numbers.value(NumberKey::WinStepX),
+        numbers.value(NumberKey::WinStepY),
+    );
+    let count = (numbers.window_columns(), numbers.window_rows());
+    Windows::new(origin, size, step, count).ok()
+}
+
+/// What is asked of the values together.
+#[tactic(auto, unfolding(crate::specs::Rules::checked))]
+fn checked(numbers: Numbers, texts: Texts) -> Result<Rules, RuleError>
+    ensures { seen values_of result ≡ spec.checked (values_from numbers texts) }
+{
+    if numbers.value(NumberKey::Max) < numbers.value(NumberKey::Min) {
+        return Err(RuleError::BadRule {
+            key: Key::Number(NumberKey::Max),
+        });
+    }
+    if texts.fill_top == texts.fill_cell {
+        return Err(RuleError::BadRule {
+            key: Key::Text(TextKey::FillTop),
+        });
+    }
+    let frame = frame_in(&numbers).ok_or(RuleError::BadRect)?;
+    let windows = windows_in(&numbers).ok_or(RuleError::BadWindows)?;
+    Ok(Rules {
+        numbers,
+        texts,
+        frame,
+        windows,
+    })
+}
+
+/// The rules that were found, none of which may miss.
+#[tactic(auto, unfolding(crate::specs::Rules::all_values))]
+fn rules_found(slots: Slots) -> Result<Rules, RuleError>
+    requires { spec.AreRanged (found_in slots).numbers }
+    ensures { seen values_of result ≡ spec.rules_found (found_in slots) }
+{
+    let numbers = Numbers::new(slots.all_numbers()?);
+    let Slots {
+        numbers: _,
+        top,
+        fill_lib,
+        fill_cell,
+        fill_top,
+    } = slots;
+    let top = top.ok_or(missing(TextKey::Top))?;
+    let fill_lib = fill_lib.ok_or(missing(TextKey::FillLib))?;
+    let fill_cell = fill_cell.ok_or(missing(TextKey::FillCell))?;
+    let fill_top = fill_top.ok_or(missing(TextKey::FillTop))?;
+    checked(
+        numbers,
+        Texts {
+            top,
+            fill_lib,
+            fill_cell,
+            fill_top,
+        },
+    )
+}
+
+fn missing(key: TextKey) -> RuleError
+    ensures { result ≡ RuleError.BadRule (Key.Text key) }
+{
+    RuleError::BadRule {
+        key: Key::Text(key),
+    }
+}
+
+/// The rules of a rule file: records `key,value` of comma-separated fields with no header, each key exactly once and
+/// in any order (this project's profile).
+///
+/// # Errors
+/// The first refusal. Record by record: `BadRow` for other than two fields and for a key that is unknown or has stood
+/// before, then `BadNumber` for a value that writes no number, then `BadRule` for one that its key doesn't allow. Then
+/// `BadRule` for the first key in table order that is missing, for `max` below `min` and for `fill_top` equal to
+/// `fill_cell`; then `BadRect` for a frame that holds no square, and
+/// `BadWindows` for more than 2^20 windows or one that leaves the coordinates. `Memory` where memory runs out.
+pub fn read_rules(alloc: Global, text: &[u8]) -> Result<Rules, RuleError>
+    ensures { Gives RuleError.Memory values_of result (spec.rules_of text.now) }
+{
+    let mut slots = Slots::new();
+    let mut line = 0u64;
+    for row in rows(alloc, text) {
+        let Ok(row) = row else {
+            return Err(RuleError::Memory);
+        };
+        line += 1;
+        slots.take_row(alloc, line, &row)?;
+    }
+    rules_found(slots)
+}

@@ -1,0 +1,31 @@
+use crate::keys::Key;
+use std::fmt;
+use thiserror::Error;
+
+/// Why a rule file was refused. A line is the number of a record, counted from 1.
+#[derive(Clone, Copy, Debug, PartialEq, Eq, Error)]
+pub enum RuleError {
+    /// Not two fields, or a key that is unknown or has stood before.
+    #[error("record {line} is no rule")]
+    BadRow { line: u64 },
+    /// The value should be a number and isn't one.
+    #[error("record {line} has a bad number")]
+    BadNumber { line: u64 },
+    /// The value is not what the key asks for, or the key is missing.
+    #[error("the rule {key} is missing or out of range")]
+    BadRule { key: Key },
+    /// The frame holds no square.
+    #[error("the frame holds no square")]
+    BadRect,
+    /// The windows are too many, or leave the coordinate range.
+    #[error("the windows are too many or out of range")]
+    BadWindows,
+    #[error("out of memory")]
+    Memory,
+}
+
+impl fmt::Display for Key {
+    fn fmt<W: fmt::Write>(&self, f: &mut fmt::Formatter<W>) -> fmt::Result {
+        f.write_str(self.name())
+    }
+}

@@ -1,0 +1,122 @@
+ghost use Rattle.std.specs.Prelude.{◌≡◌, ◌≤ℤ◌, ◌↔◌, IfOk, IsTrue, unsigned_abs};
+ghost use Rattle.fill_text.specs.Corners.{corners_of};
+ghost use Rattle.fill_text.specs.Keys.{number_rule};
+ghost use Rattle.fill_text.specs.Rules as spec;
+ghost use Rattle.fill_text.specs.declared.keys.NumberKey.{NumberKey};
+
+use crate::keys::NumberKey;
+use fill_area::Windows;
+use fill_base::Rect;
+use std::alloc::{AllocError, Global};
+
+/// The numbers of the rules, each in the range of its key.
+#[derive(Clone, Copy, Debug, PartialEq, Eq)]
+pub struct Numbers {
+    values: [i64; 28],
+    pub ghost low: { (key : NumberKey) → (number_rule key).low ≤ℤ spec.number_in values key },
+    pub ghost high: { (key : NumberKey) → spec.number_in values key ≤ℤ (number_rule key).high },
+}
+
+impl Numbers {
+    /// The numbers at the places of their keys.
+    pub fn new(values: [i64; 28]) -> Numbers
+        requires low { (key : NumberKey) → (number_rule key).low ≤ℤ spec.number_in values key }
+        requires high { (key : NumberKey) → spec.number_in values key ≤ℤ (number_rule key).high }
+        ensures { result.values ≡ values }
+    {
+        Numbers { values }
+    }
+
+    /// The number of a key.
+    pub fn value(&self, key: NumberKey) -> i64
+        ensures { result ≡ spec.number_in self.now.values key }
+    {
+        self.values[key.place()]
+    }
+
+    /// How many columns of windows there are.
+    pub fn window_columns(&self) -> u32
+        ensures { result ≡ unsigned_abs (spec.number_in self.now.values NumberKey.WinNx) }
+    {
+        self.value(NumberKey::WinNx) as u32
+    }
+
+    /// How many rows of windows there are.
+    pub fn window_rows(&self) -> u32
+        ensures { result ≡ unsigned_abs (spec.number_in self.now.values NumberKey.WinNy) }
+    {
+        self.value(NumberKey::WinNy) as u32
+    }
+}
+
+/// The texts of the rules.
+#[derive(Debug, Drop, PartialEq, Eq)]
+pub struct Texts {
+    pub top: Vec<u8>,
+    pub fill_lib: Vec<u8>,
+    pub fill_cell: Vec<u8>,
+    pub fill_top: Vec<u8>,
+}
+
+/// The rules of a check and a fill: the value of each key of a rule file, and the frame and
+/// the windows that they make.
+#[derive(Drop)]
+#[derive_where(Debug, PartialEq, Eq)]
+pub struct Rules {
+    pub(crate) numbers: Numbers,
+    pub(crate) texts: Texts,
+    // These follow from the numbers, so a comparison leaves them out.
+    #[derive_where(skip(EqHashOrd))]
+    pub(crate) frame: Rect,
+    #[derive_where(skip(EqHashOrd))]
+    pub(crate) windows: Windows,
+    pub ghost windowed: { windows ≡ spec.windows_of numbers.values },
+    pub ghost framed: { corners_of frame ≡ spec.frame_of numbers.values },
+}
+
+impl Texts {
+    ghost use Rattle.fill_text.specs.Views.{SameTexts};
+
+    fn copy(&self, alloc: Global) -> Result<Texts, AllocError>
+        ensures { IfOk result (λ t. SameTexts t self.now) }
+    {
+        Ok(Texts {
+            top: self.top.to_vec(alloc)?,
+            fill_lib: self.fill_lib.to_vec(alloc)?,
+            fill_cell: self.fill_cell.to_vec(alloc)?,
+            fill_top: self.fill_top.to_vec(alloc)?,
+        })
+    }
+}
+
+impl Rules {
+    ghost use Rattle.fill_text.specs.Views.{values_of};
+
+    /// The number of a key.
+    pub fn number(&self, key: NumberKey) -> i64
+        ensures value { result ≡ spec.value_of (values_of self.now) key }
+        ensures low { (number_rule key).low ≤ℤ result }
+        ensures high { result ≤ℤ (number_rule key).high }
+    {
+        self.numbers.value(key)
+    }
+
+    /// The same rules once more.
+    pub fn copy(&self, alloc: Global) -> Result<Rules, AllocError>
+        ensures { IfOk result (λ r. values_of r ≡ values_of self.now) }
+    {
+        Ok(Rules {
+            numbers: self.numbers,
+            texts: self.texts.copy(alloc)?,
+            frame: self.frame,
+            windows: self.windows,
+        })
+    }
+
+    /// Whether all values are the same, which `==` tells.
+    pub fn same_as(&self, other: &Rules) -> bool
+        ensures { IsTrue result ↔ (values_of self.now ≡ values_of other.now) }
+    {
+        self == other
+    }
+}

@@ -1,0 +1,174 @@
+ghost use Rattle.std.specs.Prelude.{◌≡◌};
+ghost use Rattle.std.specs.List.{list_all};
+ghost use Rattle.csv.specs.Records.{fields_of};
+ghost use Rattle.fill_text.specs.Answers.{seen, Gives};
+ghost use Rattle.fill_text.specs.Keys.{all_number_keys};
+ghost use Rattle.fill_text.specs.Rules as spec;
+ghost use Rattle.fill_text.specs.Slots.{found_in};
+
+use crate::keys::{Key, NUMBER_KEYS, NumberKey, TextKey};
+use crate::numbers::number;
+use crate::refusal::RuleError;
+use crate::rows::field;
+use csv::ByteRecord;
+use std::alloc::Global;
+
+/// A number or a text for each key that has stood in a record.
+#[derive(Drop)]
+pub struct Slots {
+    pub numbers: [Option<i64>; 28],
+    pub top: Option<Vec<u8>>,
+    pub fill_lib: Option<Vec<u8>>,
+    pub fill_cell: Option<Vec<u8>>,
+    pub fill_top: Option<Vec<u8>>,
+}
+
+impl Slots {
+    /// No key has stood in a record yet.
+    pub fn new() -> Slots
+        ensures { found_in result ≡ spec.nothing_found }
+    {
+        Slots {
+            numbers: [None; 28],
+            top: None,
+            fill_lib: None,
+            fill_cell: None,
+            fill_top: None,
+        }
+    }
+
+    /// Whether the key has stood in a record.
+    fn has(&self, key: Key) -> bool
+        ensures { result ≡ spec.is_found (found_in self.now) key }
+    {
+        match key {
+            Key::Number(key) => self.numbers[key.place()].is_some(),
+            Key::Text(TextKey::Top) => self.top.is_some(),
+            Key::Text(TextKey::FillLib) => self.fill_lib.is_some(),
+            Key::Text(TextKey::FillCell) => self.fill_cell.is_some(),
+            Key::Text(TextKey::FillTop) => self.fill_top.is_some(),
+        }
+    }
+
+    /// The key that a record's first field names, which has not stood before.
+    #[tactic(auto, unfolding(crate::specs::Rules::new_key))]
+    fn new_key(&self, line: u64, word: &[u8]) -> Result<Key, RuleError>
+        ensures { result ≡ spec.new_key line word.now (found_in self.now) }
+    {
+        let key = Key::named(word).ok_or(RuleError::BadRow { line })?;
+        if self.has(key) {
+            return Err(RuleError::BadRow { line });
+        }
+        Ok(key)
+    }
+
+    #[tactic(auto, unfolding(crate::specs::Rules::take_number))]
+    fn take_number(&mut self, line: u64, key: NumberKey, word: &[u8]) -> Result<(), RuleError>
+        ensures { seen (λ _. found_in self.new) result ≡ spec.take_number line key word.now (found_in self.old) }
+    {
+        self.numbers[key.place()] = Some(number_for(line, key, word)?);
+        Ok(())
+    }
+
+    #[tactic(auto, unfolding(crate::specs::Rules::take_text))]
+    fn take_text(&mut self, alloc: Global, key: TextKey, word: &[u8]) -> Result<(), RuleError>
+        ensures { Gives RuleError.Memory (λ _. found_in self.new) result (spec.take_text key word.now (found_in self.old)) }
+    {
+        if !is_text(key, word) {
+            return Err(RuleError::BadRule {
+                key: Key::Text(key),
+            });
+        }
+        let Ok(kept) = word.to_vec(alloc) else {
+            return Err(RuleError::Memory);
+        };
+        match key {
+            TextKey::Top => self.top = Some(kept),
+            TextKey::FillLib => self.fill_lib = Some(kept),
+            TextKey::FillCell => self.fill_cell = Some(kept),
+            TextKey::FillTop => self.fill_top = Some(kept),
+        }
+        Ok(())
+    }
+
+    /// Takes what one record adds.
+    #[tactic(auto, unfolding(crate::specs::Rules::take_row))]
+    pub fn take_row(&mut self, alloc: Global, line: u64, row: &ByteRecord) -> Result<(), RuleError>
+        ensures { Gives RuleError.Memory (λ _. found_in self.new) result (spec.take_row line (fields_of row.now) (found_in self.old)) }
+    {
+        if row.len() != 2 {
+            return Err(RuleError::BadRow { line });
+        }
+        let word = field(row, 1);
+        match self.new_key(line, field(row, 0))? {
+            Key::Number(key) => self.take_number(line, key, word),
+            Key::Text(key) => self.take_text(alloc, key, word),
+        }
+    }
+
+    /// Every number, or the first that is missing.
+    pub fn all_numbers(&self) -> Result<[i64; 28], RuleError>
+        ensures { result ≡ spec.all_numbers all_number_keys self.now.numbers }
+    {
+        let mut numbers = [0; 28];
+        for i in 0..28 {
+            let Some(n) = self.numbers[i] else {
+                return Err(RuleError::BadRule {
+                    key: Key::Number(NUMBER_KEYS[i]),
+                });
+            };
+            numbers[i] = n;
+        }
+        Ok(numbers)
+    }
+}
+
+/// The number that a record's second field gives a key.
+#[tactic(auto, unfolding(crate::specs::Rules::number_for))]
+fn number_for(line: u64, key: NumberKey, word: &[u8]) -> Result<i64, RuleError>
+    ensures { result ≡ spec.number_for line key word.now }
+{
+    let n = number(word).ok_or(RuleError::BadNumber { line })?;
+    let (low, high) = key.range();
+    if low <= n && n <= high {
+        Ok(n)
+    } else {
+        Err(RuleError::BadRule {
+            key: Key::Number(key),
+        })
+    }
+}
+
+/// Whether a name of the fill library may hold the byte.
+fn is_name_byte(c: u8) -> bool
+    ensures { result ≡ spec.is_name_byte c }
+{
+    (b'0' <= c && c <= b'9')
+        || (b'A' <= c && c <= b'Z')
+        || (b'a' <= c && c <= b'z')
+        || c == b'_'
+        || c == b'?'
+        || c == b'$'
+}
+
+fn has_name_bytes_alone(word: &[u8]) -> bool
+    ensures { result ≡ list_all spec.is_name_byte word.now }
+{
+    word.iter().all(|c| is_name_byte(*c))
+}
+
+fn is_fill_name(word: &[u8]) -> bool
+    ensures { result ≡ spec.is_fill_name word.now }
+{
+    !word.is_empty() && word.len() <= 32 && has_name_bytes_alone(word)
+}
+
+/// Whether a text may be the key's value.
+fn is_text(key: TextKey, word: &[u8]) -> bool
+    ensures { result ≡ spec.is_text key word.now }
+{
+    match key {
+        TextKey::Top => !word.is_empty() && word.len() <= 1024,
+        TextKey::FillLib | TextKey::FillCell | TextKey::FillTop => is_fill_name(word),
+    }
+}
