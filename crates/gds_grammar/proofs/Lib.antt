@@ -8,3 +8,4 @@ pub mod Paths
 pub mod Bodies
 pub mod Cells
 pub mod Unique
+pub mod Exact

@@ -28,7 +28,7 @@ pub record Begins (xs ys : List Rec) (x y : List ℕ) : Type 0 where
   pub longer : ys ≡ xs ++ more
   pub left : x ≡ flat_map spelling more ++ y
 
-one_begins : (xs ys : List Rec) (x y : List ℕ) → AllByRecursion IsRecord xs → AllByRecursion IsRecord ys → flat_map spelling xs ++ x ≡ flat_map spelling ys ++ y
+pub one_begins : (xs ys : List Rec) (x y : List ℕ) → AllByRecursion IsRecord xs → AllByRecursion IsRecord ys → flat_map spelling xs ++ x ≡ flat_map spelling ys ++ y
     → Begins xs ys x y ⊎ Begins ys xs y x
 one_begins [] ys x y fx fy e = inl (record { more = ys; longer = refl; left = e })
 one_begins (a ∷ xs) [] x y fx fy e = inr (record { more = a ∷ xs; longer = refl; left = sym e })
@@ -53,7 +53,7 @@ ended v t [] e = fine_is (Done v) t e
 ended v t (r ∷ rs) e = let b = bind_ok (step all_rules (Done v) r) (λ u. run all_rules u rs) t e in absurd (ended_step v r b.0 b.1)
 
 -- a run over a longer list goes on from the end of the shorter one
-goes_on : (xs ys more : List Rec) (s t : State) → ys ≡ xs ++ more → run all_rules Start xs ≡ fine s → run all_rules Start ys ≡ fine t → run all_rules s more ≡ fine t
+pub goes_on : (xs ys more : List Rec) (s t : State) → ys ≡ xs ++ more → run all_rules Start xs ≡ fine s → run all_rules Start ys ≡ fine t → run all_rules s more ≡ fine t
 goes_on xs ys more s t e h k =
     let whole : run all_rules Start (xs ++ more) ≡ run all_rules s more = run_append all_rules Start xs more ∙ rw h refl in
     sym whole ∙ ap (run all_rules Start) (sym e) ∙ k
@@ -71,7 +71,7 @@ one_value bytes rest v w h k =
     ]
 
 -- where a record stands and is taken nothing fails
-record_fails : (s t : State) (bytes : List ℕ) (r : Rec) (x : List ℕ) (cause : Cause) → IsRecord r → bytes ≡ spelling r ++ x → step all_rules s r ≡ fine t → FailsAt s bytes cause → ⊥
+pub record_fails : (s t : State) (bytes : List ℕ) (r : Rec) (x : List ℕ) (cause : Cause) → IsRecord r → bytes ≡ spelling r ++ x → step all_rules s r ≡ fine t → FailsAt s bytes cause → ⊥
 record_fails s t bytes r x causes.Truncated fits e h f =
     let short = (at_short bytes).1 f in
     let read = ap record_at e ∙ at_again r x fits in
@@ -94,7 +94,7 @@ fails_on at t rest y (r ∷ rs) cause unfinished fits e w is h f =
     let b = bind_ok (step all_rules at r) (λ u. run all_rules u rs) t h in
     record_fails at b.0 rest r (flat_map spelling rs ++ y) cause fits.0 (e ∙ append_assoc (spelling r) (flat_map spelling rs) y) b.1 f
 
-all_of_second : (xs more ys : List Rec) → ys ≡ xs ++ more → AllByRecursion IsRecord ys → AllByRecursion IsRecord more
+pub all_of_second : (xs more ys : List Rec) → ys ≡ xs ++ more → AllByRecursion IsRecord ys → AllByRecursion IsRecord more
 all_of_second xs more ys e h = second xs more (subst (AllByRecursion IsRecord) e h) where
   second : (xs more : List Rec) → AllByRecursion IsRecord (xs ++ more) → AllByRecursion IsRecord more
   second [] more h = h
@@ -113,7 +113,7 @@ no_fault bytes cause left w h k =
 
 -- ---- which error it is
 
-many_bytes : (rs : List Rec) → length rs ≤ length (flat_map spelling rs)
+pub many_bytes : (rs : List Rec) → length rs ≤ length (flat_map spelling rs)
 many_bytes [] = omega arith
 many_bytes (r ∷ rs) = omega (arith, many_bytes rs, length-append (spelling r) (flat_map spelling rs))
 

@@ -123,10 +123,10 @@ module _ (ρ : Rules) where
 
 -- ---- looser rules take what stricter ones take
 
-record IsLooser (σ ρ : Rules) : Type 0 where
-  points : (o : ElementKind) (xy : List ℕ) → ρ.points o xy ≡ true → σ.points o xy ≡ true
-  closed : (o : ElementKind) (xy : List ℕ) → ρ.closed o xy ≡ true → σ.closed o xy ≡ true
-  taken : (cells : List Cell) (n : List ℕ) → ρ.taken cells n ≡ false → σ.taken cells n ≡ false
+pub record IsLooser (σ ρ : Rules) : Type 0 where
+  pub points : (o : ElementKind) (xy : List ℕ) → ρ.points o xy ≡ true → σ.points o xy ≡ true
+  pub closed : (o : ElementKind) (xy : List ℕ) → ρ.closed o xy ≡ true → σ.closed o xy ≡ true
+  pub taken : (cells : List Cell) (n : List ℕ) → ρ.taken cells n ≡ false → σ.taken cells n ≡ false
 
 module _ (σ ρ : Rules) (looser : IsLooser σ ρ) where
   move_looser : (s t : State) (r : Rec) → next_state ρ s r ≡ fine t → next_state σ s r ≡ fine t
@@ -158,7 +158,7 @@ module _ (σ ρ : Rules) (looser : IsLooser σ ρ) where
   move_looser (Paired l n sh) t r e = e
   move_looser (Done l) t r e = e
 
-  run_looser : (s t : State) (rs : List Rec) → run ρ s rs ≡ fine t → run σ s rs ≡ fine t
+  pub run_looser : (s t : State) (rs : List Rec) → run ρ s rs ≡ fine t → run σ s rs ≡ fine t
   unfolding run
   run_looser s t [] e = e
   run_looser s t (r ∷ rs) e =
@@ -174,6 +174,12 @@ alone_looser = record { points = λ o xy h. h; closed = λ o xy h. refl; taken =
 
 closing_looser : IsLooser points_and_closing all_rules
 closing_looser = record { points = λ o xy h. h; closed = λ o xy h. h; taken = λ cells n h. refl }
+
+pub none_of_alone : IsLooser no_rules points_alone
+none_of_alone = record { points = λ o xy h. refl; closed = λ o xy h. refl; taken = λ cells n h. refl }
+
+pub alone_of_closing : IsLooser points_alone points_and_closing
+alone_of_closing = record { points = λ o xy h. h; closed = λ o xy h. refl; taken = λ cells n h. refl }
 
 -- ---- which rule a refused record breaks
 
@@ -308,7 +314,7 @@ why_step s r e h =
 
 -- ---- the law
 
-run_more : (ρ : Rules) (rs : List Rec) (s t : State) (r : Rec) → run ρ Start rs ≡ fine s → step ρ s r ≡ fine t → run ρ Start (rs ++ r ∷ []) ≡ fine t
+pub run_more : (ρ : Rules) (rs : List Rec) (s t : State) (r : Rec) → run ρ Start rs ≡ fine s → step ρ s r ≡ fine t → run ρ Start (rs ++ r ∷ []) ≡ fine t
 run_more ρ rs s t r h k = run_append ρ Start rs (r ∷ []) ∙ rw h (run_one ρ s t r k)
 
 one_more : (ρ : Rules) → TakesBlank ρ Always → (rs : List Rec) (s t : State) (r : Rec) → AllByRecursion IsRecord rs → IsRecord r → run ρ Start rs ≡ fine s → step ρ s r ≡ fine t → IsViable ρ (rs ++ r ∷ [])

@@ -41,7 +41,7 @@ optional Path = kinds.PATHTYPE ∷ kinds.WIDTH ∷ kinds.BGNEXTN ∷ kinds.ENDEX
 optional Reference = kinds.STRANS ∷ kinds.MAG ∷ kinds.ANGLE ∷ []
 optional Array = kinds.STRANS ∷ kinds.MAG ∷ kinds.ANGLE ∷ []
 optional Text =
-  kinds.PRESENTATION ∷ kinds.PATHTYPE ∷ kinds.WIDTH ∷ kinds.STRANS ∷ kinds.MAG ∷ kinds.ANGLE ∷ []
+    kinds.PRESENTATION ∷ kinds.PATHTYPE ∷ kinds.WIDTH ∷ kinds.STRANS ∷ kinds.MAG ∷ kinds.ANGLE ∷ []
 optional Node = []
 optional Box = []
 
@@ -63,7 +63,7 @@ is_whole element seen = list_all (λ k. among seen k) (required element)
 -- the points of XY, eight bytes each
 abbrev pub points_of : List ℕ → List Point
 points_of (a ∷ b ∷ c ∷ d ∷ e ∷ f ∷ g ∷ h ∷ rest) =
-  point_of (a ∷ b ∷ c ∷ d ∷ e ∷ f ∷ g ∷ h ∷ []) ∷ points_of rest
+    point_of (a ∷ b ∷ c ∷ d ∷ e ∷ f ∷ g ∷ h ∷ []) ∷ points_of rest
 points_of _ = []
 
 -- how many points an element has
@@ -79,7 +79,7 @@ has_count Box n = true
 -- a positive multiple of eight bytes, with as many points as the element has
 abbrev pub are_points : ElementKind → List ℕ → Bool
 are_points element xy =
-  nat_lt 0 (length xy) && (length xy % 8 == 0) && has_count element (length xy / 8)
+    nat_lt 0 (length xy) && (length xy % 8 == 0) && has_count element (length xy / 8)
 
 abbrev pub is_same_point : Point → Point → Bool
 is_same_point p q = int_eq p.x q.x && int_eq p.y q.y
@@ -149,16 +149,16 @@ rows_in before = value_of (λ body. word_of (drop 2 body)) (body_of kinds.COLROW
 -- what an element with these records before XY says; texts, nodes and boxes say nothing
 abbrev pub shapes_in : ElementKind → List Rec → List ℕ → List Shape
 shapes_in Boundary before xy =
-  boundary (word_in kinds.LAYER before) (word_in kinds.DATATYPE before) (points_of xy) ∷ []
+    boundary (word_in kinds.LAYER before) (word_in kinds.DATATYPE before) (points_of xy) ∷ []
 shapes_in Path before xy =
     path (word_in kinds.LAYER before) (word_in kinds.DATATYPE before)
     (value_if word_of (body_of kinds.PATHTYPE before)) (value_if number_of (body_of kinds.WIDTH before))
     (value_if number_of (body_of kinds.BGNEXTN before))
     (value_if number_of (body_of kinds.ENDEXTN before)) (points_of xy) ∷ []
 shapes_in Reference before xy =
-  reference (name_in before) (transform_in before) (point_of xy) ∷ []
+    reference (name_in before) (transform_in before) (point_of xy) ∷ []
 shapes_in Array before xy =
-  array (name_in before) (transform_in before) (columns_in before) (rows_in before) (points_of xy) ∷ []
+    array (name_in before) (transform_in before) (columns_in before) (rows_in before) (points_of xy) ∷ []
 shapes_in Text before xy = []
 shapes_in Node before xy = []
 shapes_in Box before xy = []

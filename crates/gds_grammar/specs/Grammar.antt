@@ -58,13 +58,13 @@ property_records p = p.0 ∷ p.1 ∷ []
 
 abbrev pub element_records : ElementPart → List Rec
 element_records e =
-  e.start ∷ (e.before ++ e.xy ∷ (e.strings ++ (flat_map property_records e.properties ++ e.stop ∷ [])))
+    e.start ∷ (e.before ++ e.xy ∷ (e.strings ++ (flat_map property_records e.properties ++ e.stop ∷ [])))
 
 -- each record may stand behind those before it
 abbrev pub MayStand : ElementKind → List ℕ → List Rec → Type 0
 MayStand element seen [] = Unit {0}
 MayStand element seen (r ∷ rs) =
-  (may_stand element seen r.kind ≡ true) × MayStand element (seen ++ r.kind ∷ []) rs
+    (may_stand element seen r.kind ≡ true) × MayStand element (seen ++ r.kind ∷ []) rs
 
 abbrev pub AreStrings : Bool → List Rec → Type 0
 AreStrings true (r ∷ []) = r.kind ≡ kinds.STRING
@@ -100,7 +100,7 @@ pub record CellPart : Type 0 where
 
 abbrev pub cell_records : CellPart → List Rec
 cell_records c =
-  c.start ∷ c.name ∷ (c.class ++ (flat_map element_records c.elements ++ c.stop ∷ []))
+    c.start ∷ c.name ∷ (c.class ++ (flat_map element_records c.elements ++ c.stop ∷ []))
 
 abbrev pub AtMostOne : ℕ → List Rec → Type 0
 AtMostOne kind [] = Unit {0}
@@ -121,15 +121,15 @@ cell_value c = record { name = trimmed c.name.body; shapes = flat_map element_sh
 abbrev pub AreCells : Rules → List Cell → List CellPart → Type 0
 AreCells ρ cells [] = Unit {0}
 AreCells ρ cells (c ∷ cs) =
-  IsCell ρ c × (ρ.taken cells (trimmed c.name.body) ≡ false) × AreCells ρ (cells ++ cell_value c ∷ []) cs
+    IsCell ρ c × (ρ.taken cells (trimmed c.name.body) ≡ false) × AreCells ρ (cells ++ cell_value c ∷ []) cs
 
 -- ---- the library
 
 -- what may stand between BGNLIB and UNITS, in any order and number, beside the one LIBNAME
 abbrev pub library_kinds : List ℕ
 library_kinds =
-  kinds.REFLIBS ∷ kinds.FONTS ∷ kinds.ATTRTABLE ∷ kinds.GENERATIONS ∷ kinds.FORMAT ∷ kinds.MASK
-  ∷ kinds.ENDMASKS ∷ kinds.LIBDIRSIZE ∷ kinds.SRFNAME ∷ kinds.LIBSECUR ∷ []
+    kinds.REFLIBS ∷ kinds.FONTS ∷ kinds.ATTRTABLE ∷ kinds.GENERATIONS ∷ kinds.FORMAT ∷ kinds.MASK
+    ∷ kinds.ENDMASKS ∷ kinds.LIBDIRSIZE ∷ kinds.SRFNAME ∷ kinds.LIBSECUR ∷ []
 
 abbrev pub IsLibraryPart : Rec → Type 0
 IsLibraryPart r = among library_kinds r.kind ≡ true
@@ -146,8 +146,8 @@ pub record LibraryPart : Type 0 where
 
 abbrev pub library_records : LibraryPart → List Rec
 library_records l =
-  l.header ∷ l.start
-  ∷ (l.before ++ l.name ∷ (l.after ++ l.units ∷ (flat_map cell_records l.cells ++ l.stop ∷ [])))
+    l.header ∷ l.start
+    ∷ (l.before ++ l.name ∷ (l.after ++ l.units ∷ (flat_map cell_records l.cells ++ l.stop ∷ [])))
 
 pub record IsLibraryOf (ρ : Rules) (l : LibraryPart) : Type 0 where
   pub header : l.header.kind ≡ kinds.HEADER
@@ -161,7 +161,7 @@ pub record IsLibraryOf (ρ : Rules) (l : LibraryPart) : Type 0 where
 
 abbrev pub library_value : LibraryPart → Contents
 library_value l =
-  record { dates = l.start.body; units = l.units.body; cells = map cell_value l.cells }
+    record { dates = l.start.body; units = l.units.body; cells = map cell_value l.cells }
 
 -- records that fit their bytes, each as the manual has those of its kind
 pub record AreWell (records : List Rec) : Type 0 where

@@ -27,6 +27,6 @@ pub record RefusedAtTheFirst : Type 0 where
   pub taken : (records : List Rec) (s : State) → AllByRecursion IsRecord records → length records < 2 ^ 64
       → run all_rules Start records ≡ fine s → IsViable all_rules records
   pub refused : (records : List Rec) (s : State) (r : Rec) (e : Refusal)
-    → AllByRecursion IsRecord records → IsRecord r
+      → AllByRecursion IsRecord records → IsRecord r
       → run all_rules Start records ≡ fine s → step all_rules s r ≡ refuse e
       → (IsViable all_rules (records ++ r ∷ []) → ⊥) × IsWhy e (records ++ r ∷ [])

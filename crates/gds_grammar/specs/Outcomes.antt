@@ -45,15 +45,19 @@ pub record RefusesRecord (bytes : List ℕ) (why : Refusal) (at : ℕ) : Type 0 
   pub because : IsWhy why (records ++ faulty ∷ [])
   pub offset : at ≡ length (flat_map spelling records)
 
--- when each error comes
+-- which fault each error tells of; none is told by want of memory
+abbrev pub IsFault : List ℕ → LibraryError → Type 0
+IsFault bytes errors.Memory = ⊥
+IsFault bytes errors.Truncated = LacksRecord bytes IsTruncated
+IsFault bytes errors.BadLength = LacksRecord bytes IsBadLength
+IsFault bytes (errors.Unexpected at) = RefusesRecord bytes refusals.Unexpected at
+IsFault bytes errors.BadXY = (at : ℕ) × RefusesRecord bytes refusals.BadXY at
+IsFault bytes errors.NotClosed = (at : ℕ) × RefusesRecord bytes refusals.NotClosed at
+IsFault bytes errors.DuplicateCell = (at : ℕ) × RefusesRecord bytes refusals.DuplicateCell at
+
 abbrev pub IsRefused : List ℕ → LibraryError → Type 0
 IsRefused bytes errors.Memory = Unit {0}
-IsRefused bytes errors.Truncated = LacksRecord bytes IsTruncated
-IsRefused bytes errors.BadLength = LacksRecord bytes IsBadLength
-IsRefused bytes (errors.Unexpected at) = RefusesRecord bytes refusals.Unexpected at
-IsRefused bytes errors.BadXY = (at : ℕ) × RefusesRecord bytes refusals.BadXY at
-IsRefused bytes errors.NotClosed = (at : ℕ) × RefusesRecord bytes refusals.NotClosed at
-IsRefused bytes errors.DuplicateCell = (at : ℕ) × RefusesRecord bytes refusals.DuplicateCell at
+IsRefused bytes e = IsFault bytes e
 
 -- how the place of a fault is told, for so many bytes in all
 abbrev pub left_of : Stop → ℕ

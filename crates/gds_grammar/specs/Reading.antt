@@ -98,7 +98,7 @@ pub record IsBody (element : ElementKind) (before : List Rec) (xy : List ℕ) : 
 -- in an element, behind one more record, its XY or not
 abbrev pub after_body : Bool → Contents → List ℕ → List Shape → ElementKind → List Rec → Rec → State
 after_body true l name shapes element before r =
-  behind_xy (has_string element) l name (shapes ++ shapes_in element before r.body)
+    behind_xy (has_string element) l name (shapes ++ shapes_in element before r.body)
 after_body false l name shapes element before r = Body l name shapes element (before ++ r ∷ [])
 
 -- behind XY and string: behind one property, or the element's end

@@ -10,7 +10,7 @@ use Rattle.gds_grammar.specs.declared.libraries.Library as libraries
 pub data Shape : Type 0 where
   boundary : (layer data_type : ℕ) (points : List Point) → Shape
   path : (layer data_type : ℕ) (path_type : Option ℕ) (width begin_extension end_extension : Option ℤ)
-    (points : List Point) → Shape
+      (points : List Point) → Shape
   reference : (cell : List ℕ) (transform : Transform) (origin : Point) → Shape
   array : (cell : List ℕ) (transform : Transform) (columns rows : ℕ) (points : List Point) → Shape
 
@@ -26,7 +26,7 @@ pub record Contents : Type 0 where
 abbrev pub shape_of : Element → Shape
 shape_of (elements.Boundary b) = boundary b.layer b.data_type b.points.items
 shape_of (elements.Path p) =
-  path p.layer p.data_type p.path_type p.width p.begin_extension p.end_extension p.points.items
+    path p.layer p.data_type p.path_type p.width p.begin_extension p.end_extension p.points.items
 shape_of (elements.Ref r) = reference r.cell.items r.transform r.origin
 shape_of (elements.Array a) = array a.cell.items a.transform a.columns a.rows a.points
 

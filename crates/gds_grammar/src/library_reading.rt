@@ -1,10 +1,10 @@
 //! Reads a library record by record, in one pass.
 
-ghost use Rattle.std.specs.Prelude.{◌≡◌, ◌<◌, ◌≤◌, length, IfOk, IfErr, MatchResult};
+ghost use Rattle.std.specs.Prelude.{◌≡◌, ◌⊎◌, ◌<◌, ◌≤◌, length, IfOk, IfErr, MatchResult};
 ghost use Rattle.gds_grammar.specs.Values.{Contents, contents_of};
 ghost use Rattle.gds_grammar.specs.Machine.{Start, Between, Opened, Done};
 ghost use Rattle.gds_grammar.specs.Reading.{Reaches, Fails, after_cell};
-ghost use Rattle.gds_grammar.specs.Outcomes.{left_of, error_of, Spells, IsRefused};
+ghost use Rattle.gds_grammar.specs.Outcomes.{left_of, error_of, Spells, IsFault, IsRefused};
 
 use crate::cell_reading::read_elements;
 use crate::head::Head;
@@ -112,8 +112,10 @@ pub fn read_library(alloc: Global, bytes: &[u8]) -> Result<Library, LibraryError
     // What is spelled so is read, unless memory runs out.
     ensures only { (value : Contents) → Spells bytes.now value
         → MatchResult result (λ library. contents_of library ≡ value) (λ e. e ≡ LibraryError.Memory) }
-    // Which error it is.
+    // An error tells of a fault that is there, and a fault that is there is told of, unless memory runs out.
     ensures refused { IfErr result (λ e. IsRefused bytes.now e) }
+    ensures exact { (e : LibraryError) → IsFault bytes.now e
+        → MatchResult result (λ _. ⊥) (λ told. (told ≡ LibraryError.Memory) ⊎ (told ≡ e)) }
 {
     match read(alloc, bytes) {
         Ok((library, _)) => Ok(library),

@@ -1,7 +1,11 @@
-use Rattle.std.proofs.Common.{◌<◌, ◌^◌, length, sym, subst, ◌∙◌, arith}
+use Rattle.std.proofs.Common.{◌≡◌, ◌<◌, ◌^◌, length, sym, subst, ◌∙◌, arith}
 use Rattle.gds_grammar.specs.Values.{contents_of}
 use Rattle.gds_grammar.specs.Outcomes.{IsRefused}
 use Rattle.gds_grammar.proofs.Unique.{spells, one_value, only_memory, is_refused}
+use Rattle.std.specs.Prelude.{◌⊎◌}
+use Rattle.gds_grammar.specs.declared.library_error.LibraryError.{LibraryError}
+use Rattle.gds_grammar.specs.declared.library_error.LibraryError.TheVariants.{Memory}
+use Rattle.gds_grammar.proofs.Exact.{told, no_fault_told}
 use Rattle.gds_grammar.proofs.library_reading.read_library.Goals as goal
 
 pub returns-in-Ok-clause-ok : goal.returns-in-Ok-clause-ok
@@ -17,3 +21,14 @@ pub returns-in-Err-clause-refused : goal.returns-in-Err-clause-refused
 returns-in-Err-clause-refused c =
     let few : length c.args.bytes.now < 2 ^ 64 = omega arith in
     subst (IsRefused c.args.bytes.now) (sym c.error_of.ensures) (is_refused c.args.bytes.now c.in-Err.stop c.in-Err.ensures.refused few)
+
+pub returns-in-Ok-clause-exact : goal.returns-in-Ok-clause-exact
+returns-in-Ok-clause-exact c = λ e fault.
+    let few : length c.args.bytes.now < 2 ^ 64 = omega arith in
+    no_fault_told c.args.bytes.now e (contents_of c.in-Ok.library) few (spells c.args.bytes.now _ (contents_of c.in-Ok.library) c.in-Ok.ensures.found) fault
+
+pub returns-in-Err-clause-exact : goal.returns-in-Err-clause-exact
+returns-in-Err-clause-exact c = λ e fault.
+    let few : length c.args.bytes.now < 2 ^ 64 = omega arith in
+    let Told : LibraryError → Type 0 = λ told. (told ≡ Memory) ⊎ (told ≡ e) in
+    subst Told (sym c.error_of.ensures) (told c.args.bytes.now c.in-Err.stop e few c.in-Err.ensures.refused fault)
