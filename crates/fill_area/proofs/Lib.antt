@@ -1,5 +1,5 @@
 pub mod Axes
-pub mod Tests
+pub mod GridTests
 pub mod Walking
 pub mod Shares
 pub mod Measuring

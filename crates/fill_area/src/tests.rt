@@ -30,7 +30,11 @@ fn windows_of_a_strip(rt: HostRuntime) -> Result<(), Fail> {
 #[test]
 fn an_area_is_a_count_of_squares(rt: HostRuntime) -> Result<(), Fail> {
     let alloc = rt.alloc();
-    let rects = [rect(&rt, [0, 0, 4, 4]), rect(&rt, [2, 2, 6, 6]), rect(&rt, [5, 0, 7, 1])];
+    let rects = [
+        rect(&rt, [0, 0, 4, 4]),
+        rect(&rt, [2, 2, 6, 6]),
+        rect(&rt, [5, 0, 7, 1]),
+    ];
     let region = Region::from_rects(alloc, &rects)?;
     assert_eq!(rt; area_in(&region, &rect(&rt, [0, 0, 6, 6])), 29);
     assert_eq!(rt; area_in(&region, &rect(&rt, [-9, -9, 9, 9])), 30);
@@ -41,7 +45,10 @@ fn an_area_is_a_count_of_squares(rt: HostRuntime) -> Result<(), Fail> {
 
 #[test]
 fn windows_beyond_the_range_are_refused(rt: HostRuntime) {
-    let near = Point { x: 1_073_741_800, y: 0 };
+    let near = Point {
+        x: 1_073_741_800,
+        y: 0,
+    };
     assert!(rt; Windows::new(near, (50, 50), (25, 25), (3, 3)).is_err());
     let origin = Point { x: 0, y: 0 };
     assert!(rt; Windows::new(origin, (50, 50), (25, 25), (3, 3)).is_ok());

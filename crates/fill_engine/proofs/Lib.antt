@@ -1,1 +1,3 @@
 mod FaultLines
+mod Patches
+mod Reasons

@@ -33,6 +33,13 @@ pub enum Fault {
     Memory,
 }
 
+/// Why the program gave up, and where.
+#[derive(Clone, Copy, Debug, PartialEq, Eq)]
+pub struct Refusal {
+    pub part: Part,
+    pub fault: Fault,
+}
+
 impl Part {
     /// The part as a fault line names it.
     pub fn name(self) -> &'static str

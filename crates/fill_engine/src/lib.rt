@@ -2,8 +2,12 @@
 #![tactic(auto)]
 
 mod fault;
+mod metal;
+mod subcommands;
 
-pub use fault::{Fault, Part, fault_line};
+pub use fault::{Fault, Part, Refusal, fault_line};
+pub use metal::metal_left;
+pub use subcommands::rects;
 
 #[cfg(test)]
 mod tests;

@@ -1,6 +1,7 @@
 use crate::Region;
 use fill_base::Rect;
 use fill_spans::Spans;
+use std::alloc::{AllocError, Global};
 use std::process::Abort;
 use std::test::Fail;
 
@@ -25,8 +26,8 @@ fn rect(rt: &impl Abort, corners: [i64; 4]) -> Rect {
 }
 
 /// The rectangles whose bit is set in `chosen`.
-fn some_rects(rt: &(impl Abort + Alloc), chosen: usize) -> Result<Vec<Rect>, Fail> {
-    let mut rects = Vec::new(rt.alloc());
+fn some_rects(rt: &impl Abort, alloc: Global, chosen: usize) -> Result<Vec<Rect>, AllocError> {
+    let mut rects = Vec::new(alloc);
     for (i, corners) in RECTS.iter().enumerate() {
         if (chosen >> (i % 8)) & 1 == 1 {
             rects.push(rect(rt, *corners))?;
@@ -36,15 +37,17 @@ fn some_rects(rt: &(impl Abort + Alloc), chosen: usize) -> Result<Vec<Rect>, Fai
 }
 
 fn some_holds(rects: &[Rect], x: i64, y: i64) -> bool {
-    rects.iter().any(|r| r.x1() <= x && x < r.x2() && r.y1() <= y && y < r.y2())
+    rects
+        .iter()
+        .any(|r| r.x1() <= x && x < r.x2() && r.y1() <= y && y < r.y2())
 }
 
 #[test]
 fn every_operation_is_a_count_over_squares(rt: HostRuntime) -> Result<(), Fail> {
     let alloc = rt.alloc();
     for chosen in 0..64usize {
-        let first = some_rects(&rt, chosen * 5 % 256)?;
-        let second = some_rects(&rt, chosen * 37 % 256)?;
+        let first = some_rects(&rt, alloc, chosen * 5 % 256)?;
+        let second = some_rects(&rt, alloc, chosen * 37 % 256)?;
         let a = Region::from_rects(alloc, &first)?;
         let b = Region::from_rects(alloc, &second)?;
         let window = rect(&rt, [1, 1, 5, 6]);
@@ -64,7 +67,10 @@ fn every_operation_is_a_count_over_squares(rt: HostRuntime) -> Result<(), Fail> 
                 assert_eq!(rt; minus.has(x, y), in_a && !in_b);
                 assert_eq!(rt; meet.has(x, y), in_a && in_b);
                 assert_eq!(rt; clip.has(x, y), in_a && 1 <= x && x < 5 && 1 <= y && y < 6);
-                let times = pieces.iter().filter(|r| r.x1() <= x && x < r.x2() && r.y1() <= y && y < r.y2()).count();
+                let times = pieces
+                    .iter()
+                    .filter(|r| r.x1() <= x && x < r.x2() && r.y1() <= y && y < r.y2())
+                    .count();
                 assert_eq!(rt; times, usize::from(in_a));
                 squares = squares.wrapping_add(u32::from(in_a));
             }
@@ -93,7 +99,11 @@ fn overlapping_rectangles_in_pieces(rt: HostRuntime) -> Result<(), Fail> {
     let high = rect(&rt, [2, 2, 6, 6]);
     let region = Region::from_rects(alloc, &[low, high])?;
     let pieces = region.pieces(alloc)?;
-    let want = [rect(&rt, [0, 0, 4, 2]), rect(&rt, [0, 2, 6, 4]), rect(&rt, [2, 4, 6, 6])];
+    let want = [
+        rect(&rt, [0, 0, 4, 2]),
+        rect(&rt, [0, 2, 6, 4]),
+        rect(&rt, [2, 4, 6, 6]),
+    ];
     assert!(rt; pieces.as_slice() == &want[..]);
     let corner = rect(&rt, [0, 0, 3, 3]);
     let clipped = region.clip(alloc, &corner)?;

@@ -1,5 +1,6 @@
--- What the machine takes is in the grammar. From a state on, the records that are left are the rest of a library: each
--- kind of state has a record that says so, and one record in front of the rest leads from one to the next.
+-- What the machine takes is in the grammar. From a state on, the records that are left are the rest
+-- of a library: each kind of state has a record that says so, and one record in front of the rest
+-- leads from one to the next.
 use Rattle.std.proofs.Common.{◌≡◌, ℕ, Bool, true, false, cond, eqb, List, [], ◌∷◌, ◌++◌, map, refl, sym, ap, subst, ◌∙◌, append_assoc, inl, inr}
 use Rattle.std.specs.Prelude.{Option, Some, None}
 use Rattle.std.specs.List.{flat_map, AllByRecursion}

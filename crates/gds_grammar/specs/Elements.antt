@@ -40,12 +40,13 @@ optional Boundary = []
 optional Path = kinds.PATHTYPE ∷ kinds.WIDTH ∷ kinds.BGNEXTN ∷ kinds.ENDEXTN ∷ []
 optional Reference = kinds.STRANS ∷ kinds.MAG ∷ kinds.ANGLE ∷ []
 optional Array = kinds.STRANS ∷ kinds.MAG ∷ kinds.ANGLE ∷ []
-optional Text = kinds.PRESENTATION ∷ kinds.PATHTYPE ∷ kinds.WIDTH ∷ kinds.STRANS ∷ kinds.MAG ∷ kinds.ANGLE ∷ []
+optional Text =
+    kinds.PRESENTATION ∷ kinds.PATHTYPE ∷ kinds.WIDTH ∷ kinds.STRANS ∷ kinds.MAG ∷ kinds.ANGLE ∷ []
 optional Node = []
 optional Box = []
 
--- Whether a record of the kind may stand before XY behind records of these kinds: ELFLAGS stands first, PLEX first or
--- behind ELFLAGS, and the element's own records stand in any order, each once.
+-- Whether a record of the kind may stand before XY behind records of these kinds: ELFLAGS stands
+-- first, PLEX first or behind ELFLAGS, and the element's own records stand in any order, each once.
 abbrev pub may_stand : ElementKind → List ℕ → ℕ → Bool
 may_stand element seen kind =
     if kind == kinds.ELFLAGS then length seen == 0
@@ -61,7 +62,8 @@ is_whole element seen = list_all (λ k. among seen k) (required element)
 
 -- the points of XY, eight bytes each
 abbrev pub points_of : List ℕ → List Point
-points_of (a ∷ b ∷ c ∷ d ∷ e ∷ f ∷ g ∷ h ∷ rest) = point_of (a ∷ b ∷ c ∷ d ∷ e ∷ f ∷ g ∷ h ∷ []) ∷ points_of rest
+points_of (a ∷ b ∷ c ∷ d ∷ e ∷ f ∷ g ∷ h ∷ rest) =
+    point_of (a ∷ b ∷ c ∷ d ∷ e ∷ f ∷ g ∷ h ∷ []) ∷ points_of rest
 points_of _ = []
 
 -- how many points an element has
@@ -76,7 +78,8 @@ has_count Box n = true
 
 -- a positive multiple of eight bytes, with as many points as the element has
 abbrev pub are_points : ElementKind → List ℕ → Bool
-are_points element xy = nat_lt 0 (length xy) && (length xy % 8 == 0) && has_count element (length xy / 8)
+are_points element xy =
+    nat_lt 0 (length xy) && (length xy % 8 == 0) && has_count element (length xy / 8)
 
 abbrev pub is_same_point : Point → Point → Bool
 is_same_point p q = int_eq p.x q.x && int_eq p.y q.y
@@ -145,13 +148,17 @@ rows_in before = value_of (λ body. word_of (drop 2 body)) (body_of kinds.COLROW
 
 -- what an element with these records before XY says; texts, nodes and boxes say nothing
 abbrev pub shapes_in : ElementKind → List Rec → List ℕ → List Shape
-shapes_in Boundary before xy = boundary (word_in kinds.LAYER before) (word_in kinds.DATATYPE before) (points_of xy) ∷ []
+shapes_in Boundary before xy =
+    boundary (word_in kinds.LAYER before) (word_in kinds.DATATYPE before) (points_of xy) ∷ []
 shapes_in Path before xy =
-    path (word_in kinds.LAYER before) (word_in kinds.DATATYPE before) (value_if word_of (body_of kinds.PATHTYPE before))
-    (value_if number_of (body_of kinds.WIDTH before)) (value_if number_of (body_of kinds.BGNEXTN before))
+    path (word_in kinds.LAYER before) (word_in kinds.DATATYPE before)
+    (value_if word_of (body_of kinds.PATHTYPE before)) (value_if number_of (body_of kinds.WIDTH before))
+    (value_if number_of (body_of kinds.BGNEXTN before))
     (value_if number_of (body_of kinds.ENDEXTN before)) (points_of xy) ∷ []
-shapes_in Reference before xy = reference (name_in before) (transform_in before) (point_of xy) ∷ []
-shapes_in Array before xy = array (name_in before) (transform_in before) (columns_in before) (rows_in before) (points_of xy) ∷ []
+shapes_in Reference before xy =
+    reference (name_in before) (transform_in before) (point_of xy) ∷ []
+shapes_in Array before xy =
+    array (name_in before) (transform_in before) (columns_in before) (rows_in before) (points_of xy) ∷ []
 shapes_in Text before xy = []
 shapes_in Node before xy = []
 shapes_in Box before xy = []

@@ -12,7 +12,8 @@ among kinds kind = list_any (λ k. k == kind) kinds
 
 -- no data
 abbrev pub bare_kinds : List ℕ
-bare_kinds = ENDLIB ∷ ENDSTR ∷ BOUNDARY ∷ PATH ∷ SREF ∷ AREF ∷ kinds.TEXT ∷ ENDEL ∷ NODE ∷ BOX ∷ ENDMASKS ∷ []
+bare_kinds =
+    ENDLIB ∷ ENDSTR ∷ BOUNDARY ∷ PATH ∷ SREF ∷ AREF ∷ kinds.TEXT ∷ ENDEL ∷ NODE ∷ BOX ∷ ENDMASKS ∷ []
 
 -- an array of bits
 abbrev pub bit_kinds : List ℕ
@@ -20,7 +21,9 @@ bit_kinds = PRESENTATION ∷ STRANS ∷ ELFLAGS ∷ []
 
 -- two-byte numbers
 abbrev pub word_kinds : List ℕ
-word_kinds = HEADER ∷ BGNLIB ∷ BGNSTR ∷ LAYER ∷ DATATYPE ∷ COLROW ∷ TEXTTYPE ∷ PATHTYPE ∷ GENERATIONS ∷ NODETYPE ∷ PROPATTR ∷ BOXTYPE ∷ FORMAT ∷ []
+word_kinds =
+    HEADER ∷ BGNLIB ∷ BGNSTR ∷ LAYER ∷ DATATYPE ∷ COLROW ∷ TEXTTYPE ∷ PATHTYPE ∷ GENERATIONS
+    ∷ NODETYPE ∷ PROPATTR ∷ BOXTYPE ∷ FORMAT ∷ []
 
 -- four-byte numbers
 abbrev pub number_kinds : List ℕ
@@ -32,7 +35,8 @@ real_kinds = UNITS ∷ MAG ∷ ANGLE ∷ []
 
 -- text
 abbrev pub text_kinds : List ℕ
-text_kinds = LIBNAME ∷ STRNAME ∷ SNAME ∷ STRING ∷ REFLIBS ∷ FONTS ∷ ATTRTABLE ∷ PROPVALUE ∷ MASK ∷ []
+text_kinds =
+    LIBNAME ∷ STRNAME ∷ SNAME ∷ STRING ∷ REFLIBS ∷ FONTS ∷ ATTRTABLE ∷ PROPVALUE ∷ MASK ∷ []
 
 -- skipped in their places, whatever their data type
 abbrev pub loose_kinds : List ℕ
@@ -80,11 +84,13 @@ abbrev pub naming_kinds : List ℕ
 naming_kinds = STRNAME ∷ SNAME ∷ []
 
 unfoldable pub has_name_if_asked : ℕ → List ℕ → Bool
-has_name_if_asked kind body = if among naming_kinds kind then not (length (trimmed body) == 0) else true
+has_name_if_asked kind body =
+    if among naming_kinds kind then not (length (trimmed body) == 0) else true
 
 -- a record as the manual has those of its kind
 abbrev pub is_well : Rec → Bool
-is_well r = has_form r.kind r.form && has_size r.kind (length r.body) && has_name_if_asked r.kind r.body
+is_well r =
+    has_form r.kind r.form && has_size r.kind (length r.body) && has_name_if_asked r.kind r.body
 
 abbrev pub IsWell : Rec → Type 0
 IsWell r = is_well r ≡ true

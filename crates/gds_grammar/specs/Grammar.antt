@@ -1,5 +1,5 @@
--- The grammar: which lists of records are a library, and what it says. A library is a tree of parts; its records are
--- those of its parts from left to right.
+-- The grammar: which lists of records are a library, and what it says. A library is a tree of
+-- parts; its records are those of its parts from left to right.
 use Rattle.std.specs.Prelude.{◌≡◌, ℕ, Bool, true, false, List, [], ◌∷◌, ◌++◌, map, Some}
 use Rattle.std.specs.List.{flat_map, list_any, AllByRecursion}
 use Rattle.std.specs.Str.{bytes_eq}
@@ -11,8 +11,9 @@ use Rattle.gds_grammar.specs.Forms.{among, IsWell}
 use Rattle.gds_grammar.specs.Values.{Shape, Cell, Contents}
 use Rattle.gds_grammar.specs.Elements.{opening, may_stand, kinds_in, is_whole, are_points, is_closed, has_string, shapes_in}
 
--- The three rules that a list of records keeps beside its order: what points an element has, that a boundary is closed,
--- and that no two structures have one name. They are parameters, so that it can be said which of them is broken.
+-- The three rules that a list of records keeps beside its order: what points an element has, that a
+-- boundary is closed, and that no two structures have one name. They are parameters, so that it can
+-- be said which of them is broken.
 pub record Rules : Type 0 where
   pub points : ElementKind → List ℕ → Bool
   pub closed : ElementKind → List ℕ → Bool
@@ -22,10 +23,18 @@ abbrev pub has_name : List Cell → List ℕ → Bool
 has_name cells name = list_any (λ c. bytes_eq name c.name) cells
 
 abbrev pub no_rules : Rules
-no_rules = record { points = λ element xy. true; closed = λ element xy. true; taken = λ cells name. false }
+no_rules = record {
+  points = λ element xy. true;
+  closed = λ element xy. true;
+  taken = λ cells name. false;
+}
 
 abbrev pub points_alone : Rules
-points_alone = record { points = are_points; closed = λ element xy. true; taken = λ cells name. false }
+points_alone = record {
+  points = are_points;
+  closed = λ element xy. true;
+  taken = λ cells name. false;
+}
 
 abbrev pub points_and_closing : Rules
 points_and_closing = record { points = are_points; closed = is_closed; taken = λ cells name. false }
@@ -48,12 +57,14 @@ abbrev pub property_records : Rec × Rec → List Rec
 property_records p = p.0 ∷ p.1 ∷ []
 
 abbrev pub element_records : ElementPart → List Rec
-element_records e = e.start ∷ (e.before ++ e.xy ∷ (e.strings ++ (flat_map property_records e.properties ++ e.stop ∷ [])))
+element_records e =
+    e.start ∷ (e.before ++ e.xy ∷ (e.strings ++ (flat_map property_records e.properties ++ e.stop ∷ [])))
 
 -- each record may stand behind those before it
 abbrev pub MayStand : ElementKind → List ℕ → List Rec → Type 0
 MayStand element seen [] = Unit {0}
-MayStand element seen (r ∷ rs) = (may_stand element seen r.kind ≡ true) × MayStand element (seen ++ r.kind ∷ []) rs
+MayStand element seen (r ∷ rs) =
+    (may_stand element seen r.kind ≡ true) × MayStand element (seen ++ r.kind ∷ []) rs
 
 abbrev pub AreStrings : Bool → List Rec → Type 0
 AreStrings true (r ∷ []) = r.kind ≡ kinds.STRING
@@ -88,7 +99,8 @@ pub record CellPart : Type 0 where
   pub stop : Rec
 
 abbrev pub cell_records : CellPart → List Rec
-cell_records c = c.start ∷ c.name ∷ (c.class ++ (flat_map element_records c.elements ++ c.stop ∷ []))
+cell_records c =
+    c.start ∷ c.name ∷ (c.class ++ (flat_map element_records c.elements ++ c.stop ∷ []))
 
 abbrev pub AtMostOne : ℕ → List Rec → Type 0
 AtMostOne kind [] = Unit {0}
@@ -108,13 +120,16 @@ cell_value c = record { name = trimmed c.name.body; shapes = flat_map element_sh
 -- structures behind others, none with a name that is taken
 abbrev pub AreCells : Rules → List Cell → List CellPart → Type 0
 AreCells ρ cells [] = Unit {0}
-AreCells ρ cells (c ∷ cs) = IsCell ρ c × (ρ.taken cells (trimmed c.name.body) ≡ false) × AreCells ρ (cells ++ cell_value c ∷ []) cs
+AreCells ρ cells (c ∷ cs) =
+    IsCell ρ c × (ρ.taken cells (trimmed c.name.body) ≡ false) × AreCells ρ (cells ++ cell_value c ∷ []) cs
 
 -- ---- the library
 
 -- what may stand between BGNLIB and UNITS, in any order and number, beside the one LIBNAME
 abbrev pub library_kinds : List ℕ
-library_kinds = kinds.REFLIBS ∷ kinds.FONTS ∷ kinds.ATTRTABLE ∷ kinds.GENERATIONS ∷ kinds.FORMAT ∷ kinds.MASK ∷ kinds.ENDMASKS ∷ kinds.LIBDIRSIZE ∷ kinds.SRFNAME ∷ kinds.LIBSECUR ∷ []
+library_kinds =
+    kinds.REFLIBS ∷ kinds.FONTS ∷ kinds.ATTRTABLE ∷ kinds.GENERATIONS ∷ kinds.FORMAT ∷ kinds.MASK
+    ∷ kinds.ENDMASKS ∷ kinds.LIBDIRSIZE ∷ kinds.SRFNAME ∷ kinds.LIBSECUR ∷ []
 
 abbrev pub IsLibraryPart : Rec → Type 0
 IsLibraryPart r = among library_kinds r.kind ≡ true
@@ -130,7 +145,9 @@ pub record LibraryPart : Type 0 where
   pub stop : Rec
 
 abbrev pub library_records : LibraryPart → List Rec
-library_records l = l.header ∷ l.start ∷ (l.before ++ l.name ∷ (l.after ++ l.units ∷ (flat_map cell_records l.cells ++ l.stop ∷ [])))
+library_records l =
+    l.header ∷ l.start
+    ∷ (l.before ++ l.name ∷ (l.after ++ l.units ∷ (flat_map cell_records l.cells ++ l.stop ∷ [])))
 
 pub record IsLibraryOf (ρ : Rules) (l : LibraryPart) : Type 0 where
   pub header : l.header.kind ≡ kinds.HEADER
@@ -143,7 +160,8 @@ pub record IsLibraryOf (ρ : Rules) (l : LibraryPart) : Type 0 where
   pub stop : l.stop.kind ≡ kinds.ENDLIB
 
 abbrev pub library_value : LibraryPart → Contents
-library_value l = record { dates = l.start.body; units = l.units.body; cells = map cell_value l.cells }
+library_value l =
+    record { dates = l.start.body; units = l.units.body; cells = map cell_value l.cells }
 
 -- records that fit their bytes, each as the manual has those of its kind
 pub record AreWell (records : List Rec) : Type 0 where

@@ -26,7 +26,8 @@ pub data State : Type 0 where
   -- between elements
   Within : (l : Contents) (name : List ℕ) (shapes : List Shape) → State
   -- in an element, before XY, behind XY of a text, and behind all but properties
-  Body : (l : Contents) (name : List ℕ) (shapes : List Shape) (element : ElementKind) (before : List Rec) → State
+  Body : (l : Contents) (name : List ℕ) (shapes : List Shape) (element : ElementKind) (before : List Rec)
+      → State
   Unlettered : (l : Contents) (name : List ℕ) (shapes : List Shape) → State
   Tail : (l : Contents) (name : List ℕ) (shapes : List Shape) → State
   -- behind PROPATTR
@@ -44,7 +45,11 @@ abbrev pub expect : ℕ → Rec → State → Result State Refusal
 expect kind r s = cond (r.kind == kind) (fine s) (refuse Unexpected)
 
 abbrev pub with_cell : Contents → List ℕ → List Shape → Contents
-with_cell l name shapes = record { dates = l.dates; units = l.units; cells = l.cells ++ record { name = name; shapes = shapes } ∷ [] }
+with_cell l name shapes = record {
+  dates = l.dates;
+  units = l.units;
+  cells = l.cells ++ record { name = name; shapes = shapes } ∷ [];
+}
 
 -- where an element goes on behind XY
 abbrev pub behind_xy : Bool → Contents → List ℕ → List Shape → State
@@ -59,7 +64,8 @@ opened l name shapes r None = expect kinds.ENDSTR r (Between (with_cell l name s
 abbrev pub within : Contents → List ℕ → List Shape → Rec → Result State Refusal
 within l name shapes r = opened l name shapes r (opening r.kind)
 
-abbrev pub at_xy : Rules → Contents → List ℕ → List Shape → ElementKind → List Rec → List ℕ → Result State Refusal
+abbrev pub at_xy : Rules → Contents → List ℕ → List Shape → ElementKind → List Rec → List ℕ
+    → Result State Refusal
 at_xy ρ l name shapes element before xy =
     cond (is_whole element (kinds_in before))
     (cond (ρ.points element xy)
@@ -73,18 +79,30 @@ at_xy ρ l name shapes element before xy =
 unfoldable pub next_state : Rules → State → Rec → Result State Refusal
 next_state ρ Start r = expect kinds.HEADER r Headed
 next_state ρ Headed r = expect kinds.BGNLIB r (Dated r.body)
-next_state ρ (Dated dates) r = cond (r.kind == kinds.LIBNAME) (fine (Titled dates)) (cond (among library_kinds r.kind) (fine (Dated dates)) (refuse Unexpected))
+next_state ρ (Dated dates) r =
+    cond (r.kind == kinds.LIBNAME) (fine (Titled dates))
+    (cond (among library_kinds r.kind) (fine (Dated dates)) (refuse Unexpected))
 next_state ρ (Titled dates) r =
-    cond (among library_kinds r.kind) (fine (Titled dates)) (expect kinds.UNITS r (Between (record { dates = dates; units = r.body; cells = [] })))
-next_state ρ (Between l) r = cond (r.kind == kinds.BGNSTR) (fine (Opened l)) (expect kinds.ENDLIB r (Done l))
-next_state ρ (Opened l) r = cond (r.kind == kinds.STRNAME) (cond (ρ.taken l.cells (trimmed r.body)) (refuse DuplicateCell) (fine (Named l (trimmed r.body)))) (refuse Unexpected)
-next_state ρ (Named l name) r = cond (r.kind == kinds.STRCLASS) (fine (Within l name [])) (within l name [] r)
+    cond (among library_kinds r.kind) (fine (Titled dates))
+    (expect kinds.UNITS r (Between (record { dates = dates; units = r.body; cells = [] })))
+next_state ρ (Between l) r =
+    cond (r.kind == kinds.BGNSTR) (fine (Opened l)) (expect kinds.ENDLIB r (Done l))
+next_state ρ (Opened l) r =
+    cond (r.kind == kinds.STRNAME)
+    (cond (ρ.taken l.cells (trimmed r.body)) (refuse DuplicateCell) (fine (Named l (trimmed r.body))))
+    (refuse Unexpected)
+next_state ρ (Named l name) r =
+    cond (r.kind == kinds.STRCLASS) (fine (Within l name [])) (within l name [] r)
 next_state ρ (Within l name shapes) r = within l name shapes r
 next_state ρ (Body l name shapes element before) r =
     cond (r.kind == kinds.XY) (at_xy ρ l name shapes element before r.body)
-    (cond (may_stand element (kinds_in before) r.kind) (fine (Body l name shapes element (before ++ r ∷ []))) (refuse Unexpected))
+    (cond (may_stand element (kinds_in before) r.kind)
+    (fine (Body l name shapes element (before ++ r ∷ [])))
+    (refuse Unexpected))
 next_state ρ (Unlettered l name shapes) r = expect kinds.STRING r (Tail l name shapes)
-next_state ρ (Tail l name shapes) r = cond (r.kind == kinds.PROPATTR) (fine (Paired l name shapes)) (expect kinds.ENDEL r (Within l name shapes))
+next_state ρ (Tail l name shapes) r =
+    cond (r.kind == kinds.PROPATTR) (fine (Paired l name shapes))
+    (expect kinds.ENDEL r (Within l name shapes))
 next_state ρ (Paired l name shapes) r = expect kinds.PROPVALUE r (Tail l name shapes)
 next_state ρ (Done l) r = refuse Unexpected
 

@@ -13,7 +13,8 @@ use Rattle.gds_grammar.specs.Values.{Contents}
 use Rattle.gds_grammar.specs.Grammar.{all_rules, IsLibrary, IsViable}
 use Rattle.gds_grammar.specs.Laws.{IsWhy}
 
--- the bytes begin with the records of a library that says so; ENDLIB is the last of them, and any bytes may follow
+-- the bytes begin with the records of a library that says so; ENDLIB is the last of them, and any
+-- bytes may follow
 pub record Spells (bytes : List ℕ) (value : Contents) : Type 0 where
   pub records : List Rec
   pub rest : List ℕ

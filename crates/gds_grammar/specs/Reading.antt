@@ -20,7 +20,8 @@ use Rattle.gds_grammar.specs.Values.{Shape, Contents, shape_of}
 use Rattle.gds_grammar.specs.Grammar.{all_rules}
 use Rattle.gds_grammar.specs.Machine.{State, Dated, Titled, Between, Named, Within, Body, Tail, Done, behind_xy, with_cell, fine, refuse, next_state, step, run}
 
--- the bytes begin with well-formed records that lead from one state to the other, and with the rest behind them
+-- the bytes begin with well-formed records that lead from one state to the other, and with the rest
+-- behind them
 pub record Reaches (bytes : List ℕ) (s : State) (rest : List ℕ) (t : State) : Type 0 where
   pub taken : List Rec
   pub parts : bytes ≡ flat_map spelling taken ++ rest
@@ -96,7 +97,8 @@ pub record IsBody (element : ElementKind) (before : List Rec) (xy : List ℕ) : 
 
 -- in an element, behind one more record, its XY or not
 abbrev pub after_body : Bool → Contents → List ℕ → List Shape → ElementKind → List Rec → Rec → State
-after_body true l name shapes element before r = behind_xy (has_string element) l name (shapes ++ shapes_in element before r.body)
+after_body true l name shapes element before r =
+    behind_xy (has_string element) l name (shapes ++ shapes_in element before r.body)
 after_body false l name shapes element before r = Body l name shapes element (before ++ r ∷ [])
 
 -- behind XY and string: behind one property, or the element's end

@@ -31,8 +31,10 @@ fn ends_body(
         next_state all_rules (Body l n sh element (map view before.now)) (view found.entry)
         ≡ fine (after_body last l n sh element (map view before.now) (view found.entry)))
         (λ e. (l : Contents) (n : List ℕ) (sh : List Shape) →
-        next_state all_rules (Body l n sh element (map view before.now)) (view found.entry) ≡ refuse e) }
-    ensures whole { IfOk result (λ last. last ≡ true → IsBody element (map view before.now) found.entry.body.now) }
+        next_state all_rules (Body l n sh element (map view before.now)) (view found.entry)
+        ≡ refuse e) }
+    ensures whole { IfOk result (λ last. last ≡ true →
+        IsBody element (map view before.now) found.entry.body.now) }
 {
     if found.kind != kind::XY {
         if may_stand(element, before, found.kind) {
@@ -59,9 +61,11 @@ fn next_in_body<'a>(
 ) -> Result<(bool, Record<'a>, &'a [u8]), Stop>
     ensures shorter { IfOk result (λ x. length x.2.now < length bytes.now) }
     ensures well { IfOk result (λ x. IsWell (view x.1)) }
-    ensures whole { IfOk result (λ x. x.0 ≡ true → IsBody element (map view before.now) x.1.body.now) }
+    ensures whole { IfOk result (λ x. x.0 ≡ true →
+        IsBody element (map view before.now) x.1.body.now) }
     ensures found { IfOk result (λ x. (l : Contents) (n : List ℕ) (sh : List Shape) →
-        Reaches bytes.now (Body l n sh element (map view before.now)) x.2.now (after_body x.0 l n sh element (map view before.now) (view x.1))) }
+        Reaches bytes.now (Body l n sh element (map view before.now)) x.2.now
+        (after_body x.0 l n sh element (map view before.now) (view x.1))) }
     ensures refused { IfErr result (λ e. (l : Contents) (n : List ℕ) (sh : List Shape) →
         Fails bytes.now (Body l n sh element (map view before.now)) e) }
 {
@@ -82,7 +86,8 @@ pub fn read_body<'a>(
     ensures whole { IfOk result (λ b. IsBody element (map view b.before.items) b.xy.now) }
     ensures found { IfOk result (λ b. (l : Contents) (n : List ℕ) (sh : List Shape) →
         Reaches bytes.now (Body l n sh element []) b.rest.now
-        (behind_xy (has_string element) l n (sh ++ shapes_in element (map view b.before.items) b.xy.now))) }
+        (behind_xy (has_string element) l n
+        (sh ++ shapes_in element (map view b.before.items) b.xy.now))) }
     ensures refused { IfErr result (λ e. (l : Contents) (n : List ℕ) (sh : List Shape) →
         Fails bytes.now (Body l n sh element []) e) }
 {

@@ -22,7 +22,8 @@ use std::alloc::{AllocError, Global};
 fn step_of(fresh: bool, found: Record<'_>) -> Result<CellStep, Refusal>
     ensures { MatchResult result
         (λ step. (l : Contents) (n : List ℕ) (sh : List Shape) → (fresh ≡ true → sh ≡ []) →
-        next_state all_rules (cell_state fresh l n sh) (view found.entry) ≡ fine (after_step step l n sh))
+        next_state all_rules (cell_state fresh l n sh) (view found.entry)
+        ≡ fine (after_step step l n sh))
         (λ e. (l : Contents) (n : List ℕ) (sh : List Shape) → (fresh ≡ true → sh ≡ []) →
         next_state all_rules (cell_state fresh l n sh) (view found.entry) ≡ refuse e) }
 {
@@ -44,9 +45,11 @@ fn step_of(fresh: bool, found: Record<'_>) -> Result<CellStep, Refusal>
 /// What the record at the front comes to between elements, and the bytes after it.
 fn next_in_cell(fresh: bool, bytes: &[u8]) -> Result<(CellStep, &[u8]), Stop>
     ensures shorter { IfOk result (λ x. length x.1.now < length bytes.now) }
-    ensures found { IfOk result (λ x. (l : Contents) (n : List ℕ) (sh : List Shape) → (fresh ≡ true → sh ≡ []) →
+    ensures found { IfOk result (λ x. (l : Contents) (n : List ℕ) (sh : List Shape) →
+        (fresh ≡ true → sh ≡ []) →
         Reaches bytes.now (cell_state fresh l n sh) x.1.now (after_step x.0 l n sh)) }
-    ensures refused { IfErr result (λ e. (l : Contents) (n : List ℕ) (sh : List Shape) → (fresh ≡ true → sh ≡ []) →
+    ensures refused { IfErr result (λ e. (l : Contents) (n : List ℕ) (sh : List Shape) →
+        (fresh ≡ true → sh ≡ []) →
         Fails bytes.now (cell_state fresh l n sh) e) }
 {
     let (found, rest) = next(bytes)?;
@@ -58,7 +61,8 @@ fn next_in_cell(fresh: bool, bytes: &[u8]) -> Result<(CellStep, &[u8]), Stop>
 
 /// Puts an element at the end, if there is one.
 fn put(elements: &mut Vec<Element>, made: Option<Element>) -> Result<(), AllocError>
-    ensures { OnOk result (map shape_of elements.new.items ≡ map shape_of elements.old.items ++ shapes_of made) }
+    ensures { OnOk result (map shape_of elements.new.items
+        ≡ map shape_of elements.old.items ++ shapes_of made) }
 {
     if let Some(element) = made {
         elements.push(element)?;
@@ -66,8 +70,8 @@ fn put(elements: &mut Vec<Element>, made: Option<Element>) -> Result<(), AllocEr
     Ok(())
 }
 
-/// Reads one element to the end of the list, or passes one STRCLASS or the structure's end; whether that was its end,
-/// and the bytes after it.
+/// Reads one element to the end of the list, or passes one STRCLASS or the structure's end; whether
+/// that was its end, and the bytes after it.
 fn read_step<'a>(
     alloc: Global,
     elements: &mut Vec<Element>,
@@ -75,10 +79,12 @@ fn read_step<'a>(
     bytes: &'a [u8],
 ) -> Result<(bool, &'a [u8]), Stop>
     ensures shorter { IfOk result (λ x. length x.1.now < length bytes.now) }
-    ensures found { IfOk result (λ x. (l : Contents) (n : List ℕ) → (fresh ≡ true → elements.old.items ≡ []) →
+    ensures found { IfOk result (λ x. (l : Contents) (n : List ℕ) →
+        (fresh ≡ true → elements.old.items ≡ []) →
         Reaches bytes.now (cell_state fresh l n (map shape_of elements.old.items)) x.1.now
         (after_elements x.0 l n (map shape_of elements.new.items))) }
-    ensures refused { IfErr result (λ e. (l : Contents) (n : List ℕ) → (fresh ≡ true → elements.old.items ≡ []) →
+    ensures refused { IfErr result (λ e. (l : Contents) (n : List ℕ) →
+        (fresh ≡ true → elements.old.items ≡ []) →
         Fails bytes.now (cell_state fresh l n (map shape_of elements.old.items)) e) }
 {
     let (step, after) = next_in_cell(fresh, bytes)?;
@@ -97,7 +103,8 @@ fn read_step<'a>(
 pub fn read_elements(alloc: Global, bytes: &[u8]) -> Result<(Vec<Element>, &[u8]), Stop>
     ensures found { IfOk result (λ x. (l : Contents) (n : List ℕ) →
         Reaches bytes.now (Named l n) x.1.now (Between (with_cell l n (map shape_of x.0.items)))) }
-    ensures refused { IfErr result (λ e. (l : Contents) (n : List ℕ) → Fails bytes.now (Named l n) e) }
+    ensures refused { IfErr result (λ e. (l : Contents) (n : List ℕ) →
+        Fails bytes.now (Named l n) e) }
 {
     let mut elements = Vec::new(alloc);
     let mut rest = bytes;

@@ -2,7 +2,8 @@
 
 use gds_record::Record;
 
-/// The records of an element before XY, in the order of the file, the data of XY, and the bytes after it.
+/// The records of an element before XY, in the order of the file, the data of XY, and the bytes
+/// after it.
 #[derive(Drop)]
 pub struct ElementBody<'a> {
     pub before: Vec<Record<'a>>,

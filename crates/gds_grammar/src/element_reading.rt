@@ -36,7 +36,8 @@ fn next_in_tail(bytes: &[u8]) -> Result<(bool, &[u8]), Stop>
     ensures shorter { IfOk result (λ x. length x.1.now < length bytes.now) }
     ensures found { IfOk result (λ x. (l : Contents) (n : List ℕ) (sh : List Shape) →
         Reaches bytes.now (Tail l n sh) x.1.now (after_tail x.0 l n sh)) }
-    ensures refused { IfErr result (λ e. (l : Contents) (n : List ℕ) (sh : List Shape) → Fails bytes.now (Tail l n sh) e) }
+    ensures refused { IfErr result (λ e. (l : Contents) (n : List ℕ) (sh : List Shape) →
+        Fails bytes.now (Tail l n sh) e) }
 {
     let (found, rest) = next(bytes)?;
     match found.kind {
@@ -53,7 +54,8 @@ fn next_in_tail(bytes: &[u8]) -> Result<(bool, &[u8]), Stop>
 fn skip_tail(bytes: &[u8]) -> Result<&[u8], Stop>
     ensures found { IfOk result (λ rest. (l : Contents) (n : List ℕ) (sh : List Shape) →
         Reaches bytes.now (Tail l n sh) rest.now (Within l n sh)) }
-    ensures refused { IfErr result (λ e. (l : Contents) (n : List ℕ) (sh : List Shape) → Fails bytes.now (Tail l n sh) e) }
+    ensures refused { IfErr result (λ e. (l : Contents) (n : List ℕ) (sh : List Shape) →
+        Fails bytes.now (Tail l n sh) e) }
 {
     let mut rest = bytes;
     'tail: loop {

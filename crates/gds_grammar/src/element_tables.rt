@@ -1,5 +1,5 @@
-//! Which records stand in an element of each kind (Calma GDSII Stream Format Manual, release 6.0; that those before XY
-//! may stand in any order is this project's profile).
+//! Which records stand in an element of each kind (Calma GDSII Stream Format Manual, release 6.0;
+//! that those before XY may stand in any order is this project's profile).
 
 ghost use Rattle.std.specs.Prelude.{◌≡◌, ◌==◌, ◌-◌, ◌≤◌, true, length, map, take, drop};
 ghost use Rattle.std.specs.List.{list_any, list_all};
@@ -128,7 +128,8 @@ fn has_count(element: ElementKind, count: usize) -> bool
     }
 }
 
-/// Whether the data of XY is a positive multiple of eight bytes, with as many points as the element has.
+/// Whether the data of XY is a positive multiple of eight bytes, with as many points as the element
+/// has.
 pub fn are_points(element: ElementKind, xy: &[u8]) -> bool
     ensures { result ≡ are_points element xy.now }
 {
@@ -138,7 +139,8 @@ pub fn are_points(element: ElementKind, xy: &[u8]) -> bool
 /// Whether the first point and the last are one.
 fn is_ring(xy: &[u8]) -> bool
     requires least { 8 ≤ length xy.now }
-    ensures { result ≡ is_same_point (point_of (take 8 xy.now)) (point_of (drop (length xy.now - 8) xy.now)) }
+    ensures { result ≡ is_same_point (point_of (take 8 xy.now))
+        (point_of (drop (length xy.now - 8) xy.now)) }
 {
     let (first, _) = xy.split_at(8);
     let (_, last) = xy.split_at(xy.len() - 8);

@@ -109,7 +109,8 @@ fn points_of(alloc: Global, xy: &[u8]) -> Result<Vec<Point>, AllocError>
 fn boundary_of(alloc: Global, before: &[Record<'_>], xy: &[u8]) -> Result<Boundary, AllocError>
     requires well { AllByRecursion IsWell (map view before.now) }
     requires body { IsBody ElementKind.Boundary (map view before.now) xy.now }
-    ensures { IfOk result (λ b. boundary b.layer b.data_type b.points.items ∷ [] ≡ shapes_in ElementKind.Boundary (map view before.now) xy.now) }
+    ensures { IfOk result (λ b. boundary b.layer b.data_type b.points.items ∷ []
+        ≡ shapes_in ElementKind.Boundary (map view before.now) xy.now) }
 {
     let layer = word_at(before, kind::LAYER);
     let data_type = word_at(before, kind::DATATYPE);
@@ -124,7 +125,9 @@ fn boundary_of(alloc: Global, before: &[Record<'_>], xy: &[u8]) -> Result<Bounda
 fn path_of(alloc: Global, before: &[Record<'_>], xy: &[u8]) -> Result<Path, AllocError>
     requires well { AllByRecursion IsWell (map view before.now) }
     requires body { IsBody ElementKind.Path (map view before.now) xy.now }
-    ensures { IfOk result (λ p. path p.layer p.data_type p.path_type p.width p.begin_extension p.end_extension p.points.items ∷ [] ≡ shapes_in ElementKind.Path (map view before.now) xy.now) }
+    ensures { IfOk result (λ p. path p.layer p.data_type p.path_type p.width
+        p.begin_extension p.end_extension p.points.items ∷ []
+        ≡ shapes_in ElementKind.Path (map view before.now) xy.now) }
 {
     let layer = word_at(before, kind::LAYER);
     let data_type = word_at(before, kind::DATATYPE);
@@ -147,7 +150,8 @@ fn path_of(alloc: Global, before: &[Record<'_>], xy: &[u8]) -> Result<Path, Allo
 fn ref_of(alloc: Global, before: &[Record<'_>], xy: &[u8]) -> Result<Ref, AllocError>
     requires well { AllByRecursion IsWell (map view before.now) }
     requires body { IsBody ElementKind.Reference (map view before.now) xy.now }
-    ensures { IfOk result (λ r. reference r.cell.items r.transform r.origin ∷ [] ≡ shapes_in ElementKind.Reference (map view before.now) xy.now) }
+    ensures { IfOk result (λ r. reference r.cell.items r.transform r.origin ∷ []
+        ≡ shapes_in ElementKind.Reference (map view before.now) xy.now) }
 {
     let transform = transform_of(before);
     let origin = point(xy);
@@ -183,7 +187,8 @@ fn columns_and_rows(before: &[Record<'_>]) -> (u16, u16)
 fn array_element_of(alloc: Global, before: &[Record<'_>], xy: &[u8]) -> Result<Array, AllocError>
     requires well { AllByRecursion IsWell (map view before.now) }
     requires body { IsBody ElementKind.Array (map view before.now) xy.now }
-    ensures { IfOk result (λ a. array a.cell.items a.transform a.columns a.rows a.points ∷ [] ≡ shapes_in ElementKind.Array (map view before.now) xy.now) }
+    ensures { IfOk result (λ a. array a.cell.items a.transform a.columns a.rows a.points ∷ []
+        ≡ shapes_in ElementKind.Array (map view before.now) xy.now) }
 {
     let transform = transform_of(before);
     let (columns, rows) = columns_and_rows(before);

@@ -25,7 +25,8 @@ pub struct Boundary {
     /// Its points in database units, in the order of the file.
     pub points: Vec<Point>,
     pub ghost filled: { 0 < length points.items },
-    pub ghost closed: { slice_get points.items 0 ≡ slice_get points.items (length points.items - 1) },
+    pub ghost closed: { slice_get points.items 0
+        ≡ slice_get points.items (length points.items - 1) },
 }
 
 /// A wire along a chain of points.
@@ -69,7 +70,8 @@ pub struct Array {
     pub columns: u16,
     /// The second number of COLROW, unsigned.
     pub rows: u16,
-    /// Three points in database units: the origin, the origin moved by all columns, the origin moved by all rows.
+    /// Three points in database units: the origin, the origin moved by all columns, the origin
+    /// moved by all rows.
     pub points: [Point; 3],
 }
 

@@ -37,8 +37,11 @@ fn is_library_kind(kind: u8) -> bool
 #[tactic(auto, unfolding(crate::specs::Machine::next_state))]
 fn part_of(titled: bool, found: Record<'_>) -> Result<Part, Refusal>
     ensures leads { MatchResult result
-        (λ part. (dates : List ℕ) → next_state all_rules (parts_state titled dates) (view found.entry) ≡ fine (after_part part dates found.entry.body.now))
-        (λ e. (dates : List ℕ) → next_state all_rules (parts_state titled dates) (view found.entry) ≡ refuse e) }
+        (λ part. (dates : List ℕ) →
+        next_state all_rules (parts_state titled dates) (view found.entry)
+        ≡ fine (after_part part dates found.entry.body.now))
+        (λ e. (dates : List ℕ) →
+        next_state all_rules (parts_state titled dates) (view found.entry) ≡ refuse e) }
     ensures last { IfOk result (λ part. part ≡ Part.Last → found.entry.kind ≡ kinds.UNITS) }
 {
     if titled {
@@ -64,7 +67,8 @@ fn next_part(titled: bool, bytes: &[u8]) -> Result<(Part, &[u8], &[u8]), Stop>
     ensures size { IfOk result (λ x. x.0 ≡ Part.Last → length x.1.now ≡ 16) }
     ensures found { IfOk result (λ x. (dates : List ℕ) →
         Reaches bytes.now (parts_state titled dates) x.2.now (after_part x.0 dates x.1.now)) }
-    ensures refused { IfErr result (λ e. (dates : List ℕ) → Fails bytes.now (parts_state titled dates) e) }
+    ensures refused { IfErr result (λ e. (dates : List ℕ) →
+        Fails bytes.now (parts_state titled dates) e) }
 {
     let (found, rest) = next(bytes)?;
     match part_of(titled, found) {
@@ -77,7 +81,8 @@ fn next_part(titled: bool, bytes: &[u8]) -> Result<(Part, &[u8], &[u8]), Stop>
 fn read_parts(bytes: &[u8]) -> Result<(&[u8], &[u8]), Stop>
     ensures size { IfOk result (λ x. length x.0.now ≡ 16) }
     ensures found { IfOk result (λ x. (dates : List ℕ) →
-        Reaches bytes.now (Dated dates) x.1.now (Between (record { dates = dates; units = x.0.now; cells = [] }))) }
+        Reaches bytes.now (Dated dates) x.1.now
+        (Between (record { dates = dates; units = x.0.now; cells = [] }))) }
     ensures refused { IfErr result (λ e. (dates : List ℕ) → Fails bytes.now (Dated dates) e) }
 {
     let mut rest = bytes;
@@ -95,7 +100,8 @@ fn read_parts(bytes: &[u8]) -> Result<(&[u8], &[u8]), Stop>
 /// Dates and units of a library, and the bytes from its first structure on.
 pub fn read_head(bytes: &[u8]) -> Result<(Head, &[u8]), Stop>
     ensures found { IfOk result (λ x.
-        Reaches bytes.now Start x.1.now (Between (record { dates = x.0.dates; units = x.0.units; cells = [] }))) }
+        Reaches bytes.now Start x.1.now
+        (Between (record { dates = x.0.dates; units = x.0.units; cells = [] }))) }
     ensures refused { IfErr result (λ e. Fails bytes.now Start e) }
 {
     let (_header, rest) = expect(bytes, kind::HEADER)?;

@@ -10,7 +10,7 @@ pub struct Library {
     pub dates: [u8; 24],
     /// The data of UNITS: two reals, a database unit in user units and in metres.
     pub units: [u8; 16],
-    /// The elements of each structure in the order of the file, by the structure's name without the zero bytes at its
-    /// end.
+    /// The elements of each structure in the order of the file, by the structure's name without the
+    /// zero bytes at its end.
     pub cells: IndexMap<Vec<u8>, Vec<Element>>,
 }

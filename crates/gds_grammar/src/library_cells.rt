@@ -23,7 +23,8 @@ pub fn add_cell(
 ) -> Result<(), AllocError>
     requires { has_name (map cell_of cells.old.entries) name.items ≡ false }
     ensures { OnOk result (map cell_of cells.new.entries
-        ≡ map cell_of cells.old.entries ++ record { name = name.items; shapes = map shape_of elements.items } ∷ []) }
+        ≡ map cell_of cells.old.entries
+        ++ record { name = name.items; shapes = map shape_of elements.items } ∷ []) }
 {
     cells.insert(name, elements)?;
     Ok(())

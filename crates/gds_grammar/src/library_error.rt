@@ -17,7 +17,8 @@ pub enum LibraryError {
         /// The offset of the record's first byte.
         at: usize,
     },
-    /// The data of XY is no positive multiple of eight bytes, or has too many or too few points for its element.
+    /// The data of XY is no positive multiple of eight bytes, or has too many or too few points for
+    /// its element.
     #[error("an element has bad points")]
     BadXY,
     /// A boundary's last point isn't its first.

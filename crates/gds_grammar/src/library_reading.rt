@@ -22,7 +22,8 @@ use std::alloc::Global;
 /// Reads one structure behind its BGNSTR to the end of the library; the bytes after it.
 fn read_cell<'a>(alloc: Global, library: &mut Library, bytes: &'a [u8]) -> Result<&'a [u8], Stop>
     ensures found { IfOk result (λ rest.
-        Reaches bytes.now (Opened (contents_of library.old)) rest.now (Between (contents_of library.new))) }
+        Reaches bytes.now (Opened (contents_of library.old)) rest.now
+        (Between (contents_of library.new))) }
     ensures refused { IfErr result (λ e. Fails bytes.now (Opened (contents_of library.old)) e) }
 {
     let (body, after) = expect(bytes, kind::STRNAME)?;
@@ -36,7 +37,8 @@ fn read_cell<'a>(alloc: Global, library: &mut Library, bytes: &'a [u8]) -> Resul
     Ok(rest)
 }
 
-/// Reads one structure to the end of the library, or passes ENDLIB; whether that was it, and the bytes after it.
+/// Reads one structure to the end of the library, or passes ENDLIB; whether that was it, and the
+/// bytes after it.
 fn next_cell<'a>(
     alloc: Global,
     library: &mut Library,
@@ -44,7 +46,8 @@ fn next_cell<'a>(
 ) -> Result<(bool, &'a [u8]), Stop>
     ensures shorter { IfOk result (λ x. length x.1.now < length bytes.now) }
     ensures found { IfOk result (λ x.
-        Reaches bytes.now (Between (contents_of library.old)) x.1.now (after_cell x.0 (contents_of library.new))) }
+        Reaches bytes.now (Between (contents_of library.old)) x.1.now
+        (after_cell x.0 (contents_of library.new))) }
     ensures refused { IfErr result (λ e. Fails bytes.now (Between (contents_of library.old)) e) }
 {
     let (found, after) = next(bytes)?;
@@ -97,9 +100,9 @@ fn error_of(stop: Stop, total: usize) -> LibraryError
     }
 }
 
-/// The library that the bytes begin with; what follows its ENDLIB isn't looked at. Names, points and the two reals of
-/// references are copied, and nothing else (Calma GDSII Stream Format Manual, release 6.0, with this project's profile:
-/// records before XY in any order, checked lengths).
+/// The library that the bytes begin with; what follows its ENDLIB isn't looked at. Names, points
+/// and the two reals of references are copied, and nothing else (Calma GDSII Stream Format Manual,
+/// release 6.0, with this project's profile: records before XY in any order, checked lengths).
 ///
 /// # Errors
 /// The first fault from the front, as `LibraryError` says, or `Memory` where memory is refused.
@@ -107,7 +110,8 @@ pub fn read_library(alloc: Global, bytes: &[u8]) -> Result<Library, LibraryError
     // What is read is what the grammar says of records at the front, of which ENDLIB is the last.
     ensures ok { IfOk result (λ library. Spells bytes.now (contents_of library)) }
     // What is spelled so is read, unless memory runs out.
-    ensures only { (value : Contents) → Spells bytes.now value → MatchResult result (λ library. contents_of library ≡ value) (λ e. e ≡ LibraryError.Memory) }
+    ensures only { (value : Contents) → Spells bytes.now value
+        → MatchResult result (λ library. contents_of library ≡ value) (λ e. e ≡ LibraryError.Memory) }
     // Which error it is.
     ensures refused { IfErr result (λ e. IsRefused bytes.now e) }
 {

@@ -27,10 +27,12 @@ pub fn next(bytes: &[u8]) -> Result<(Record<'_>, &[u8]), Stop>
     }
 }
 
-/// The data of the record that the bytes begin with, which has to be of this kind, and the bytes after it.
+/// The data of the record that the bytes begin with, which has to be of this kind, and the bytes
+/// after it.
 pub fn expect(bytes: &[u8], kind: u8) -> Result<(&[u8], &[u8]), Stop>
     ensures found { IfOk result (λ x. IsNextOf bytes.now kind x.0.now x.1.now) }
-    ensures refused { IfErr result (λ e. (s : State) → IsOpen s → OnlyTakes s kind → Fails bytes.now s e) }
+    ensures refused { IfErr result (λ e. (s : State) → IsOpen s → OnlyTakes s kind
+        → Fails bytes.now s e) }
 {
     let (found, rest) = next(bytes)?;
     if found.kind != kind {

@@ -5,7 +5,8 @@
 pub enum Refusal {
     /// The record may not stand there, or isn't as the manual has those of its kind.
     Unexpected,
-    /// The data of XY is no positive multiple of eight bytes, or has too many or too few points for its element.
+    /// The data of XY is no positive multiple of eight bytes, or has too many or too few points for
+    /// its element.
     BadXY,
     /// A boundary's last point isn't its first.
     NotClosed,

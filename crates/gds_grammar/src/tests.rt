@@ -40,7 +40,8 @@ const ENDSTR: &[u8] = &[0x00, 0x04, 0x07, 0x00];
 
 const ENDLIB: &[u8] = &[0x00, 0x04, 0x04, 0x00];
 
-/// One wire on layer 7: the library with these elements' records between its STRNAME and its ENDSTR.
+/// One wire on layer 7: the library with these elements' records between its STRNAME and its
+/// ENDSTR.
 fn library_of(alloc: Global, elements: &[&[u8]]) -> Result<Vec<u8>, AllocError> {
     let mut bytes = Vec::new(alloc);
     for piece in [HEADER, BGNLIB, LIBNAME, UNITS, BGNSTR, TOP] {

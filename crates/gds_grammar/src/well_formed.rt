@@ -1,5 +1,5 @@
-//! Whether a record has the data type and the amount of data that the manual gives its kind (Calma GDSII Stream Format
-//! Manual, release 6.0); which lengths are checked is this project's profile.
+//! Whether a record has the data type and the amount of data that the manual gives its kind (Calma
+//! GDSII Stream Format Manual, release 6.0); which lengths are checked is this project's profile.
 
 ghost use Rattle.std.specs.Prelude.{◌≡◌};
 ghost use Rattle.gds_record.specs.Records.{view};
@@ -65,7 +65,8 @@ fn is_of_text(kind: u8) -> bool
     )
 }
 
-/// Records of these kinds are skipped in their places, whatever their data type (this project's profile).
+/// Records of these kinds are skipped in their places, whatever their data type (this project's
+/// profile).
 fn is_loose(kind: u8) -> bool
     ensures { result ≡ among loose_kinds kind }
 {

@@ -1,4 +1,5 @@
--- What is read at the front is spelled there, what is spelled there is read, and where no record stands.
+-- What is read at the front is spelled there, what is spelled there is read, and where no record
+-- stands.
 use Rattle.std.proofs.Common.{◌≡◌, ℕ, zero, suc, ◌+◌, ◌-◌, ◌%◌, ◌^◌, ◌<◌, ◌≤◌, Bool, true, false, cond, ltb, eqb, List, [], ◌∷◌, ◌++◌, length, get_or, take, drop, Result, Ok, Err, refl, sym, ap, subst, ◌∙◌, arith, inl, inr}
 use Rattle.std.specs.Prelude.{◌⊎◌, ◌↔◌, ◌||◌, IfOk}
 use Rattle.std.specs.Borrow.{Bor}

@@ -22,7 +22,8 @@ abbrev pub ◌>>=◌ : {A B E : Type 0} → Result A E → (A → Result B E) �
 
 -- how many bytes of data a record of this length has
 abbrev pub size_of : ℕ → Result ℕ RecordError
-size_of length = if nat_lt length 4 || (length % 2 == 1) then Err BadLength else Ok (length - 4)
+size_of length =
+    if nat_lt length 4 || (length % 2 == 1) then Err BadLength else Ok (length - 4)
 
 -- so many bytes of data, and what follows them
 abbrev pub body_at : ℕ → ℕ → List ℕ → ℕ → Result (Rec × List ℕ) RecordError
@@ -35,4 +36,5 @@ record_at [] = Err Truncated
 record_at (a ∷ []) = Err Truncated
 record_at (high ∷ low ∷ []) = size_of (length_of high low) >>= λ size. Err Truncated
 record_at (high ∷ low ∷ kind ∷ []) = size_of (length_of high low) >>= λ size. Err Truncated
-record_at (high ∷ low ∷ kind ∷ form ∷ rest) = size_of (length_of high low) >>= λ size. body_at kind form rest size
+record_at (high ∷ low ∷ kind ∷ form ∷ rest) =
+    size_of (length_of high low) >>= λ size. body_at kind form rest size

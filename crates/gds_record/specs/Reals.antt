@@ -1,4 +1,5 @@
--- Eight-byte reals, on their 64 bits: a sign, an exponent of 16 in excess 64, and a fraction of 56 bits.
+-- Eight-byte reals, on their 64 bits: a sign, an exponent of 16 in excess 64, and a fraction of 56
+-- bits.
 use Rattle.std.specs.Prelude.{◌≡◌, ℕ, ◌-◌, ◌*◌, ◌/◌, ◌%◌, ◌^◌, ◌==◌, ◌⊎◌, Bool, true, false, List}
 use Rattle.std.specs.Int.{w64, from_be_bytes}
 
@@ -14,8 +15,8 @@ exponent bits = bits / 2 ^ 56 % 128
 abbrev pub is_negative : ℕ → Bool
 is_negative bits = bits / 2 ^ 63 == 1
 
--- Without its sign the value is fraction / 2 ^ 56 * 16 ^ (exponent - 64). It is n where the two sides of that equation
--- are equal times 2 ^ 56 * 16 ^ 64, which is 16 ^ 78.
+-- Without its sign the value is fraction / 2 ^ 56 * 16 ^ (exponent - 64). It is n where the two
+-- sides of that equation are equal times 2 ^ 56 * 16 ^ 64, which is 16 ^ 78.
 abbrev pub IsMagnitude : ℕ → ℕ → Type 0
 IsMagnitude bits n = fraction bits * 16 ^ exponent bits ≡ n * 16 ^ 78
 

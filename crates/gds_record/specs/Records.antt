@@ -37,5 +37,6 @@ IsBadLength _ = ⊥
 
 -- a good length stands there and passes the end, or not even a length stands there
 abbrev pub IsTruncated : List ℕ → Type 0
-IsTruncated (a ∷ b ∷ rest) = (4 ≤ length_of a b) × IsEven (length_of a b) × (length rest + 2 < length_of a b)
+IsTruncated (a ∷ b ∷ rest) =
+    (4 ≤ length_of a b) × IsEven (length_of a b) × (length rest + 2 < length_of a b)
 IsTruncated _ = Unit {0}

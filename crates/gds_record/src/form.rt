@@ -1,4 +1,5 @@
-//! The data types of records: what a record's data consists of (Calma GDSII Stream Format Manual, release 6.0).
+//! The data types of records: what a record's data consists of (Calma GDSII Stream Format Manual,
+//! release 6.0).
 
 /// No data.
 pub const NONE: u8 = 0x00;

@@ -1,6 +1,7 @@
-//! Records and numbers of GDSII Stream, read from bytes and written to bytes. The layer above may rely on this: a
-//! record is its bytes both ways, no record's bytes begin another's, each refusal comes exactly where its cause stands,
-//! and an eight-byte real is decided on its 64 bits, for every spelling of its value.
+//! Records and numbers of GDSII Stream, read from bytes and written to bytes. The layer above may
+//! rely on this: a record is its bytes both ways, no record's bytes begin another's, each refusal
+//! comes exactly where its cause stands, and an eight-byte real is decided on its 64 bits, for
+//! every spelling of its value.
 #![tactic(auto)]
 
 pub mod form;

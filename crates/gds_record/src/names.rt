@@ -3,8 +3,8 @@
 ghost use Rattle.std.specs.Prelude.{◌≡◌};
 ghost use Rattle.gds_record.specs.Numbers.{trimmed};
 
-/// The name that a record of text holds: its data without the zero bytes at its end, of which the manual has at most one
-/// and this project takes off all.
+/// The name that a record of text holds: its data without the zero bytes at its end, of which the
+/// manual has at most one and this project takes off all.
 pub fn name(body: &[u8]) -> &[u8]
     ensures { result.now ≡ trimmed body.now }
 {

@@ -1,5 +1,6 @@
-//! Eight-byte reals, decided on their bits. The value is a fraction of 56 bits times a power of 16, with a sign; one
-//! value has several spellings, and each is taken (Calma GDSII Stream Format Manual, release 6.0).
+//! Eight-byte reals, decided on their bits. The value is a fraction of 56 bits times a power of 16,
+//! with a sign; one value has several spellings, and each is taken (Calma GDSII Stream Format
+//! Manual, release 6.0).
 
 ghost use Rattle.std.specs.Prelude.{◌≡◌, ◌*◌, ◌%◌, ◌^◌, ◌<◌, ◌≤◌, ◌↔◌, ℕ, Bool, false, IsOk, IfOk, OnErr, IfSome, IfNone, IsTrue};
 ghost use Rattle.gds_record.specs.Reals.{bits_of, IsMagnitude, HasValue, turns_of};
@@ -11,8 +12,8 @@ use thiserror::Error;
 #[error("a real has another value")]
 pub struct BadReal;
 
-/// The whole number that the real with these bits is, its sign left out, if it's a whole number below 2^56 that the
-/// exponents 65 to 78 can spell: each one that 16 doesn't divide is.
+/// The whole number that the real with these bits is, its sign left out, if it's a whole number
+/// below 2^56 that the exponents 65 to 78 can spell: each one that 16 doesn't divide is.
 fn magnitude(bits: u64) -> Option<u64>
     ensures some { IfSome result (λ n. IsMagnitude bits n) }
     ensures none { IfNone result ((n : ℕ) → IsMagnitude bits n → (0 < n) × (n % 16 ≡ 0)) }
@@ -58,8 +59,10 @@ pub fn unit_mag(bytes: &[u8; 8]) -> Result<(), BadReal>
 
 /// The quarter turns counter-clockwise, from 0 to 3, of so many degrees without their sign.
 fn turns(bits: u64) -> Result<u8, BadReal>
-    ensures found { IfOk result (λ t. (negative : Bool) × (k : ℕ) × (k ≤ 4) × HasValue bits negative (90 * k) × (t ≡ turns_of negative k)) }
-    ensures none { OnErr result ((negative : Bool) (k : ℕ) → k ≤ 4 → HasValue bits negative (90 * k) → ⊥) }
+    ensures found { IfOk result (λ t. (negative : Bool) × (k : ℕ) × (k ≤ 4)
+        × HasValue bits negative (90 * k) × (t ≡ turns_of negative k)) }
+    ensures none { OnErr result ((negative : Bool) (k : ℕ) → k ≤ 4
+        → HasValue bits negative (90 * k) → ⊥) }
 {
     let quarters = match magnitude(bits) {
         Some(0) => 0,
@@ -76,14 +79,16 @@ fn turns(bits: u64) -> Result<u8, BadReal>
     }
 }
 
-/// The number of quarter turns counter-clockwise, from 0 to 3, that the real's degrees are, where they are a multiple
-/// of 90 from -360 to 360.
+/// The number of quarter turns counter-clockwise, from 0 to 3, that the real's degrees are, where
+/// they are a multiple of 90 from -360 to 360.
 ///
 /// # Errors
 /// `BadReal` for every other value.
 pub fn quarter_turns(bytes: &[u8; 8]) -> Result<u8, BadReal>
-    ensures found { IfOk result (λ t. (negative : Bool) × (k : ℕ) × (k ≤ 4) × HasValue (bits_of bytes.now) negative (90 * k) × (t ≡ turns_of negative k)) }
-    ensures none { OnErr result ((negative : Bool) (k : ℕ) → k ≤ 4 → HasValue (bits_of bytes.now) negative (90 * k) → ⊥) }
+    ensures found { IfOk result (λ t. (negative : Bool) × (k : ℕ) × (k ≤ 4)
+        × HasValue (bits_of bytes.now) negative (90 * k) × (t ≡ turns_of negative k)) }
+    ensures none { OnErr result ((negative : Bool) (k : ℕ) → k ≤ 4
+        → HasValue (bits_of bytes.now) negative (90 * k) → ⊥) }
 {
     turns(u64::from_be_bytes(*bytes))
 }

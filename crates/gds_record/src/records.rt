@@ -68,13 +68,16 @@ fn split_record(bytes: &[u8]) -> Result<(Record<'_>, &[u8]), RecordError>
     }
 }
 
-/// The record that the bytes begin with, and the bytes after it. Its length counts the four bytes of the header (Calma
-/// GDSII Stream Format Manual, release 6.0); a length that can be read is judged before the bytes are counted.
+/// The record that the bytes begin with, and the bytes after it. Its length counts the four bytes
+/// of the header (Calma GDSII Stream Format Manual, release 6.0); a length that can be read is
+/// judged before the bytes are counted.
 pub fn next_record(bytes: &[u8]) -> Result<(Record<'_>, &[u8]), RecordError>
     // What is read is spelled so.
-    ensures found { IfOk result (λ x. IsRecord (view x.0) × (bytes.now ≡ spelling (view x.0) ++ x.1.now)) }
+    ensures found { IfOk result (λ x. IsRecord (view x.0)
+        × (bytes.now ≡ spelling (view x.0) ++ x.1.now)) }
     // What is spelled so is read, whatever follows it.
-    ensures only { (r : Rec) (rest : List ℕ) → IsRecord r → bytes.now ≡ spelling r ++ rest → Gives at_front result (Ok (r, rest)) }
+    ensures only { (r : Rec) (rest : List ℕ) → IsRecord r → bytes.now ≡ spelling r ++ rest
+        → Gives at_front result (Ok (r, rest)) }
 
     ensures bad_length { (result ≡ Err RecordError.BadLength) ↔ IsBadLength bytes.now }
     ensures truncated { (result ≡ Err RecordError.Truncated) ↔ IsTruncated bytes.now }
@@ -86,7 +89,8 @@ pub fn next_record(bytes: &[u8]) -> Result<(Record<'_>, &[u8]), RecordError>
 pub fn put_record(out: &mut Vec<u8>, kind: u8, form: u8, body: &[u8]) -> Result<(), AllocError>
     requires short { length body.now ≤ 65530 }
     requires even { IsEven (length body.now) }
-    ensures { OnOk result (out.new.items ≡ out.old.items ++ spelling (record { kind = kind; form = form; body = body.now })) }
+    ensures { OnOk result (out.new.items
+        ≡ out.old.items ++ spelling (record { kind = kind; form = form; body = body.now })) }
 {
     let length = body.len() as u16 + 4;
     out.extend_from_slice(&length.to_be_bytes())?;
@@ -98,5 +102,6 @@ pub fn put_record(out: &mut Vec<u8>, kind: u8, form: u8, body: &[u8]) -> Result<
 
 /// No record's bytes begin another's: of one text, only one record stands at the front.
 pub fn no_spelling_begins_another()
-    ensures { (r s : Rec) (x y : List ℕ) → IsRecord r → IsRecord s → spelling r ++ x ≡ spelling s ++ y → (r ≡ s) × (x ≡ y) }
+    ensures { (r s : Rec) (x y : List ℕ) → IsRecord r → IsRecord s
+        → spelling r ++ x ≡ spelling s ++ y → (r ≡ s) × (x ≡ y) }
 {}

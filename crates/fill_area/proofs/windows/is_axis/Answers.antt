@@ -1,5 +1,5 @@
 use Rattle.fill_base.proofs.Signed.{read_is}
-use Rattle.fill_area.proofs.Tests.{limited, axis_test}
+use Rattle.fill_area.proofs.GridTests.{limited, axis_test}
 use Rattle.fill_area.proofs.windows.is_axis.Goals as goal
 
 pub returns : goal.returns

@@ -1,7 +1,7 @@
 use Rattle.std.proofs.Common.{rules, w64, FitsSigned}
 use Rattle.fill_base.proofs.Signed.{read_is}
 use Rattle.fill_area.specs.GridOf.{grid_of}
-use Rattle.fill_area.proofs.Tests.{grid_test}
+use Rattle.fill_area.proofs.GridTests.{grid_test}
 use Rattle.fill_area.proofs.windows.is_grid.Goals as goal
 
 pub returns : goal.returns

@@ -1,0 +1,35 @@
+use Rattle.std.proofs.Common.{◌∙◌, ℕ, List, ap, map, take}
+use Rattle.std.specs.Io.KnownBytes.{Appends}
+use Rattle.fill_device.specs.Taps.{under}
+use Rattle.fill_report.specs.RulesReport.{metal_report}
+use Rattle.fill_text.specs.Script.{change_of}
+use Rattle.fill_text.specs.Views.{values_of}
+use Rattle.fill_text.specs.declared.script.Edit.{Edit}
+use Rattle.fill_engine.specs.Metal.{is_metal}
+use Rattle.fill_engine.proofs.Reasons.{report_is, rules_reason, script_reason}
+use Rattle.fill_engine.proofs.subcommands.rects.Goals as goal
+
+pub returns-in-Err-clause-refused : goal.returns-in-Err-clause-refused
+returns-in-Err-clause-refused g c =
+    rules_reason (g.R.Read.remaining (under c.args.rules.now)) (g.S.Read.remaining (under c.args.script.now)) c.in-Err.fault c.in-Err.ensures.refused
+
+pub returns-in-Err-take_edits-clause-refused : goal.returns-in-Err-take_edits-clause-refused
+returns-in-Err-take_edits-clause-refused g c =
+    script_reason (g.R.Read.remaining (under c.args.rules.now)) (g.S.Read.remaining (under c.args.script.now)) (values_of c.in-Ok.values)
+    c.in-Err-take_edits.fault c.in-Ok.ensures.rules c.in-Err-take_edits.ensures.refused
+
+pub returns-in-Ok-write_text-clause-written : goal.returns-in-Ok-write_text-clause-written
+returns-in-Ok-write_text-clause-written g c =
+    let made = c.in-Ok-report_after.ensures ∙ ap (λ (l : List Edit). metal_report (is_metal (map change_of l)) (values_of c.in-Ok.values)) c.deref.ensures.value in
+    report_is (g.R.Read.remaining (under c.args.rules.now)) (g.S.Read.remaining (under c.args.script.now)) (values_of c.in-Ok.values)
+    (map change_of c.in-Ok-take_edits.edits.items) c.deref-2.result.now
+    (Appends (g.W.Write.contents (under c.args.out.now)) (g.W.Write.contents (under c.write_text.new.tap)))
+    c.in-Ok.ensures.rules c.in-Ok-take_edits.ensures.edits (c.deref-2.ensures.value ∙ made) c.in-Ok-write_text.ensures.whole
+
+pub returns-clause-prefix : goal.returns-clause-prefix
+returns-clause-prefix g c =
+    let made = c.in-Ok-report_after.ensures ∙ ap (λ (l : List Edit). metal_report (is_metal (map change_of l)) (values_of c.in-Ok.values)) c.deref.ensures.value in
+    λ _. report_is (g.R.Read.remaining (under c.args.rules.now)) (g.S.Read.remaining (under c.args.script.now)) (values_of c.in-Ok.values)
+    (map change_of c.in-Ok-take_edits.edits.items) c.deref-2.result.now
+    (λ text. (k : ℕ) × Appends (g.W.Write.contents (under c.args.out.now)) (g.W.Write.contents (under c.write_text.new.tap)) (take k text))
+    c.in-Ok.ensures.rules c.in-Ok-take_edits.ensures.edits (c.deref-2.ensures.value ∙ made) c.write_text.ensures.prefix

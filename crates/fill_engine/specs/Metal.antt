@@ -1,0 +1,35 @@
+-- The metal that a script's changes leave of nothing.
+use Rattle.std.specs.Prelude.{ℤ, ◌&&◌, Bool, true, false, List, [], ◌∷◌, Option, Some, None, if◌then◌else◌}
+use Rattle.fill_base.specs.Counts.{is_between}
+use Rattle.fill_text.specs.Corners.{Corners}
+use Rattle.fill_text.specs.Script.{Change}
+use Rattle.fill_text.specs.declared.script.Kind.{Kind}
+use Rattle.fill_text.specs.declared.script.Kind.TheVariants.{Add, Cut}
+
+-- the square is in the rectangle
+abbrev pub is_within : Corners → ℤ → ℤ → Bool
+is_within c x y = is_between c.x1 c.x2 x && is_between c.y1 c.y2 y
+
+-- the later of two changes, if there is one, and else the earlier
+abbrev pub later : Option Kind → Option Kind → Option Kind
+later (Some kind) earlier = Some kind
+later None earlier = earlier
+
+-- what the last change that touches a square does with it
+unfoldable pub last_change : List Change → ℤ → ℤ → Option Kind
+last_change [] x y = None
+last_change (change ∷ changes) x y = later (last_change changes x y) (if is_within change.rect x y then Some change.kind else None)
+
+abbrev pub is_added : Option Kind → Bool
+is_added None = false
+is_added (Some Add) = true
+is_added (Some Cut) = false
+
+abbrev pub is_cut : Option Kind → Bool
+is_cut None = false
+is_cut (Some Add) = false
+is_cut (Some Cut) = true
+
+-- a square is metal where the last change that touches it adds it
+abbrev pub is_metal : List Change → ℤ → ℤ → Bool
+is_metal changes x y = is_added (last_change changes x y)

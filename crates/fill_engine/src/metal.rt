@@ -1,0 +1,78 @@
+//! The metal that a script's edits leave of nothing.
+ghost use Rattle.std.specs.Prelude.{◌≡◌, [], ◌∷◌, ◌||◌, ◌&&◌, not, ℤ, map, IfOk};
+ghost use Rattle.fill_region.specs.Bands.{holds};
+ghost use Rattle.fill_text.specs.Script.{change_of};
+ghost use Rattle.fill_engine.specs.Metal.{is_added, is_cut, is_metal, last_change};
+
+use fill_region::Region;
+use fill_text::Edit;
+use std::alloc::{AllocError, Global};
+
+/// What a run of edits leaves of the squares that it touches: metal, or none.
+#[derive(Drop)]
+struct Patch {
+    metal: Region,
+    cut: Region,
+}
+
+/// The squares of `under` but for those of `hole`, and then those of `over`.
+fn covered_over(
+    alloc: Global,
+    under: &Region,
+    hole: &Region,
+    over: &Region,
+) -> Result<Region, AllocError>
+    ensures { IfOk result (λ r. (x y : ℤ) → holds r x y ≡ (holds under.now x y && not (holds hole.now x y)) || holds over.now x y) }
+{
+    if hole.is_empty() {
+        return under.union(alloc, over);
+    }
+    let left = under.minus(alloc, hole)?;
+    left.union(alloc, over)
+}
+
+fn patch_of_one(alloc: Global, edit: Edit) -> Result<Patch, AllocError>
+    ensures metal { IfOk result (λ p. (x y : ℤ) → holds p.metal x y ≡ is_added (last_change (change_of edit ∷ []) x y)) }
+    ensures cut { IfOk result (λ p. (x y : ℤ) → holds p.cut x y ≡ is_cut (last_change (change_of edit ∷ []) x y)) }
+{
+    match edit {
+        Edit::Add(rect) => Ok(Patch {
+            metal: Region::one(alloc, &rect)?,
+            cut: Region::empty(alloc),
+        }),
+        Edit::Cut(rect) => Ok(Patch {
+            metal: Region::empty(alloc),
+            cut: Region::one(alloc, &rect)?,
+        }),
+    }
+}
+
+/// The patch of a run of edits, put together from those of its halves, so that each edit is touched but a few times.
+fn patch_of(alloc: Global, edits: &[Edit]) -> Result<Patch, AllocError>
+    ensures metal { IfOk result (λ p. (x y : ℤ) → holds p.metal x y ≡ is_added (last_change (map change_of edits.now) x y)) }
+    ensures cut { IfOk result (λ p. (x y : ℤ) → holds p.cut x y ≡ is_cut (last_change (map change_of edits.now) x y)) }
+{
+    match edits {
+        [] => Ok(Patch {
+            metal: Region::empty(alloc),
+            cut: Region::empty(alloc),
+        }),
+        [edit] => patch_of_one(alloc, *edit),
+        _ => {
+            let (first, then) = edits.split_at(edits.len() / 2);
+            let first = patch_of(alloc, first)?;
+            let then = patch_of(alloc, then)?;
+            let metal = covered_over(alloc, &first.metal, &then.cut, &then.metal)?;
+            let cut = covered_over(alloc, &first.cut, &then.metal, &then.cut)?;
+            Ok(Patch { metal, cut })
+        }
+    }
+}
+
+/// The metal that the edits leave of nothing, made in their order.
+pub fn metal_left(alloc: Global, edits: &[Edit]) -> Result<Region, AllocError>
+    ensures { IfOk result (λ r. (x y : ℤ) → holds r x y ≡ is_metal (map change_of edits.now) x y) }
+{
+    let Patch { metal, cut: _ } = patch_of(alloc, edits)?;
+    Ok(metal)
+}

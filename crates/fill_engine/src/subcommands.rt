@@ -1,0 +1,135 @@
+//! The density report of the metal that a script leaves of nothing, from bytes to bytes.
+ghost use Rattle.std.specs.Prelude.{◌≡◌, ◌≢◌, ◌↔◌, ◌⊎◌, ℕ, true, false, take, IfOk, IfErr, IfSome, IsErrOf, IsOkAnd, OnOk, map};
+ghost use Rattle.std.specs.Io.KnownBytes.{Appends};
+ghost use Rattle.fill_device.specs.Taps.{has_failed, under};
+ghost use Rattle.fill_report.specs.RulesReport.{metal_report};
+ghost use Rattle.fill_text.specs.Rules.{rules_of};
+ghost use Rattle.fill_text.specs.Script.{change_of, edits_of};
+ghost use Rattle.fill_text.specs.Views.{values_of};
+ghost use Rattle.fill_engine.specs.Faults.{rule_fault, script_fault};
+ghost use Rattle.fill_engine.specs.Metal.{is_metal};
+ghost use Rattle.fill_engine.specs.Rects.{report_answer, with_fault, IsFaultOf, IsReason};
+
+use crate::fault::{Fault, Part, Refusal};
+use crate::metal::metal_left;
+use fill_device::{Tap, read_input, write_text};
+use fill_report::report_of;
+use fill_text::{Edit, Rules, read_rules, read_script};
+use std::alloc::{AllocError, Global};
+use std::io::{Read, Write};
+use std::thread::Threads;
+
+/// How many bytes an input may have.
+const MOST_BYTES: usize = 2_147_483_648;
+
+/// The rules that the reader behind the tap gives.
+fn take_rules<R: Read>(alloc: Global, tap: &mut Tap<R>) -> Result<Rules, Fault>
+    requires { has_failed tap.old ≡ false }
+    ensures device { IsErrOf result Fault.Device ↔ (has_failed tap.new ≡ true) }
+    ensures rules { IfOk result (λ r. IfSome (R.remaining (under tap.old)) (λ text. rules_of text ≡ Ok (values_of r))) }
+    ensures refused { IfErr result (λ f. IfSome (R.remaining (under tap.old)) (λ text. IsFaultOf (with_fault rule_fault (rules_of text)) text f)) }
+{
+    let text = match read_input(alloc, tap, MOST_BYTES) {
+        Ok(text) => text,
+        Err(error) => return Err(Fault::from(error)),
+    };
+    match read_rules(alloc, &text) {
+        Ok(rules) => Ok(rules),
+        Err(error) => Err(Fault::from(error)),
+    }
+}
+
+/// The edits that the reader behind the tap gives.
+fn take_edits<S: Read>(alloc: Global, tap: &mut Tap<S>) -> Result<Vec<Edit>, Fault>
+    requires { has_failed tap.old ≡ false }
+    ensures device { IsErrOf result Fault.Device ↔ (has_failed tap.new ≡ true) }
+    ensures edits { IfOk result (λ v. IfSome (S.remaining (under tap.old)) (λ text. edits_of text ≡ Ok (map change_of v.items))) }
+    ensures refused { IfErr result (λ f. IfSome (S.remaining (under tap.old)) (λ text. IsFaultOf (with_fault script_fault (edits_of text)) text f)) }
+{
+    let text = match read_input(alloc, tap, MOST_BYTES) {
+        Ok(text) => text,
+        Err(error) => return Err(Fault::from(error)),
+    };
+    match read_script(alloc, &text) {
+        Ok(edits) => Ok(edits),
+        Err(error) => Err(Fault::from(error)),
+    }
+}
+
+/// The report of the metal that the edits leave of nothing.
+fn report_after(
+    rt: &(impl Threads + Sync),
+    alloc: Global,
+    rules: &Rules,
+    edits: &[Edit],
+) -> Result<Vec<u8>, AllocError>
+    ensures { IfOk result (λ v. v.items ≡ metal_report (is_metal (map change_of edits.now)) (values_of rules.now)) }
+{
+    let metal = metal_left(alloc, edits)?;
+    report_of(rt, alloc, &metal, rules)
+}
+
+/// Writes the density report of the metal that a script leaves of nothing. The rule file is read to its end and
+/// interpreted before the script is read, and nothing is written before the whole report is made.
+///
+/// # Errors
+/// The first fault, with its part: `rules` and `script` for the inputs, `report` for the writer, and `run` for want of
+/// memory once the inputs are interpreted. An input of more than 2^31 bytes is `TooLong`.
+pub fn rects<R: Read, S: Read, W: Write>(
+    rt: &(impl Threads + Sync),
+    alloc: Global,
+    rules: &mut Tap<R>,
+    script: &mut Tap<S>,
+    out: &mut Tap<W>,
+) -> Result<(), Refusal>
+    requires rules { has_failed rules.old ≡ false }
+    requires script { has_failed script.old ≡ false }
+    requires out { has_failed out.old ≡ false }
+
+    // A device fault is answered exactly where its tap has failed.
+    ensures rules_device { (result ≡ Err (record { part = Part.Rules; fault = Fault.Device })) ↔ (has_failed rules.new ≡ true) }
+    ensures script_device { (result ≡ Err (record { part = Part.Script; fault = Fault.Device })) ↔ (has_failed script.new ≡ true) }
+    ensures report_device { (result ≡ Err (record { part = Part.Report; fault = Fault.Device })) ↔ (has_failed out.new ≡ true) }
+    ensures device { IfErr result (λ e. e.fault ≡ Fault.Device → (has_failed rules.new ≡ true) ⊎ (has_failed script.new ≡ true) ⊎ (has_failed out.new ≡ true)) }
+    ensures memory { IfErr result (λ e. e.fault ≡ Fault.Memory → (e.part ≡ Part.Rules) ⊎ (e.part ≡ Part.Script) ⊎ (e.part ≡ Part.Run)) }
+
+    // What is answered is what the bytes of the two inputs say.
+    ensures written { OnOk result (IfSome (R.remaining (under rules.old)) (λ r. IfSome (S.remaining (under script.old)) (λ s.
+        IsOkAnd (report_answer r s) (Appends (W.contents (under out.old)) (W.contents (under out.new)))))) }
+    ensures refused { IfErr result (λ e. IfSome (R.remaining (under rules.old)) (λ r. IfSome (S.remaining (under script.old)) (λ s. IsReason r s e))) }
+
+    // Where writing failed, a prefix of the report is written, and after any other fault nothing.
+    ensures prefix { result ≡ Err (record { part = Part.Report; fault = Fault.Device })
+        → IfSome (R.remaining (under rules.old)) (λ r. IfSome (S.remaining (under script.old)) (λ s. IsOkAnd (report_answer r s) (λ text.
+        (k : ℕ) × Appends (W.contents (under out.old)) (W.contents (under out.new)) (take k text)))) }
+    ensures silent { IfErr result (λ e. e.part ≢ Part.Report → out.new ≡ out.old) }
+{
+    let values = match take_rules(alloc, rules) {
+        Ok(values) => values,
+        Err(fault) => return Err(Refusal {
+            part: Part::Rules,
+            fault,
+        }),
+    };
+    let edits = match take_edits(alloc, script) {
+        Ok(edits) => edits,
+        Err(fault) => return Err(Refusal {
+            part: Part::Script,
+            fault,
+        }),
+    };
+    let report = match report_after(rt, alloc, &values, &edits) {
+        Ok(report) => report,
+        Err(_) => return Err(Refusal {
+            part: Part::Run,
+            fault: Fault::Memory,
+        }),
+    };
+    match write_text(out, &report) {
+        Ok(()) => Ok(()),
+        Err(_) => Err(Refusal {
+            part: Part::Report,
+            fault: Fault::Device,
+        }),
+    }
+}
