@@ -1,5 +1,5 @@
 -- Ranges of numbers that are near, and rectangles that are.
-use Rattle.std.proofs.Common.{◌≡◌, ℤ, pos, ◌+ℤ◌, ◌-ℤ◌, ◌≤ℤ◌, ◌<ℤ◌, refl, arith, Bool, true, false, ◌&&◌, not, ◌↔◌, w64, FitsSigned}
+use Rattle.std.proofs.Common.{◌≡◌, ℤ, pos, ◌+ℤ◌, ◌-ℤ◌, ◌≤ℤ◌, ◌<ℤ◌, refl, arith, ◌∙◌, Bool, true, false, ◌&&◌, not, ◌↔◌, w64, FitsSigned}
 use Rattle.std.specs.Prelude.{int_lt, IsTrue}
 use Rattle.std.specs.Int.{int_min, int_max}
 use Rattle.std.proofs.lemmas.Int.{ints, clamps, by_lt_z}
@@ -120,13 +120,13 @@ rects_conflict r q s some = (
 )
 
 -- the number of a range that is nearest to one in the grown range
-record Nearest (u lo hi s : ℤ) : Type 0 where
-  x : ℤ
-  low : lo ≤ℤ x
-  high : x <ℤ hi
-  near : IsNear s x u
+pub record Nearest (u lo hi s : ℤ) : Type 0 where
+  pub x : ℤ
+  pub low : lo ≤ℤ x
+  pub high : x <ℤ hi
+  pub near : IsNear s x u
 
-nearest : (u lo hi s : ℤ) → lo <ℤ hi → pos 0 ≤ℤ s → (lo -ℤ s) ≤ℤ u → u <ℤ (hi +ℤ s) → Nearest u lo hi s
+pub nearest : (u lo hi s : ℤ) → lo <ℤ hi → pos 0 ≤ℤ s → (lo -ℤ s) ≤ℤ u → u <ℤ (hi +ℤ s) → Nearest u lo hi s
 nearest u lo hi s some least from to = record {
   x = int_max lo (int_min u (hi -ℤ pos 1));
   low = omega (arith, ints, clamps);
@@ -206,3 +206,16 @@ grown_tall r s y1 y2 is e f = rw (e, f, read_y1 r, read_y2 r, spacing_read s is,
   where
     longer : (a b s : ℤ) → a <ℤ b → pos 0 ≤ℤ s → (a -ℤ s) <ℤ (b +ℤ s)
     longer a b s h k = omega (arith, ints)
+
+-- the edges of a grown rectangle, each as the code reckons it
+pub left_grown : (r : Rect) (s x e : ℤ) → IsSpacing s → x ≡ r.x1 → e ≡ read (read x -ℤ read s) → e ≡ r.x1 -ℤ s
+left_grown r s x e is h k = k ∙ rw (h, read_x1 r, spacing_read s is) (shrunk_read r.x1 s (x1_is r) is)
+
+pub bottom_grown : (r : Rect) (s y e : ℤ) → IsSpacing s → y ≡ r.y1 → e ≡ read (read y -ℤ read s) → e ≡ r.y1 -ℤ s
+bottom_grown r s y e is h k = k ∙ rw (h, read_y1 r, spacing_read s is) (shrunk_read r.y1 s (y1_is r) is)
+
+pub right_grown : (r : Rect) (s x e : ℤ) → IsSpacing s → x ≡ r.x2 → e ≡ read (read x +ℤ read s) → e ≡ r.x2 +ℤ s
+right_grown r s x e is h k = k ∙ rw (h, read_x2 r, spacing_read s is) (grown_read r.x2 s (x2_is r) is)
+
+pub top_grown : (r : Rect) (s y e : ℤ) → IsSpacing s → y ≡ r.y2 → e ≡ read (read y +ℤ read s) → e ≡ r.y2 +ℤ s
+top_grown r s y e is h k = k ∙ rw (h, read_y2 r, spacing_read s is) (grown_read r.y2 s (y2_is r) is)

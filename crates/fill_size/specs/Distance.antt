@@ -1,5 +1,6 @@
 -- Distances between unit squares, in x and in y apart (the square metric).
 use Rattle.std.specs.Prelude.{◌≡◌, ℤ, pos, ◌+ℤ◌, ◌-ℤ◌, ◌≤ℤ◌, ◌<ℤ◌, Bool, true}
+use Rattle.fill_base.specs.Coordinates.{lowest, highest}
 
 -- two coordinates are at most `d` apart
 pub record IsNear (d x u : ℤ) : Type 0 where
@@ -43,3 +44,7 @@ pub record HasSquare (p : ℤ → ℤ → Bool) (left bottom right top : ℤ) : 
 pub record IsSpacing (s : ℤ) : Type 0 where
   pub least : pos 0 ≤ℤ s
   pub most : s ≤ℤ pos 1048576
+
+-- all that `p` grown by `d` holds lies within the coordinates
+abbrev pub StaysInRange : (ℤ → ℤ → Bool) → ℤ → Type 0
+StaysInRange p d = (x y : ℤ) → Reaches p d x y → (lowest ≤ℤ x) × (x <ℤ highest) × (lowest ≤ℤ y) × (y <ℤ highest)

@@ -47,7 +47,13 @@ pub fn is_clear(region: &Region, rect: &Rect, spacing: i64) -> bool
 }
 
 /// Whether some square of the bands lies between these edges.
-fn has_square(bands: &[(i32, Spans)], left: i64, bottom: i64, right: i64, top: i64) -> bool
+pub(crate) fn has_square(
+    bands: &[(i32, Spans)],
+    left: i64,
+    bottom: i64,
+    right: i64,
+    top: i64,
+) -> bool
     requires region { IsRegion bands.now }
     requires tall { bottom <ℤ top }
     ensures { IsTrue result ↔ HasSquare (holds bands.now) left bottom right top }

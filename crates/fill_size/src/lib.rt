@@ -4,5 +4,10 @@
 #![tactic(auto)]
 
 pub mod clearance;
+pub mod sizing;
 
 pub use clearance::{conflicts, is_clear};
+pub use sizing::{fits, sized};
+
+#[cfg(test)]
+mod tests;
