@@ -8,3 +8,4 @@ pub mod RuleFiles
 pub mod SameRules
 pub mod GridTests
 pub mod Written
+pub mod WrittenEdits

@@ -1,11 +1,16 @@
--- Rules in the words of their file: each value stands in a record of its own key.
-use Rattle.std.specs.Prelude.{◌≡◌, ℕ, ℤ, List, [], ◌∷◌, Some, Ok, Any}
+-- The two texts in the words of their files: each value of the rules stands in a record of its own key, and each record of a
+-- script is one change.
+use Rattle.std.specs.Prelude.{◌≡◌, ℕ, ℤ, List, [], ◌∷◌, Some, Ok, Any, codes}
+use Rattle.std.specs.List.{AllZip}
 use Rattle.fill_text.specs.Keys.{number_rule, text_name}
 use Rattle.fill_text.specs.Numbers.{number_of}
 use Rattle.fill_text.specs.Rows.{rows_of}
 use Rattle.fill_text.specs.Rules.{Values, rules_of, text_of, value_of}
+use Rattle.fill_text.specs.Script.{Change, edits_of}
 use Rattle.fill_text.specs.declared.keys.NumberKey.{NumberKey}
 use Rattle.fill_text.specs.declared.keys.TextKey.{TextKey}
+use Rattle.fill_text.specs.declared.script.Kind.{Kind}
+use Rattle.fill_text.specs.declared.script.Kind.TheVariants as kind
 
 -- a record of two fields: the key's name, and a word that writes the number
 abbrev pub WritesNumber : NumberKey → ℤ → List (List ℕ) → Type 0
@@ -22,3 +27,17 @@ EachNumberIsWritten = (file : List ℕ) (values : Values) → rules_of file ≡ 
 -- and each text
 abbrev pub EachTextIsWritten : Type 0
 EachTextIsWritten = (file : List ℕ) (values : Values) → rules_of file ≡ Ok values → (key : TextKey) → Any (WritesText key (text_of values key)) (rows_of file)
+
+-- the word of a kind of change
+abbrev pub kind_word : Kind → List ℕ
+kind_word kind.Add = codes "add"
+kind_word kind.Cut = codes "cut"
+
+-- a record of five fields: the word of the change's kind, and four words that write its rectangle's numbers
+abbrev pub WritesChange : List (List ℕ) → Change → Type 0
+WritesChange fields change = (x1 y1 x2 y2 : List ℕ) × (fields ≡ kind_word change.kind ∷ x1 ∷ y1 ∷ x2 ∷ y2 ∷ [])
+    × (number_of x1 ≡ Some change.rect.x1) × (number_of y1 ≡ Some change.rect.y1) × (number_of x2 ≡ Some change.rect.x2) × (number_of y2 ≡ Some change.rect.y2)
+
+-- where a script is accepted, its changes are those that its records write, one each and in their order
+abbrev pub EachRecordIsAChange : Type 0
+EachRecordIsAChange = (file : List ℕ) (changes : List Change) → edits_of file ≡ Ok changes → AllZip WritesChange (rows_of file) changes
