@@ -11,8 +11,8 @@ test:
 	rt ci
 
 build:
-	cd crates/densfill && rt build
 	mkdir -p bin
+	cd crates/densfill && rt run -- rects ../../examples/rules.csv ../../examples/script.csv > ../../bin/build.log
 	cp crates/densfill/out/densfill bin/densfill
 
 bench: build

@@ -3,6 +3,7 @@ use Rattle.std.proofs.Common.{◌≡◌, ℕ, zero, suc, ◌+◌, ◌*◌, ◌^�
 use Rattle.std.specs.Prelude.{int_le, int_lt}
 use Rattle.std.specs.Int.{int_max, int_min}
 use Rattle.std.specs.List.Sorted.{IsPartitionedBy, IsPartitionPoint}
+use Rattle.std.proofs.lemmas.Bool.Decides.{nat_tests}
 use Rattle.std.proofs.lemmas.Int.{ints, clamps, by_lt_z}
 use Rattle.std.proofs.lemmas.List.{get_or_default}
 use Rattle.fill_base.specs.Coordinates.{lowest, highest}
@@ -10,7 +11,7 @@ use Rattle.fill_base.specs.Counts.{span_len, count_between}
 use Rattle.fill_base.proofs.Signed.{read, read32, read_is, pos_fits, lt_le, le_trans, is_lt, not_lt, fits_max, fits_min}
 use Rattle.fill_base.proofs.Counting.{count_between_const, count_between_le, sum_between_split}
 use Rattle.fill_spans.specs.Spans.{inside, Chain, odd, floor, ceiling, next_edge, IsCanonical}
-use Rattle.fill_spans.specs.Search.{IsFirstAbove, IsEdgeBelow, stretch_of}
+use Rattle.fill_spans.specs.Search.{IsFirstAbove, IsEdgeBelow, HasMember, stretch_of}
 use Rattle.fill_spans.proofs.SweepTurns.{edge_read}
 use Rattle.fill_spans.proofs.Chains.{chain_at, chain_within, chain_next, inside_below, inside_past, not_odd}
 
@@ -223,3 +224,30 @@ length_else es lo hi a b canonical fits_lo fits_hi a_is b_is ge =
     let b_read : read b ≡ int_min hi highest = rw (b_is, read_is hi fits_hi) (read_is _ (fits_min hi highest fits_hi (search rules))) in
     ap pos (sym (count_clamped_none (inside es) lowest highest lo hi (λ x under. outside_low es x canonical under) (λ x over. outside_high es x canonical over)
     (not_lt _ _ (rw (a_read, b_read) at ge))))
+
+turned : (k : ℕ) → odd k ≡ false → odd (k + 1) ≡ true
+turned k is = grind (arith, nat_tests)
+
+-- an edge comes before `hi`: the set begins or ends there
+pub some_member : (es : List ℤ) (lo hi : ℤ) (k : ℕ) (edge : ℤ) → IsCanonical es → lo <ℤ hi → IsFirstAbove es lo k → IsEdgeBelow es k hi edge → HasMember es lo hi
+some_member es lo hi k edge canonical ordered place e = by_parity (odd k) refl
+  where
+    by_parity : (b : Bool) → odd k ≡ b → HasMember es lo hi
+    by_parity true is = record { at = lo; member = inside_first_above es lo k canonical place ∙ is; low = omega (arith, ints); high = ordered }
+    by_parity false is = record {
+      at = next_edge es k;
+      member = inside_first_above es (next_edge es k) (k + 1) canonical (next_first es k canonical e.within) ∙ turned k is;
+      low = lt_le lo (next_edge es k) (place.after e.within);
+      high = rw e.is at e.below;
+    }
+
+-- no edge comes before `hi`: all of the stretch is inside, or none
+pub gap_member : (es : List ℤ) (lo hi : ℤ) (k : ℕ) → IsCanonical es → lo <ℤ hi → IsFirstAbove es lo k → (k < length es → hi ≤ℤ next_edge es k)
+    → (odd k ≡ true → HasMember es lo hi) × (HasMember es lo hi → odd k ≡ true)
+gap_member es lo hi k canonical ordered place none = (
+  (λ is. record { at = lo; member = inside_first_above es lo k canonical place ∙ is; low = omega (arith, ints); high = ordered }),
+  (λ m. sym (inside_gap es k lo m.at canonical place m.low (λ inner. lt_le_trans m.at hi _ m.high (none inner))) ∙ m.member),
+)
+  where
+    lt_le_trans : (a b c : ℤ) → a <ℤ b → b ≤ℤ c → a <ℤ c
+    lt_le_trans a b c h k = omega (arith, ints)

@@ -1,7 +1,7 @@
 -- Looking up a coordinate among edges.
-use Rattle.std.specs.Prelude.{◌≡◌, ℕ, ◌<◌, ◌≤◌, ℤ, ◌≤ℤ◌, ◌<ℤ◌, List, length, cond}
+use Rattle.std.specs.Prelude.{◌≡◌, true, ℕ, ◌<◌, ◌≤◌, ℤ, ◌≤ℤ◌, ◌<ℤ◌, List, length, cond}
 use Rattle.fill_base.specs.Counts.{span_len}
-use Rattle.fill_spans.specs.Spans.{odd, next_edge}
+use Rattle.fill_spans.specs.Spans.{inside, odd, next_edge}
 
 -- the edges before `n` lie at `x` or below, and the one at `n` above it
 pub record IsFirstAbove (es : List ℤ) (x : ℤ) (n : ℕ) : Type 0 where
@@ -18,3 +18,10 @@ pub record IsEdgeBelow (es : List ℤ) (k : ℕ) (hi edge : ℤ) : Type 0 where
   pub within : k < length es
   pub is : edge ≡ next_edge es k
   pub below : edge <ℤ hi
+
+-- some member lies from `lo` on and below `hi`
+pub record HasMember (es : List ℤ) (lo hi : ℤ) : Type 0 where
+  pub at : ℤ
+  pub member : inside es at ≡ true
+  pub low : lo ≤ℤ at
+  pub high : at <ℤ hi

@@ -6,7 +6,7 @@ ghost use Rattle.std.specs.Cmp.{int_eq_equiv, partial_equiv_from_equiv};
 ghost use Rattle.fill_base.specs.Coordinates.{lowest, highest};
 ghost use Rattle.fill_base.specs.Counts.{is_between, count_between};
 ghost use Rattle.fill_spans.specs.Spans.{inside, next_edge, IsCanonical};
-ghost use Rattle.fill_spans.specs.Search.{IsFirstAbove, IsEdgeBelow, stretch_of};
+ghost use Rattle.fill_spans.specs.Search.{IsFirstAbove, IsEdgeBelow, HasMember, stretch_of};
 ghost use Rattle.fill_spans.specs.Operations.{applied};
 ghost use Rattle.fill_spans.specs.Sweep.{Turned};
 
@@ -129,6 +129,13 @@ impl Spans {
         first_above(&self.edges, x) % 2 == 1
     }
 
+    /// Whether some member lies from `lo` on and below `hi`.
+    pub fn meets(&self, lo: i64, hi: i64) -> bool
+        ensures { IsTrue result ↔ HasMember self.now lo hi }
+    {
+        lo < hi && meets_between(&self.edges, lo, hi)
+    }
+
     /// How many members lie from `lo` on and below `hi`.
     pub fn length_in(&self, lo: i64, hi: i64) -> i64
         ensures { result ≡ pos (count_between (inside self.now) lo (int_max lo hi)) }
@@ -198,6 +205,19 @@ fn first_above(edges: &[i32], x: i64) -> usize
     ensures { IsFirstAbove edges.now x result }
 {
     edges.partition_point(|edge| i64::from(*edge) <= x)
+}
+
+/// Whether some member lies from `lo` on and below `hi`: `lo` itself, or else the next edge.
+fn meets_between(edges: &[i32], lo: i64, hi: i64) -> bool
+    requires canonical { IsCanonical edges.now }
+    requires ordered { lo <ℤ hi }
+    ensures { IsTrue result ↔ HasMember edges.now lo hi }
+{
+    let k = first_above(edges, lo);
+    match edge_below(edges, k, hi) {
+        Some(_) => true,
+        None => k % 2 == 1,
+    }
 }
 
 /// How many members lie from `lo` on and below `hi`: a search for the first edge above `lo`, and

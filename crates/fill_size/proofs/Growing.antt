@@ -1,0 +1,274 @@
+-- Regions grown on all sides.
+use Rattle.std.proofs.Common.{◌≡◌, ◌≢◌, ℕ, zero, suc, ◌+◌, ◌≤◌, ◌<◌, ℤ, pos, ◌+ℤ◌, ◌-ℤ◌, ◌≤ℤ◌, ◌<ℤ◌, List, [], ◌∷◌, ◌++◌, length, take, get_or, refl, arith, ap, ◌∙◌, sym, Bool, true, false, not, ◌&&◌, ◌||◌, ◌↔◌, ◌⊎◌, inl, inr, w64}
+use Rattle.std.specs.Prelude.{IsTrue}
+use Rattle.std.proofs.lemmas.Int.{ints, by_lt_z}
+use Rattle.std.proofs.lemmas.List.{take_more, take_all}
+use Rattle.std.proofs.lemmas.List.Folds.{list_any-append}
+use Rattle.fill_base.specs.declared.rect.Rect.{Rect}
+use Rattle.fill_base.specs.Coordinates.{lowest, highest}
+use Rattle.fill_base.specs.Squares.{squares}
+use Rattle.fill_base.proofs.Signed.{read}
+use Rattle.fill_spans.specs.Spans.{inside, floor, ceiling}
+use Rattle.fill_spans.proofs.Searching.{outside_low, outside_high}
+use Rattle.fill_region.specs.Bands.{Band, holds, row_from, IsRegion}
+use Rattle.fill_region.specs.Squares.{covered}
+use Rattle.fill_region.proofs.Stack.{row_below, row_past, row_canonical}
+use Rattle.fill_region.proofs.Sweeping.{nothing_canonical}
+use Rattle.fill_size.specs.Distance.{IsNear, Reaches, HasSquare, IsSpacing, IsSized, StaysInRange}
+use Rattle.fill_size.specs.Growth.{FitsGrown}
+use Rattle.fill_size.proofs.Ranges.{squares_inside, spacing_read, grown_read, shrunk_read, squares_true, nearest}
+
+-- a square of a region lies within the coordinates
+pub record InRange (x y : ℤ) : Type 0 where
+  pub left : lowest ≤ℤ x
+  pub right : x <ℤ highest
+  pub bottom : lowest ≤ℤ y
+  pub top : y <ℤ highest
+
+not_both : (b : Bool) → b ≡ true → b ≡ false → ⊥
+not_both b h k = let e : true ≡ false = sym h ∙ k in cc
+
+at_least : (a b : ℤ) → (a <ℤ b → ⊥) → b ≤ℤ a
+at_least a b none = by_lt_z a b (λ lt. absurd (none lt)) (λ le. le)
+
+below : (a b : ℤ) → (b ≤ℤ a → ⊥) → a <ℤ b
+below a b none = by_lt_z a b (λ lt. lt) (λ le. absurd (none le))
+
+pub region_in_range : (bs : List Band) (x y : ℤ) → IsRegion bs → holds bs x y ≡ true → InRange x y
+region_in_range bs x y region is =
+    let canonical = row_canonical floor ceiling y [] bs nothing_canonical region.bands in
+    record {
+      left = at_least x lowest (λ lt. not_both _ is (outside_low (row_from [] bs y) x canonical lt));
+      right = below x highest (λ le. not_both _ is (outside_high (row_from [] bs y) x canonical le));
+      bottom = at_least y lowest (λ lt. not_both _ is (ap (λ row. inside row x) (row_below floor ceiling y [] bs region.bands (omega (arith, ints)))));
+      top = below y highest (λ le. not_both _ is (ap (λ row. inside row x) (row_past floor ceiling y [] bs region.bands (omega (arith, ints)) ∙ region.closed)));
+    }
+
+-- no square lies in the strips that growing would leave the range from
+pub record StripsEmpty (p : ℤ → ℤ → Bool) (d : ℤ) : Type 0 where
+  pub left : (x y : ℤ) → p x y ≡ true → (lowest +ℤ d) ≤ℤ x
+  pub right : (x y : ℤ) → p x y ≡ true → x <ℤ (highest -ℤ d)
+  pub bottom : (x y : ℤ) → p x y ≡ true → (lowest +ℤ d) ≤ℤ y
+  pub top : (x y : ℤ) → p x y ≡ true → y <ℤ (highest -ℤ d)
+
+pub strips_stay : (p : ℤ → ℤ → Bool) (d : ℤ) → StripsEmpty p d → StaysInRange p d
+strips_stay p d e x y r =
+    let xa : (x -ℤ r.u) ≤ℤ d = r.across.above in let xb : (r.u -ℤ x) ≤ℤ d = r.across.below in
+    let ya : (y -ℤ r.v) ≤ℤ d = r.up.above in let yb : (r.v -ℤ y) ≤ℤ d = r.up.below in
+    (low r.u x d (e.left r.u r.v r.square) xb, high r.u x d (e.right r.u r.v r.square) xa, low r.v y d (e.bottom r.u r.v r.square) yb, high r.v y d (e.top r.u r.v r.square) ya)
+  where
+    low : (u x d : ℤ) → (lowest +ℤ d) ≤ℤ u → (u -ℤ x) ≤ℤ d → lowest ≤ℤ x
+    low u x d a b = omega (arith, ints)
+
+    high : (u x d : ℤ) → u <ℤ (highest -ℤ d) → (x -ℤ u) ≤ℤ d → x <ℤ highest
+    high u x d a b = omega (arith, ints)
+
+self_near : (d u : ℤ) → pos 0 ≤ℤ d → IsNear d u u
+self_near d u some = record { above = omega (arith, ints); below = omega (arith, ints) }
+
+left_near : (d u : ℤ) → pos 0 ≤ℤ d → IsNear d (u -ℤ d) u
+left_near d u some = record { above = omega (arith, ints); below = omega (arith, ints) }
+
+right_near : (d u : ℤ) → pos 0 ≤ℤ d → IsNear d (u +ℤ d) u
+right_near d u some = record { above = omega (arith, ints); below = omega (arith, ints) }
+
+pub stay_strips : (p : ℤ → ℤ → Bool) (d : ℤ) → pos 0 ≤ℤ d → StaysInRange p d → StripsEmpty p d
+stay_strips p d some stays = record {
+  left = λ x y is. up x (stays (x -ℤ d) y (record { u = x; v = y; square = is; across = left_near d x some; up = self_near d y some })).0;
+  right = λ x y is. down x (stays (x +ℤ d) y (record { u = x; v = y; square = is; across = right_near d x some; up = self_near d y some })).1;
+  bottom = λ x y is. up y (stays x (y -ℤ d) (record { u = x; v = y; square = is; across = self_near d x some; up = left_near d y some })).2;
+  top = λ x y is. down y (stays x (y +ℤ d) (record { u = x; v = y; square = is; across = self_near d x some; up = right_near d y some })).3;
+}
+  where
+    up : (x : ℤ) → lowest ≤ℤ (x -ℤ d) → (lowest +ℤ d) ≤ℤ x
+    up x h = omega (arith, ints)
+
+    down : (x : ℤ) → (x +ℤ d) <ℤ highest → x <ℤ (highest -ℤ d)
+    down x h = omega (arith, ints)
+
+-- the four strips, as the code looks at them
+pub strips_none : (bs : List Band) (d : ℤ) → IsRegion bs → (HasSquare (holds bs) lowest lowest (lowest +ℤ d) highest → ⊥) → (HasSquare (holds bs) (highest -ℤ d) lowest highest highest → ⊥)
+    → (HasSquare (holds bs) lowest lowest highest (lowest +ℤ d) → ⊥) → (HasSquare (holds bs) lowest (highest -ℤ d) highest highest → ⊥) → StripsEmpty (holds bs) d
+strips_none bs d region no_left no_right no_bottom no_top = record {
+  left = λ x y is. let r = region_in_range bs x y region is in at_least x _ (λ lt. no_left (record { x = x; y = y; square = is; from_left = r.left; to_right = lt; from_bottom = r.bottom; to_top = r.top }));
+  right = λ x y is. let r = region_in_range bs x y region is in below x _ (λ le. no_right (record { x = x; y = y; square = is; from_left = le; to_right = r.right; from_bottom = r.bottom; to_top = r.top }));
+  bottom = λ x y is. let r = region_in_range bs x y region is in at_least y _ (λ lt. no_bottom (record { x = x; y = y; square = is; from_left = r.left; to_right = r.right; from_bottom = r.bottom; to_top = lt }));
+  top = λ x y is. let r = region_in_range bs x y region is in below y _ (λ le. no_top (record { x = x; y = y; square = is; from_left = r.left; to_right = r.right; from_bottom = le; to_top = r.top }));
+}
+
+pub none_of_strips : (p : ℤ → ℤ → Bool) (d : ℤ) → StripsEmpty p d
+    → ((HasSquare p lowest lowest (lowest +ℤ d) highest → ⊥) × (HasSquare p (highest -ℤ d) lowest highest highest → ⊥) × (HasSquare p lowest lowest highest (lowest +ℤ d) → ⊥) × (HasSquare p lowest (highest -ℤ d) highest highest → ⊥))
+none_of_strips p d e = (
+  (λ h. over h.x (lowest +ℤ d) (e.left h.x h.y h.square) h.to_right),
+  (λ h. over h.x (highest -ℤ d) h.from_left (e.right h.x h.y h.square)),
+  (λ h. over h.y (lowest +ℤ d) (e.bottom h.x h.y h.square) h.to_top),
+  (λ h. over h.y (highest -ℤ d) h.from_bottom (e.top h.x h.y h.square)),
+)
+  where
+    over : (a b : ℤ) → b ≤ℤ a → a <ℤ b → ⊥
+    over a b h k = omega (arith, ints)
+
+pub fits_test : (bs : List Band) (d : ℤ) (a b c e : Bool) → IsRegion bs → pos 0 ≤ℤ d
+    → (IsTrue a ↔ HasSquare (holds bs) lowest lowest (lowest +ℤ d) highest) → (IsTrue b ↔ HasSquare (holds bs) (highest -ℤ d) lowest highest highest)
+    → (IsTrue c ↔ HasSquare (holds bs) lowest lowest highest (lowest +ℤ d)) → (IsTrue e ↔ HasSquare (holds bs) lowest (highest -ℤ d) highest highest)
+    → (IsTrue (not (((a || b) || c) || e)) ↔ StaysInRange (holds bs) d)
+fits_test bs d a b c e region some la lb lc le = (
+  (λ h. let f = all_false a b c e h in strips_stay (holds bs) d (strips_none bs d region (none a la f.0) (none b lb f.1) (none c lc f.2) (none e le f.3))),
+  (λ stays. let n = none_of_strips (holds bs) d (stay_strips (holds bs) d some stays) in not_true a b c e (λ h. n.0 (la.0 h)) (λ h. n.1 (lb.0 h)) (λ h. n.2 (lc.0 h)) (λ h. n.3 (le.0 h))),
+)
+  where
+    none : {P : Type 0} (b : Bool) → (IsTrue b ↔ P) → b ≡ false → P → ⊥
+    none b t is p = not_both b (t.1 p) is
+
+    all_false : (a b c e : Bool) → not (((a || b) || c) || e) ≡ true → (a ≡ false) × (b ≡ false) × (c ≡ false) × (e ≡ false)
+    all_false false false false false h = (refl, refl, refl, refl)
+    all_false true b c e h = absurd (let k : false ≡ true = h in cc)
+    all_false false true c e h = absurd (let k : false ≡ true = h in cc)
+    all_false false false true e h = absurd (let k : false ≡ true = h in cc)
+    all_false false false false true h = absurd (let k : false ≡ true = h in cc)
+
+    not_true : (a b c e : Bool) → (a ≡ true → ⊥) → (b ≡ true → ⊥) → (c ≡ true → ⊥) → (e ≡ true → ⊥) → not (((a || b) || c) || e) ≡ true
+    not_true false false false false f g h i = refl
+    not_true true b c e f g h i = absurd (f refl)
+    not_true false true c e f g h i = absurd (g refl)
+    not_true false false true e f g h i = absurd (h refl)
+    not_true false false false true f g h i = absurd (i refl)
+
+pub fits_reads : (bs : List Band) (d : ℤ) (a b c e : Bool) → IsRegion bs → IsSpacing d
+    → (IsTrue a ↔ HasSquare (holds bs) lowest lowest (read (lowest +ℤ read d)) highest) → (IsTrue b ↔ HasSquare (holds bs) (read (highest -ℤ read d)) lowest highest highest)
+    → (IsTrue c ↔ HasSquare (holds bs) lowest lowest highest (read (lowest +ℤ read d))) → (IsTrue e ↔ HasSquare (holds bs) lowest (read (highest -ℤ read d)) highest highest)
+    → (IsTrue (not (((a || b) || c) || e)) ↔ StaysInRange (holds bs) d)
+fits_reads bs d a b c e region is la lb lc le =
+    let low : read (lowest +ℤ read d) ≡ lowest +ℤ d = rw (spacing_read d is) (grown_read lowest d (record { least = omega (arith, ints); most = omega (arith, ints) }) is) in
+    let high : read (highest -ℤ read d) ≡ highest -ℤ d = rw (spacing_read d is) (shrunk_read highest d (record { least = omega (arith, ints); most = omega (arith, ints) }) is) in
+    fits_test bs d a b c e region is.least (rw low at la) (rw high at lb) (rw low at lc) (rw high at le)
+
+pub stays_by_none : (bs : List Band) → IsRegion bs → StaysInRange (holds bs) (pos 0)
+stays_by_none bs region = strips_stay (holds bs) (pos 0) (record {
+  left = λ x y is. let h = (region_in_range bs x y region is).left in omega (arith, ints);
+  right = λ x y is. let h = (region_in_range bs x y region is).right in omega (arith, ints);
+  bottom = λ x y is. let h = (region_in_range bs x y region is).bottom in omega (arith, ints);
+  top = λ x y is. let h = (region_in_range bs x y region is).top in omega (arith, ints);
+})
+
+-- an equal number of numbers is spelled by an equal word
+pub zero_of_word : (d : ℤ) → IsSpacing d → Rattle.std.proofs.Common.of_z w64 d ≡ 0 → d ≡ pos 0
+zero_of_word d is h = sym (spacing_read d is) ∙ ap (λ n. Rattle.std.proofs.Common.to_z w64 n) h
+
+-- the squares of a grown rectangle are those that the rectangle reaches
+pub rect_sized : (r g : Rect) (d : ℤ) → pos 0 ≤ℤ d → g.x1 ≡ r.x1 -ℤ d → g.y1 ≡ r.y1 -ℤ d → g.x2 ≡ r.x2 +ℤ d → g.y2 ≡ r.y2 +ℤ d → IsSized (squares r) d (squares g)
+rect_sized r g d some left bottom right top x y = (from, to)
+  where
+    from : squares g x y ≡ true → Reaches (squares r) d x y
+    from is =
+        let at = squares_inside g x y is in
+        let across = nearest x r.x1 r.x2 d r.wide some (rw left at at.left) (rw right at at.right) in
+        let up = nearest y r.y1 r.y2 d r.tall some (rw bottom at at.bottom) (rw top at at.top) in
+        record { u = across.x; v = up.x; square = squares_true r across.x up.x across.low across.high up.low up.high; across = back x across.x across.near; up = back y up.x up.near }
+      where
+        back : (x u : ℤ) → IsNear d u x → IsNear d x u
+        back x u n = record { above = n.below; below = n.above }
+
+    to : Reaches (squares r) d x y → squares g x y ≡ true
+    to h =
+        let at = squares_inside r h.u h.v h.square in
+        let a : g.x1 ≤ℤ x = rw left (low r.x1 h.u x at.left h.across.below) in
+        let b : x <ℤ g.x2 = rw right (high r.x2 h.u x at.right h.across.above) in
+        let c : g.y1 ≤ℤ y = rw bottom (low r.y1 h.v y at.bottom h.up.below) in
+        let e : y <ℤ g.y2 = rw top (high r.y2 h.v y at.top h.up.above) in
+        squares_true g x y a b c e
+      where
+        low : (a u x : ℤ) → a ≤ℤ u → (u -ℤ x) ≤ℤ d → (a -ℤ d) ≤ℤ x
+        low a u x h k = omega (arith, ints)
+
+        high : (b u x : ℤ) → u <ℤ b → (x -ℤ u) ≤ℤ d → x <ℤ (b +ℤ d)
+        high b u x h k = omega (arith, ints)
+
+pub left_of : (p q : Bool) → p ≡ true → p || q ≡ true
+left_of true q h = refl
+left_of false q h = cc
+
+right_of : (p q : Bool) → q ≡ true → p || q ≡ true
+right_of true q h = refl
+right_of false q h = h
+
+or_false : (b : Bool) → b || false ≡ b
+or_false true = refl
+or_false false = refl
+
+split : {P : Type 0} (p q : Bool) → (p ≡ true → P) → (q ≡ true → P) → p || q ≡ true → P
+split true q f g h = f refl
+split false q f g h = g h
+
+-- one more rectangle, and it grown
+pub sized_more : (rects grown : List Rect) (r g : Rect) (d : ℤ) → IsSized (covered rects) d (covered grown) → IsSized (squares r) d (squares g) → IsSized (covered (rects ++ (r ∷ []))) d (covered (grown ++ (g ∷ [])))
+sized_more rects grown r g d before one x y = (from, to)
+  where
+    more : (rects : List Rect) (r : Rect) (x y : ℤ) → covered (rects ++ (r ∷ [])) x y ≡ covered rects x y || squares r x y
+    more rects r x y = list_any-append (λ r. squares r x y) rects (r ∷ []) ∙ ap (λ b. covered rects x y || b) (or_false (squares r x y))
+
+    wider : (p q : ℤ → ℤ → Bool) → ((u v : ℤ) → p u v ≡ true → q u v ≡ true) → Reaches p d x y → Reaches q d x y
+    wider p q all h = record { u = h.u; v = h.v; square = all h.u h.v h.square; across = h.across; up = h.up }
+
+    old : Reaches (covered rects) d x y → Reaches (covered (rects ++ (r ∷ []))) d x y
+    old = wider (covered rects) (covered (rects ++ (r ∷ []))) (λ u v is. more rects r u v ∙ left_of (covered rects u v) (squares r u v) is)
+
+    new : Reaches (squares r) d x y → Reaches (covered (rects ++ (r ∷ []))) d x y
+    new = wider (squares r) (covered (rects ++ (r ∷ []))) (λ u v is. more rects r u v ∙ right_of (covered rects u v) (squares r u v) is)
+
+    from : covered (grown ++ (g ∷ [])) x y ≡ true → Reaches (covered (rects ++ (r ∷ []))) d x y
+    from is = split (covered grown x y) (squares g x y) (λ h. old ((before x y).0 h)) (λ h. new ((one x y).0 h)) (sym (more grown g x y) ∙ is)
+
+    to : Reaches (covered (rects ++ (r ∷ []))) d x y → covered (grown ++ (g ∷ [])) x y ≡ true
+    to h = more grown g x y ∙ split (covered rects h.u h.v) (squares r h.u h.v)
+        (λ k. left_of (covered grown x y) (squares g x y) ((before x y).1 (record { u = h.u; v = h.v; square = k; across = h.across; up = h.up })))
+        (λ k. right_of (covered grown x y) (squares g x y) ((one x y).1 (record { u = h.u; v = h.v; square = k; across = h.across; up = h.up })))
+        (sym (more rects r h.u h.v) ∙ h.square)
+
+-- a piece of a region that stays in range, grown, lies within the coordinates
+pub piece_fits : (p : ℤ → ℤ → Bool) (r : Rect) (d : ℤ) → pos 0 ≤ℤ d → StaysInRange p d → ((x y : ℤ) → squares r x y ≡ true → p x y ≡ true) → FitsGrown r d
+piece_fits p r d some stays within =
+    let e = stay_strips p d some stays in
+    let wide : r.x1 <ℤ r.x2 = r.wide in let tall : r.y1 <ℤ r.y2 = r.tall in
+    let low = within r.x1 r.y1 (squares_true r r.x1 r.y1 (omega (arith, ints)) wide (omega (arith, ints)) tall) in
+    let high = within (r.x2 -ℤ pos 1) (r.y2 -ℤ pos 1) (squares_true r _ _ (omega (arith, ints)) (omega (arith, ints)) (omega (arith, ints)) (omega (arith, ints))) in
+    record {
+      left = up r.x1 (e.left _ _ low);
+      bottom = up r.y1 (e.bottom _ _ low);
+      right = down r.x2 (e.right _ _ high);
+      top = down r.y2 (e.top _ _ high);
+    }
+  where
+    up : (x : ℤ) → (lowest +ℤ d) ≤ℤ x → lowest ≤ℤ (x -ℤ d)
+    up x h = omega (arith, ints)
+
+    down : (x : ℤ) → (x -ℤ pos 1) <ℤ (highest -ℤ d) → (x +ℤ d) ≤ℤ highest
+    down x h = omega (arith, ints)
+
+member_covered : (ps : List Rect) (i : ℕ) (r : Rect) (x y : ℤ) → i < length ps → squares (get_or ps i r) x y ≡ true → covered ps x y ≡ true
+member_covered [] i r x y lt h = absurd (omega arith)
+member_covered (p ∷ ps) zero r x y lt h = left_of (squares p x y) (covered ps x y) h
+member_covered (p ∷ ps) (suc i) r x y lt h = right_of (squares p x y) (covered ps x y) (member_covered ps i r x y (omega arith) h)
+
+-- what the code asks for at each piece
+pub item_fits : (bs : List Band) (ps items : List Rect) (i : ℕ) (r : Rect) (d : ℤ) → IsSpacing d → StaysInRange (holds bs) d → ((x y : ℤ) → covered ps x y ≡ holds bs x y)
+    → items ≡ ps → i < length items → r ≡ get_or items i r → FitsGrown r (read d)
+item_fits bs ps items i r d is stays cover all lt item = rw (spacing_read d is)
+    (piece_fits (holds bs) r d is.least stays (λ x y h. sym (cover x y) ∙ member_covered ps i r x y (rw all at lt) (sym (ap (λ q. squares q x y) (rw all at item)) ∙ h)))
+
+-- one turn: another piece is grown
+pub turn_sized : (items grown after : List Rect) (i : ℕ) (r g : Rect) (d : ℤ) → IsSpacing d → i < length items → r ≡ get_or items i r → after ≡ grown ++ (g ∷ [])
+    → g.x1 ≡ r.x1 -ℤ read d → g.y1 ≡ r.y1 -ℤ read d → g.x2 ≡ r.x2 +ℤ read d → g.y2 ≡ r.y2 +ℤ read d
+    → IsSized (covered (take i items)) (read d) (covered grown) → IsSized (covered (take (i + 1) items)) (read d) (covered after)
+turn_sized items grown after i r g d is lt item push left bottom right top before =
+    let some : pos 0 ≤ℤ read d = rw (spacing_read d is) is.least in
+    let taken : take (i + 1) items ≡ take i items ++ (r ∷ []) = take_more items i r lt ∙ ap (λ q. take i items ++ (q ∷ [])) (sym item) in
+    rw (push, taken) (sized_more (take i items) grown r g (read d) before (rect_sized r g (read d) some left bottom right top))
+
+pub all_sized : (p q : ℤ → ℤ → Bool) (ps items grown now : List Rect) (i : ℕ) (d : ℤ) → IsSpacing d → items ≡ ps → length items ≤ i → now ≡ grown → ((x y : ℤ) → covered ps x y ≡ p x y) → ((x y : ℤ) → q x y ≡ covered now x y)
+    → IsSized (covered (take i items)) (read d) (covered grown) → IsSized p d q
+all_sized p q ps items grown now i d is all end same cover squares_now before x y =
+    let at : IsSized (covered ps) d (covered grown) = rw (take_all i items end, all, spacing_read d is) at before in (
+      (λ h. let r = (at x y).0 (sym (ap (λ g. covered g x y) same) ∙ sym (squares_now x y) ∙ h) in record { u = r.u; v = r.v; square = sym (cover r.u r.v) ∙ r.square; across = r.across; up = r.up }),
+      (λ r. squares_now x y ∙ ap (λ g. covered g x y) same ∙ (at x y).1 (record { u = r.u; v = r.v; square = cover r.u r.v ∙ r.square; across = r.across; up = r.up })),
+    )

@@ -1,0 +1,3 @@
+pub mod Ranges
+pub mod Scanning
+pub mod Growing

@@ -1,0 +1,13 @@
+//! Sizing and clearance of regions: distances between unit squares, in x and in y apart. The layers
+//! above rely on a gap equal to the spacing being allowed, and at spacing 0 on overlap alone being
+//! a conflict.
+#![tactic(auto)]
+
+pub mod clearance;
+pub mod sizing;
+
+pub use clearance::{conflicts, is_clear};
+pub use sizing::{fits, sized};
+
+#[cfg(test)]
+mod tests;

@@ -1,0 +1,55 @@
+ghost use Rattle.std.specs.Prelude.{◌≡◌, ◌↔◌, ◌+ℤ◌, ◌-ℤ◌, ℤ, IsTrue, IfOk};
+ghost use Rattle.fill_region.specs.Bands.{holds};
+ghost use Rattle.fill_size.specs.Distance.{IsSized, IsSpacing, StaysInRange};
+ghost use Rattle.fill_size.specs.Growth.{FitsGrown};
+
+use crate::clearance::has_square;
+use fill_base::Rect;
+use fill_base::rect::{HIGHEST, LOWEST};
+use fill_region::Region;
+use fill_spans::Spans;
+use std::alloc::{AllocError, Global};
+
+/// Whether the region, grown by `d` on all sides, stays within the range of coordinates. `d` is 0 to
+/// 2^20 database units.
+pub fn fits(region: &Region, d: i64) -> bool
+    requires { IsSpacing d }
+    ensures { IsTrue result ↔ StaysInRange (holds region.now) d }
+{
+    let bands = region.bands();
+    if d == 0 {
+        return true;
+    }
+    let left = has_square(bands, LOWEST, LOWEST, LOWEST + d, HIGHEST);
+    let right = has_square(bands, HIGHEST - d, LOWEST, HIGHEST, HIGHEST);
+    let bottom = has_square(bands, LOWEST, LOWEST, HIGHEST, LOWEST + d);
+    let top = has_square(bands, LOWEST, HIGHEST - d, HIGHEST, HIGHEST);
+    !(left | right | bottom | top)
+}
+
+/// The region grown by `d` on all sides, as by a square of half side `d`: right-angle corners stay
+/// sharp (KLayout's `sized`). `d` is 0 to 2^20 database units.
+pub fn sized(alloc: Global, region: &Region, d: i64) -> Result<Region, AllocError>
+    requires growth { IsSpacing d }
+    requires fits { StaysInRange (holds region.now) d }
+    ensures { IfOk result (λ r. IsSized (holds region.now) d (holds r)) }
+{
+    let mut grown = Vec::new(alloc);
+    let pieces = region.pieces(alloc)?;
+    for piece in &pieces {
+        grown.push(grown_rect(piece, d))?;
+    }
+    Region::from_rects(alloc, &grown)
+}
+
+/// The rectangle grown by `d` on all sides.
+fn grown_rect(rect: &Rect, d: i64) -> Rect
+    requires growth { IsSpacing d }
+    requires fits { FitsGrown rect.now d }
+    ensures left { result.x1 ≡ rect.now.x1 -ℤ d }
+    ensures bottom { result.y1 ≡ rect.now.y1 -ℤ d }
+    ensures right { result.x2 ≡ rect.now.x2 +ℤ d }
+    ensures top { result.y2 ≡ rect.now.y2 +ℤ d }
+{
+    Rect::from_edges(rect.x1() - d, rect.y1() - d, rect.x2() + d, rect.y2() + d)
+}
