@@ -36,6 +36,9 @@ fn an_area_is_a_count_of_squares(rt: HostRuntime) -> Result<(), Fail> {
         rect(&rt, [5, 0, 7, 1]),
     ];
     let region = Region::from_rects(alloc, &rects)?;
+    let overlapping = [rect(&rt, [0, 0, 4, 4]), rect(&rt, [2, 2, 6, 6])];
+    let pair = Region::from_rects(alloc, &overlapping)?;
+    assert_eq!(rt; area_in(&pair, &rect(&rt, [0, 0, 6, 6])), 28);
     assert_eq!(rt; area_in(&region, &rect(&rt, [0, 0, 6, 6])), 29);
     assert_eq!(rt; area_in(&region, &rect(&rt, [-9, -9, 9, 9])), 30);
     assert_eq!(rt; area_in(&region, &rect(&rt, [1, 1, 3, 3])), 4);

@@ -374,6 +374,55 @@ fn references(rt: HostRuntime) -> Result<(), Fail> {
     Ok(())
 }
 
+/// The library of fill without a box: the cell of one box, and an empty cell above it.
+#[test]
+fn fill_without_a_box(rt: HostRuntime) -> Result<(), Fail> {
+    let name: &[u8] = &[0x00, 0x08, 0x02, 0x06, 0x46, 0x49, 0x4c, 0x4c];
+    let box_name: &[u8] = &[0x00, 0x08, 0x06, 0x06, 0x42, 0x4f, 0x58, 0x34];
+    let layer: &[u8] = &[0x00, 0x06, 0x0d, 0x02, 0x00, 0x0a];
+    let data_type: &[u8] = &[0x00, 0x06, 0x0e, 0x02, 0x00, 0x01];
+    let corners: &[u8] = &[
+        0x00, 0x2c, 0x10, 0x03, 0, 0, 0, 0, 0, 0, 0, 0, 0, 0, 0, 0, 0, 0, 0, 4, 0, 0, 0, 4, 0, 0,
+        0, 4, 0, 0, 0, 4, 0, 0, 0, 0, 0, 0, 0, 0, 0, 0, 0, 0,
+    ];
+    let top_name: &[u8] = &[
+        0x00, 0x0c, 0x06, 0x06, 0x46, 0x49, 0x4c, 0x4c, 0x54, 0x4f, 0x50, 0x00,
+    ];
+    let pieces: &[&[u8]] = &[
+        HEADER, BGNLIB, name, UNITS, BGNSTR, box_name, BOUNDARY, layer, data_type, corners, ENDEL,
+        ENDSTR, BGNSTR, top_name, ENDSTR, ENDLIB,
+    ];
+    let bytes = joined(rt.alloc(), pieces)?;
+    assert_eq!(rt; bytes.len(), 214);
+    let library = read_library(rt.alloc(), &bytes)?;
+    assert_eq!(rt; library.cells.len(), 2);
+    let top = library
+        .cells
+        .get(b"FILLTOP".as_slice())
+        .ok_or("no cell FILLTOP")?;
+    assert_eq!(rt; top.len(), 0);
+    let elements = library.cells.get(b"BOX4".as_slice()).ok_or("no cell BOX4")?;
+    assert_eq!(rt; elements.len(), 1);
+    for element in elements {
+        match element {
+            Element::Boundary(b) => {
+                assert_eq!(rt; b.layer, 10);
+                assert_eq!(rt; b.data_type, 1);
+                let points = [
+                    Point { x: 0, y: 0 },
+                    Point { x: 0, y: 4 },
+                    Point { x: 4, y: 4 },
+                    Point { x: 4, y: 0 },
+                    Point { x: 0, y: 0 },
+                ];
+                assert_eq!(rt; b.points.as_slice(), points.as_slice());
+            }
+            _ => assert!(rt; false, "no boundary"),
+        }
+    }
+    Ok(())
+}
+
 #[test]
 fn paths(rt: HostRuntime) -> Result<(), Fail> {
     let path: &[u8] = &[0x00, 0x04, 0x09, 0x00];
