@@ -1,4 +1,6 @@
 pub mod Axes
+pub mod Places
+pub mod Sharing
 pub mod GridTests
 pub mod Walking
 pub mod Shares

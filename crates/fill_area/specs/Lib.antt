@@ -1,4 +1,5 @@
 pub mod Grid
+pub mod Places
 pub mod Density
 pub mod GridOf
 pub mod Slabs

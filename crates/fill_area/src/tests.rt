@@ -1,6 +1,7 @@
 use crate::{Windows, area_in, is_high, is_low, measure_all};
 use fill_base::{Point, Rect};
 use fill_region::Region;
+use std::ops::Range;
 use std::process::Abort;
 use std::test::Fail;
 
@@ -66,4 +67,33 @@ fn windows_beyond_the_range_are_refused(rt: HostRuntime) {
 fn an_equal_share_passes(rt: HostRuntime) {
     assert!(rt; !is_low(400, 160_000, 2500) && is_low(399, 160_000, 2500));
     assert!(rt; !is_high(2000, 800_000, 2500) && is_high(2001, 800_000, 2500));
+}
+
+/// Asserts which columns a range names.
+fn assert_columns(rt: &impl Abort, found: &Range<u32>, first: u32, past: u32) {
+    assert_eq!(rt; found.start, first);
+    assert_eq!(rt; found.end, past);
+}
+
+#[test]
+fn windows_that_share_and_hold(rt: HostRuntime) {
+    let Ok(windows) = Windows::new(Point { x: 0, y: 0 }, (50, 50), (25, 25), (3, 3)) else {
+        panic!(&rt; "the windows are refused");
+    };
+    let (columns, rows) = windows.touching(&rect(&rt, [23, 3, 27, 7]));
+    assert_columns(&rt, &columns, 0, 2);
+    assert_columns(&rt, &rows, 0, 1);
+    let (columns, rows) = windows.containing(&rect(&rt, [23, 3, 27, 7]));
+    assert_columns(&rt, &columns, 0, 1);
+    assert_columns(&rt, &rows, 0, 1);
+    let (columns, rows) = windows.containing(&rect(&rt, [25, 0, 50, 50]));
+    assert_columns(&rt, &columns, 0, 2);
+    assert_columns(&rt, &rows, 0, 1);
+    let (columns, rows) = windows.touching(&rect(&rt, [25, 50, 50, 60]));
+    assert_columns(&rt, &columns, 0, 2);
+    assert_columns(&rt, &rows, 1, 3);
+    let (columns, _) = windows.touching(&rect(&rt, [100, 0, 210, 10]));
+    assert!(rt; columns.start >= columns.end);
+    let (columns, _) = windows.touching(&rect(&rt, [-10, 0, 0, 10]));
+    assert!(rt; columns.start >= columns.end);
 }

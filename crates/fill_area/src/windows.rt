@@ -1,12 +1,15 @@
 ghost use Rattle.std.specs.Prelude.{◌≡◌, ◌↔◌, ℕ, ◌<◌, ◌-◌, ◌*◌, ◌/◌, ◌%◌, ◌≤◌, ℤ, pos, ◌+ℤ◌, ◌*ℤ◌, ◌≤ℤ◌, ◌<ℤ◌, IsTrue, IsOk, IfOk};
 ghost use Rattle.fill_base.specs.Coordinates.{lowest, highest, IsCoordinate};
 ghost use Rattle.fill_area.specs.Grid.{Grid, IsLength, IsCount, IsAxis, IsGrid, window_left, window_right, window_bottom, window_top, IsExtent};
+ghost use Rattle.fill_area.specs.Places.{IsBegun, IsLimit, IsPlace, IsTouching, IsContaining, IsWindow, ShareASquare, Holds, window_squares};
+ghost use Rattle.fill_base.specs.Squares.{squares};
 ghost use Rattle.fill_area.specs.Density.{IsArea};
 ghost use Rattle.fill_area.specs.GridOf.{grid_of};
 
 use fill_base::rect::{HIGHEST, is_coordinate};
 use fill_base::{Point, Rect};
 use std::marker::Model;
+use std::ops::Range;
 use thiserror::Error;
 
 /// Numbers that make no grid of windows.
@@ -193,6 +196,101 @@ impl Windows {
         let columns = self.columns as usize;
         ((k % columns) as u32, (k / columns) as u32)
     }
+}
+
+impl Windows {
+    /// The columns and the rows of the windows that share a square with the rectangle: exactly the
+    /// windows whose column is in the first range and whose row is in the second.
+    pub fn touching(&self, rect: &Rect) -> (Range<u32>, Range<u32>)
+        ensures { (a b : ℕ) → (IsPlace result.0.start result.0.end a × IsPlace result.1.start result.1.end b) ↔ (IsWindow self.now a b × ShareASquare (window_squares self.now a b) (squares rect.now)) }
+    {
+        let columns = touching_between(
+            self.x,
+            self.width,
+            self.step_x,
+            self.columns,
+            rect.x1(),
+            rect.x2(),
+        );
+        let rows = touching_between(
+            self.y,
+            self.height,
+            self.step_y,
+            self.rows,
+            rect.y1(),
+            rect.y2(),
+        );
+        (columns, rows)
+    }
+
+    /// The columns and the rows of the windows that hold the whole rectangle: exactly the windows
+    /// whose column is in the first range and whose row is in the second.
+    pub fn containing(&self, rect: &Rect) -> (Range<u32>, Range<u32>)
+        ensures { (a b : ℕ) → (IsPlace result.0.start result.0.end a × IsPlace result.1.start result.1.end b) ↔ (IsWindow self.now a b × Holds (window_squares self.now a b) (squares rect.now)) }
+    {
+        let columns = containing_between(
+            self.x,
+            self.width,
+            self.step_x,
+            self.columns,
+            rect.x1(),
+            rect.x2(),
+        );
+        let rows = containing_between(
+            self.y,
+            self.height,
+            self.step_y,
+            self.rows,
+            rect.y1(),
+            rect.y2(),
+        );
+        (columns, rows)
+    }
+}
+
+/// How many of the windows in a row begin below `limit`. They are the first ones.
+fn begun_below(first: i64, step: i64, count: u32, limit: i64) -> u32
+    requires first { IsCoordinate first }
+    requires step { IsLength step }
+    requires limit { IsLimit limit }
+    ensures { IsBegun first step count limit result }
+{
+    if limit <= first {
+        return 0;
+    }
+    let steps = ((limit - first) as u64).div_ceil(step as u64);
+    if steps < u64::from(count) {
+        steps as u32
+    } else {
+        count
+    }
+}
+
+/// Which windows in a row share a number with the range from `lo` below `hi`.
+fn touching_between(first: i64, length: i64, step: i64, count: u32, lo: i64, hi: i64) -> Range<u32>
+    requires axis { IsAxis first length step count }
+    requires low { IsCoordinate lo }
+    requires high { IsCoordinate hi }
+    ensures { (a : ℕ) → IsPlace result.start result.end a ↔ IsTouching first length step count lo hi a }
+{
+    begun_below(first, step, count, lo - length + 1)..begun_below(first, step, count, hi)
+}
+
+/// Which windows in a row hold the range from `lo` below `hi`.
+fn containing_between(
+    first: i64,
+    length: i64,
+    step: i64,
+    count: u32,
+    lo: i64,
+    hi: i64,
+) -> Range<u32>
+    requires axis { IsAxis first length step count }
+    requires low { IsCoordinate lo }
+    requires high { IsCoordinate hi }
+    ensures { (a : ℕ) → IsPlace result.start result.end a ↔ IsContaining first length step count lo hi a }
+{
+    begun_below(first, step, count, hi - length)..begun_below(first, step, count, lo + 1)
 }
 
 /// Both ends of the window at place `a` of `count` windows in a row.

@@ -1,0 +1,105 @@
+-- Windows that share a square with a rectangle, or hold it.
+use Rattle.std.proofs.Common.{◌≡◌, ℕ, ℤ, pos, ◌+ℤ◌, ◌-ℤ◌, ◌≤ℤ◌, ◌<ℤ◌, ◌↔◌, refl, arith, Bool, true, false, ◌&&◌}
+use Rattle.std.specs.Int.{int_max}
+use Rattle.std.proofs.lemmas.Int.{ints, clamps}
+use Rattle.fill_base.specs.declared.rect.Rect.{Rect}
+use Rattle.fill_base.specs.Counts.{is_between}
+use Rattle.fill_base.specs.Squares.{squares}
+use Rattle.fill_base.proofs.Signed.{read, read_is, coordinate_fits}
+use Rattle.fill_base.proofs.Between.{is_between_true, is_between_bounds}
+use Rattle.fill_area.specs.Grid.{Grid, IsAxis, IsGrid, window_left, window_right, window_bottom, window_top}
+use Rattle.fill_area.specs.Places.{IsPlace, IsTouching, IsContaining, IsWindow, ShareASquare, Holds, window_squares}
+use Rattle.fill_area.proofs.Axes.{length_fits}
+
+first_true : (a b : Bool) → a && b ≡ true → a ≡ true
+first_true true b h = refl
+first_true false b h = cc
+
+second_true : (a b : Bool) → a && b ≡ true → b ≡ true
+second_true true b h = h
+second_true false b h = cc
+
+both_true : (a b : Bool) → a ≡ true → b ≡ true → a && b ≡ true
+both_true a b h k = rw (h, k) refl
+
+-- two ranges that each begin below the other's end share a number
+record Shared (a b c d : ℤ) : Type 0 where
+  x : ℤ
+  first : is_between a b x ≡ true
+  second : is_between c d x ≡ true
+
+shared : (a b c d : ℤ) → a <ℤ b → c <ℤ d → a <ℤ d → c <ℤ b → Shared a b c d
+shared a b c d ab cd ad cb = record {
+  x = int_max a c;
+  first = is_between_true a b (int_max a c) (omega (arith, ints, clamps)) (omega (arith, ints, clamps));
+  second = is_between_true c d (int_max a c) (omega (arith, ints, clamps)) (omega (arith, ints, clamps));
+}
+
+apart : (a b c d x : ℤ) → is_between a b x ≡ true → is_between c d x ≡ true → (a <ℤ d) × (c <ℤ b)
+apart a b c d x h k =
+    let p = is_between_bounds a b x h in let q = is_between_bounds c d x k in
+    let pl : a ≤ℤ x = p.0 in let ph : x <ℤ b = p.1 in let ql : c ≤ℤ x = q.0 in let qh : x <ℤ d = q.1 in
+    (omega (arith, ints), omega (arith, ints))
+
+longer : (z length : ℤ) → pos 1 ≤ℤ length → z <ℤ (z +ℤ length)
+longer z length one = omega (arith, ints)
+
+pub windows_sharing : (g : Grid) (r : Rect) (c0 c1 r0 r1 : ℕ) → IsGrid g
+    → ((a : ℕ) → IsPlace c0 c1 a ↔ IsTouching g.x g.width g.step_x g.columns r.x1 r.x2 a) → ((b : ℕ) → IsPlace r0 r1 b ↔ IsTouching g.y g.height g.step_y g.rows r.y1 r.y2 b)
+    → (a b : ℕ) → (IsPlace c0 c1 a × IsPlace r0 r1 b) ↔ (IsWindow g a b × ShareASquare (window_squares g a b) (squares r))
+windows_sharing g r c0 c1 r0 r1 is columns rows a b = (
+  (λ h.
+      let across = (columns a).0 h.0 in
+      let up = (rows b).0 h.1 in
+      let x = shared (window_left g a) (window_right g a) r.x1 r.x2 (longer (window_left g a) g.width is.across.length_is.least) r.wide across.1 across.2 in
+      let y = shared (window_bottom g b) (window_top g b) r.y1 r.y2 (longer (window_bottom g b) g.height is.up.length_is.least) r.tall up.1 up.2 in
+      ((across.0, up.0), record { x = x.x; y = y.x; first = both_true _ _ x.first y.first; second = both_true _ _ x.second y.second })),
+  (λ h.
+      let x = apart (window_left g a) (window_right g a) r.x1 r.x2 h.1.x (first_true _ _ h.1.first) (first_true _ _ h.1.second) in
+      let y = apart (window_bottom g b) (window_top g b) r.y1 r.y2 h.1.y (second_true _ _ h.1.first) (second_true _ _ h.1.second) in
+      ((columns a).1 (h.0.0, x.0, x.1), (rows b).1 (h.0.1, y.0, y.1))),
+)
+
+-- a range within another one
+within : (a b c d x : ℤ) → a ≤ℤ c → d ≤ℤ b → is_between c d x ≡ true → is_between a b x ≡ true
+within a b c d x ac db h =
+    let q = is_between_bounds c d x h in let ql : c ≤ℤ x = q.0 in let qh : x <ℤ d = q.1 in
+    is_between_true a b x (omega (arith, ints)) (omega (arith, ints))
+
+first_in : (c d : ℤ) → c <ℤ d → is_between c d c ≡ true
+first_in c d lt = is_between_true c d c (omega (arith, ints)) lt
+
+last_in : (c d : ℤ) → c <ℤ d → is_between c d (d -ℤ pos 1) ≡ true
+last_in c d lt = is_between_true c d (d -ℤ pos 1) (omega (arith, ints)) (omega (arith, ints))
+
+ends_in : (a b c d : ℤ) → is_between a b c ≡ true → is_between a b (d -ℤ pos 1) ≡ true → (a ≤ℤ c) × (d ≤ℤ b)
+ends_in a b c d h k =
+    let p = is_between_bounds a b c h in let q = is_between_bounds a b (d -ℤ pos 1) k in
+    let qh : (d -ℤ pos 1) <ℤ b = q.1 in
+    (p.0, omega (arith, ints))
+
+pub windows_holding : (g : Grid) (r : Rect) (c0 c1 r0 r1 : ℕ)
+    → ((a : ℕ) → IsPlace c0 c1 a ↔ IsContaining g.x g.width g.step_x g.columns r.x1 r.x2 a) → ((b : ℕ) → IsPlace r0 r1 b ↔ IsContaining g.y g.height g.step_y g.rows r.y1 r.y2 b)
+    → (a b : ℕ) → (IsPlace c0 c1 a × IsPlace r0 r1 b) ↔ (IsWindow g a b × Holds (window_squares g a b) (squares r))
+windows_holding g r c0 c1 r0 r1 columns rows a b = (
+  (λ h.
+      let across = (columns a).0 h.0 in
+      let up = (rows b).0 h.1 in (
+        (across.0, up.0),
+        (λ x y is. both_true _ _
+            (within (window_left g a) (window_right g a) r.x1 r.x2 x across.1 across.2 (first_true (is_between r.x1 r.x2 x) (is_between r.y1 r.y2 y) is))
+            (within (window_bottom g b) (window_top g b) r.y1 r.y2 y up.1 up.2 (second_true (is_between r.x1 r.x2 x) (is_between r.y1 r.y2 y) is))),
+      )),
+  (λ h.
+      let low = h.1 r.x1 r.y1 (both_true _ _ (first_in r.x1 r.x2 r.wide) (first_in r.y1 r.y2 r.tall)) in
+      let high = h.1 (r.x2 -ℤ pos 1) (r.y2 -ℤ pos 1) (both_true _ _ (last_in r.x1 r.x2 r.wide) (last_in r.y1 r.y2 r.tall)) in
+      let x = ends_in (window_left g a) (window_right g a) r.x1 r.x2 (first_true _ _ low) (first_true _ _ high) in
+      let y = ends_in (window_bottom g b) (window_top g b) r.y1 r.y2 (second_true _ _ low) (second_true _ _ high) in
+      ((columns a).1 (h.0.0, x.0, x.1), (rows b).1 (h.0.1, y.0, y.1))),
+)
+
+-- what the code asks of one axis, with its numbers as they were handed in
+pub as_written : (T : ℤ → ℤ → ℤ → ℕ → ℤ → ℤ → ℕ → Type 0) (first length step x1 x2 lo hi : ℤ) (count c0 c1 : ℕ) → IsAxis first length step count → x1 ≡ lo → x2 ≡ hi → read lo ≡ lo → read hi ≡ hi
+    → ((a : ℕ) → IsPlace c0 c1 a ↔ T (read first) (read length) (read step) count (read x1) (read x2) a) → (a : ℕ) → IsPlace c0 c1 a ↔ T first length step count lo hi a
+as_written T first length step x1 x2 lo hi count c0 c1 axis low high low_read high_read h =
+    rw (low, high, low_read, high_read, read_is first (coordinate_fits first axis.first_is.least axis.first_is.most), read_is length (length_fits length axis.length_is), read_is step (length_fits step axis.step_is)) at h
