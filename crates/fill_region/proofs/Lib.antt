@@ -6,3 +6,6 @@ pub mod Looking
 pub mod OneRect
 pub mod Listing
 pub mod PieceSteps
+pub mod Ordered
+pub mod NextLines
+pub mod UpwardSweep

@@ -4,3 +4,4 @@ pub mod Laws
 pub mod Sweep
 pub mod Search
 pub mod Pieces
+pub mod Lines

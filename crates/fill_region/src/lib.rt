@@ -4,6 +4,7 @@
 #![tactic(auto)]
 
 pub mod laws;
+mod lines;
 pub mod region;
 
 pub use region::Region;

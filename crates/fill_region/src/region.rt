@@ -11,6 +11,7 @@ ghost use Rattle.fill_region.specs.Squares.{covered};
 ghost use Rattle.fill_region.specs.Pieces.{sides, sides_of, band_pieces, row_pieces, AreInOrder};
 ghost use Rattle.fill_region.specs.Sweep.{IsRowOf, RowPut};
 
+use crate::lines::swept;
 use fill_base::Rect;
 use fill_spans::sweep::{CEILING, edge_at, passed};
 use fill_spans::{Operation, Spans};
@@ -72,17 +73,8 @@ impl Region {
         ensures region { IfOk result IsRegion }
         ensures squares { IfOk result (λ r. (x y : ℤ) → holds r x y ≡ covered rects.now x y) }
     {
-        match rects {
-            [] => Ok(Region::empty(alloc)),
-            [rect] => Region::one(alloc, rect),
-            _ => {
-                let (low, high) = rects.split_at(rects.len() / 2);
-                let low = Region::from_rects(alloc, low)?;
-                let high = Region::from_rects(alloc, high)?;
-                let whole = low.union(alloc, &high)?;
-                Ok(whole)
-            }
-        }
+        let bands = swept(alloc, rects)?;
+        Ok(Region { bands })
     }
 
     /// The squares that `operation` keeps, in one sweep over both regions.
@@ -284,7 +276,7 @@ fn is_top(alloc: Global, bands: &[(i32, Spans)], row: &Spans) -> bool
 }
 
 /// Appends a band at `at` with this row, unless the last band has it already.
-fn put_row(
+pub fn put_row(
     alloc: Global,
     out: &mut Vec<(i32, Spans)>,
     at: i32,

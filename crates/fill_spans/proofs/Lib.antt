@@ -3,3 +3,4 @@ pub mod Merging
 pub mod SweepTurns
 pub mod Canonical
 pub mod Searching
+pub mod OpenInterval

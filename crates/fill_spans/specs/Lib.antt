@@ -3,3 +3,5 @@ pub mod Operations
 pub mod Laws
 pub mod Sweep
 pub mod Search
+pub mod Columns
+pub mod Joining

@@ -2,6 +2,7 @@
 //! that of sets of whole numbers, and equal sets are equal values: the layers above rely on both.
 #![tactic(auto)]
 
+mod joining;
 pub mod laws;
 pub mod operation;
 pub mod spans;

@@ -5,13 +5,16 @@ ghost use Rattle.std.specs.Cmp.Lexicographic.{pointwise, lists_per, lists_equiv}
 ghost use Rattle.std.specs.Cmp.{int_eq_equiv, partial_equiv_from_equiv};
 ghost use Rattle.fill_base.specs.Coordinates.{lowest, highest};
 ghost use Rattle.fill_base.specs.Counts.{is_between, count_between};
+ghost use Rattle.fill_spans.specs.Columns.{has_column, IsRisingBy};
 ghost use Rattle.fill_spans.specs.Spans.{inside, next_edge, IsCanonical};
 ghost use Rattle.fill_spans.specs.Search.{IsFirstAbove, IsEdgeBelow, HasMember, stretch_of};
 ghost use Rattle.fill_spans.specs.Operations.{applied};
 ghost use Rattle.fill_spans.specs.Sweep.{Turned};
 
+use crate::joining::joined;
 use crate::operation::Operation;
 use crate::sweep::{edge_at, passed};
+use fill_base::Rect;
 use fill_base::rect::{HIGHEST, LOWEST};
 use std::alloc::{AllocError, Global};
 use std::marker::Model;
@@ -69,6 +72,16 @@ impl Spans {
         ensures members { IfOk result (λ r. (x : ℤ) → inside r x ≡ is_between lo hi x) }
     {
         let edges = pair(alloc, lo as i32, hi as i32)?;
+        Ok(Spans { edges })
+    }
+
+    /// The columns in which some rectangle has squares. The rectangles come by their left edges.
+    pub fn across(alloc: Global, rects: &[Rect]) -> Result<Spans, AllocError>
+        requires { IsRisingBy (λ r. r.x1) rects.now }
+        ensures canonical { IfOk result IsCanonical }
+        ensures members { IfOk result (λ s. (x : ℤ) → inside s x ≡ has_column rects.now x) }
+    {
+        let edges = joined(alloc, rects)?;
         Ok(Spans { edges })
     }
 

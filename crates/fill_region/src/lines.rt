@@ -1,0 +1,90 @@
+//! The squares of many rectangles as bands: one sweep upwards over the lines at which a rectangle
+//! begins or ends.
+ghost use Rattle.std.specs.Prelude.{◌≡◌, ℤ, ◌<ℤ◌, ◌≤ℤ◌, IfOk, OnOk, [], length, ◌≤◌};
+ghost use Rattle.std.specs.List.Sorted.{IsPermutation, IsPartitionPoint};
+ghost use Rattle.fill_spans.specs.Columns.{IsRisingBy};
+ghost use Rattle.fill_region.specs.Bands.{holds, IsRegion};
+ghost use Rattle.fill_region.specs.Squares.{covered};
+ghost use Rattle.fill_region.specs.Lines.{IsNextLine, IsCrossed};
+
+use crate::region::put_row;
+use fill_base::Rect;
+use fill_spans::Spans;
+use fill_spans::sweep::CEILING;
+use std::alloc::{AllocError, Global};
+
+/// The bands of the squares that some rectangle holds. At each line at which a rectangle begins or
+/// ends, the rectangles that cross it make one row.
+pub fn swept(alloc: Global, rects: &[Rect]) -> Result<Vec<(i32, Spans)>, AllocError>
+    ensures region { IfOk result (λ v. IsRegion v.items) }
+    ensures squares { IfOk result (λ v. (x y : ℤ) → holds v.items x y ≡ covered rects.now x y) }
+{
+    let sorted = by_bottom(alloc, rects)?;
+    let mut later = sorted.as_slice();
+    let mut crossing = Vec::new(alloc);
+    let mut bands = Vec::new(alloc);
+    let mut line = next_line(later, &crossing);
+    'sweep: while line < i64::from(CEILING) {
+        let (begun, rest) = later.split_at(begun_at(later, line));
+        cross(&mut crossing, begun, line)?;
+        let row = Spans::across(alloc, &crossing)?;
+        put_row(alloc, &mut bands, line as i32, row)?;
+        later = rest;
+        line = next_line(later, &crossing);
+    }
+    Ok(bands)
+}
+
+/// The rectangles by their lower edges.
+fn by_bottom(alloc: Global, rects: &[Rect]) -> Result<Vec<Rect>, AllocError>
+    ensures same { IfOk result (λ v. IsPermutation rects.now v.items) }
+    ensures rising { IfOk result (λ v. IsRisingBy (λ r. r.y1) v.items) }
+{
+    let mut sorted = Vec::from_slice(alloc, rects)?;
+    sorted.sort_by_key(|rect| rect.y1())?;
+    Ok(sorted)
+}
+
+/// How many rectangles begin at the line or below.
+fn begun_at(rects: &[Rect], line: i64) -> usize
+    requires { IsRisingBy (λ r. r.y1) rects.now }
+    ensures within { result ≤ length rects.now }
+    ensures parted { IsPartitionPoint (λ r. r.y1 ≤ℤ line) (λ r. line <ℤ r.y1) rects.now result }
+{
+    rects.partition_point(|rect| rect.y1() <= line)
+}
+
+/// The lowest line at which a rectangle of `later` begins or one of `crossing` ends, or the ceiling
+/// where there is none.
+fn next_line(later: &[Rect], crossing: &[Rect]) -> i64
+    requires { IsRisingBy (λ r. r.y1) later.now }
+    ensures { IsNextLine later.now crossing.now result }
+{
+    let mut line = first_bottom(later);
+    for rect in crossing {
+        line = line.min(rect.y2());
+    }
+    line
+}
+
+/// The lowest line at which a rectangle begins, or the ceiling where there is none.
+fn first_bottom(rects: &[Rect]) -> i64
+    requires { IsRisingBy (λ r. r.y1) rects.now }
+    ensures { IsNextLine rects.now [] result }
+{
+    match rects.first() {
+        Some(rect) => rect.y1(),
+        None => i64::from(CEILING),
+    }
+}
+
+/// Takes out the rectangles that end at the line or below, and in those that begin there. They stay
+/// sorted by their left edges.
+fn cross(crossing: &mut Vec<Rect>, begun: &[Rect], line: i64) -> Result<(), AllocError>
+    ensures { OnOk result (IsCrossed line crossing.old.items begun.now crossing.new.items) }
+{
+    crossing.retain(|rect| rect.y2() > line);
+    crossing.extend_from_slice(begun)?;
+    crossing.sort_by_key(|rect| rect.x1())?;
+    Ok(())
+}
