@@ -18,3 +18,4 @@ build:
 bench: build
 	bench/rects/run.sh
 	bench/gds/run.sh
+	bench/layer/run.sh

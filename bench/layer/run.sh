@@ -1,0 +1,90 @@
+#!/usr/bin/env bash
+# Times the hot paths of regions on generated layers of 100,000, 1,000,000 and 4,000,000 rectangles, in Rattle and in
+# plain Rust (plain.rs: the same algorithms without proofs), and prints one table:
+#   from_rects    the region of all rectangles
+#   windows N     the areas of N windows over the block; those of the last two grids overlap by half
+#   corner N      the same where all metal lies in one corner of the windows
+#   is_clear      the clearance of a million boxes on a raster over the block
+# The million rectangles are measured with 1, 2 and all processors; `gain` is how many times faster than with one.
+# Each number is the best of three processes, for the machine may be busy; a peak is that of the whole process.
+# Both programs print what came out (edges, areas, clear boxes), and where these differ the run fails.
+#
+# usage: bench/layer/run.sh      (needs rt, rustc, python3, taskset, GNU time and 2 GB; some four minutes, and six more
+#                                 where the crates were not proved before)
+set -eu
+here=$(cd "$(dirname "$0")" && pwd)
+root=$(cd "$here/../.." && pwd)
+work=$(mktemp -d)
+trap 'rm -rf "$work"' EXIT
+
+# The program stands in a repository of its own, since the gate runs no benchmark.
+mkdir -p "$work/repository/crates/layer/src"
+git -C "$work/repository" init -q
+cp "$root/HANDLES" "$work/repository/HANDLES"
+for crate in fill_base fill_spans fill_region fill_size fill_area; do
+    cp -r "$root/crates/$crate" "$work/repository/crates/$crate"
+    grep "^$crate:" "$root/crates.txt" >> "$work/repository/crates.txt"
+done
+echo "layer: fill_area fill_size fill_region fill_spans fill_base rayon anyhow" >> "$work/repository/crates.txt"
+cp "$here/layer.rt.txt" "$work/repository/crates/layer/src/main.rt"
+python3 "$here/generate.py" 1000 "$work/first"
+(cd "$work/repository/crates/layer" && rt run -- "$work/first") > "$work/build.log" 2>&1 ||
+    { tail -20 "$work/build.log"; exit 1; }
+cp "$work/repository/crates/layer/out/layer" "$work/rattle"
+rustc --edition 2021 -O -o "$work/plain" "$here/plain.rs"
+
+# measure SIZE PROCESSORS: runs both programs three times on the first so many processors.
+measure() {
+    local size=$1 processors=$2 last=$(($2 - 1)) round program
+    for round in 1 2 3; do
+        for program in rattle plain; do
+            /usr/bin/time -f %M -o "$work/peak" taskset -c "0-$last" "$work/$program" "$work/layer" > "$work/said"
+            awk -v s="$size" -v t="$processors" -v p="$program" -v peak="$(cat "$work/peak")" \
+                '{ print s, t, p, peak, $0 }' "$work/said" >> "$work/measured"
+        done
+    done
+}
+
+all=$(nproc)
+for size in 100000 1000000 4000000; do
+    python3 "$here/generate.py" $size "$work/layer"
+    if [ $size = 1000000 ]; then
+        for processors in 1 2; do
+            [ $processors -ge "$all" ] || measure $size $processors
+        done
+    fi
+    measure $size "$all"
+done
+
+# Lines of $work/measured: size, processors, program, peak in KB, what was done, what came out, microseconds.
+awk '{ key = $1 " " $5 }
+    key in sum && sum[key] != $6 { print "differs: " key ": " sum[key] " and " $6; wrong = 1 }
+    { sum[key] = $6 }
+    END { exit wrong }' "$work/measured"
+
+awk '
+    function least(table, key, value) { if (!(key in table) || value < table[key]) table[key] = value }
+    {
+        row = $1 " " $2 " " $5
+        if (!(row in known)) { known[row] = 1; rows[++count] = row; came[row] = $6 }
+        least(best, row " " $3, $7)
+        least(peak, $1 " " $2 " " $3, $4)
+    }
+    function gain(size, what, program, micros) {
+        one = best[size " 1 " what " " program]
+        return one == "" ? "" : sprintf("%.2f", one / micros)
+    }
+    END {
+        head = "%-12s %10s %15s %10s %9s %9s %6s %11s %10s %14s %13s\n"
+        printf head, "what", "rectangles", "came out", "processors", "rattle s", "plain s", "ratio",
+            "rattle gain", "plain gain", "rattle peak MB", "plain peak MB"
+        for (k = 1; k <= count; k++) {
+            split(rows[k], part, " ")
+            r = best[rows[k] " rattle"]; p = best[rows[k] " plain"]
+            if (part[3] == "bands") { printf "%-12s %10d %15d\n", "bands", part[1], came[rows[k]]; continue }
+            printf "%-12s %10d %15s %10d %9.3f %9.3f %6.2f %11s %10s %14.0f %13.0f\n", part[3], part[1],
+                came[rows[k]], part[2], r / 1e6, p / 1e6, r / p, gain(part[1], part[3], "rattle", r),
+                gain(part[1], part[3], "plain", p), peak[part[1] " " part[2] " rattle"] / 1024,
+                peak[part[1] " " part[2] " plain"] / 1024
+        }
+    }' "$work/measured"
