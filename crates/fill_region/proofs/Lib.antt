@@ -9,3 +9,4 @@ pub mod PieceSteps
 pub mod Ordered
 pub mod NextLines
 pub mod UpwardSweep
+pub mod Within

@@ -2,11 +2,12 @@
 use Rattle.std.proofs.Common.{◌≡◌, ℕ, ◌+◌, ◌<◌, ℤ, ◌≤ℤ◌, ◌<ℤ◌, List, [], ◌∷◌, ◌++◌, length, get_or, take, refl, arith, ap, ◌∙◌, sym, Bool, true, false, ◌||◌, ◌&&◌, w64, FitsSigned, Some}
 use Rattle.std.specs.Prelude.{int_lt, All}
 use Rattle.std.specs.Int.{int_min}
-use Rattle.std.specs.List.{filter, slice_get}
+use Rattle.std.specs.List.{filter, dedup, slice_get}
 use Rattle.std.specs.List.Sorted.{IsPermutation}
 use Rattle.std.proofs.lemmas.Int.{ints, clamps}
 use Rattle.std.proofs.lemmas.List.{get_or-take, length-take-le}
 use Rattle.std.proofs.lemmas.List.Elements.{All-more, All-append, All-filter, filter_passes}
+use Rattle.std.proofs.lemmas.List.Filters.{All-dedup}
 use Rattle.std.proofs.lemmas.List.Folds.{list_any-append}
 use Rattle.std.proofs.lemmas.List.Sorted.{All-permutation, list_any-IsPermutation}
 use Rattle.std.proofs.lemmas.Map.Views.{any-filter_same}
@@ -20,6 +21,7 @@ use Rattle.fill_spans.specs.Spans.{ceiling}
 use Rattle.fill_spans.specs.Columns.{IsRisingBy}
 use Rattle.fill_region.specs.Squares.{covered}
 use Rattle.fill_region.specs.Lines.{Crosses, IsNextLine, IsCrossed}
+use Rattle.fill_region.proofs.Within.{ends_within, kept_squares, kept_rising}
 
 -- the first of the rectangles by their lower edges
 pub first_line : (rects : List Rect) (r : Rect) (y1 : ℤ) → y1 ≡ r.y1 → Some r ≡ slice_get rects 0 → IsRisingBy (λ q. q.y1) rects → IsNextLine rects [] (read y1)
@@ -72,17 +74,16 @@ nearer_line later crossing k q line y2 line' more item is fits least n =
         let e : get_or (take (k + 1) crossing) k q ≡ q = get_or-take (k + 1) crossing k q (omega arith) ∙ sym item in
         rw e at (all k q (rw (length-take-le (k + 1) crossing (omega arith)) (omega arith)))
 
--- what the sort and the two edits before it leave
-pub crossed : (line : ℤ) (old kept both begun new : List Rect) → kept ≡ filter (λ r. int_lt line r.y2) old → both ≡ kept ++ begun → IsPermutation both new
-    → IsRisingBy (λ r. r.x1) new → IsCrossed line old begun new
-crossed line old kept both begun new is joined moved sorted = record {
-  sorted = sorted;
-  squares = λ x y le.
-      let same : covered new x y ≡ covered both x y = sym (list_any-IsPermutation (λ r. squares r x y) both new moved) in
-      same ∙ (rw joined (list_any-append (λ r. squares r x y) kept begun)
-      ∙ ap (λ b. b || covered begun x y) {x = covered kept x y} (rw is (any-filter_same (λ r. squares r x y) (λ r. int_lt line r.y2) true (λ r h. past line r x y le h) old)));
-  cross = λ low first. All-permutation (Crosses line) both new moved (rw joined (All-append (Crosses line) kept begun
-      (rw is (stay old low)) first));
+-- what the sort and the edits around it leave
+pub crossed : (line : ℤ) (old kept both begun sorted new : List Rect) → kept ≡ filter (λ r. int_lt line r.y2) old → both ≡ kept ++ begun → IsPermutation both sorted
+    → IsRisingBy (λ r. r.x1) sorted → new ≡ dedup ends_within sorted → IsCrossed line old begun new
+crossed line old kept both begun sorted new is joined moved rising left = record {
+  sorted = rw left (kept_rising sorted rising);
+  squares = λ low first x y le.
+      let same : covered sorted x y ≡ covered both x y = sym (list_any-IsPermutation (λ r. squares r x y) both sorted moved) in
+      rw left (kept_squares sorted line x y le (λ k d lt. (crossing low first k d lt).0) rising) ∙ (same ∙ (rw joined (list_any-append (λ r. squares r x y) kept begun)
+      ∙ ap (λ b. b || covered begun x y) {x = covered kept x y} (rw is (any-filter_same (λ r. squares r x y) (λ r. int_lt line r.y2) true (λ r h. past line r x y le h) old))));
+  cross = λ low first. rw left (All-dedup ends_within (Crosses line) sorted (crossing low first));
 }
   where
     past : (line : ℤ) (r : Rect) (x y : ℤ) → line ≤ℤ y → squares r x y ≡ true → int_lt line r.y2 ≡ true
@@ -94,3 +95,6 @@ crossed line old kept both begun new is joined moved sorted = record {
 
     stay : (rects : List Rect) → All (λ r. r.y1 ≤ℤ line) rects → All (Crosses line) (filter (λ r. int_lt line r.y2) rects)
     stay rects low = λ k d lt. (All-filter (λ r. int_lt line r.y2) (λ r. r.y1 ≤ℤ line) rects low k d lt, is_lt line (get_or (filter (λ r. int_lt line r.y2) rects) k d).y2 (filter_passes (λ r. int_lt line r.y2) rects k d lt))
+
+    crossing : All (λ r. r.y1 ≤ℤ line) old → All (Crosses line) begun → All (Crosses line) sorted
+    crossing low first = All-permutation (Crosses line) both sorted moved (rw joined (All-append (Crosses line) kept begun (rw is (stay old low)) first))

@@ -136,13 +136,14 @@ pub swept_turn : (rects later begun rest crossing crossing' : List Rect) (bands 
     → RowPut line row bands bands' → IsNextLine rest crossing' line' → (line <ℤ line') × SweptTo rects rest crossing' bands' line'
 swept_turn rects later begun rest crossing crossing' bands bands' row line line' n s high within parted begun_is rest_is crossed canonical members put next =
     let above = others_later later rest line n parted within rest_is in
-    let cross = crossed.cross s.begun (first_cross later begun line n s.begins parted within begun_is) in
+    let first = first_cross later begun line n s.begins parted within begun_is in
+    let cross = crossed.cross s.begun first in
     let far : line <ℤ line' = further rest crossing' line line' high above cross next in
     let grown : Grows line bands bands' = grows_written bands bands' line row canonical s.rising put in
     let parts : (x y : ℤ) → covered later x y ≡ (covered begun x y || covered rest x y) = λ x y.
     ap (λ l. covered l x y) (sym (take-append-drop n later) ∙ rw (begun_is, rest_is) refl) ∙ list_any-append (λ r. squares r x y) begun rest in
     let ahead : (x y : ℤ) → line ≤ℤ y → covered rects x y ≡ (covered crossing' x y || covered rest x y) = λ x y le.
-    s.ahead x y le ∙ join_three (covered crossing' x y) (covered crossing x y) (covered begun x y) (covered later x y) (covered rest x y) (crossed.squares x y le) (parts x y) in (
+    s.ahead x y le ∙ join_three (covered crossing' x y) (covered crossing x y) (covered begun x y) (covered later x y) (covered rest x y) (crossed.squares s.begun first x y le) (parts x y) in (
       far,
       record {
         sorted = rest_sorted later rest n s.sorted rest_is;

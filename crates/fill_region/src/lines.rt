@@ -79,12 +79,14 @@ fn first_bottom(rects: &[Rect]) -> i64
 }
 
 /// Takes out the rectangles that end at the line or below, and in those that begin there. They stay
-/// sorted by their left edges.
+/// sorted by their left edges. One that lies within its neighbour from the line on goes too: it adds
+/// no square, and a pile of overlapping shapes stays a short list.
 fn cross(crossing: &mut Vec<Rect>, begun: &[Rect], line: i64) -> Result<(), AllocError>
     ensures { OnOk result (IsCrossed line crossing.old.items begun.now crossing.new.items) }
 {
     crossing.retain(|rect| rect.y2() > line);
     crossing.extend_from_slice(begun)?;
     crossing.sort_by_key(|rect| rect.x1())?;
+    crossing.dedup_by(|rect, kept| (rect.x2() <= kept.x2()) & (rect.y2() <= kept.y2()));
     Ok(())
 }
