@@ -1,6 +1,7 @@
 -- What two runs of changes do together.
-use Rattle.std.proofs.Common.{◌≡◌, ◌∙◌, ◌++◌, ◌&&◌, ◌||◌, ℕ, ℤ, Bool, true, false, not, List, [], ◌∷◌, Option, Some, None, take, drop, map, length, ◌<◌, arith, ap, refl, sym, if◌then◌else◌}
-use Rattle.std.proofs.lemmas.List.{map-append, take-append-drop}
+use Rattle.std.proofs.Common.{◌≡◌, ◌∙◌, ◌++◌, ◌+◌, get_or, ◌&&◌, ◌||◌, ℕ, ℤ, Bool, true, false, not, List, [], ◌∷◌, Option, Some, None, take, drop, map, length, ◌<◌, arith, ap, refl, sym, if◌then◌else◌}
+use Rattle.std.proofs.lemmas.List.{map-append, take-append-drop, take_more}
+use Rattle.std.proofs.lemmas.List.Folds.{list_any-append}
 use Rattle.fill_base.specs.declared.rect.Rect.{Rect}
 use Rattle.fill_base.specs.Squares.{squares}
 use Rattle.fill_text.specs.Script.{Change, change_of}
@@ -8,7 +9,8 @@ use Rattle.fill_text.specs.declared.script.Edit.{Edit}
 use Rattle.fill_text.specs.declared.script.Edit.TheVariants as edit
 use Rattle.fill_text.specs.declared.script.Kind.{Kind}
 use Rattle.fill_text.specs.declared.script.Kind.TheVariants.{Add, Cut}
-use Rattle.fill_engine.specs.Metal.{is_added, is_cut, is_within, last_change, later}
+use Rattle.fill_region.specs.Squares.{covered}
+use Rattle.fill_engine.specs.Metal.{AreAdded, is_added, is_cut, is_within, last_change, later}
 
 later-assoc : (a b c : Option Kind) → later (later a b) c ≡ later a (later b c)
 later-assoc None b c = refl
@@ -108,3 +110,29 @@ pub joined_cut : (edits front back : List Edit) (k : ℕ) (x y : ℤ) (m first s
     → m ≡ is_cut (last_change (map change_of edits) x y)
 joined_cut edits front back k x y m first second metal f b e p q r =
     e ∙ rw (p, q, r, last_change-split edits k x y, ← f, ← b) (sym (is_cut-later (last_change (map change_of front) x y) (last_change (map change_of back) x y)))
+
+-- runs that only add
+pub none_added : AreAdded [] []
+unfolding last_change
+none_added x y = refl
+
+both_added : (b c : Bool) → later (if c then Some Add else None) (if b then Some Add else None) ≡ if (b || (c || false)) then Some Add else None
+both_added true true = refl
+both_added true false = refl
+both_added false true = refl
+both_added false false = refl
+
+added_by : (change : Edit) (r : Rect) → change ≡ edit.Add r → (x y : ℤ) → last_change (change_of change ∷ []) x y ≡ if squares r x y then Some Add else None
+unfolding last_change
+added_by change r e x y = rw e refl
+
+pub one_more_added : (edits : List Edit) (k : ℕ) (e : Edit) (r : Rect) (rects new : List Rect) → k < length edits → e ≡ get_or edits k e → e ≡ edit.Add r → new ≡ rects ++ r ∷ []
+    → AreAdded (map change_of (take k edits)) rects → AreAdded (map change_of (take (k + 1) edits)) new
+one_more_added edits k e r rects new lt item is joined added x y =
+    let first = map change_of (take k edits) in
+    let whole : map change_of (take (k + 1) edits) ≡ first ++ change_of e ∷ [] =
+    ap (map change_of) (take_more edits k e lt ∙ ap (λ z. take k edits ++ z ∷ []) (sym item)) ∙ map-append change_of (take k edits) (e ∷ []) in
+    ap (λ l. last_change l x y) whole ∙ (last_change-append first (change_of e ∷ []) x y
+    ∙ (ap (λ l. later l (last_change first x y)) (added_by e r is x y) ∙ (ap (λ l. later (if squares r x y then Some Add else None) l) (added x y)
+    ∙ (both_added (covered rects x y) (squares r x y)
+    ∙ ap (λ (b : Bool). if b then Some Add else None) (sym (ap (λ l. covered l x y) joined ∙ list_any-append (λ q. squares q x y) rects (r ∷ [])))))))

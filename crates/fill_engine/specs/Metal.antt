@@ -1,6 +1,8 @@
 -- The metal that a script's changes leave of nothing.
-use Rattle.std.specs.Prelude.{ℤ, ◌&&◌, Bool, true, false, List, [], ◌∷◌, Option, Some, None, if◌then◌else◌}
+use Rattle.std.specs.Prelude.{◌≡◌, ℤ, ◌&&◌, Bool, true, false, List, [], ◌∷◌, Option, Some, None, if◌then◌else◌}
+use Rattle.fill_base.specs.declared.rect.Rect.{Rect}
 use Rattle.fill_base.specs.Counts.{is_between}
+use Rattle.fill_region.specs.Squares.{covered}
 use Rattle.fill_text.specs.Corners.{Corners}
 use Rattle.fill_text.specs.Script.{Change}
 use Rattle.fill_text.specs.declared.script.Kind.{Kind}
@@ -33,3 +35,7 @@ is_cut (Some Cut) = true
 -- a square is metal where the last change that touches it adds it
 abbrev pub is_metal : List Change → ℤ → ℤ → Bool
 is_metal changes x y = is_added (last_change changes x y)
+
+-- the changes add the squares of these rectangles, and cut nothing
+abbrev pub AreAdded : List Change → List Rect → Type 0
+AreAdded changes rects = (x y : ℤ) → last_change changes x y ≡ if covered rects x y then Some Add else None

@@ -1,9 +1,10 @@
 //! The metal that a script's edits leave of nothing.
-ghost use Rattle.std.specs.Prelude.{◌≡◌, [], ◌∷◌, ◌||◌, ◌&&◌, not, ℤ, map, IfOk};
+ghost use Rattle.std.specs.Prelude.{◌≡◌, [], ◌∷◌, ◌||◌, ◌&&◌, not, ℤ, map, IfOk, IfSome};
 ghost use Rattle.fill_region.specs.Bands.{holds};
 ghost use Rattle.fill_text.specs.Script.{change_of};
-ghost use Rattle.fill_engine.specs.Metal.{is_added, is_cut, is_metal, last_change};
+ghost use Rattle.fill_engine.specs.Metal.{AreAdded, is_added, is_cut, is_metal, last_change};
 
+use fill_base::Rect;
 use fill_region::Region;
 use fill_text::Edit;
 use std::alloc::{AllocError, Global};
@@ -47,7 +48,22 @@ fn patch_of_one(alloc: Global, edit: Edit) -> Result<Patch, AllocError>
     }
 }
 
-/// The patch of a run of edits, put together from those of its halves, so that each edit is touched but a few times.
+/// The rectangles of a run of edits that only adds, and `None` for one that cuts.
+fn rects_added(alloc: Global, edits: &[Edit]) -> Result<Option<Vec<Rect>>, AllocError>
+    ensures { IfOk result (λ r. IfSome r (λ v. AreAdded (map change_of edits.now) v.items)) }
+{
+    let mut rects = Vec::new(alloc);
+    for edit in edits {
+        match edit {
+            Edit::Add(rect) => rects.push(*rect)?,
+            Edit::Cut(_) => return Ok(None),
+        }
+    }
+    Ok(Some(rects))
+}
+
+/// The patch of a run of edits: of one that only adds, the region of its rectangles, and else put together from those
+/// of its halves, so that each edit is touched but a few times.
 fn patch_of(alloc: Global, edits: &[Edit]) -> Result<Patch, AllocError>
     ensures metal { IfOk result (λ p. (x y : ℤ) → holds p.metal x y ≡ is_added (last_change (map change_of edits.now) x y)) }
     ensures cut { IfOk result (λ p. (x y : ℤ) → holds p.cut x y ≡ is_cut (last_change (map change_of edits.now) x y)) }
@@ -59,6 +75,11 @@ fn patch_of(alloc: Global, edits: &[Edit]) -> Result<Patch, AllocError>
         }),
         [edit] => patch_of_one(alloc, *edit),
         _ => {
+            if let Some(rects) = rects_added(alloc, edits)? {
+                let metal = Region::from_rects(alloc, &rects)?;
+                let cut = Region::empty(alloc);
+                return Ok(Patch { metal, cut });
+            }
             let (first, then) = edits.split_at(edits.len() / 2);
             let first = patch_of(alloc, first)?;
             let then = patch_of(alloc, then)?;

@@ -12,7 +12,7 @@ returns-in-empty-clause-cut t c = λ x y. c.empty-in-empty.ensures.squares x y �
 pub returns-in_ok-cut-in_default-clause-metal : goal.returns-in_ok-cut-in_default-clause-metal
 returns-in_ok-cut-in_default-clause-metal t c = λ x y.
     joined_metal c.args.edits.now _ _ _ x y _ _ _ _ c.split_at.ensures.front c.split_at.ensures.back
-    (c.in_ok-metal-in_default.ensures x y) (c.in_ok-first-in_default.ensures.metal x y) (c.in_ok-then-in_default.ensures.metal x y) (c.in_ok-then-in_default.ensures.cut x y)
+    (c.in_ok-metal-in_default-2.ensures x y) (c.in_ok-first-in_default.ensures.metal x y) (c.in_ok-then-in_default.ensures.metal x y) (c.in_ok-then-in_default.ensures.cut x y)
 
 pub returns-in_ok-cut-in_default-clause-cut : goal.returns-in_ok-cut-in_default-clause-cut
 returns-in_ok-cut-in_default-clause-cut t c = λ x y.
