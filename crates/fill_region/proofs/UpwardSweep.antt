@@ -2,6 +2,7 @@
 use Rattle.std.proofs.Common.{◌≡◌, ℕ, suc, ◌+◌, ◌-◌, ◌≤◌, ◌<◌, ℤ, ◌-ℤ◌, ◌≤ℤ◌, ◌<ℤ◌, List, [], ◌∷◌, length, get_or, take, drop, refl, arith, ap, ◌∙◌, sym, Bool, true, false, ◌||◌, ◌&&◌, w32, FitsSigned}
 use Rattle.std.specs.Prelude.{int_lt, All, unsigned_abs}
 use Rattle.std.specs.List.Sorted.{IsPermutation, IsPartitionPoint}
+use Rattle.std.proofs.lemmas.Bool.{and_right}
 use Rattle.std.proofs.lemmas.Int.{ints, by_lt_z}
 use Rattle.std.proofs.lemmas.List.{get_or-take, get_or-drop, length-take-le, length-drop, take-append-drop}
 use Rattle.std.proofs.lemmas.List.Folds.{list_any-append, list_any_none}
@@ -32,24 +33,16 @@ pub record SweptTo (rects later crossing : List Rect) (bands : List Band) (line 
   pub rising : AreBands floor [] bands line
 
 off_low : (r : Rect) (x y : ℤ) → y <ℤ r.y1 → squares r x y ≡ false
-off_low r x y lt = outside (is_between r.x1 r.x2 x) (is_between r.y1 r.y2 y) (below r.y1 r.y2 y lt)
+off_low r x y lt = and_right (is_between r.x1 r.x2 x) (is_between r.y1 r.y2 y) (below r.y1 r.y2 y lt)
   where
     below : (a b y : ℤ) → y <ℤ a → is_between a b y ≡ false
     below a b y h = grind (arith, ints)
 
-    outside : (b c : Bool) → c ≡ false → (b && c) ≡ false
-    outside true c h = h
-    outside false c h = refl
-
 off_high : (r : Rect) (x y : ℤ) → r.y2 ≤ℤ y → squares r x y ≡ false
-off_high r x y le = outside (is_between r.x1 r.x2 x) (is_between r.y1 r.y2 y) (above r.y1 r.y2 y le)
+off_high r x y le = and_right (is_between r.x1 r.x2 x) (is_between r.y1 r.y2 y) (above r.y1 r.y2 y le)
   where
     above : (a b y : ℤ) → b ≤ℤ y → is_between a b y ≡ false
     above a b y h = grind (arith, ints)
-
-    outside : (b c : Bool) → c ≡ false → (b && c) ≡ false
-    outside true c h = h
-    outside false c h = refl
 
 -- where all begin above the line, nothing is covered
 none_yet : (rects : List Rect) (x y : ℤ) → All (λ r. y <ℤ r.y1) rects → covered rects x y ≡ false

@@ -2,6 +2,8 @@
 use Rattle.std.proofs.Common.{◌≡◌, zero, suc, ℤ, ◌≤ℤ◌, List, [], ◌∷◌, refl, arith, ap, ◌∙◌, Bool, true, false, cond, ◌||◌, ◌&&◌}
 use Rattle.std.specs.Prelude.{int_le, All}
 use Rattle.std.specs.List.{dedup}
+use Rattle.std.specs.Cmp.{first_so, second_so}
+use Rattle.std.proofs.lemmas.Bool.{and_from}
 use Rattle.std.proofs.lemmas.Int.{ints}
 use Rattle.std.proofs.lemmas.List.Elements.{All-tail}
 use Rattle.std.proofs.lemmas.List.Filters.{All-dedup}
@@ -21,17 +23,6 @@ between_within a b c d x h k l = grind (arith, ints)
 above_within : (a b c d y : ℤ) → a ≤ℤ y → int_le d b ≡ true → is_between c d y ≡ true → is_between a b y ≡ true
 above_within a b c d y h k l = grind (arith, ints)
 
-and_left : (b c : Bool) → (b && c) ≡ true → b ≡ true
-and_left true c h = refl
-and_left false c h = h
-
-and_right : (b c : Bool) → (b && c) ≡ true → c ≡ true
-and_right true c h = h
-and_right false c h = cc
-
-and_both : (b c : Bool) → b ≡ true → c ≡ true → (b && c) ≡ true
-and_both b c h k = rw (h, k) refl
-
 absorbed : (b c d : Bool) → (c ≡ true → b ≡ true) → (b || d) ≡ (b || (c || d))
 absorbed true c d h = refl
 absorbed false true d h = let e : false ≡ true = h refl in cc
@@ -39,9 +30,9 @@ absorbed false false d h = refl
 
 no_more : (r kept : Rect) (line x y : ℤ) → kept.x1 ≤ℤ r.x1 → kept.y1 ≤ℤ line → line ≤ℤ y → ends_within r kept ≡ true → squares r x y ≡ true → squares kept x y ≡ true
 no_more r kept line x y left low le within here =
-    and_both (is_between kept.x1 kept.x2 x) (is_between kept.y1 kept.y2 y)
-    (between_within kept.x1 kept.x2 r.x1 r.x2 x left (and_left (int_le r.x2 kept.x2) (int_le r.y2 kept.y2) within) (and_left (is_between r.x1 r.x2 x) (is_between r.y1 r.y2 y) here))
-    (above_within kept.y1 kept.y2 r.y1 r.y2 y (le_le kept.y1 line y low le) (and_right (int_le r.x2 kept.x2) (int_le r.y2 kept.y2) within) (and_right (is_between r.x1 r.x2 x) (is_between r.y1 r.y2 y) here))
+    and_from (is_between kept.x1 kept.x2 x) (is_between kept.y1 kept.y2 y)
+    (between_within kept.x1 kept.x2 r.x1 r.x2 x left (first_so (int_le r.x2 kept.x2) (int_le r.y2 kept.y2) within) (first_so (is_between r.x1 r.x2 x) (is_between r.y1 r.y2 y) here))
+    (above_within kept.y1 kept.y2 r.y1 r.y2 y (le_le kept.y1 line y low le) (second_so (int_le r.x2 kept.x2) (int_le r.y2 kept.y2) within) (second_so (is_between r.x1 r.x2 x) (is_between r.y1 r.y2 y) here))
   where
     le_le : (a b c : ℤ) → a ≤ℤ b → b ≤ℤ c → a ≤ℤ c
     le_le a b c h k = omega (arith, ints)
