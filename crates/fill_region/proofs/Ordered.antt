@@ -1,14 +1,15 @@
 -- Rectangles in rising order.
-use Rattle.std.proofs.Common.{◌≡◌, ℕ, ℤ, ◌≤ℤ◌, ◌<ℤ◌, List, get_or, arith, true, false, Ordering, Less, Equal, Greater}
+use Rattle.std.proofs.Common.{◌≡◌, ℕ, ℤ, ◌≤ℤ◌, ◌<ℤ◌, List, get_or, arith, true, false, Ordering, Less, Equal, Greater, take, drop, ◌++◌, subst}
 use Rattle.std.specs.Prelude.{int_le}
 use Rattle.std.specs.Cmp.{int_ranks}
 use Rattle.std.specs.Fn.{Called, ComputesKey}
-use Rattle.std.specs.List.Sorted.{IsSortedByKey, IsPartitionedBy, IsPartitionPoint}
+use Rattle.std.specs.List.Sorted.{IsPermutation, IsSortedByKey, IsPartitionedBy, IsPartitionPoint}
 use Rattle.std.specs.Ordering.{MatchOrdering, int_cmp, is_lt}
 use Rattle.std.proofs.lemmas.Cmp.{int_cmp_total}
 use Rattle.std.proofs.lemmas.Fn.{always_returns_same}
 use Rattle.std.proofs.lemmas.Int.{ints}
-use Rattle.std.proofs.lemmas.List.Sorted.{sorted_far, ranks_by}
+use Rattle.std.proofs.lemmas.List.{take-append-drop}
+use Rattle.std.proofs.lemmas.List.Sorted.{sorted_far, ranks_by, IsPermutation-append_comm}
 use Rattle.fill_base.specs.declared.rect.Rect.{Rect}
 use Rattle.fill_base.proofs.Signed.{not_le}
 use Rattle.fill_spans.specs.Columns.{IsRisingBy}
@@ -44,3 +45,7 @@ begun_parted rects line n point = ((λ k d low high. yes (get_or rects k d).y1 l
   where
     yes : (a b : ℤ) → int_le a b ≡ true → a ≤ℤ b
     yes a b h = grind (arith, ints)
+
+-- the last of a list moved to its front
+pub rotated : (rects turned : List Rect) (n : ℕ) → turned ≡ drop n rects ++ take n rects → IsPermutation rects turned
+rotated rects turned n is = rw is (subst (λ z. IsPermutation z (drop n rects ++ take n rects)) (take-append-drop n rects) (IsPermutation-append_comm (take n rects) (drop n rects)))

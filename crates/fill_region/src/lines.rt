@@ -15,7 +15,7 @@ use std::alloc::{AllocError, Global};
 
 /// The bands of the squares that some rectangle holds. At each line at which a rectangle begins or
 /// ends, the rectangles that cross it make one row.
-pub fn swept(alloc: Global, rects: &[Rect]) -> Result<Vec<(i32, Spans)>, AllocError>
+pub(crate) fn swept(alloc: Global, rects: &[Rect]) -> Result<Vec<(i32, Spans)>, AllocError>
     ensures region { IfOk result (λ v. IsRegion v.items) }
     ensures squares { IfOk result (λ v. (x y : ℤ) → holds v.items x y ≡ covered rects.now x y) }
 {
@@ -80,12 +80,14 @@ fn first_bottom(rects: &[Rect]) -> i64
 
 /// Takes out the rectangles that end at the line or below, and in those that begin there. They stay
 /// sorted by their left edges. One that lies within its neighbour from the line on goes too: it adds
-/// no square, and a pile of overlapping shapes stays a short list.
+/// no square, and a pile of overlapping shapes stays a short list. Of two with one left edge the one
+/// that begins later comes first, since it mostly ends later.
 fn cross(crossing: &mut Vec<Rect>, begun: &[Rect], line: i64) -> Result<(), AllocError>
     ensures { OnOk result (IsCrossed line crossing.old.items begun.now crossing.new.items) }
 {
     crossing.retain(|rect| rect.y2() > line);
     crossing.extend_from_slice(begun)?;
+    crossing.rotate_right(begun.len());
     crossing.sort_by_key(|rect| rect.x1())?;
     crossing.dedup_by(|rect, kept| (rect.x2() <= kept.x2()) & (rect.y2() <= kept.y2()));
     Ok(())

@@ -276,7 +276,7 @@ fn is_top(alloc: Global, bands: &[(i32, Spans)], row: &Spans) -> bool
 }
 
 /// Appends a band at `at` with this row, unless the last band has it already.
-pub fn put_row(
+pub(crate) fn put_row(
     alloc: Global,
     out: &mut Vec<(i32, Spans)>,
     at: i32,

@@ -8,7 +8,7 @@ use fill_base::Rect;
 use std::alloc::{AllocError, Global};
 
 /// The edges of the columns in which some rectangle has squares, in one walk over the rectangles.
-pub fn joined(alloc: Global, rects: &[Rect]) -> Result<Vec<i32>, AllocError>
+pub(crate) fn joined(alloc: Global, rects: &[Rect]) -> Result<Vec<i32>, AllocError>
     requires { IsRisingBy (λ r. r.x1) rects.now }
     ensures canonical { IfOk result (λ v. IsCanonical v.items) }
     ensures members { IfOk result (λ v. (x : ℤ) → inside v.items x ≡ has_column rects.now x) }
