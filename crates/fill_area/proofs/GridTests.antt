@@ -1,5 +1,7 @@
 -- The tests of a grid's numbers, one after another.
-use Rattle.std.proofs.Common.{◌≡◌, ℕ, ◌-◌, ◌*◌, ◌≤◌, ℤ, pos, ◌+ℤ◌, ◌*ℤ◌, ◌≤ℤ◌, refl, arith, ap, ◌∙◌, Bool, true, false, ◌&&◌, ◌↔◌}
+use Rattle.std.proofs.Common.{◌≡◌, ℕ, ◌-◌, ◌*◌, ◌≤◌, ℤ, pos, ◌+ℤ◌, ◌*ℤ◌, ◌≤ℤ◌, refl, arith, ap, ◌∙◌, Bool, true, ◌&&◌, ◌↔◌}
+use Rattle.std.specs.Cmp.{first_so, second_so}
+use Rattle.std.proofs.lemmas.Bool.{and_from}
 use Rattle.std.specs.Prelude.{int_le, IsTrue}
 use Rattle.std.proofs.lemmas.Int.{ints}
 use Rattle.fill_base.specs.Coordinates.{highest, IsCoordinate}
@@ -7,22 +9,11 @@ use Rattle.fill_base.proofs.Signed.{read, read_is, coordinate_fits}
 use Rattle.fill_area.specs.Grid.{Grid, IsLength, IsCount, IsAxis, IsGrid}
 use Rattle.fill_area.proofs.Axes.{end_fits, length_fits}
 
-first_true : (a b : Bool) → a && b ≡ true → a ≡ true
-first_true true b h = refl
-first_true false b h = cc
-
-second_true : (a b : Bool) → a && b ≡ true → b ≡ true
-second_true true b h = h
-second_true false b h = cc
-
-both_true : (a b : Bool) → a ≡ true → b ≡ true → a && b ≡ true
-both_true a b h k = rw (h, k) refl
-
 pub grid_test : (g : Grid) (a b c : Bool) → (IsTrue a ↔ IsAxis g.x g.width g.step_x g.columns) → (IsTrue b ↔ IsAxis g.y g.height g.step_y g.rows)
     → (IsTrue c ↔ (g.columns * g.rows ≤ 1048576)) → IsTrue ((a && b) && c) ↔ IsGrid g
 grid_test g a b c across up few = (
-  (λ h. record { across = across.0 (first_true a b (first_true (a && b) c h)); up = up.0 (second_true a b (first_true (a && b) c h)); few = few.0 (second_true (a && b) c h) }),
-  (λ is. both_true (a && b) c (both_true a b (across.1 is.across) (up.1 is.up)) (few.1 is.few)),
+  (λ h. record { across = across.0 (first_so a b (first_so (a && b) c h)); up = up.0 (second_so a b (first_so (a && b) c h)); few = few.0 (second_so (a && b) c h) }),
+  (λ is. and_from (a && b) c (and_from a b (across.1 is.across) (up.1 is.up)) (few.1 is.few)),
 )
 
 le_true : (a b : ℤ) → int_le a b ≡ true → a ≤ℤ b
@@ -41,10 +32,10 @@ pub record Limited (first length step : ℤ) (count : ℕ) : Type 0 where
 pub limited : (first length step : ℤ) (count : ℕ) (a b c d : Bool) → (IsTrue a ↔ IsLength length) → (IsTrue b ↔ IsLength step) → (IsTrue c ↔ IsCount count) → (IsTrue d ↔ IsCoordinate first)
     → ((a && b) && c) && d ≡ true → Limited first length step count
 limited first length step count a b c d la lb lc ld all = record {
-  length_is = la.0 (first_true a b (first_true (a && b) c (first_true ((a && b) && c) d all)));
-  step_is = lb.0 (second_true a b (first_true (a && b) c (first_true ((a && b) && c) d all)));
-  count_is = lc.0 (second_true (a && b) c (first_true ((a && b) && c) d all));
-  first_is = ld.0 (second_true ((a && b) && c) d all);
+  length_is = la.0 (first_so a b (first_so (a && b) c (first_so ((a && b) && c) d all)));
+  step_is = lb.0 (second_so a b (first_so (a && b) c (first_so ((a && b) && c) d all)));
+  count_is = lc.0 (second_so (a && b) c (first_so ((a && b) && c) d all));
+  first_is = ld.0 (second_so ((a && b) && c) d all);
 }
 
 pub axis_test : (first length step : ℤ) (count : ℕ) (r : ℤ) → Limited first length step count

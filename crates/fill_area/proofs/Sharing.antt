@@ -1,5 +1,7 @@
 -- Windows that share a square with a rectangle, or hold it.
-use Rattle.std.proofs.Common.{◌≡◌, ℕ, ℤ, pos, ◌+ℤ◌, ◌-ℤ◌, ◌≤ℤ◌, ◌<ℤ◌, ◌↔◌, refl, arith, Bool, true, false, ◌&&◌}
+use Rattle.std.proofs.Common.{◌≡◌, ℕ, ℤ, pos, ◌+ℤ◌, ◌-ℤ◌, ◌≤ℤ◌, ◌<ℤ◌, ◌↔◌, arith, true}
+use Rattle.std.specs.Cmp.{first_so, second_so}
+use Rattle.std.proofs.lemmas.Bool.{and_from}
 use Rattle.std.specs.Int.{int_max}
 use Rattle.std.proofs.lemmas.Int.{ints, clamps}
 use Rattle.fill_base.specs.declared.rect.Rect.{Rect}
@@ -10,17 +12,6 @@ use Rattle.fill_base.proofs.Between.{is_between_true, is_between_bounds}
 use Rattle.fill_area.specs.Grid.{Grid, IsAxis, IsGrid, window_left, window_right, window_bottom, window_top}
 use Rattle.fill_area.specs.Places.{IsPlace, IsTouching, IsContaining, IsWindow, ShareASquare, Holds, window_squares}
 use Rattle.fill_area.proofs.Axes.{length_fits}
-
-first_true : (a b : Bool) → a && b ≡ true → a ≡ true
-first_true true b h = refl
-first_true false b h = cc
-
-second_true : (a b : Bool) → a && b ≡ true → b ≡ true
-second_true true b h = h
-second_true false b h = cc
-
-both_true : (a b : Bool) → a ≡ true → b ≡ true → a && b ≡ true
-both_true a b h k = rw (h, k) refl
 
 -- two ranges that each begin below the other's end share a number
 record Shared (a b c d : ℤ) : Type 0 where
@@ -53,10 +44,10 @@ windows_sharing g r c0 c1 r0 r1 is columns rows a b = (
       let up = (rows b).0 h.1 in
       let x = shared (window_left g a) (window_right g a) r.x1 r.x2 (longer (window_left g a) g.width is.across.length_is.least) r.wide across.1 across.2 in
       let y = shared (window_bottom g b) (window_top g b) r.y1 r.y2 (longer (window_bottom g b) g.height is.up.length_is.least) r.tall up.1 up.2 in
-      ((across.0, up.0), record { x = x.x; y = y.x; first = both_true _ _ x.first y.first; second = both_true _ _ x.second y.second })),
+      ((across.0, up.0), record { x = x.x; y = y.x; first = and_from _ _ x.first y.first; second = and_from _ _ x.second y.second })),
   (λ h.
-      let x = apart (window_left g a) (window_right g a) r.x1 r.x2 h.1.x (first_true _ _ h.1.first) (first_true _ _ h.1.second) in
-      let y = apart (window_bottom g b) (window_top g b) r.y1 r.y2 h.1.y (second_true _ _ h.1.first) (second_true _ _ h.1.second) in
+      let x = apart (window_left g a) (window_right g a) r.x1 r.x2 h.1.x (first_so _ _ h.1.first) (first_so _ _ h.1.second) in
+      let y = apart (window_bottom g b) (window_top g b) r.y1 r.y2 h.1.y (second_so _ _ h.1.first) (second_so _ _ h.1.second) in
       ((columns a).1 (h.0.0, x.0, x.1), (rows b).1 (h.0.1, y.0, y.1))),
 )
 
@@ -86,15 +77,15 @@ windows_holding g r c0 c1 r0 r1 columns rows a b = (
       let across = (columns a).0 h.0 in
       let up = (rows b).0 h.1 in (
         (across.0, up.0),
-        (λ x y is. both_true _ _
-            (within (window_left g a) (window_right g a) r.x1 r.x2 x across.1 across.2 (first_true (is_between r.x1 r.x2 x) (is_between r.y1 r.y2 y) is))
-            (within (window_bottom g b) (window_top g b) r.y1 r.y2 y up.1 up.2 (second_true (is_between r.x1 r.x2 x) (is_between r.y1 r.y2 y) is))),
+        (λ x y is. and_from _ _
+            (within (window_left g a) (window_right g a) r.x1 r.x2 x across.1 across.2 (first_so (is_between r.x1 r.x2 x) (is_between r.y1 r.y2 y) is))
+            (within (window_bottom g b) (window_top g b) r.y1 r.y2 y up.1 up.2 (second_so (is_between r.x1 r.x2 x) (is_between r.y1 r.y2 y) is))),
       )),
   (λ h.
-      let low = h.1 r.x1 r.y1 (both_true _ _ (first_in r.x1 r.x2 r.wide) (first_in r.y1 r.y2 r.tall)) in
-      let high = h.1 (r.x2 -ℤ pos 1) (r.y2 -ℤ pos 1) (both_true _ _ (last_in r.x1 r.x2 r.wide) (last_in r.y1 r.y2 r.tall)) in
-      let x = ends_in (window_left g a) (window_right g a) r.x1 r.x2 (first_true _ _ low) (first_true _ _ high) in
-      let y = ends_in (window_bottom g b) (window_top g b) r.y1 r.y2 (second_true _ _ low) (second_true _ _ high) in
+      let low = h.1 r.x1 r.y1 (and_from _ _ (first_in r.x1 r.x2 r.wide) (first_in r.y1 r.y2 r.tall)) in
+      let high = h.1 (r.x2 -ℤ pos 1) (r.y2 -ℤ pos 1) (and_from _ _ (last_in r.x1 r.x2 r.wide) (last_in r.y1 r.y2 r.tall)) in
+      let x = ends_in (window_left g a) (window_right g a) r.x1 r.x2 (first_so _ _ low) (first_so _ _ high) in
+      let y = ends_in (window_bottom g b) (window_top g b) r.y1 r.y2 (second_so _ _ low) (second_so _ _ high) in
       ((columns a).1 (h.0.0, x.0, x.1), (rows b).1 (h.0.1, y.0, y.1))),
 )
 

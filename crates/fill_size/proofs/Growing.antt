@@ -3,7 +3,6 @@ use Rattle.std.proofs.Common.{◌≡◌, ◌≢◌, ℕ, zero, suc, ◌+◌, ◌
 use Rattle.std.specs.Prelude.{IsTrue}
 use Rattle.std.proofs.lemmas.Int.{ints, by_lt_z}
 use Rattle.std.proofs.lemmas.List.{take_more, take_all}
-use Rattle.std.proofs.lemmas.List.Folds.{list_any-append}
 use Rattle.fill_base.specs.declared.rect.Rect.{Rect}
 use Rattle.fill_base.specs.Coordinates.{lowest, highest}
 use Rattle.fill_base.specs.Squares.{squares}
@@ -15,7 +14,8 @@ use Rattle.fill_region.specs.Squares.{covered}
 use Rattle.fill_region.proofs.Stack.{row_below, row_past, row_canonical}
 use Rattle.fill_region.proofs.Sweeping.{nothing_canonical}
 use Rattle.fill_size.specs.Distance.{IsNear, Reaches, HasSquare, IsSpacing, IsSized, StaysInRange}
-use Rattle.fill_size.specs.Growth.{FitsGrown}
+use Rattle.fill_size.specs.Growth.{FitsGrown, IsAdded}
+use Rattle.fill_size.proofs.Widening.{covered_more}
 use Rattle.fill_size.proofs.Ranges.{squares_inside, spacing_read, grown_read, shrunk_read, squares_true, nearest}
 
 -- a square of a region lies within the coordinates
@@ -192,10 +192,6 @@ right_of : (p q : Bool) → q ≡ true → p || q ≡ true
 right_of true q h = refl
 right_of false q h = h
 
-or_false : (b : Bool) → b || false ≡ b
-or_false true = refl
-or_false false = refl
-
 split : {P : Type 0} (p q : Bool) → (p ≡ true → P) → (q ≡ true → P) → p || q ≡ true → P
 split true q f g h = f refl
 split false q f g h = g h
@@ -204,26 +200,23 @@ split false q f g h = g h
 pub sized_more : (rects grown : List Rect) (r g : Rect) (d : ℤ) → IsSized (covered rects) d (covered grown) → IsSized (squares r) d (squares g) → IsSized (covered (rects ++ (r ∷ []))) d (covered (grown ++ (g ∷ [])))
 sized_more rects grown r g d before one x y = (from, to)
   where
-    more : (rects : List Rect) (r : Rect) (x y : ℤ) → covered (rects ++ (r ∷ [])) x y ≡ covered rects x y || squares r x y
-    more rects r x y = list_any-append (λ r. squares r x y) rects (r ∷ []) ∙ ap (λ b. covered rects x y || b) (or_false (squares r x y))
-
     wider : (p q : ℤ → ℤ → Bool) → ((u v : ℤ) → p u v ≡ true → q u v ≡ true) → Reaches p d x y → Reaches q d x y
     wider p q all h = record { u = h.u; v = h.v; square = all h.u h.v h.square; across = h.across; up = h.up }
 
     old : Reaches (covered rects) d x y → Reaches (covered (rects ++ (r ∷ []))) d x y
-    old = wider (covered rects) (covered (rects ++ (r ∷ []))) (λ u v is. more rects r u v ∙ left_of (covered rects u v) (squares r u v) is)
+    old = wider (covered rects) (covered (rects ++ (r ∷ []))) (λ u v is. covered_more rects r u v ∙ left_of (covered rects u v) (squares r u v) is)
 
     new : Reaches (squares r) d x y → Reaches (covered (rects ++ (r ∷ []))) d x y
-    new = wider (squares r) (covered (rects ++ (r ∷ []))) (λ u v is. more rects r u v ∙ right_of (covered rects u v) (squares r u v) is)
+    new = wider (squares r) (covered (rects ++ (r ∷ []))) (λ u v is. covered_more rects r u v ∙ right_of (covered rects u v) (squares r u v) is)
 
     from : covered (grown ++ (g ∷ [])) x y ≡ true → Reaches (covered (rects ++ (r ∷ []))) d x y
-    from is = split (covered grown x y) (squares g x y) (λ h. old ((before x y).0 h)) (λ h. new ((one x y).0 h)) (sym (more grown g x y) ∙ is)
+    from is = split (covered grown x y) (squares g x y) (λ h. old ((before x y).0 h)) (λ h. new ((one x y).0 h)) (sym (covered_more grown g x y) ∙ is)
 
     to : Reaches (covered (rects ++ (r ∷ []))) d x y → covered (grown ++ (g ∷ [])) x y ≡ true
-    to h = more grown g x y ∙ split (covered rects h.u h.v) (squares r h.u h.v)
+    to h = covered_more grown g x y ∙ split (covered rects h.u h.v) (squares r h.u h.v)
         (λ k. left_of (covered grown x y) (squares g x y) ((before x y).1 (record { u = h.u; v = h.v; square = k; across = h.across; up = h.up })))
         (λ k. right_of (covered grown x y) (squares g x y) ((one x y).1 (record { u = h.u; v = h.v; square = k; across = h.across; up = h.up })))
-        (sym (more rects r h.u h.v) ∙ h.square)
+        (sym (covered_more rects r h.u h.v) ∙ h.square)
 
 -- a piece of a region that stays in range, grown, lies within the coordinates
 pub piece_fits : (p : ℤ → ℤ → Bool) (r : Rect) (d : ℤ) → pos 0 ≤ℤ d → StaysInRange p d → ((x y : ℤ) → squares r x y ≡ true → p x y ≡ true) → FitsGrown r d
@@ -257,13 +250,16 @@ item_fits bs ps items i r d is stays cover all lt item = rw (spacing_read d is)
     (piece_fits (holds bs) r d is.least stays (λ x y h. sym (cover x y) ∙ member_covered ps i r x y (rw all at lt) (sym (ap (λ q. squares q x y) (rw all at item)) ∙ h)))
 
 -- one turn: another piece is grown
-pub turn_sized : (items grown after : List Rect) (i : ℕ) (r g : Rect) (d : ℤ) → IsSpacing d → i < length items → r ≡ get_or items i r → after ≡ grown ++ (g ∷ [])
+pub turn_sized : (items grown after : List Rect) (i : ℕ) (r g : Rect) (d : ℤ) → IsSpacing d → i < length items → r ≡ get_or items i r → IsAdded g grown after
     → g.x1 ≡ r.x1 -ℤ read d → g.y1 ≡ r.y1 -ℤ read d → g.x2 ≡ r.x2 +ℤ read d → g.y2 ≡ r.y2 +ℤ read d
     → IsSized (covered (take i items)) (read d) (covered grown) → IsSized (covered (take (i + 1) items)) (read d) (covered after)
-turn_sized items grown after i r g d is lt item push left bottom right top before =
+turn_sized items grown after i r g d is lt item added left bottom right top before =
     let some : pos 0 ≤ℤ read d = rw (spacing_read d is) is.least in
     let taken : take (i + 1) items ≡ take i items ++ (r ∷ []) = take_more items i r lt ∙ ap (λ q. take i items ++ (q ∷ [])) (sym item) in
-    rw (push, taken) (sized_more (take i items) grown r g (read d) before (rect_sized r g (read d) some left bottom right top))
+    rw taken (λ x y.
+    let one = sized_more (take i items) grown r g (read d) before (rect_sized r g (read d) some left bottom right top) x y in
+    let same : covered after x y ≡ covered (grown ++ (g ∷ [])) x y = added x y ∙ sym (covered_more grown g x y) in
+    rw same one)
 
 pub all_sized : (p q : ℤ → ℤ → Bool) (ps items grown now : List Rect) (i : ℕ) (d : ℤ) → IsSpacing d → items ≡ ps → length items ≤ i → now ≡ grown → ((x y : ℤ) → covered ps x y ≡ p x y) → ((x y : ℤ) → q x y ≡ covered now x y)
     → IsSized (covered (take i items)) (read d) (covered grown) → IsSized p d q

@@ -1,7 +1,9 @@
 -- Ranges of numbers that are near, and rectangles that are.
 use Rattle.std.proofs.Common.{◌≡◌, ℤ, pos, ◌+ℤ◌, ◌-ℤ◌, ◌≤ℤ◌, ◌<ℤ◌, refl, arith, ◌∙◌, Bool, true, false, ◌&&◌, not, ◌↔◌, w64, FitsSigned}
 use Rattle.std.specs.Prelude.{int_lt, IsTrue}
+use Rattle.std.specs.Cmp.{first_so, second_so}
 use Rattle.std.specs.Int.{int_min, int_max}
+use Rattle.std.proofs.lemmas.Bool.{and_from}
 use Rattle.std.proofs.lemmas.Int.{ints, clamps, by_lt_z}
 use Rattle.fill_base.specs.declared.rect.Rect.{Rect}
 use Rattle.fill_base.specs.Coordinates.{lowest, highest, IsCoordinate}
@@ -14,17 +16,6 @@ use Rattle.fill_size.specs.Distance.{IsNear, InConflict, AreNear, HasSquare, IsS
 
 lt_is : (a b : ℤ) → a <ℤ b → int_lt a b ≡ true
 lt_is a b h = grind (arith, ints)
-
-pub first_true : (a b : Bool) → a && b ≡ true → a ≡ true
-first_true true b h = refl
-first_true false b h = cc
-
-pub second_true : (a b : Bool) → a && b ≡ true → b ≡ true
-second_true true b h = h
-second_true false b h = cc
-
-pub both_true : (a b : Bool) → a ≡ true → b ≡ true → a && b ≡ true
-both_true a b h k = rw (h, k) refl
 
 pub spacing_read : (s : ℤ) → IsSpacing s → read s ≡ s
 spacing_read s is = let least : pos 0 ≤ℤ s = is.least in let most : s ≤ℤ pos 1048576 = is.most in read_is s (omega (arith, ints))
@@ -45,8 +36,8 @@ near_test a b c d s fa fc cb cd is =
     let up : read (read d +ℤ read s) ≡ d +ℤ s = rw (coordinate_read d cd, spacing_read s is) (grown_read d s cd is) in
     let low : read (read b +ℤ read s) ≡ b +ℤ s = rw (coordinate_read b cb, spacing_read s is) (grown_read b s cb is) in
     rw (read_is a fa, read_is c fc, up, low) (
-      (λ h. (is_lt _ _ (first_true (int_lt a (d +ℤ s)) (int_lt c (b +ℤ s)) h), is_lt _ _ (second_true (int_lt a (d +ℤ s)) (int_lt c (b +ℤ s)) h))),
-      (λ h. both_true (int_lt a (d +ℤ s)) (int_lt c (b +ℤ s)) (lt_is _ _ h.0) (lt_is _ _ h.1)),
+      (λ h. (is_lt _ _ (first_so (int_lt a (d +ℤ s)) (int_lt c (b +ℤ s)) h), is_lt _ _ (second_so (int_lt a (d +ℤ s)) (int_lt c (b +ℤ s)) h))),
+      (λ h. and_from (int_lt a (d +ℤ s)) (int_lt c (b +ℤ s)) (lt_is _ _ h.0) (lt_is _ _ h.1)),
     )
 
 -- a number of the first range and one of the second, at most `s` apart
@@ -84,7 +75,7 @@ pair_near : (a b c d s u x : ℤ) → a ≤ℤ u → u <ℤ b → c ≤ℤ x →
 pair_near a b c d s u x ul uh xl xh n = let above : (x -ℤ u) ≤ℤ s = n.above in let below : (u -ℤ x) ≤ℤ s = n.below in (omega (arith, ints), omega (arith, ints))
 
 pub squares_true : (r : Rect) (x y : ℤ) → r.x1 ≤ℤ x → x <ℤ r.x2 → r.y1 ≤ℤ y → y <ℤ r.y2 → squares r x y ≡ true
-squares_true r x y a b c d = both_true (is_between r.x1 r.x2 x) (is_between r.y1 r.y2 y) (is_between_true r.x1 r.x2 x a b) (is_between_true r.y1 r.y2 y c d)
+squares_true r x y a b c d = and_from (is_between r.x1 r.x2 x) (is_between r.y1 r.y2 y) (is_between_true r.x1 r.x2 x a b) (is_between_true r.y1 r.y2 y c d)
 
 pub record Inside (r : Rect) (x y : ℤ) : Type 0 where
   pub left : r.x1 ≤ℤ x
@@ -94,8 +85,8 @@ pub record Inside (r : Rect) (x y : ℤ) : Type 0 where
 
 pub squares_inside : (r : Rect) (x y : ℤ) → squares r x y ≡ true → Inside r x y
 squares_inside r x y h =
-    let a = is_between_bounds r.x1 r.x2 x (first_true (is_between r.x1 r.x2 x) (is_between r.y1 r.y2 y) h) in
-    let b = is_between_bounds r.y1 r.y2 y (second_true (is_between r.x1 r.x2 x) (is_between r.y1 r.y2 y) h) in
+    let a = is_between_bounds r.x1 r.x2 x (first_so (is_between r.x1 r.x2 x) (is_between r.y1 r.y2 y) h) in
+    let b = is_between_bounds r.y1 r.y2 y (second_so (is_between r.x1 r.x2 x) (is_between r.y1 r.y2 y) h) in
     record { left = a.0; right = a.1; bottom = b.0; top = b.1 }
 
 -- rectangles are in conflict where their sides are near in x and in y
@@ -173,7 +164,7 @@ pub rects_test : (r q : Rect) (s : ℤ) → IsSpacing s → (a b : Bool) → (Is
     → (IsTrue (a && b) ↔ InConflict (squares r) (squares q) s)
 rects_test r q s is a b across up =
     let both = rects_conflict r q s is.least in
-    ((λ h. both.0 (across.0 (first_true a b h), up.0 (second_true a b h))), (λ c. let near = both.1 c in both_true a b (across.1 near.0) (up.1 near.1)))
+    ((λ h. both.0 (across.0 (first_so a b h), up.0 (second_so a b h))), (λ c. let near = both.1 c in and_from a b (across.1 near.0) (up.1 near.1)))
 
 x1_is : (r : Rect) → IsCoordinate r.x1
 x1_is r = record { least = r.left; most = le_trans r.x1 r.x2 _ (lt_le r.x1 r.x2 r.wide) r.right }

@@ -1,5 +1,6 @@
 -- The records of an element, as the code holds them.
 use Rattle.std.proofs.Common.{◌≡◌, ℕ, suc, ◌-◌, ◌/◌, ◌%◌, ◌<◌, ◌≤◌, Bool, true, false, eqb, ltb, List, [], ◌∷◌, ◌++◌, length, map, take, drop, append_assoc, length-drop, refl, sym, ap, subst, ◌∙◌, arith}
+use Rattle.std.specs.Cmp.{first_so, second_so}
 use Rattle.std.specs.Prelude.{◌||◌, ◌&&◌, ◌==◌, Option, Some, None, ℤ, slice_get, IsSome}
 use Rattle.std.specs.Borrow.{Bor}
 use Rattle.std.specs.Option.{option_copied}
@@ -16,7 +17,7 @@ use Rattle.gds_grammar.specs.Elements.{kinds_in, points_of, last_of, is_same_poi
 use Rattle.gds_grammar.specs.declared.element_kind.ElementKind.{ElementKind}
 use Rattle.gds_grammar.specs.declared.element_kind.ElementKind.TheVariants.{Boundary}
 use Rattle.std.proofs.lemmas.Bool.{eqb-true, ltb-true}
-use Rattle.gds_grammar.proofs.Paths.{and_left, and_right, well_size}
+use Rattle.gds_grammar.proofs.Paths.{well_size}
 
 pub among_is : (rs : List Record) (k : ℕ) → among (kinds_in (map view rs)) k ≡ list_any (λ r. r.kind == k) rs
 among_is [] k = refl
@@ -34,9 +35,9 @@ length_is (r ∷ rs) = ap suc (length_is rs)
 
 pub whole_points : (o : ElementKind) (xy : List ℕ) → are_points o xy ≡ true → (length xy % 8 ≡ 0) × (8 ≤ length xy)
 whole_points o xy h =
-    let front = and_left (ltb 0 (length xy) && eqb (length xy % 8) 0) (has_count o (length xy / 8)) h in
-    let some : 0 < length xy = ltb-true 0 (length xy) (and_left (ltb 0 (length xy)) (eqb (length xy % 8) 0) front) in
-    let eights : length xy % 8 ≡ 0 = eqb-true (length xy % 8) 0 (and_right (ltb 0 (length xy)) (eqb (length xy % 8) 0) front) in
+    let front = first_so (ltb 0 (length xy) && eqb (length xy % 8) 0) (has_count o (length xy / 8)) h in
+    let some : 0 < length xy = ltb-true 0 (length xy) (first_so (ltb 0 (length xy)) (eqb (length xy % 8) 0) front) in
+    let eights : length xy % 8 ≡ 0 = eqb-true (length xy % 8) 0 (second_so (ltb 0 (length xy)) (eqb (length xy % 8) 0) front) in
     (eights, omega (arith, some, eights))
 
 last_point : (p : Point) (xs : List ℕ) → length xs % 8 ≡ 0 → 8 ≤ length xs → last_of p (points_of xs) ≡ point_of (drop (length xs - 8) xs)
@@ -102,8 +103,8 @@ int_same x y h = (Decides-int_eq x y).0 h
 
 same_point : (p q : Point) → is_same_point p q ≡ true → p ≡ q
 same_point p q h =
-    let x : p.x ≡ q.x = int_same p.x q.x (and_left (int_eq p.x q.x) (int_eq p.y q.y) h) in
-    let y : p.y ≡ q.y = int_same p.y q.y (and_right (int_eq p.x q.x) (int_eq p.y q.y) h) in
+    let x : p.x ≡ q.x = int_same p.x q.x (first_so (int_eq p.x q.x) (int_eq p.y q.y) h) in
+    let y : p.y ≡ q.y = int_same p.y q.y (second_so (int_eq p.x q.x) (int_eq p.y q.y) h) in
     let P : ℤ → Type 0 = λ a. p ≡ record { x = a; y = q.y } in
     let Q : ℤ → Type 0 = λ b. p ≡ record { x = p.x; y = b } in
     subst P x (subst Q y refl)

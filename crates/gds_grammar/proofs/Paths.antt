@@ -1,5 +1,6 @@
 -- From place to place along the bytes.
 use Rattle.std.proofs.Common.{◌≡◌, ℕ, ◌<◌, ◌≤◌, Bool, true, false, List, [], ◌∷◌, ◌++◌, length, Result, refl, sym, ap, subst, ◌∙◌, append_assoc, length-append, arith}
+use Rattle.std.specs.Cmp.{first_so, second_so}
 use Rattle.std.specs.List.{flat_map}
 use Rattle.std.proofs.lemmas.List.{append-nil}
 use Rattle.std.proofs.lemmas.Grind.{flat_map-append}
@@ -122,18 +123,10 @@ takes_only bytes body rest kind s t n h = takes_one bytes rest n.first s t n.nex
 
 -- ---- how much data there is
 
-pub and_right : (a b : Bool) → (a && b) ≡ true → b ≡ true
-and_right true b e = e
-and_right false b e = absurd cc
-
-pub and_left : (a b : Bool) → (a && b) ≡ true → a ≡ true
-and_left true b e = refl
-and_left false b e = absurd cc
-
 pub well_size : (r : Rec) → IsWell r → has_size r.kind (length r.body) ≡ true
 well_size r w =
-    let both : (has_form r.kind r.form && has_size r.kind (length r.body)) ≡ true = and_left (has_form r.kind r.form && has_size r.kind (length r.body)) (has_name_if_asked r.kind r.body) w in
-    and_right (has_form r.kind r.form) (has_size r.kind (length r.body)) both
+    let both : (has_form r.kind r.form && has_size r.kind (length r.body)) ≡ true = first_so (has_form r.kind r.form && has_size r.kind (length r.body)) (has_name_if_asked r.kind r.body) w in
+    second_so (has_form r.kind r.form) (has_size r.kind (length r.body)) both
 
 size_at : (r : Rec) (kind : ℕ) → IsWell r → r.kind ≡ kind → has_size kind (length r.body) ≡ true
 size_at r kind w e = subst (λ k. has_size k (length r.body) ≡ true) e (well_size r w)
