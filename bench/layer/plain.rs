@@ -78,28 +78,40 @@ fn from_rects(rects: &[Rect]) -> Bands {
     }
 }
 
-/// How many of the numbers from `x1` on and below `x2` the row has.
+/// The place of the first item that does not pass. Unlike `partition_point` it branches: consecutive searches for areas
+/// go nearly the same way, so the processor guesses the turns and loads ahead.
+fn first_not<T>(items: &[T], passes: impl Fn(&T) -> bool) -> usize {
+    let (mut low, mut high) = (0, items.len());
+    while low < high {
+        let mid = low + (high - low) / 2;
+        if passes(&items[mid]) {
+            low = mid + 1;
+        } else {
+            high = mid;
+        }
+    }
+    low
+}
+
+/// How many of the numbers from `x1` on and below `x2` the row has: the ends less the beginnings, so `sum` has the edges
+/// so far with signs by turns, the last one added.
 fn length_in(edges: &[i32], x1: i32, x2: i32) -> i64 {
-    let first = edges.partition_point(|edge| *edge <= x1);
-    let mut from = x1;
-    let mut total = 0;
-    let mut inside = first % 2 == 1;
+    let first = first_not(edges, |edge| *edge <= x1);
+    let mut last = first;
+    let mut sum = if first % 2 == 1 { i64::from(x1) } else { 0 };
     for edge in &edges[first..] {
         if *edge >= x2 {
             break;
         }
-        if inside {
-            total += i64::from(edge - from);
-        }
-        from = *edge;
-        inside = !inside;
+        sum = i64::from(*edge) - sum;
+        last += 1;
     }
-    if inside { total + i64::from(x2 - from) } else { total }
+    if last % 2 == 1 { i64::from(x2) - sum } else { sum }
 }
 
 /// How many unit squares of the window the region has.
 fn area_in(bands: &Bands, window: &Rect) -> i64 {
-    let first = bands.partition_point(|band| band.0 <= window.y1);
+    let first = first_not(bands, |band| band.0 <= window.y1);
     let mut from = window.y1;
     let mut total = 0;
     for k in first..=bands.len() {
@@ -212,6 +224,7 @@ fn main() {
     let took = start.elapsed();
     println!("bands {} 0", bands.len());
     say("from_rects", bands.iter().map(|band| band.1.len() as i64).sum(), took);
+    time_windows("windows_1", &bands, &windows_over(side, 1, 1, 1));
     time_windows("windows_2", &bands, &windows_over(side, 1, 2, 1));
     time_windows("windows_4", &bands, &windows_over(side, 2, 2, 1));
     time_windows("windows_10000", &bands, &windows_over(side, 100, 100, 2));

@@ -1,13 +1,14 @@
 #!/usr/bin/env bash
 # Times the hot paths of regions on generated layers of 100,000, 1,000,000 and 4,000,000 rectangles, in Rattle and in
 # plain Rust (plain.rs: the same algorithms without proofs), and prints one table:
-#   from_rects    the region of all rectangles
-#   windows N     the areas of N windows over the block; those of the last two grids overlap by half
-#   corner N      the same where all metal lies in one corner of the windows
-#   is_clear      the clearance of a million boxes on a raster over the block
+#   bands         how many bands the region has
+#   from_rects    makes the region of all rectangles; what comes out is its number of edges
+#   windows_N     measures N windows over the block, few heavy ones or many light ones that overlap by half; the sum
+#   corner_N      the same where all metal lies in one corner of the windows
+#   is_clear      looks whether a million boxes on a raster over the block are clear; how many are
 # The million rectangles are measured with 1, 2 and all processors; `gain` is how many times faster than with one.
-# Each number is the best of three processes, for the machine may be busy; a peak is that of the whole process.
-# Both programs print what came out (edges, areas, clear boxes), and where these differ the run fails.
+# Each number is the best of three processes, for the machine may be busy (the last line says how busy); a peak is that
+# of the whole process. Where the two programs differ in what came out, the run fails.
 #
 # usage: bench/layer/run.sh      (needs rt, rustc, python3, taskset, GNU time and 2 GB; some four minutes, and six more
 #                                 where the crates were not proved before)
@@ -88,3 +89,4 @@ awk '
                 peak[part[1] " " part[2] " plain"] / 1024
         }
     }' "$work/measured"
+echo "processes that ran or waited, on average over 1, 5 and 15 minutes: $(cut -d' ' -f1-3 /proc/loadavg)"

@@ -5,3 +5,4 @@ pub mod GridTests
 pub mod Walking
 pub mod Shares
 pub mod Measuring
+pub mod Cutting

@@ -1,14 +1,17 @@
 -- The list of all windows' areas.
-use Rattle.std.proofs.Common.{◌≡◌, ◌+ℤ◌, ◌≤ℤ◌, ◌≤◌, ◌^◌, ℕ, ◌+◌, ◌*◌, ◌/◌, ◌%◌, ◌<◌, ℤ, pos, Bool, false, List, length, map, get_or, refl, arith, ap, ◌∙◌}
+use Rattle.std.proofs.Common.{◌≡◌, ◌+ℤ◌, ◌≤ℤ◌, ◌≤◌, ◌^◌, ℕ, ◌+◌, ◌*◌, ◌/◌, ◌%◌, ◌<◌, ℤ, pos, Bool, false, List, length, map, get_or, [], ◌∷◌, ◌++◌, refl, arith, ap, ◌∙◌, sym}
 use Rattle.std.specs.List.{range_with_len}
-use Rattle.std.proofs.lemmas.List.FromFn.{length-map-range_with_len, get_or-map-range_with_len}
+use Rattle.std.proofs.lemmas.List.FromFn.{length-map-range_with_len, get_or-map-range_with_len, map-range_with_len_more}
 use Rattle.std.proofs.lemmas.Nat.{mul-add-lt, div-mul-add, mod-mul-add}
 use Rattle.std.specs.List.{All}
 use Rattle.std.proofs.lemmas.Int.{ints}
 use Rattle.std.proofs.Math.Nat.{mul-le-mul}
 use Rattle.fill_base.specs.Counts.{span_len, count_between}
 use Rattle.fill_base.proofs.Counting.{sum_between_le, sum_between_same, sum_between_const, count_between_le, count_between_same, count_between_const}
-use Rattle.fill_base.specs.Squares.{area_between}
+use Rattle.fill_base.specs.declared.rect.Rect.{Rect}
+use Rattle.fill_base.specs.Squares.{area_between, area_of}
+use Rattle.fill_base.proofs.Signed.{read, read_is}
+use Rattle.fill_area.proofs.Cutting.{area_fits}
 use Rattle.fill_area.specs.Grid.{Grid, IsGrid, IsLength, window_left, window_right, window_bottom, window_top}
 use Rattle.fill_area.specs.Density.{AreMeasured, IsArea, window_area}
 
@@ -69,3 +72,12 @@ no_area left bottom right top wide tall =
     let z : span_len left right * 0 ≡ 0 = omega arith in
     let whole = sum_between_const (λ y. count_between (λ x. false) left right) bottom top 0 tall (λ y low high. line ∙ z) in
     let none : span_len bottom top * 0 ≡ 0 = omega arith in whole ∙ none
+
+-- the list with the area of one window more
+pub window_more : (p : ℤ → ℤ → Bool) (g : Grid) (k : ℕ) (w : Rect) (before after : List ℤ) (area : ℤ) → before ≡ map (area_at p g) (range_with_len 0 k) → after ≡ before ++ read area ∷ [] → area ≡ pos (area_of p w)
+    → w.x1 ≡ window_left g (k % g.columns) → w.y1 ≡ window_bottom g (k / g.columns) → w.x2 ≡ window_right g (k % g.columns) → w.y2 ≡ window_top g (k / g.columns)
+    → after ≡ map (area_at p g) (range_with_len 0 (k + 1))
+window_more p g k w before after area so_far put area_is left bottom right top =
+    let value : read area ≡ pos (area_of p w) = ap read area_is ∙ read_is _ (area_fits p w) in
+    let is : read area ≡ area_at p g k = value ∙ rw (left, bottom, right, top) refl in
+    put ∙ (ap (λ xs. xs ++ read area ∷ []) so_far ∙ (ap (λ n. map (area_at p g) (range_with_len 0 k) ++ n ∷ []) is ∙ sym (map-range_with_len_more (area_at p g) 0 k k (omega arith))))

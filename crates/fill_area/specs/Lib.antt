@@ -3,3 +3,4 @@ pub mod Places
 pub mod Density
 pub mod GridOf
 pub mod Slabs
+pub mod Strips

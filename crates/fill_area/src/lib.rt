@@ -4,6 +4,7 @@
 
 pub mod area;
 pub mod measure;
+pub mod strips;
 pub mod windows;
 
 pub use area::{area_in, is_high, is_low};

@@ -29,6 +29,20 @@ fn windows_of_a_strip(rt: HostRuntime) -> Result<(), Fail> {
 }
 
 #[test]
+fn few_windows_are_measured_in_strips(rt: HostRuntime) -> Result<(), Fail> {
+    let alloc = rt.alloc();
+    let rects = [rect(&rt, [0, 0, 3, 1000]), rect(&rt, [2, 10, 900, 12])];
+    let region = Region::from_rects(alloc, &rects)?;
+    let Ok(windows) = Windows::new(Point { x: 0, y: -7 }, (600, 1000), (300, 9), (2, 2)) else {
+        panic!(&rt; "the windows are refused");
+    };
+    let totals = measure_all(&rt, alloc, &region, &windows)?;
+    let wanted = [2979 + 2 * 597, 2 * 600, 2994 + 2 * 597, 2 * 600];
+    assert_eq!(rt; totals.as_slice(), wanted.as_slice());
+    Ok(())
+}
+
+#[test]
 fn an_area_is_a_count_of_squares(rt: HostRuntime) -> Result<(), Fail> {
     let alloc = rt.alloc();
     let rects = [

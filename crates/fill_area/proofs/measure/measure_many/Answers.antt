@@ -6,7 +6,7 @@ use Rattle.rayon.proofs.ListFacts.{IfOk-then}
 use Rattle.rayon.proofs.ToStd.{nat_range-All}
 use Rattle.fill_region.specs.Bands.{holds}
 use Rattle.fill_area.proofs.Measuring.{area_at, measured, bounded}
-use Rattle.fill_area.proofs.measure.measure_all.Goals as goal
+use Rattle.fill_area.proofs.measure.measure_many.Goals as goal
 
 pub collect-requires-clause-ready : goal.collect-requires-clause-ready
 collect-requires-clause-ready g c κs within =
