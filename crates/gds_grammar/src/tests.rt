@@ -110,6 +110,17 @@ fn one_wire(rt: HostRuntime) -> Result<(), Fail> {
 }
 
 #[test]
+fn empty_design(rt: HostRuntime) -> Result<(), Fail> {
+    let bytes = library_of(rt.alloc(), &[])?;
+    assert_eq!(rt; bytes.len(), 106);
+    let library = read_library(rt.alloc(), &bytes)?;
+    assert_eq!(rt; library.cells.len(), 1);
+    let elements = library.cells.get(b"TOP".as_slice()).ok_or("no cell TOP")?;
+    assert_eq!(rt; elements.len(), 0);
+    Ok(())
+}
+
+#[test]
 fn cut_anywhere(rt: HostRuntime) -> Result<(), Fail> {
     let bytes = library_of(rt.alloc(), &[BOUNDARY, LAYER, DATATYPE, XY, ENDEL])?;
     for len in 0..bytes.len() {
