@@ -10,33 +10,49 @@ use std::alloc::{AllocError, Global};
 /// The input, the run or the output at which a fault arose.
 #[derive(Clone, Copy, Debug, PartialEq, Eq)]
 pub enum Part {
+    /// The rule file.
     Rules,
+    /// The GDSII library.
     Design,
+    /// The script of edits.
     Script,
     /// The command line, and all that comes after the inputs are interpreted and before the outputs are written.
     Run,
+    /// The library of fill.
     Out,
+    /// The density report.
     Report,
 }
 
 /// Why the program gave up. A line is the number of a record, counted from 1.
 #[derive(Clone, Copy, Debug, PartialEq, Eq)]
 pub enum Fault {
+    /// A record that is no rule or no edit.
     BadRow { line: u64 },
+    /// A field that should be a number and isn't one.
     BadNumber { line: u64 },
+    /// A rule that is missing, or whose value its key doesn't allow.
     BadRule { key: Key },
+    /// A script of more than 100,000 records.
     TooManyLines,
+    /// A frame that holds no square.
     BadRect,
+    /// Too many windows, or one that leaves the range of coordinates.
     BadWindows,
+    /// An input of more than 2^31 bytes.
     TooLong,
+    /// A file could not be opened, read or written.
     Device,
+    /// An allocation was refused.
     Memory,
 }
 
 /// Why the program gave up, and where.
 #[derive(Clone, Copy, Debug, PartialEq, Eq)]
 pub struct Refusal {
+    /// Where it arose.
     pub part: Part,
+    /// What it is.
     pub fault: Fault,
 }
 

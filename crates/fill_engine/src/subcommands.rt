@@ -1,14 +1,12 @@
 //! The density report of the metal that a script leaves of nothing, from bytes to bytes.
-ghost use Rattle.std.specs.Prelude.{◌≡◌, ◌≢◌, ◌↔◌, ◌⊎◌, ℕ, true, false, take, IfOk, IfErr, IfSome, IsErrOf, IsOkAnd, OnOk, map};
+ghost use Rattle.std.specs.Prelude.{◌≡◌, ◌≢◌, ◌↔◌, ◌⊎◌, ℕ, true, false, take, IfOk, IfErr, IfSome, IsErrOf, IsOk, IsOkAnd, OnOk, map};
 ghost use Rattle.std.specs.Io.KnownBytes.{Appends};
 ghost use Rattle.fill_device.specs.Taps.{has_failed, under};
 ghost use Rattle.fill_report.specs.RulesReport.{metal_report};
-ghost use Rattle.fill_text.specs.Rules.{rules_of};
-ghost use Rattle.fill_text.specs.Script.{change_of, edits_of};
+ghost use Rattle.fill_text.specs.Script.{change_of};
 ghost use Rattle.fill_text.specs.Views.{values_of};
-ghost use Rattle.fill_engine.specs.Faults.{rule_fault, script_fault};
 ghost use Rattle.fill_engine.specs.Metal.{is_metal};
-ghost use Rattle.fill_engine.specs.Rects.{report_answer, with_fault, IsFaultOf, IsReason};
+ghost use Rattle.fill_engine.specs.Rects.{report_answer, rules_answer, script_answer, IsFaultOf, IsReason};
 
 use crate::fault::{Fault, Part, Refusal};
 use crate::metal::metal_left;
@@ -26,8 +24,8 @@ const MOST_BYTES: usize = 2_147_483_648;
 fn take_rules<R: Read>(alloc: Global, tap: &mut Tap<R>) -> Result<Rules, Fault>
     requires { has_failed tap.old ≡ false }
     ensures device { IsErrOf result Fault.Device ↔ (has_failed tap.new ≡ true) }
-    ensures rules { IfOk result (λ r. IfSome (R.remaining (under tap.old)) (λ text. rules_of text ≡ Ok (values_of r))) }
-    ensures refused { IfErr result (λ f. IfSome (R.remaining (under tap.old)) (λ text. IsFaultOf (with_fault rule_fault (rules_of text)) text f)) }
+    ensures rules { IfOk result (λ r. IfSome (R.remaining (under tap.old)) (λ text. rules_answer text ≡ Ok (values_of r))) }
+    ensures refused { IfErr result (λ f. IfSome (R.remaining (under tap.old)) (λ text. IsFaultOf (rules_answer text) f)) }
 {
     let text = match read_input(alloc, tap, MOST_BYTES) {
         Ok(text) => text,
@@ -43,8 +41,8 @@ fn take_rules<R: Read>(alloc: Global, tap: &mut Tap<R>) -> Result<Rules, Fault>
 fn take_edits<S: Read>(alloc: Global, tap: &mut Tap<S>) -> Result<Vec<Edit>, Fault>
     requires { has_failed tap.old ≡ false }
     ensures device { IsErrOf result Fault.Device ↔ (has_failed tap.new ≡ true) }
-    ensures edits { IfOk result (λ v. IfSome (S.remaining (under tap.old)) (λ text. edits_of text ≡ Ok (map change_of v.items))) }
-    ensures refused { IfErr result (λ f. IfSome (S.remaining (under tap.old)) (λ text. IsFaultOf (with_fault script_fault (edits_of text)) text f)) }
+    ensures edits { IfOk result (λ v. IfSome (S.remaining (under tap.old)) (λ text. script_answer text ≡ Ok (map change_of v.items))) }
+    ensures refused { IfErr result (λ f. IfSome (S.remaining (under tap.old)) (λ text. IsFaultOf (script_answer text) f)) }
 {
     let text = match read_input(alloc, tap, MOST_BYTES) {
         Ok(text) => text,
@@ -70,7 +68,7 @@ fn report_after(
 }
 
 /// Writes the density report of the metal that a script leaves of nothing. The rule file is read to its end and
-/// interpreted before the script is read, and nothing is written before the whole report is made.
+/// interpreted before the script is touched, and nothing is written before the whole report is made.
 ///
 /// # Errors
 /// The first fault, with its part: `rules` and `script` for the inputs, `report` for the writer, and `run` for want of
@@ -97,6 +95,10 @@ pub fn rects<R: Read, S: Read, W: Write>(
     ensures written { OnOk result (IfSome (R.remaining (under rules.old)) (λ r. IfSome (S.remaining (under script.old)) (λ s.
         IsOkAnd (report_answer r s) (Appends (W.contents (under out.old)) (W.contents (under out.new)))))) }
     ensures refused { IfErr result (λ e. IfSome (R.remaining (under rules.old)) (λ r. IfSome (S.remaining (under script.old)) (λ s. IsReason r s e))) }
+
+    // The script is not touched before the rules are interpreted and accepted.
+    ensures in_turn { IfErr result (λ e. e.part ≢ Part.Rules → IfSome (R.remaining (under rules.old)) (λ r. IsOk (rules_answer r))) }
+    ensures unread { IfErr result (λ e. e.part ≡ Part.Rules → script.new ≡ script.old) }
 
     // Where writing failed, a prefix of the report is written, and after any other fault nothing.
     ensures prefix { result ≡ Err (record { part = Part.Report; fault = Fault.Device })

@@ -1,7 +1,7 @@
 -- The command lines that the program takes, as `clap` reads them.
-use Rattle.std.specs.Prelude.{List, Option, None, true, bytes_eq, codes, if◌then◌else◌, option_map}
+use Rattle.std.specs.Prelude.{◌≡◌, List, [], Option, None, true, bytes_eq, codes, if◌then◌else◌, option_map}
 use Rattle.std.specs.Option.{option_and_then}
-use Rattle.clap.specs.Words.{App, Row, Rule, Text, first_of, new_app, new_rule, subcommand_of, with_rule, with_subcommand}
+use Rattle.clap.specs.Words.{App, Row, Rule, Text, fault_of, first_of, new_app, new_rule, subcommand_of, takes, with_rule, with_subcommand}
 
 -- a required path
 abbrev pub path : Text → Rule
@@ -34,3 +34,11 @@ said_by name rows =
 -- the line that the words make, the program's own name first
 abbrev pub said_in : List Text → Option Said
 said_in words = option_and_then (λ found. said_by found.0 found.1) (found_in words)
+
+-- `clap` takes the words, but for want of memory
+abbrev pub IsTaken : List Text → Type 0
+IsTaken words = takes program_words words ≡ true
+
+-- `clap` finds no fault in the words, and no call for help
+abbrev pub IsFaultless : List Text → Type 0
+IsFaultless words = fault_of program_words words ≡ []

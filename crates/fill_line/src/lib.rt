@@ -1,12 +1,13 @@
 //! The command line of the program, read with `clap`.
 //!
-//! [`read_line`] gives a [`Line`]: the subcommand and its paths. The layer above may rely on this: a refusal is either
-//! want of memory or a usage fault with the text to print, and a call for help is a usage fault too.
+//! [`read_line`] gives a [`Line`]: the subcommand and its paths. The layer above may rely on this: a line is answered only
+//! for words in which `clap` finds no fault, a refusal is either want of memory or a usage fault with the text to print,
+//! and a call for help is a usage fault too.
 #![tactic(auto)]
 
-ghost use Rattle.std.specs.Prelude.{◌≡◌, Some, true, IfErr, IfOk, IsSome, map, option_map};
-ghost use Rattle.clap.specs.Words.{app_of, found_of, kind_of, rows_of, takes};
-ghost use Rattle.fill_line.specs.Grammar.{program_words, said_by, said_in};
+ghost use Rattle.std.specs.Prelude.{◌≡◌, Some, IfErr, IfOk, IsSome, OnOk, map, option_map};
+ghost use Rattle.clap.specs.Words.{app_of, found_of, kind_of, rows_of};
+ghost use Rattle.fill_line.specs.Grammar.{program_words, said_by, said_in, IsFaultless, IsTaken};
 ghost use Rattle.fill_line.specs.Lines.{text_of};
 ghost use Rattle.fill_line.specs.declared.LineError.TheVariants.{Memory};
 
@@ -20,7 +21,12 @@ use std::fmt;
 #[derive(Clone, Copy, Debug, PartialEq, Eq)]
 pub enum Line<'a> {
     /// To report the density of the metal that a script leaves of nothing.
-    Rects { rules: &'a str, script: &'a str },
+    Rects {
+        /// The path of the rule file.
+        rules: &'a str,
+        /// The path of the script.
+        script: &'a str,
+    },
 }
 
 /// Why there is no line.
@@ -28,6 +34,7 @@ pub enum Line<'a> {
 pub enum LineError {
     /// The words are not a line of this program, or ask for help.
     Usage(clap::Error),
+    /// An allocation was refused.
     Memory,
 }
 
@@ -86,7 +93,8 @@ fn line_in<'a>(name: &str, found: &ArgMatches<'a>) -> Option<Line<'a>>
 /// `Usage` where they make none, also where they ask for help; `Memory` where memory runs out.
 pub fn read_line<'a, S: AsStr>(alloc: Global, words: &'a [S]) -> Result<Line<'a>, LineError>
     ensures line { IfOk result (λ line. said_in (map S.text words.entry.now) ≡ Some (text_of line)) }
-    ensures usage { takes program_words (map S.text words.entry.now) ≡ true → IsSome (said_in (map S.text words.entry.now)) → IfErr result (λ e. e ≡ LineError.Memory) }
+    ensures faultless { OnOk result (IsFaultless (map S.text words.entry.now)) }
+    ensures usage { IsTaken (map S.text words.entry.now) → IsSome (said_in (map S.text words.entry.now)) → IfErr result (λ e. e ≡ LineError.Memory) }
 {
     let matches = match grammar(alloc)?.try_get_matches_from(words) {
         Ok(matches) => matches,

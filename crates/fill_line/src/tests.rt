@@ -1,4 +1,6 @@
 use crate::{Line, LineError, read_line};
+use std::alloc::AllocError;
+use std::process::Abort;
 use std::test::Fail;
 
 #[test]
@@ -43,14 +45,82 @@ fn other_lines_are_usage_faults(rt: HostRuntime) {
     );
 }
 
-#[test]
-fn a_usage_fault_has_a_text(rt: HostRuntime) -> Result<(), Fail> {
-    match read_line(rt.alloc(), ["densfill", "rects", "a"].as_slice()) {
-        Ok(_) => assert!(rt; false),
+/// Asserts the text of the refusal of these words.
+fn assert_text(rt: &(impl Abort + AllocGlobal), words: &[&str], want: &str) -> Result<(), Fail> {
+    match read_line(rt.alloc(), words) {
+        Ok(_) => assert!(rt; false, "{words:?}"),
         Err(error) => {
             let text = format!(in rt.alloc(); "{error}")?;
-            assert!(rt; text.contains("<SCRIPT>"), "{text}");
+            assert_eq!(rt; text.as_str(), want);
         }
     }
+    Ok(())
+}
+
+#[test]
+fn a_usage_fault_has_the_text_of_clap(rt: HostRuntime) -> Result<(), Fail> {
+    assert_text(
+        &rt,
+        &["densfill", "rects", "a"],
+        "error: the following required arguments were not provided:
+  <SCRIPT>
+
+Usage: densfill rects <RULES> <SCRIPT>
+
+For more information, try '--help'.
+",
+    )?;
+    assert_text(
+        &rt,
+        &["densfill", "fill"],
+        "error: unrecognized subcommand 'fill'
+
+Usage: densfill <COMMAND>
+
+For more information, try '--help'.
+",
+    )
+}
+
+#[test]
+fn help_tells_of_the_program(rt: HostRuntime) -> Result<(), Fail> {
+    assert_text(
+        &rt,
+        &["densfill", "--help"],
+        "Checks the metal density of a layout
+
+Usage: densfill <COMMAND>
+
+Commands:
+  rects  Reports the density of the metal that a script leaves of nothing
+  help   Print this message or the help of the given subcommand(s)
+
+Options:
+  -h, --help  Print help
+",
+    )?;
+    assert_text(
+        &rt,
+        &["densfill", "rects", "--help"],
+        "Reports the density of the metal that a script leaves of nothing
+
+Usage: densfill rects <RULES> <SCRIPT>
+
+Arguments:
+  <RULES>   The rule file
+  <SCRIPT>  The script of added and cut rectangles
+
+Options:
+  -h, --help  Print help
+",
+    )
+}
+
+#[test]
+fn a_refused_allocation_is_want_of_memory(rt: HostRuntime) -> Result<(), Fail> {
+    let error = LineError::from(AllocError);
+    assert!(rt; matches!(error, LineError::Memory));
+    let text = format!(in rt.alloc(); "{error}")?;
+    assert_eq!(rt; text.as_str(), "out of memory");
     Ok(())
 }

@@ -7,3 +7,6 @@ pub mod report;
 
 pub use line::{Density, Measures};
 pub use report::report_of;
+
+#[cfg(test)]
+mod tests;

@@ -6,52 +6,86 @@ use fill_base::rect::{HIGHEST, LOWEST};
 /// The longest side, step, spacing and count that a rule may ask for.
 const LARGEST: i64 = 1_048_576;
 
-/// A rule whose value is a number, in the order of the table of rules.
+/// A rule whose value is a number, in the order of the table of rules. Lengths and coordinates are in database units.
 #[derive(Clone, Copy, Debug, PartialEq, Eq)]
 pub enum NumberKey {
+    /// The frame's left edge, -2^30 to 2^30 database units.
     FrameX1,
+    /// The frame's lower edge, -2^30 to 2^30.
     FrameY1,
+    /// The frame's right edge, -2^30 to 2^30.
     FrameX2,
+    /// The frame's upper edge, -2^30 to 2^30.
     FrameY2,
+    /// The width of a fill box, 1 to 2^20.
     BoxW,
+    /// The height of a fill box, 1 to 2^20.
     BoxH,
+    /// From one column of the raster to the next, 1 to 2^20.
     StepX,
+    /// From one row of the raster to the next, 1 to 2^20.
     StepY,
+    /// The left edge of the raster's first place, -2^30 to 2^30.
     OriginX,
+    /// The lower edge of the raster's first place, -2^30 to 2^30.
     OriginY,
+    /// The least gap between a fill box and drawn metal, 0 to 2^20.
     Spacing,
+    /// The least gap between two fill boxes, 0 to 2^20.
     FillSpacing,
+    /// The width of a window, 1 to 2^20.
     WinW,
+    /// The height of a window, 1 to 2^20.
     WinH,
+    /// From one column of windows to the next, 1 to 2^20.
     WinStepX,
+    /// From one row of windows to the next, 1 to 2^20.
     WinStepY,
+    /// The left edge of the first window, -2^30 to 2^30.
     WinX,
+    /// The lower edge of the first window, -2^30 to 2^30.
     WinY,
+    /// How many columns of windows there are, 1 to 2^20.
     WinNx,
+    /// How many rows of windows there are, 1 to 2^20.
     WinNy,
+    /// The least share of metal, 0 to 1,000,000 millionths.
     Min,
+    /// The greatest share of metal, 0 to 1,000,000 millionths.
     Max,
+    /// How many columns of places a tile has, 1 to 4,096.
     TileNx,
+    /// How many rows of places a tile has, 1 to 4,096.
     TileNy,
+    /// The checked layer, 0 to 65,535.
     Layer,
+    /// The checked data type, 0 to 65,535.
     Datatype,
+    /// The layer of the fill boxes, 0 to 65,535.
     FillLayer,
+    /// The data type of the fill boxes, 0 to 65,535.
     FillDatatype,
 }
 
 /// A rule whose value is a text, in the order of the table of rules.
 #[derive(Clone, Copy, Debug, PartialEq, Eq)]
 pub enum TextKey {
+    /// The name of the design's top cell, any 1 to 1,024 bytes.
     Top,
+    /// The name of the fill library, 1 to 32 of `A`-`Z` `a`-`z` `0`-`9` `_` `?` `$`.
     FillLib,
+    /// The name of the cell of one fill box, as the library's.
     FillCell,
+    /// The name of the fill library's top cell, as the library's, and another one than the fill box's.
     FillTop,
 }
 
 /// The key of a rule. In the table of rules the numbers stand before the texts.
 #[derive(Clone, Copy, Debug, PartialEq, Eq)]
 pub enum Key {
+    /// A rule whose value is a number.
     Number(NumberKey),
+    /// A rule whose value is a text.
     Text(TextKey),
 }
 

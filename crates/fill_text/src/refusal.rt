@@ -20,11 +20,13 @@ pub enum RuleError {
     /// The windows are too many, or leave the coordinate range.
     #[error("the windows are too many or out of range")]
     BadWindows,
+    /// An allocation was refused.
     #[error("out of memory")]
     Memory,
 }
 
 impl fmt::Display for Key {
+    /// The key's name in a rule file.
     fn fmt<W: fmt::Write>(&self, f: &mut fmt::Formatter<W>) -> fmt::Result {
         f.write_str(self.name())
     }

@@ -52,9 +52,13 @@ impl Numbers {
 /// The texts of the rules.
 #[derive(Debug, Drop, PartialEq, Eq)]
 pub struct Texts {
+    /// The name of the design's top cell.
     pub top: Vec<u8>,
+    /// The name of the fill library.
     pub fill_lib: Vec<u8>,
+    /// The name of the cell of one fill box.
     pub fill_cell: Vec<u8>,
+    /// The name of the fill library's top cell.
     pub fill_top: Vec<u8>,
 }
 

@@ -35,6 +35,7 @@ pub enum ScriptError {
     /// A record past the 100,000th.
     #[error("more than 100,000 records")]
     TooManyLines,
+    /// An allocation was refused.
     #[error("out of memory")]
     Memory,
 }
@@ -42,7 +43,9 @@ pub enum ScriptError {
 /// What an edit does with its rectangle.
 #[derive(Clone, Copy)]
 pub enum Kind {
+    /// Its squares become metal.
     Add,
+    /// Its squares are metal no more.
     Cut,
 }
 

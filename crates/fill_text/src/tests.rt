@@ -65,17 +65,52 @@ fn missing(key: NumberKey) -> RuleError {
     }
 }
 
+/// A rule file in which no two rules have one value, so that none can stand for another.
+const DISTINCT_RULES: &[u8] = b"fill_top,B
+fill_cell,C
+fill_lib,L
+top,T
+fill_datatype,13
+fill_layer,14
+datatype,1
+layer,65535
+tile_ny,8
+tile_nx,7
+max,820000
+min,310000
+win_ny,2
+win_nx,3
+win_y,-28
+win_x,-27
+win_step_y,36
+win_step_x,35
+win_h,44
+win_w,43
+fill_spacing,12
+spacing,11
+origin_y,-10
+origin_x,-9
+step_y,18
+step_x,17
+box_h,6
+box_w,5
+frame_y2,204
+frame_x2,203
+frame_y1,-102
+frame_x1,-101
+";
+
 #[test]
 fn every_rule_has_its_value(rt: HostRuntime) -> Result<(), Fail> {
-    let rules = read_rules(rt.alloc(), &rules_with(rt.alloc(), 0, "")?)?;
-    assert_eq!(rt; rules.frame(), Rect::new(0, 0, 100, 100)?);
+    let rules = read_rules(rt.alloc(), DISTINCT_RULES)?;
+    assert_eq!(rt; rules.frame(), Rect::new(-101, -102, 203, 204)?);
     let frame = [
         rules.frame_x1(),
         rules.frame_y1(),
         rules.frame_x2(),
         rules.frame_y2(),
     ];
-    assert_eq!(rt; frame, [0, 0, 100, 100]);
+    assert_eq!(rt; frame, [-101, -102, 203, 204]);
     let raster = [
         rules.box_w(),
         rules.box_h(),
@@ -84,32 +119,86 @@ fn every_rule_has_its_value(rt: HostRuntime) -> Result<(), Fail> {
         rules.origin_x(),
         rules.origin_y(),
     ];
-    assert_eq!(rt; raster, [4, 4, 10, 10, 3, 3]);
-    assert_eq!(rt; [rules.spacing(), rules.fill_spacing()], [2, 2]);
+    assert_eq!(rt; raster, [5, 6, 17, 18, -9, -10]);
+    assert_eq!(rt; [rules.spacing(), rules.fill_spacing()], [11, 12]);
     let sides = [
         rules.win_w(),
         rules.win_h(),
         rules.win_step_x(),
         rules.win_step_y(),
     ];
-    assert_eq!(rt; sides, [50, 50, 25, 25]);
+    assert_eq!(rt; sides, [43, 44, 35, 36]);
     let windows = [rules.win_x(), rules.win_y(), rules.win_nx(), rules.win_ny()];
-    assert_eq!(rt; windows, [0, 0, 3, 3]);
+    assert_eq!(rt; windows, [-27, -28, 3, 2]);
     let rest = [rules.min(), rules.max(), rules.tile_nx(), rules.tile_ny()];
-    assert_eq!(rt; rest, [300_000, 800_000, 4, 4]);
+    assert_eq!(rt; rest, [310_000, 820_000, 7, 8]);
     let layers = [
         rules.layer(),
         rules.datatype(),
         rules.fill_layer(),
         rules.fill_datatype(),
     ];
-    assert_eq!(rt; layers, [7, 0, 10, 1]);
-    let want = Windows::new(Point { x: 0, y: 0 }, (50, 50), (25, 25), (3, 3))?;
+    assert_eq!(rt; layers, [65_535, 1, 14, 13]);
+    let want = Windows::new(Point { x: -27, y: -28 }, (43, 44), (35, 36), (3, 2))?;
     assert_eq!(rt; rules.windows(), want);
-    assert!(rt; rules.top() == b"TOP".as_slice());
-    assert!(rt; rules.fill_lib() == b"FILL".as_slice());
-    assert!(rt; rules.fill_cell() == b"BOX4".as_slice());
-    assert!(rt; rules.fill_top() == b"FILLTOP".as_slice());
+    assert!(rt; rules.top() == b"T".as_slice());
+    assert!(rt; rules.fill_lib() == b"L".as_slice());
+    assert!(rt; rules.fill_cell() == b"C".as_slice());
+    assert!(rt; rules.fill_top() == b"B".as_slice());
+    Ok(())
+}
+
+#[test]
+fn a_key_prints_as_its_name(rt: HostRuntime) -> Result<(), Fail> {
+    let alloc = rt.alloc();
+    for (key, want) in [
+        (Key::Number(NumberKey::FrameX1), "frame_x1"),
+        (Key::Number(NumberKey::WinStepY), "win_step_y"),
+        (Key::Number(NumberKey::FillDatatype), "fill_datatype"),
+        (Key::Text(TextKey::Top), "top"),
+        (Key::Text(TextKey::FillTop), "fill_top"),
+    ] {
+        let text = format!(in alloc; "{key}")?;
+        assert_eq!(rt; text.as_str(), want);
+    }
+    Ok(())
+}
+
+#[test]
+fn refusals_print_their_reason(rt: HostRuntime) -> Result<(), Fail> {
+    let alloc = rt.alloc();
+    for (error, want) in [
+        (RuleError::BadRow { line: 3 }, "record 3 is no rule"),
+        (
+            RuleError::BadNumber { line: 4 },
+            "record 4 has a bad number",
+        ),
+        (
+            missing(NumberKey::Min),
+            "the rule min is missing or out of range",
+        ),
+        (RuleError::BadRect, "the frame holds no square"),
+        (
+            RuleError::BadWindows,
+            "the windows are too many or out of range",
+        ),
+        (RuleError::Memory, "out of memory"),
+    ] {
+        let text = format!(in alloc; "{error}")?;
+        assert_eq!(rt; text.as_str(), want);
+    }
+    for (error, want) in [
+        (ScriptError::BadRow { line: 3 }, "record 3 is no edit"),
+        (
+            ScriptError::BadNumber { line: 4 },
+            "record 4 has a bad number",
+        ),
+        (ScriptError::TooManyLines, "more than 100,000 records"),
+        (ScriptError::Memory, "out of memory"),
+    ] {
+        let text = format!(in alloc; "{error}")?;
+        assert_eq!(rt; text.as_str(), want);
+    }
     Ok(())
 }
 

@@ -1,4 +1,4 @@
-use Rattle.std.proofs.Common.{◌∙◌, ℕ, List, ap, map, take}
+use Rattle.std.proofs.Common.{◌∙◌, ℕ, List, ap, map, take, inl, inr, refl}
 use Rattle.std.specs.Io.KnownBytes.{Appends}
 use Rattle.fill_device.specs.Taps.{under}
 use Rattle.fill_report.specs.RulesReport.{metal_report}
@@ -6,7 +6,9 @@ use Rattle.fill_text.specs.Script.{change_of}
 use Rattle.fill_text.specs.Views.{values_of}
 use Rattle.fill_text.specs.declared.script.Edit.{Edit}
 use Rattle.fill_engine.specs.Metal.{is_metal}
-use Rattle.fill_engine.proofs.Reasons.{report_is, rules_reason, script_reason}
+use Rattle.fill_engine.specs.declared.fault.Fault.TheVariants.{Device, Memory}
+use Rattle.fill_engine.specs.declared.fault.Part.TheVariants.{Report, Run}
+use Rattle.fill_engine.proofs.Reasons.{later_reason, report_is, rules_reason, script_reason}
 use Rattle.fill_engine.proofs.subcommands.rects.Goals as goal
 
 pub returns-in-Err-clause-refused : goal.returns-in-Err-clause-refused
@@ -33,3 +35,15 @@ returns-clause-prefix g c =
     (map change_of c.in-Ok-take_edits.edits.items) c.deref-2.result.now
     (λ text. (k : ℕ) × Appends (g.W.Write.contents (under c.args.out.now)) (g.W.Write.contents (under c.write_text.new.tap)) (take k text))
     c.in-Ok.ensures.rules c.in-Ok-take_edits.ensures.edits (c.deref-2.ensures.value ∙ made) c.write_text.ensures.prefix
+
+pub returns-in-Err-report_after-clause-refused : goal.returns-in-Err-report_after-clause-refused
+returns-in-Err-report_after-clause-refused g c =
+    later_reason (g.R.Read.remaining (under c.args.rules.now)) (g.S.Read.remaining (under c.args.script.now)) (values_of c.in-Ok.values)
+    (map change_of c.in-Ok-take_edits.edits.items) (record { part = Run; fault = Memory })
+    c.in-Ok.ensures.rules c.in-Ok-take_edits.ensures.edits (inr refl) (inl refl)
+
+pub returns-clause-refused : goal.returns-clause-refused
+returns-clause-refused g c =
+    later_reason (g.R.Read.remaining (under c.args.rules.now)) (g.S.Read.remaining (under c.args.script.now)) (values_of c.in-Ok.values)
+    (map change_of c.in-Ok-take_edits.edits.items) (record { part = Report; fault = Device })
+    c.in-Ok.ensures.rules c.in-Ok-take_edits.ensures.edits (inl refl) (inr refl)
