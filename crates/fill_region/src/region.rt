@@ -68,7 +68,8 @@ impl Region {
         Ok(Region { bands })
     }
 
-    /// The squares that some rectangle holds.
+    /// The squares that some rectangle holds, by one sweep upwards: a sort, and at each line at which a
+    /// rectangle begins or ends a walk over those that cross it.
     pub fn from_rects(alloc: Global, rects: &[Rect]) -> Result<Region, AllocError>
         ensures region { IfOk result IsRegion }
         ensures squares { IfOk result (λ r. (x y : ℤ) → holds r x y ≡ covered rects.now x y) }
