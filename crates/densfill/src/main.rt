@@ -1,13 +1,17 @@
 //! The program: it opens what the command line names, runs the engine and prints a fault.
 #![tactic(auto)]
 
-ghost use Rattle.std.specs.Prelude.{◌≡◌, false, IfOk};
+ghost use Rattle.std.specs.Prelude.{◌≡◌, ◌⊎◌, ◌<◌, false, map, IfErr, IfOk, IsSome, OnErr, OnOk};
+ghost use Rattle.std.specs.Process.{exit_status};
 ghost use Rattle.fill_device.specs.Taps.{has_failed};
+ghost use Rattle.fill_engine.specs.Faults.{fault_number, fault_status};
+ghost use Rattle.fill_line.specs.Grammar.{said_in, IsFaultless, IsTaken};
 
 use fill_device::Tap;
 use fill_engine::{Fault, Part, Refusal, fault_line, rects};
 use fill_line::{Line, LineError, read_line};
 use std::alloc::Global;
+use std::convert::AsStr;
 use std::fs::File;
 use std::io::{ErrorKind, Write};
 use std::process::ExitCode;
@@ -18,9 +22,17 @@ use std::{env, io};
 /// The exit status of a line that the program doesn't take.
 const USAGE: u8 = 1;
 
+/// Memory ran out outside the inputs and outputs.
+const OUT_OF_MEMORY: Refusal = Refusal {
+    part: Part::Run,
+    fault: Fault::Memory,
+};
+
 /// A tap in front of the file that a path names.
 fn opened<R: Files>(rt: &R, part: Part, path: &str) -> Result<Tap<R::File>, Refusal>
-    ensures { IfOk result (λ tap. has_failed tap ≡ false) }
+    ensures whole { IfOk result (λ tap. has_failed tap ≡ false) }
+    ensures part { IfErr result (λ e. e.part ≡ part) }
+    ensures fault { IfErr result (λ e. (e.fault ≡ Fault.Device) ⊎ (e.fault ≡ Fault.Memory)) }
 {
     match File::open(rt, path) {
         Ok(file) => Ok(Tap::new(file)),
@@ -42,21 +54,21 @@ fn run_rects<R: Files + Threads + Sync, W: Write + Drop>(
     rules: &str,
     script: &str,
     out: W,
-) -> Result<(), Refusal> {
+) -> Result<(), Refusal>
+    ensures device { IfErr result (λ e. e.fault ≡ Fault.Device → (e.part ≡ Part.Rules) ⊎ (e.part ≡ Part.Script) ⊎ (e.part ≡ Part.Report)) }
+    ensures memory { IfErr result (λ e. e.fault ≡ Fault.Memory → (e.part ≡ Part.Rules) ⊎ (e.part ≡ Part.Script) ⊎ (e.part ≡ Part.Run)) }
+{
     let mut rules = opened(rt, Part::Rules, rules)?;
     let mut script = opened(rt, Part::Script, script)?;
     let mut out = Tap::new(out);
     rects(rt, alloc, &mut rules, &mut script, &mut out)
 }
 
-/// The program's words, its own name first.
-fn words_of(rt: HostRuntime) -> io::Result<Vec<String>> {
-    let words = env::args(&rt)?.collect(rt.alloc())?;
-    Ok(words)
-}
-
-/// Prints the line of a fault, and gives its exit status.
-fn told(rt: HostRuntime, refusal: Refusal) -> ExitCode {
+/// Prints the line of a fault, and gives its exit status; that of want of memory where the line could not be made.
+fn told(rt: &(impl AllocGlobal + Eprint), refusal: Refusal) -> ExitCode
+    ensures status { (exit_status result ≡ fault_status (fault_number refusal.fault)) ⊎ (exit_status result ≡ 3) }
+    ensures refused { 1 < exit_status result }
+{
     match fault_line(rt.alloc(), refusal.part, refusal.fault) {
         Ok(line) => {
             let _ = eprint!(rt; "{line}");
@@ -69,29 +81,55 @@ fn told(rt: HostRuntime, refusal: Refusal) -> ExitCode {
     }
 }
 
-fn main(rt: HostRuntime) -> ExitCode {
-    let out_of_memory = Refusal {
-        part: Part::Run,
-        fault: Fault::Memory,
-    };
-    let words = match words_of(rt) {
-        Ok(words) => words,
-        Err(error) if error.kind() == ErrorKind::OutOfMemory => return told(rt, out_of_memory),
-        Err(_) => {
-            let _ = eprint!(rt; "error: a word of the command line is no text\n");
-            return ExitCode::from(USAGE);
-        }
-    };
-    let done = match read_line(rt.alloc(), words.as_slice()) {
-        Ok(Line::Rects { rules, script }) => run_rects(&rt, rt.alloc(), rules, script, rt.stdout()),
-        Err(LineError::Memory) => Err(out_of_memory),
-        Err(LineError::Usage(error)) => {
-            let _ = eprint!(rt; "{error}");
-            return ExitCode::from(USAGE);
-        }
-    };
+/// The exit status of what was done, with the line of a fault printed.
+fn ended(rt: &(impl AllocGlobal + Eprint), done: Result<(), Refusal>) -> ExitCode
+    ensures done { OnOk done (exit_status result ≡ 0) }
+    ensures refused { IfErr done (λ e. (exit_status result ≡ fault_status (fault_number e.fault)) ⊎ (exit_status result ≡ 3)) }
+    ensures told { OnErr done (1 < exit_status result) }
+{
     match done {
         Ok(()) => ExitCode::SUCCESS,
         Err(refusal) => told(rt, refusal),
     }
 }
+
+/// Does what the words ask for, the program's own name first, and gives the exit status: 0 where it is done, 1 where
+/// they are no line of the program, and else that of the fault.
+fn status_of<R: AllocGlobal + Eprint + Files + Threads + Sync, S: AsStr, W: Write + Drop>(
+    rt: &R,
+    words: &[S],
+    out: W,
+) -> ExitCode
+    ensures done { exit_status result ≡ 0 → IsFaultless (map S.text words.now) }
+    ensures usage { IsTaken (map S.text words.now) → IsSome (said_in (map S.text words.now)) → (exit_status result ≡ 0) ⊎ (1 < exit_status result) }
+{
+    let done = match read_line(rt.alloc(), words) {
+        Ok(Line::Rects { rules, script }) => run_rects(rt, rt.alloc(), rules, script, out),
+        Err(LineError::Memory) => Err(OUT_OF_MEMORY),
+        Err(LineError::Usage(error)) => {
+            let _ = eprint!(rt; "{error}");
+            return ExitCode::from(USAGE);
+        }
+    };
+    ended(rt, done)
+}
+
+/// The program's words, its own name first.
+fn words_of(rt: HostRuntime) -> io::Result<Vec<String>> {
+    let words = env::args(&rt)?.collect(rt.alloc())?;
+    Ok(words)
+}
+
+fn main(rt: HostRuntime) -> ExitCode {
+    match words_of(rt) {
+        Ok(words) => status_of(&rt, words.as_slice(), rt.stdout()),
+        Err(error) if error.kind() == ErrorKind::OutOfMemory => told(&rt, OUT_OF_MEMORY),
+        Err(_) => {
+            let _ = eprint!(rt; "error: a word of the command line is no text\n");
+            ExitCode::from(USAGE)
+        }
+    }
+}
+
+#[cfg(test)]
+mod tests;
