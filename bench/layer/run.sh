@@ -10,8 +10,8 @@
 # Each number is the best of three processes, for the machine may be busy (the last line says how busy); a peak is that
 # of the whole process. Where the two programs differ in what came out, the run fails.
 #
-# usage: bench/layer/run.sh      (needs rt, rustc, python3, taskset, GNU time and 2 GB; some four minutes, and six more
-#                                 where the crates were not proved before)
+# usage: bench/layer/run.sh      (needs rt, rustc, python3, taskset, GNU time and 2 GB; some five minutes on four idle
+#                                 processors, and as many again where the crates were not proved before)
 set -eu
 here=$(cd "$(dirname "$0")" && pwd)
 root=$(cd "$here/../.." && pwd)
