@@ -22,13 +22,13 @@ pub const LOWEST: i64 = -1_073_741_824;
 pub const HIGHEST: i64 = 1_073_741_824;
 
 /// A rectangle of at least one unit square, in database units. It holds the squares `(x, y)` with
-/// `x1 <= x < x2` and `y1 <= y < y2`.
+/// `x1 <= x < x2` and `y1 <= y < y2`. Its edges are kept in four bytes each, which hold every coordinate.
 #[derive(Clone, Copy, Debug, PartialEq, Eq)]
 pub struct Rect {
-    x1: i64,
-    y1: i64,
-    x2: i64,
-    y2: i64,
+    x1: i32,
+    y1: i32,
+    x2: i32,
+    y2: i32,
     pub ghost wide: { x1 <ℤ x2 },
     pub ghost tall: { y1 <ℤ y2 },
     pub ghost left: { lowest ≤ℤ x1 },
@@ -44,6 +44,13 @@ pub fn is_coordinate(x: i64) -> bool
     LOWEST <= x && x <= HIGHEST
 }
 
+/// Whether all four numbers are coordinates.
+fn are_coordinates(x1: i64, y1: i64, x2: i64, y2: i64) -> bool
+    ensures { IsTrue result ↔ AreCoordinates x1 y1 x2 y2 }
+{
+    is_coordinate(x1) & is_coordinate(y1) & is_coordinate(x2) & is_coordinate(y2)
+}
+
 impl Rect {
     ghost use Rattle.fill_base.specs.Squares.{squares, area_of};
 
@@ -57,13 +64,13 @@ impl Rect {
         ensures out_of_range { (result ≡ Err RectError.OutOfRange) ↔ ¬ AreCoordinates x1 y1 x2 y2 }
         ensures corners { IfOk result (λ r. (r.x1 ≡ x1) × (r.y1 ≡ y1) × (r.x2 ≡ x2) × (r.y2 ≡ y2)) }
     {
-        if !(is_coordinate(x1) && is_coordinate(y1) && is_coordinate(x2) && is_coordinate(y2)) {
+        if !are_coordinates(x1, y1, x2, y2) {
             return Err(RectError::OutOfRange);
         }
         if x1 >= x2 || y1 >= y2 {
             return Err(RectError::BadRect);
         }
-        Ok(Rect { x1, y1, x2, y2 })
+        Ok(Rect::from_edges(x1, y1, x2, y2))
     }
 
     /// The rectangle with these edges, which the caller knows to be in order and in range.
@@ -76,42 +83,47 @@ impl Rect {
         requires top { y2 ≤ℤ highest }
         ensures { (result.x1 ≡ x1) × (result.y1 ≡ y1) × (result.x2 ≡ x2) × (result.y2 ≡ y2) }
     {
-        Rect { x1, y1, x2, y2 }
+        Rect {
+            x1: x1 as i32,
+            y1: y1 as i32,
+            x2: x2 as i32,
+            y2: y2 as i32,
+        }
     }
 
     /// The left edge.
     pub fn x1(&self) -> i64
         ensures { result ≡ self.now.x1 }
     {
-        self.x1
+        i64::from(self.x1)
     }
 
     /// The lower edge.
     pub fn y1(&self) -> i64
         ensures { result ≡ self.now.y1 }
     {
-        self.y1
+        i64::from(self.y1)
     }
 
     /// The right edge.
     pub fn x2(&self) -> i64
         ensures { result ≡ self.now.x2 }
     {
-        self.x2
+        i64::from(self.x2)
     }
 
     /// The upper edge.
     pub fn y2(&self) -> i64
         ensures { result ≡ self.now.y2 }
     {
-        self.y2
+        i64::from(self.y2)
     }
 
     /// How many unit squares the rectangle holds.
     pub fn area(&self) -> i64
         ensures { result ≡ pos (area_of (squares self.now) self.now) }
     {
-        (self.x2 - self.x1) * (self.y2 - self.y1)
+        (self.x2() - self.x1()) * (self.y2() - self.y1())
     }
 
     /// The squares that both rectangles hold, or `None` where they share none.
@@ -119,9 +131,9 @@ impl Rect {
         ensures some { IfSome result (λ r. (x y : ℤ) → squares r x y ≡ squares self.now x y && squares other.now x y) }
         ensures none { IfNone result ((x y : ℤ) → squares self.now x y && squares other.now x y ≡ false) }
     {
-        let (x1, x2) = common_part(self.x1, self.x2, other.x1, other.x2)?;
-        let (y1, y2) = common_part(self.y1, self.y2, other.y1, other.y2)?;
-        Some(Rect { x1, y1, x2, y2 })
+        let (x1, x2) = common_part(self.x1(), self.x2(), other.x1(), other.x2())?;
+        let (y1, y2) = common_part(self.y1(), self.y2(), other.y1(), other.y2())?;
+        Some(Rect::from_edges(x1, y1, x2, y2))
     }
 }
 

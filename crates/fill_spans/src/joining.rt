@@ -16,7 +16,7 @@ pub(crate) fn joined(alloc: Global, rects: &[Rect]) -> Result<Vec<i32>, AllocErr
     let Some((first, rest)) = rects.split_first() else {
         return Ok(Vec::new(alloc));
     };
-    let mut edges = Vec::with_capacity(alloc, rects.len())?;
+    let mut edges = Vec::with_capacity(alloc, rects.len().saturating_mul(2))?;
     edges.push(first.x1() as i32)?;
     let mut end = first.x2() as i32;
     for rect in rest {
