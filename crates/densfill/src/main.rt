@@ -1,13 +1,14 @@
 //! The program: it opens what the command line names, runs the engine and prints a fault.
 #![tactic(auto)]
 
-ghost use Rattle.std.specs.Prelude.{◌≡◌, ◌⊎◌, ◌<◌, false, map, IfErr, IfOk, IsSome, OnErr, OnOk};
+ghost use Rattle.std.specs.Prelude.{◌≡◌, ◌⊎◌, ◌<◌, ℕ, codes, false, map, take, IfErr, IfOk, IsSome, OnErr, OnOk};
+ghost use Rattle.std.specs.Io.KnownBytes.{Appends};
 ghost use Rattle.std.specs.Process.{exit_status};
-ghost use Rattle.fill_device.specs.Taps.{has_failed};
-ghost use Rattle.fill_engine.specs.Faults.{fault_number, fault_status};
+ghost use Rattle.fill_device.specs.Taps.{has_failed, under};
+ghost use Rattle.fill_engine.specs.Faults.{fault_number, fault_status, fault_text};
 ghost use Rattle.fill_line.specs.Grammar.{said_in, IsFaultless, IsTaken};
 
-use fill_device::Tap;
+use fill_device::{Tap, write_text};
 use fill_engine::{Fault, Part, Refusal, fault_line, rects};
 use fill_line::{Line, LineError, read_line};
 use std::alloc::Global;
@@ -64,41 +65,45 @@ fn run_rects<R: Files + Threads + Sync, W: Write + Drop>(
     rects(rt, alloc, &mut rules, &mut script, &mut out)
 }
 
-/// Prints the line of a fault, and gives its exit status; that of want of memory where the line could not be made.
-fn told(rt: &(impl AllocGlobal + Eprint), refusal: Refusal) -> ExitCode
+/// Writes the line of a fault, and gives its exit status; those of want of memory where the line could not be made.
+fn told<E: Write>(alloc: Global, err: &mut Tap<E>, refusal: Refusal) -> ExitCode
+    requires { has_failed err.old ≡ false }
     ensures status { (exit_status result ≡ fault_status (fault_number refusal.fault)) ⊎ (exit_status result ≡ 3) }
     ensures refused { 1 < exit_status result }
+    ensures line { (k : ℕ) × (Appends (E.contents (under err.old)) (E.contents (under err.new)) (take k (fault_text refusal.part refusal.fault))
+        ⊎ Appends (E.contents (under err.old)) (E.contents (under err.new)) (take k (codes "densfill: run: 31 Memory\n"))) }
 {
-    match fault_line(rt.alloc(), refusal.part, refusal.fault) {
+    match fault_line(alloc, refusal.part, refusal.fault) {
         Ok(line) => {
-            let _ = eprint!(rt; "{line}");
+            let _ = write_text(err, line.as_bytes());
             ExitCode::from(refusal.fault.status())
         }
         Err(_) => {
-            let _ = eprint!(rt; "densfill: run: 31 Memory\n");
+            let _ = write_text(err, b"densfill: run: 31 Memory\n");
             ExitCode::from(Fault::Memory.status())
         }
     }
 }
 
-/// The exit status of what was done, with the line of a fault printed.
-fn ended(rt: &(impl AllocGlobal + Eprint), done: Result<(), Refusal>) -> ExitCode
+/// The exit status of what was done, with the line of a fault written.
+fn ended<E: Write + Drop>(alloc: Global, err: E, done: Result<(), Refusal>) -> ExitCode
     ensures done { OnOk done (exit_status result ≡ 0) }
     ensures refused { IfErr done (λ e. (exit_status result ≡ fault_status (fault_number e.fault)) ⊎ (exit_status result ≡ 3)) }
     ensures told { OnErr done (1 < exit_status result) }
 {
     match done {
         Ok(()) => ExitCode::SUCCESS,
-        Err(refusal) => told(rt, refusal),
+        Err(refusal) => told(alloc, &mut Tap::new(err), refusal),
     }
 }
 
 /// Does what the words ask for, the program's own name first, and gives the exit status: 0 where it is done, 1 where
 /// they are no line of the program, and else that of the fault.
-fn status_of<R: AllocGlobal + Eprint + Files + Threads + Sync, S: AsStr, W: Write + Drop>(
+fn status_of<R: AllocGlobal + Files + Threads + Sync, S: AsStr, W: Write + Drop, E: Write + Drop>(
     rt: &R,
     words: &[S],
     out: W,
+    err: E,
 ) -> ExitCode
     ensures done { exit_status result ≡ 0 → IsFaultless (map S.text words.now) }
     ensures usage { IsTaken (map S.text words.now) → IsSome (said_in (map S.text words.now)) → (exit_status result ≡ 0) ⊎ (1 < exit_status result) }
@@ -107,11 +112,13 @@ fn status_of<R: AllocGlobal + Eprint + Files + Threads + Sync, S: AsStr, W: Writ
         Ok(Line::Rects { rules, script }) => run_rects(rt, rt.alloc(), rules, script, out),
         Err(LineError::Memory) => Err(OUT_OF_MEMORY),
         Err(LineError::Usage(error)) => {
-            let _ = eprint!(rt; "{error}");
+            if let Ok(text) = format!(in rt.alloc(); "{error}") {
+                let _ = write_text(&mut Tap::new(err), text.as_bytes());
+            }
             return ExitCode::from(USAGE);
         }
     };
-    ended(rt, done)
+    ended(rt.alloc(), err, done)
 }
 
 /// The program's words, its own name first.
@@ -122,8 +129,10 @@ fn words_of(rt: HostRuntime) -> io::Result<Vec<String>> {
 
 fn main(rt: HostRuntime) -> ExitCode {
     match words_of(rt) {
-        Ok(words) => status_of(&rt, words.as_slice(), rt.stdout()),
-        Err(error) if error.kind() == ErrorKind::OutOfMemory => told(&rt, OUT_OF_MEMORY),
+        Ok(words) => status_of(&rt, words.as_slice(), rt.stdout(), rt.stderr()),
+        Err(error) if error.kind() == ErrorKind::OutOfMemory => {
+            ended(rt.alloc(), rt.stderr(), Err(OUT_OF_MEMORY))
+        }
         Err(_) => {
             let _ = eprint!(rt; "error: a word of the command line is no text\n");
             ExitCode::from(USAGE)

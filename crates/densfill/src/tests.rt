@@ -1,4 +1,4 @@
-use crate::{run_rects, status_of, told};
+use crate::{ended, run_rects, status_of};
 use fill_engine::{Fault, Part, Refusal};
 use std::process::ExitCode;
 
@@ -9,18 +9,54 @@ const NO_FILE: &str = "/dev/null/none";
 const EMPTY: &str = "/dev/null";
 
 #[test]
-fn the_exit_status_tells_what_was_wrong(rt: HostRuntime) {
-    let cases: [(&[&str], u8); 6] = [
-        (&["densfill"], 1),
-        (&["densfill", "--help"], 1),
-        (&["densfill", "rects", EMPTY], 1),
-        (&["densfill", "rects", EMPTY, EMPTY], 2),
-        (&["densfill", "rects", NO_FILE, EMPTY], 4),
-        (&["densfill", "rects", EMPTY, NO_FILE], 4),
+fn a_bad_line_is_status_1_with_its_text(rt: HostRuntime) {
+    let cases: [(&[&str], &str); 3] = [
+        (
+            &["densfill"],
+            "error: 'densfill' requires a subcommand but one was not provided\n",
+        ),
+        (
+            &["densfill", "--help"],
+            "Checks the metal density of a layout\n",
+        ),
+        (
+            &["densfill", "rects", EMPTY],
+            "error: the following required arguments were not provided:\n",
+        ),
     ];
     for (words, want) in cases {
-        let status = status_of(&rt, words, Vec::<u8>::new(rt.alloc()));
-        assert_eq!(rt; status, ExitCode::from(want), "{words:?}");
+        let mut written = Vec::new(rt.alloc());
+        let mut told = Vec::new(rt.alloc());
+        let status = status_of(&rt, words, &mut written, &mut told);
+        assert_eq!(rt; status, ExitCode::from(1));
+        assert!(rt;
+            written.is_empty() && told.as_slice().starts_with(want.as_bytes()),
+            "{words:?}"
+        );
+    }
+}
+
+#[test]
+fn a_fault_has_its_line_and_its_status(rt: HostRuntime) {
+    for (rules, script, want, line) in [
+        (
+            EMPTY,
+            EMPTY,
+            2,
+            "densfill: rules: 23 BadRule key frame_x1\n",
+        ),
+        (NO_FILE, EMPTY, 4, "densfill: rules: 30 Device\n"),
+        (EMPTY, NO_FILE, 4, "densfill: script: 30 Device\n"),
+    ] {
+        let mut written = Vec::new(rt.alloc());
+        let mut told = Vec::new(rt.alloc());
+        let words = ["densfill", "rects", rules, script];
+        let status = status_of(&rt, words.as_slice(), &mut written, &mut told);
+        assert_eq!(rt; status, ExitCode::from(want));
+        assert!(rt;
+            written.is_empty() && told.as_slice() == line.as_bytes(),
+            "{line}"
+        );
     }
 }
 
@@ -38,15 +74,10 @@ fn a_missing_file_is_a_device_fault_at_its_part(rt: HostRuntime) {
 }
 
 #[test]
-fn a_fault_has_its_status(rt: HostRuntime) {
-    for (fault, want) in [
-        (Fault::BadRow { line: 3 }, 2),
-        (Fault::TooLong, 2),
-        (Fault::Memory, 3),
-        (Fault::Device, 4),
-    ] {
-        let part = Part::Script;
-        let status = told(&rt, Refusal { part, fault });
-        assert_eq!(rt; status, ExitCode::from(want));
-    }
+fn want_of_memory_is_status_3(rt: HostRuntime) {
+    let mut told = Vec::new(rt.alloc());
+    let (part, fault) = (Part::Run, Fault::Memory);
+    let status = ended(rt.alloc(), &mut told, Err(Refusal { part, fault }));
+    assert_eq!(rt; status, ExitCode::from(3));
+    assert!(rt; told.as_slice() == b"densfill: run: 31 Memory\n".as_slice());
 }

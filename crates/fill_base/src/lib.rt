@@ -7,3 +7,6 @@ pub mod rect;
 
 pub use place::{Place, Point};
 pub use rect::{Rect, RectError};
+
+#[cfg(test)]
+mod tests;

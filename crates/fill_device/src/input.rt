@@ -13,17 +13,23 @@ const CHUNK: usize = 4096;
 /// Why an input was not taken.
 #[derive(Clone, Copy, Debug, PartialEq, Eq, Error)]
 pub enum InputError {
+    /// The reader gave a byte past the limit.
     #[error("the input has more bytes than allowed")]
     TooLong,
+    /// A read failed.
     #[error("a read failed")]
     Device,
+    /// An allocation was refused.
     #[error("out of memory")]
     Memory,
 }
 
 /// Every byte that the tap's reader has left, which are to be at most `limit`.
 ///
-/// `Device` where a read fails; `TooLong` where the reader gives a byte past `limit`. At most `limit + 1` bytes are taken.
+/// At most `limit + 1` bytes are taken.
+///
+/// # Errors
+/// `Device` where a read fails, `TooLong` where the reader gives a byte past `limit`, and `Memory` where memory runs out.
 pub fn read_input<R: Read>(
     alloc: Global,
     tap: &mut Tap<R>,

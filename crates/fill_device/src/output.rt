@@ -13,6 +13,7 @@ pub struct DeviceError;
 
 /// Writes the whole text, by as many writes as it takes. Whatever comes of it, what was written is a prefix of the text.
 ///
+/// # Errors
 /// `DeviceError` exactly where a write fails or takes no byte; nothing is written after that.
 pub fn write_text<W: Write>(tap: &mut Tap<W>, text: &[u8]) -> Result<(), DeviceError>
     requires { has_failed tap.old ≡ false }

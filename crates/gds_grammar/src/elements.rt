@@ -78,8 +78,12 @@ pub struct Array {
 /// An element that carries metal or refers to some.
 #[derive(Debug, Drop)]
 pub enum Element {
+    /// A filled polygon.
     Boundary(Boundary),
+    /// A wire along a chain of points.
     Path(Path),
+    /// A reference to a structure.
     Ref(Ref),
+    /// An array of references to a structure.
     Array(Array),
 }

@@ -1,0 +1,39 @@
+use crate::rect::{HIGHEST, LOWEST};
+use crate::{Rect, RectError};
+use std::test::Fail;
+
+#[test]
+fn the_first_fault_of_four_numbers_is_refused(rt: HostRuntime) {
+    for (corners, want) in [
+        ([LOWEST - 1, 0, 1, 1], RectError::OutOfRange),
+        ([0, 0, 1, HIGHEST + 1], RectError::OutOfRange),
+        ([5, 0, 5, HIGHEST + 1], RectError::OutOfRange),
+        ([5, 0, 5, 1], RectError::BadRect),
+        ([0, 6, 1, 5], RectError::BadRect),
+    ] {
+        let [x1, y1, x2, y2] = corners;
+        assert_eq!(rt; Rect::new(x1, y1, x2, y2), Err(want), "{corners:?}");
+    }
+}
+
+#[test]
+fn a_rectangle_may_fill_the_range(rt: HostRuntime) -> Result<(), Fail> {
+    let all = Rect::new(LOWEST, LOWEST, HIGHEST, HIGHEST)?;
+    assert_eq!(rt; all.area(), 1 << 62);
+    let wire = Rect::new(-3, 2, 4, 5)?;
+    assert_eq!(rt; [wire.x1(), wire.y1(), wire.x2(), wire.y2()], [-3, 2, 4, 5]);
+    assert_eq!(rt; wire.area(), 21);
+    assert_eq!(rt; all.clip(&wire), Some(wire));
+    Ok(())
+}
+
+#[test]
+fn rectangles_that_only_touch_share_no_square(rt: HostRuntime) -> Result<(), Fail> {
+    let wire = Rect::new(0, 0, 10, 4)?;
+    let crossing = Rect::new(7, -5, 20, 3)?;
+    assert_eq!(rt; wire.clip(&crossing), Some(Rect::new(7, 0, 10, 3)?));
+    assert_eq!(rt; crossing.clip(&wire), Some(Rect::new(7, 0, 10, 3)?));
+    assert_eq!(rt; wire.clip(&Rect::new(10, 0, 12, 4)?), None);
+    assert_eq!(rt; wire.clip(&Rect::new(0, 4, 10, 5)?), None);
+    Ok(())
+}
