@@ -3,6 +3,7 @@
 
 ghost use Rattle.std.specs.Prelude.{◌≡◌, ◌⊎◌, ◌<◌, ℕ, codes, false, map, take, IfErr, IfOk, IsSome, OnErr, OnOk};
 ghost use Rattle.std.specs.Io.KnownBytes.{Appends};
+ghost use Rattle.std.specs.IoError.{error_kind};
 ghost use Rattle.std.specs.Process.{exit_status};
 ghost use Rattle.fill_device.specs.Taps.{has_failed, under};
 ghost use Rattle.fill_engine.specs.Faults.{fault_number, fault_status, fault_text};
@@ -127,16 +128,24 @@ fn words_of(rt: HostRuntime) -> io::Result<Vec<String>> {
     Ok(words)
 }
 
+/// The exit status where the words could not be had, with the reason printed: memory ran out, or a word is no text,
+/// and so they are no line of the program.
+fn without_words<E: Write + Drop>(alloc: Global, err: E, error: &io::Error) -> ExitCode
+    ensures memory { error_kind error.now ≡ ErrorKind.OutOfMemory → exit_status result ≡ 3 }
+    ensures usage { (error_kind error.now ≡ ErrorKind.OutOfMemory → ⊥) → exit_status result ≡ 1 }
+{
+    if error.kind() == ErrorKind::OutOfMemory {
+        return ended(alloc, err, Err(OUT_OF_MEMORY));
+    }
+    let text = b"error: a word of the command line is no text\n";
+    let _ = write_text(&mut Tap::new(err), text);
+    ExitCode::from(USAGE)
+}
+
 fn main(rt: HostRuntime) -> ExitCode {
     match words_of(rt) {
         Ok(words) => status_of(&rt, words.as_slice(), rt.stdout(), rt.stderr()),
-        Err(error) if error.kind() == ErrorKind::OutOfMemory => {
-            ended(rt.alloc(), rt.stderr(), Err(OUT_OF_MEMORY))
-        }
-        Err(_) => {
-            let _ = eprint!(rt; "error: a word of the command line is no text\n");
-            ExitCode::from(USAGE)
-        }
+        Err(error) => without_words(rt.alloc(), rt.stderr(), &error),
     }
 }
 
