@@ -1,6 +1,5 @@
 use crate::Region;
 use fill_base::Rect;
-use fill_spans::Spans;
 use std::alloc::{AllocError, Global};
 use std::process::Abort;
 use std::test::Fail;
@@ -119,21 +118,5 @@ fn overlapping_rectangles_in_pieces(rt: HostRuntime) -> Result<(), Fail> {
     let copy = region.copy(alloc)?;
     assert!(rt; copy == region);
     assert!(rt; region.union(alloc, &Region::one(alloc, &low)?)? == region);
-    Ok(())
-}
-
-#[test]
-fn a_span_cut_and_joined_again(rt: HostRuntime) -> Result<(), Fail> {
-    let alloc = rt.alloc();
-    let whole = Spans::one(alloc, 0, 4)?;
-    let part = Spans::one(alloc, 1, 2)?;
-    let rest = whole.minus(alloc, &part)?;
-    assert_eq!(rt; rest.length_in(0, 4), 3);
-    assert_eq!(rt; rest.length_in(i64::MIN, i64::MAX), 3);
-    assert_eq!(rt; rest.length_in(4, 0), 0);
-    assert!(rt; rest.union(alloc, &part)? == whole);
-    let far = Spans::one(alloc, 3, 9)?;
-    assert!(rt; whole.meet(alloc, &far)? == Spans::one(alloc, 3, 4)?);
-    assert!(rt; rest.has(0) && !rest.has(1) && rest.has(2) && !rest.has(4));
     Ok(())
 }

@@ -10,3 +10,6 @@ pub mod sweep;
 
 pub use operation::Operation;
 pub use spans::Spans;
+
+#[cfg(test)]
+mod tests;
