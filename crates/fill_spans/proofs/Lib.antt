@@ -4,3 +4,4 @@ pub mod SweepTurns
 pub mod Canonical
 pub mod Searching
 pub mod OpenInterval
+pub mod ColumnSums

@@ -5,3 +5,4 @@ pub mod Sweep
 pub mod Search
 pub mod Columns
 pub mod Joining
+pub mod Comb

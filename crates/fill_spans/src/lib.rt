@@ -7,6 +7,7 @@ pub mod laws;
 pub mod operation;
 pub mod spans;
 pub mod sweep;
+mod walk;
 
 pub use operation::Operation;
 pub use spans::Spans;

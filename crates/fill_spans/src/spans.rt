@@ -1,4 +1,4 @@
-ghost use Rattle.std.specs.Prelude.{◌≡◌, ◌⊎◌, ◌↔◌, ◌&&◌, ◌||◌, not, false, ◌+◌, ◌≤◌, ◌<◌, ◌^◌, length, List, [], ◌∷◌, ℤ, pos, ◌≤ℤ◌, ◌<ℤ◌, IsTrue, IfOk, IfSome, IfNone, OnOk};
+ghost use Rattle.std.specs.Prelude.{◌≡◌, ◌⊎◌, ◌↔◌, ◌&&◌, ◌||◌, not, false, ℕ, ◌+◌, ◌≤◌, ◌<◌, ◌^◌, length, get_or, List, [], ◌∷◌, ℤ, pos, ◌+ℤ◌, ◌*ℤ◌, ◌≤ℤ◌, ◌<ℤ◌, IsTrue, IfOk, IfSome, IfNone, OnOk};
 ghost use Rattle.std.specs.Int.{int_max};
 ghost use Rattle.std.specs.Ordering.{int_eq};
 ghost use Rattle.std.specs.Cmp.Lexicographic.{pointwise, lists_per, lists_equiv};
@@ -6,6 +6,7 @@ ghost use Rattle.std.specs.Cmp.{int_eq_equiv, partial_equiv_from_equiv};
 ghost use Rattle.fill_base.specs.Coordinates.{lowest, highest};
 ghost use Rattle.fill_base.specs.Counts.{is_between, count_between};
 ghost use Rattle.fill_spans.specs.Columns.{has_column, IsRisingBy};
+ghost use Rattle.fill_spans.specs.Comb.{column_left, column_right, AreSums};
 ghost use Rattle.fill_spans.specs.Spans.{inside, next_edge, IsCanonical};
 ghost use Rattle.fill_spans.specs.Search.{IsFirstAbove, IsEdgeBelow, HasMember, stretch_of};
 ghost use Rattle.fill_spans.specs.Operations.{applied};
@@ -14,6 +15,7 @@ ghost use Rattle.fill_spans.specs.Sweep.{Turned};
 use crate::joining::joined;
 use crate::operation::Operation;
 use crate::sweep::{edge_at, passed};
+use crate::walk::add_columns;
 use fill_base::Rect;
 use fill_base::rect::{HIGHEST, LOWEST};
 use std::alloc::{AllocError, Global};
@@ -162,6 +164,23 @@ impl Spans {
         }
     }
 
+    /// Adds to each number `height` times the members of one column: the columns are `width` wide
+    /// and begin at `first`, at `first + step`, and so on, in database units. One walk over the
+    /// edges serves all columns.
+    pub fn add_lengths(&self, first: i64, step: i64, width: i64, height: i64, sums: &mut [i64])
+        requires first { lowest ≤ℤ first }
+        requires step { pos 0 ≤ℤ step }
+        requires width { pos 0 ≤ℤ width }
+        requires last { (a : ℕ) → a < length sums.old → column_right first step width a ≤ℤ highest }
+        requires least { pos 0 ≤ℤ height }
+        requires most { height ≤ℤ pos (2 ^ 31) }
+        requires sums { AreSums sums.old }
+        ensures count { length sums.new ≡ length sums.old }
+        ensures added { (a : ℕ) (d : ℤ) → a < length sums.old → get_or sums.new a d ≡ get_or sums.old a d +ℤ (height *ℤ pos (count_between (inside self.now) (column_left first step a) (column_right first step width a))) }
+    {
+        add_columns(&self.edges, first, step, width, height, sums);
+    }
+
     /// The edges in rising order: the set begins at the first, ends at the second, and so on.
     pub fn edges(&self) -> &[i32]
         ensures edges { result.now ≡ self.now }
@@ -235,7 +254,7 @@ fn meets_between(edges: &[i32], lo: i64, hi: i64) -> bool
 
 /// How many members lie from `lo` on and below `hi`: a search for the first edge above `lo`, and
 /// a walk over the edges up to `hi`.
-fn length_between(edges: &[i32], lo: i64, hi: i64) -> i64
+pub(crate) fn length_between(edges: &[i32], lo: i64, hi: i64) -> i64
     requires canonical { IsCanonical edges.now }
     requires low { lowest ≤ℤ lo }
     requires ordered { lo ≤ℤ hi }

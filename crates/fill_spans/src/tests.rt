@@ -32,3 +32,31 @@ fn columns_of_rectangles_that_overlap_touch_and_lie_apart(rt: HostRuntime) -> Re
     assert!(rt; Spans::across(alloc, &[])?.is_empty());
     Ok(())
 }
+
+#[test]
+fn lengths_of_columns_that_overlap_lie_apart_and_begin_inside(rt: HostRuntime) -> Result<(), Fail> {
+    let alloc = rt.alloc();
+    let left = Spans::one(alloc, 0, 4)?;
+    let right = Spans::one(alloc, 6, 9)?;
+    let both = left.union(alloc, &right)?;
+    // The columns from -2 on are -2 to 1, 0 to 3, 2 to 5, 4 to 7, 6 to 9 and 8 to 11.
+    let mut overlapping = [0, 0, 100, 0, 0, 0];
+    both.add_lengths(-2, 2, 3, 10, &mut overlapping);
+    assert_eq!(rt;
+        overlapping.as_slice(),
+        [10, 30, 120, 10, 30, 10].as_slice()
+    );
+    // The columns from 1 on are 1 to 3, 6 to 8 and 11 to 13.
+    let mut apart = [5, 6, 7];
+    both.add_lengths(1, 5, 2, 1, &mut apart);
+    assert_eq!(rt; apart.as_slice(), [7, 8, 7].as_slice());
+    let mut one = [1];
+    both.add_lengths(3, 0, 4, 2, &mut one);
+    assert_eq!(rt; one.as_slice(), [5].as_slice());
+    Spans::empty(alloc).add_lengths(-5, 1, 10, 3, &mut one);
+    assert_eq!(rt; one.as_slice(), [5].as_slice());
+    let mut none: [i64; 0] = [];
+    both.add_lengths(0, 1, 1, 1, &mut none);
+    assert_eq!(rt; none.len(), 0);
+    Ok(())
+}
