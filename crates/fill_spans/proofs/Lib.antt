@@ -5,3 +5,4 @@ pub mod Canonical
 pub mod Searching
 pub mod OpenInterval
 pub mod ColumnSums
+pub mod Walking

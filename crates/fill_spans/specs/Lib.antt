@@ -6,3 +6,4 @@ pub mod Search
 pub mod Columns
 pub mod Joining
 pub mod Comb
+pub mod Walks

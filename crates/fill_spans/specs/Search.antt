@@ -1,17 +1,12 @@
 -- Looking up a coordinate among edges.
-use Rattle.std.specs.Prelude.{◌≡◌, true, ℕ, ◌<◌, ◌≤◌, ℤ, ◌≤ℤ◌, ◌<ℤ◌, List, length, cond}
-use Rattle.fill_base.specs.Counts.{span_len}
-use Rattle.fill_spans.specs.Spans.{inside, odd, next_edge}
+use Rattle.std.specs.Prelude.{◌≡◌, true, ℕ, ◌<◌, ◌≤◌, ℤ, ◌≤ℤ◌, ◌<ℤ◌, List, length}
+use Rattle.fill_spans.specs.Spans.{inside, next_edge}
 
 -- the edges before `n` lie at `x` or below, and the one at `n` above it
 pub record IsFirstAbove (es : List ℤ) (x : ℤ) (n : ℕ) : Type 0 where
   pub within : n ≤ length es
   pub before : (k : ℕ) → k < n → next_edge es k ≤ℤ x
   pub after : n < length es → x <ℤ next_edge es n
-
--- how many members lie from `from` on and below `to`, where no edge but the one at `k` comes
-abbrev pub stretch_of : ℕ → ℤ → ℤ → ℕ
-stretch_of k from to = cond (odd k) (span_len from to) 0
 
 -- the list has an edge at `k`, and it lies below `hi`
 pub record IsEdgeBelow (es : List ℤ) (k : ℕ) (hi edge : ℤ) : Type 0 where

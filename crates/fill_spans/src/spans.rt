@@ -8,14 +8,14 @@ ghost use Rattle.fill_base.specs.Counts.{is_between, count_between};
 ghost use Rattle.fill_spans.specs.Columns.{has_column, IsRisingBy};
 ghost use Rattle.fill_spans.specs.Comb.{column_left, column_right, AreSums};
 ghost use Rattle.fill_spans.specs.Spans.{inside, next_edge, IsCanonical};
-ghost use Rattle.fill_spans.specs.Search.{IsFirstAbove, IsEdgeBelow, HasMember, stretch_of};
+ghost use Rattle.fill_spans.specs.Search.{HasMember};
 ghost use Rattle.fill_spans.specs.Operations.{applied};
 ghost use Rattle.fill_spans.specs.Sweep.{Turned};
 
 use crate::joining::joined;
 use crate::operation::Operation;
 use crate::sweep::{edge_at, passed};
-use crate::walk::add_columns;
+use crate::walk::{add_columns, edge_below, first_above, length_between};
 use fill_base::Rect;
 use fill_base::rect::{HIGHEST, LOWEST};
 use std::alloc::{AllocError, Global};
@@ -231,14 +231,6 @@ fn pair(alloc: Global, lo: i32, hi: i32) -> Result<Vec<i32>, AllocError>
     Ok(edges)
 }
 
-/// The place of the first edge above `x`.
-fn first_above(edges: &[i32], x: i64) -> usize
-    requires { IsCanonical edges.now }
-    ensures { IsFirstAbove edges.now x result }
-{
-    edges.partition_point(|edge| i64::from(*edge) <= x)
-}
-
 /// Whether some member lies from `lo` on and below `hi`: `lo` itself, or else the next edge.
 fn meets_between(edges: &[i32], lo: i64, hi: i64) -> bool
     requires canonical { IsCanonical edges.now }
@@ -250,44 +242,4 @@ fn meets_between(edges: &[i32], lo: i64, hi: i64) -> bool
         Some(_) => true,
         None => k % 2 == 1,
     }
-}
-
-/// How many members lie from `lo` on and below `hi`: a search for the first edge above `lo`, and
-/// a walk over the edges up to `hi`.
-pub(crate) fn length_between(edges: &[i32], lo: i64, hi: i64) -> i64
-    requires canonical { IsCanonical edges.now }
-    requires low { lowest ≤ℤ lo }
-    requires ordered { lo ≤ℤ hi }
-    requires high { hi ≤ℤ highest }
-    ensures { result ≡ pos (count_between (inside edges.now) lo hi) }
-{
-    let mut k = first_above(edges, lo);
-    let mut from = lo;
-    let mut total = 0;
-    'walk: while let Some(to) = edge_below(edges, k, hi) {
-        total += stretch(k, from, to);
-        from = to;
-        k += 1;
-    }
-    total + stretch(k, from, hi)
-}
-
-/// The edge at `k`, where there is one below `hi`.
-fn edge_below(edges: &[i32], k: usize, hi: i64) -> Option<i64>
-    requires { IsCanonical edges.now }
-    ensures some { IfSome result (λ edge. IsEdgeBelow edges.now k hi edge) }
-    ensures none { IfNone result (k < length edges.now → hi ≤ℤ next_edge edges.now k) }
-{
-    let edge = i64::from(*edges.get(k)?);
-    if edge < hi { Some(edge) } else { None }
-}
-
-/// How many members lie from `from` on and below `to`, between the edges at `k - 1` and at `k`.
-fn stretch(k: usize, from: i64, to: i64) -> i64
-    requires low { lowest ≤ℤ from }
-    requires ordered { from ≤ℤ to }
-    requires high { to ≤ℤ highest }
-    ensures { result ≡ pos (stretch_of k from to) }
-{
-    if k % 2 == 1 { to - from } else { 0 }
 }

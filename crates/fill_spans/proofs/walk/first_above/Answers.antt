@@ -3,7 +3,7 @@ use Rattle.std.proofs.lemmas.Int.{to_z-of_z}
 use Rattle.std.proofs.lemmas.List.Sorted.{IsPartitionPoint-from_clause}
 use Rattle.std.specs.Prelude.{int_le}
 use Rattle.fill_spans.proofs.Searching.{parted, is_first_above}
-use Rattle.fill_spans.proofs.spans.first_above.Goals as goal
+use Rattle.fill_spans.proofs.walk.first_above.Goals as goal
 
 pub returns : goal.returns
 returns c = is_first_above c.args.edges.now c.args.x c.partition_point.result c.partition_point.ensures.bound
