@@ -4,5 +4,7 @@ pub mod SweepTurns
 pub mod Canonical
 pub mod Searching
 pub mod OpenInterval
-pub mod ColumnSums
 pub mod Walking
+pub mod ColumnEnds
+pub mod ColumnWalks
+pub mod ColumnSums

@@ -4,7 +4,7 @@ use Rattle.std.proofs.lemmas.Int.{ints}
 use Rattle.std.proofs.lemmas.Bool.Decides.{nat_tests}
 use Rattle.fill_base.specs.Coordinates.{lowest, highest}
 use Rattle.fill_base.specs.Counts.{span_len, count_between}
-use Rattle.fill_base.proofs.Signed.{read, read_is, lt_le, le_trans}
+use Rattle.fill_base.proofs.Signed.{read, read_is, pos_fits, lt_le, le_trans}
 use Rattle.fill_base.proofs.Counting.{count_between_const, sum_between_split}
 use Rattle.fill_spans.specs.declared.walk.Walk.{Walk}
 use Rattle.fill_spans.specs.Spans.{inside, odd, floor, ceiling, next_edge, IsCanonical}
@@ -156,11 +156,8 @@ walk_counts es walk lo hi starts low high w reached =
     let small = count_small (inside es) lo hi low begun high in
     record {
       length = length_short es walk hi (rw starts low) high w reached;
-      is = ap read (w.counts hi reached) ∙ (rw starts (read_is _ (short_fits _ small)));
+      is = ap read (w.counts hi reached) ∙ (rw starts (read_is _ (pos_fits _ (omega (arith, small)))));
     }
-  where
-    short_fits : (n : ℕ) → n ≤ 2 ^ 31 → FitsSigned w64 (pos n)
-    short_fits n h = omega (arith, ints)
 
 -- what is not beyond one number is not beyond a greater one
 pub not_beyond_more : (es : List ℤ) (walk : Walk) (x y : ℤ) → x ≤ℤ y → IsNotBeyond es walk x → IsNotBeyond es walk y

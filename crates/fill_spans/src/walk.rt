@@ -14,8 +14,8 @@ struct Walk {
     start: i64,
     /// The place of the next edge: as many have been passed.
     next: usize,
-    /// The count at the last edge, where the walk is outside the set. Inside it, that edge less the
-    /// count.
+    /// Outside the set, the count. Inside it, the number at which the count would be zero: the count
+    /// at a number is that number less this one.
     sum: i64,
 }
 
@@ -49,8 +49,8 @@ pub(crate) fn length_between(edges: &[i32], lo: i64, hi: i64) -> i64
     counted(walk, hi)
 }
 
-/// Adds to each number `height` times the members of one column. One cursor goes along the left
-/// edges of the columns and one along the right edges, each over all of the set but once.
+/// Adds to each number `height` times the members of one column. One walk goes along with the left
+/// ends of the columns and one with the right ends, so each goes over the edges once for all columns.
 pub(crate) fn add_columns(
     edges: &[i32],
     first: i64,

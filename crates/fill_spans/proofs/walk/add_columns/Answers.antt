@@ -1,6 +1,8 @@
 use Rattle.std.proofs.Common.{◌+ℤ◌, ◌∙◌, arith}
 use Rattle.fill_base.proofs.Signed.{read, read_is}
-use Rattle.fill_spans.proofs.ColumnSums.{none_added, reads_within, ends, walks_begin, Column, column_more}
+use Rattle.fill_spans.proofs.ColumnEnds.{reads_within, ends}
+use Rattle.fill_spans.proofs.ColumnWalks.{walks_begin}
+use Rattle.fill_spans.proofs.ColumnSums.{none_added, Column, column_more}
 use Rattle.fill_spans.proofs.Walking.{Counted, walk_counts}
 use Rattle.fill_spans.proofs.walk.add_columns.Goals as goal
 
@@ -27,7 +29,7 @@ advanced-ahead-requires-clause-not_beyond c =
 counts_ahead : (c : goal.After-advanced-ahead) → Counted c.args.edges.now c.advanced-ahead.result (read c.args.first) (read (read c.left_of-left.result +ℤ read c.args.width))
 counts_ahead c =
     let within = reads_within _ _ _ _ _ c.ranges.first c.ranges.step c.ranges.width c.requires.first c.requires.step c.requires.width c.requires.last c.columns-test.true in
-    walk_counts c.args.edges.now _ _ _ (c.advanced-ahead.ensures.starts ∙ c.columns.invariant.0.ahead_starts) within.first_low
+    walk_counts c.args.edges.now _ _ _ (c.advanced-ahead.ensures.starts ∙ c.columns.invariant.0.both.ahead_starts) within.first_low
     (rw (ends _ _ _ _ _ within c.left_of-left.ensures).right_is within.high) c.advanced-ahead.ensures.counts c.advanced-ahead.ensures.reached
 
 pub counted-requires-clause-least : goal.counted-requires-clause-least
@@ -39,7 +41,7 @@ counted-requires-clause-most c = (counts_ahead c).length.most
 counts_behind : (c : goal.After-counted) → Counted c.args.edges.now c.advanced-behind.result (read c.args.first) (read c.left_of-left.result)
 counts_behind c =
     let within = reads_within _ _ _ _ _ c.ranges.first c.ranges.step c.ranges.width c.requires.first c.requires.step c.requires.width c.requires.last c.columns-test.true in
-    walk_counts c.args.edges.now _ _ _ (c.advanced-behind.ensures.starts ∙ c.columns.invariant.0.behind_starts) within.first_low
+    walk_counts c.args.edges.now _ _ _ (c.advanced-behind.ensures.starts ∙ c.columns.invariant.0.both.behind_starts) within.first_low
     (rw (ends _ _ _ _ _ within c.left_of-left.ensures).left_is within.left_high) c.advanced-behind.ensures.counts c.advanced-behind.ensures.reached
 
 pub counted-requires-in-columns-clause-least : goal.counted-requires-in-columns-clause-least
@@ -56,10 +58,7 @@ column_counted c =
     column_more c.args.edges.now _ _ _ _ _ _ _ _ _ _ _ _ within c.left_of-left.ensures c.requires.sums c.columns.invariant.1 c.columns-test.true
     (rw (read_is c.args.height c.ranges.height) c.requires.least) (rw (read_is c.args.height c.ranges.height) c.requires.most)
     (record {
-      behind_starts = c.advanced-behind.ensures.starts ∙ c.columns.invariant.0.behind_starts;
-      ahead_starts = c.advanced-ahead.ensures.starts ∙ c.columns.invariant.0.ahead_starts;
-      behind_counts = c.advanced-behind.ensures.counts;
-      ahead_counts = c.advanced-ahead.ensures.counts;
+      both = record { behind_starts = c.advanced-behind.ensures.starts ∙ c.columns.invariant.0.both.behind_starts; ahead_starts = c.advanced-ahead.ensures.starts ∙ c.columns.invariant.0.both.ahead_starts; behind_counts = c.advanced-behind.ensures.counts; ahead_counts = c.advanced-ahead.ensures.counts };
       behind_left = c.advanced-behind.ensures.reached;
       ahead_right = c.advanced-ahead.ensures.reached;
     })
@@ -79,10 +78,7 @@ column_added c =
     column_more c.args.edges.now _ _ _ _ _ _ _ _ _ _ _ _ within c.left_of-left.ensures c.requires.sums c.columns.invariant.1 c.columns-test.true
     (rw (read_is c.args.height c.ranges.height) c.requires.least) (rw (read_is c.args.height c.ranges.height) c.requires.most)
     (record {
-      behind_starts = c.advanced-behind.ensures.starts ∙ c.columns.invariant.0.behind_starts;
-      ahead_starts = c.advanced-ahead.ensures.starts ∙ c.columns.invariant.0.ahead_starts;
-      behind_counts = c.advanced-behind.ensures.counts;
-      ahead_counts = c.advanced-ahead.ensures.counts;
+      both = record { behind_starts = c.advanced-behind.ensures.starts ∙ c.columns.invariant.0.both.behind_starts; ahead_starts = c.advanced-ahead.ensures.starts ∙ c.columns.invariant.0.both.ahead_starts; behind_counts = c.advanced-behind.ensures.counts; ahead_counts = c.advanced-ahead.ensures.counts };
       behind_left = c.advanced-behind.ensures.reached;
       ahead_right = c.advanced-ahead.ensures.reached;
     })

@@ -1,4 +1,5 @@
-use Rattle.fill_spans.proofs.ColumnSums.{AreAdded, WalksOn}
+use Rattle.fill_spans.proofs.ColumnWalks.{WalksOn}
+use Rattle.fill_spans.proofs.ColumnSums.{AreAdded}
 use Rattle.fill_spans.proofs.walk.add_columns.Given as goal
 
 abbrev pub invariant-columns : goal.invariant-columns

@@ -1,4 +1,4 @@
-use Rattle.fill_spans.proofs.ColumnSums.{BeginsAt, begins_at}
+use Rattle.fill_spans.proofs.ColumnEnds.{BeginsAt, begins_at}
 use Rattle.fill_spans.proofs.walk.left_of.Goals as goal
 
 begins : (c : goal.Start) → BeginsAt c.args.first c.args.step c.args.a
