@@ -1,125 +1,100 @@
--- A window cut into strips: together they are the window.
-use Rattle.std.proofs.Common.{◌≡◌, ℕ, zero, suc, ◌+◌, ◌*◌, ◌/◌, ◌≤◌, ◌<◌, ◌^◌, ℤ, pos, ◌+ℤ◌, ◌≤ℤ◌, ◌<ℤ◌, Bool, false, List, map, refl, arith, ap, ◌∙◌, sym, ◌-ℤ◌, w64, to_z, FitsSigned}
-use Rattle.std.specs.Prelude.{fold, int_lt, unsigned_abs}
+-- Lines cut into strips: together the strips are all lines.
+use Rattle.std.proofs.Common.{◌≡◌, ℕ, ◌+◌, ◌*◌, ◌/◌, ◌%◌, ◌≤◌, ◌<◌, ◌^◌, ℤ, pos, ◌+ℤ◌, ◌-ℤ◌, ◌≤ℤ◌, Bool, refl, arith, ap, ◌∙◌, w64, to_z, FitsSigned}
+use Rattle.std.specs.Prelude.{unsigned_abs}
 use Rattle.std.specs.Int.{int_min}
-use Rattle.std.specs.List.{range_with_len, AllZip}
 use Rattle.std.proofs.lemmas.Int.{ints, clamps, to_z_pos}
-use Rattle.std.proofs.lemmas.List.FromFn.{map-range_with_len_more}
-use Rattle.std.proofs.lemmas.List.Sums.{fold_push}
-use Rattle.std.proofs.lemmas.Slice.Zip.{AllZip-map}
-use Rattle.fill_base.specs.declared.rect.Rect.{Rect}
+use Rattle.std.proofs.lemmas.Nat.{mod_below}
+use Rattle.std.proofs.Math.Nat.{mul-le-mul, mod-add-div, div-le_self}
 use Rattle.fill_base.specs.Coordinates.{lowest, highest}
 use Rattle.fill_base.specs.Counts.{span_len, sum_between, count_between}
-use Rattle.fill_base.specs.Squares.{area_of}
-use Rattle.fill_base.proofs.Signed.{read, read_is, pos_fits, coordinate_fits, side_short, product_small, lt_le, le_trans, not_lt}
-use Rattle.std.proofs.Math.Nat.{mul-le-mul}
-use Rattle.fill_base.proofs.Areas.{read_y1, read_y2}
-use Rattle.fill_base.proofs.Counting.{sum_between_split, sum_between_const, sum_between_le, count_between_le}
-use Rattle.fill_area.specs.Strips.{cut_at, strip_area}
+use Rattle.fill_base.proofs.Signed.{read, read_is, coordinate_fits, side_short, le_trans}
+use Rattle.fill_base.proofs.Counting.{sum_between_split, sum_between_const}
+use Rattle.fill_area.specs.Grid.{Grid, window_left, window_right}
+use Rattle.fill_area.specs.Strips.{cut_at, lines_area}
 
 -- the lines of one strip
-abbrev lines_of : Rect → ℕ
-lines_of w = span_len w.y1 w.y2 / 64 + 1
+abbrev strip_lines : ℤ → ℤ → ℕ → ℕ
+strip_lines bottom top strips = span_len bottom top / strips + 1
 
 least_rises : (a b : ℤ) (m n : ℕ) → int_min (a +ℤ pos m) b ≤ℤ int_min (a +ℤ pos (m + n)) b
 least_rises a b m n = omega (arith, ints, clamps)
 
-least_low : (a b : ℤ) (m : ℕ) → a <ℤ b → a ≤ℤ int_min (a +ℤ pos m) b
-least_low a b m lt = omega (arith, ints, clamps)
+least_low : (a b : ℤ) (m : ℕ) → a ≤ℤ b → a ≤ℤ int_min (a +ℤ pos m) b
+least_low a b m le = omega (arith, ints, clamps)
 
 least_high : (a b : ℤ) (m : ℕ) → int_min (a +ℤ pos m) b ≤ℤ b
 least_high a b m = omega (arith, ints, clamps)
 
-least_first : (a b : ℤ) (m : ℕ) → a <ℤ b → m ≡ 0 → int_min (a +ℤ pos m) b ≡ a
-least_first a b m lt none = omega (arith, ints, clamps)
+least_first : (a b : ℤ) (m : ℕ) → a ≤ℤ b → m ≡ 0 → int_min (a +ℤ pos m) b ≡ a
+least_first a b m le none = omega (arith, ints, clamps)
 
-least_last : (a b : ℤ) (m : ℕ) → a <ℤ b → m ≡ 64 * (span_len a b / 64 + 1) → int_min (a +ℤ pos m) b ≡ b
-least_last a b m lt all = omega (arith, ints, clamps)
+least_last : (a b : ℤ) (m : ℕ) → a ≤ℤ b → span_len a b ≤ m → int_min (a +ℤ pos m) b ≡ b
+least_last a b m le all = omega (arith, ints, clamps)
 
 one_more : (s n : ℕ) → (s + 1) * n ≡ s * n + n
 one_more s n = grind (arith)
 
-pub cut_rises : (w : Rect) (s : ℕ) → cut_at w s ≤ℤ cut_at w (s + 1)
-cut_rises w s = rw (one_more s (lines_of w)) (least_rises w.y1 w.y2 (s * lines_of w) (lines_of w))
+pub cut_rises : (bottom top : ℤ) (strips s : ℕ) → cut_at bottom top strips s ≤ℤ cut_at bottom top strips (s + 1)
+cut_rises bottom top strips s = rw (one_more s (strip_lines bottom top strips)) (least_rises bottom top (s * strip_lines bottom top strips) (strip_lines bottom top strips))
 
-pub cut_low : (w : Rect) (s : ℕ) → w.y1 ≤ℤ cut_at w s
-cut_low w s = least_low w.y1 w.y2 (s * lines_of w) w.tall
+pub cut_low : (bottom top : ℤ) (strips s : ℕ) → bottom ≤ℤ top → bottom ≤ℤ cut_at bottom top strips s
+cut_low bottom top strips s ordered = least_low bottom top (s * strip_lines bottom top strips) ordered
 
-pub cut_high : (w : Rect) (s : ℕ) → cut_at w s ≤ℤ w.y2
-cut_high w s = least_high w.y1 w.y2 (s * lines_of w)
+pub cut_high : (bottom top : ℤ) (strips s : ℕ) → cut_at bottom top strips s ≤ℤ top
+cut_high bottom top strips s = least_high bottom top (s * strip_lines bottom top strips)
 
-cut_first : (w : Rect) → cut_at w 0 ≡ w.y1
-cut_first w = least_first w.y1 w.y2 (0 * lines_of w) w.tall (omega arith)
+pub cut_first : (bottom top : ℤ) (strips : ℕ) → bottom ≤ℤ top → cut_at bottom top strips 0 ≡ bottom
+cut_first bottom top strips ordered = least_first bottom top (0 * strip_lines bottom top strips) ordered (omega arith)
 
-cut_last : (w : Rect) → cut_at w 64 ≡ w.y2
-cut_last w = least_last w.y1 w.y2 (64 * lines_of w) w.tall refl
+pub cut_last : (bottom top : ℤ) (strips : ℕ) → bottom ≤ℤ top → 1 ≤ strips → cut_at bottom top strips strips ≡ top
+cut_last bottom top strips ordered some = least_last bottom top (strips * strip_lines bottom top strips) ordered (all_lines (span_len bottom top) strips some)
+  where
+    all_lines : (n k : ℕ) → 1 ≤ k → n ≤ k * (n / k + 1)
+    all_lines n k some =
+        let parts : n % k + k * (n / k) ≡ n = mod-add-div n k in
+        let rest : n % k < k = mod_below n k some in
+        let more : k * (n / k + 1) ≡ k * (n / k) + k = grind (arith) in
+        omega (arith, parts, rest, more)
 
-pub cut_fits : (w : Rect) (s : ℕ) → FitsSigned w64 (cut_at w s)
-cut_fits w s = coordinate_fits (cut_at w s) (le_trans _ w.y1 _ w.bottom (cut_low w s)) (le_trans _ w.y2 _ (cut_high w s) w.top)
+pub cut_fits : (bottom top : ℤ) (strips s : ℕ) → lowest ≤ℤ bottom → bottom ≤ℤ top → top ≤ℤ highest → FitsSigned w64 (cut_at bottom top strips s)
+cut_fits bottom top strips s low ordered high =
+    coordinate_fits (cut_at bottom top strips s) (le_trans _ bottom _ low (cut_low bottom top strips s ordered)) (le_trans _ top _ (cut_high bottom top strips s) high)
 
-no_lines : (f : ℤ → ℕ) (lo hi : ℤ) → lo ≡ hi → sum_between f lo hi ≡ 0
-no_lines f lo hi same =
-    let c : sum_between f lo hi ≡ span_len lo hi * 0 = sum_between_const f lo hi 0 (omega (arith, ints)) (λ x le lt. absurd (omega (arith, ints))) in
-    let z : span_len lo hi * 0 ≡ 0 = omega arith in
+-- no lines have no squares
+pub no_lines : (f : ℤ → ℕ) (lo : ℤ) → sum_between f lo lo ≡ 0
+no_lines f lo =
+    let c : sum_between f lo lo ≡ span_len lo lo * 0 = sum_between_const f lo lo 0 (omega (arith, ints)) (λ x le lt. absurd (omega (arith, ints))) in
+    let z : span_len lo lo * 0 ≡ 0 = omega arith in
     c ∙ z
 
--- the lines of the window, and how many squares of the set each has
-abbrev line_of : (ℤ → ℤ → Bool) → Rect → ℤ → ℕ
-line_of p w y = count_between (λ x. p x y) w.x1 w.x2
-
--- an empty strip has no squares
-pub no_strip : (p : ℤ → ℤ → Bool) (w : Rect) (s : ℕ) (from to : ℤ) → from ≡ cut_at w s → to ≡ cut_at w (s + 1) → int_lt (read from) (read to) ≡ false → pos 0 ≡ pos (strip_area p w s)
-no_strip p w s from to from_is to_is above =
-    let le : cut_at w (s + 1) ≤ℤ cut_at w s = not_lt _ _ (rw (from_is, to_is, read_is _ (cut_fits w s), read_is _ (cut_fits w (s + 1))) at above) in
-    ap pos (sym (no_lines (line_of p w) (cut_at w s) (cut_at w (s + 1)) (both (cut_at w s) (cut_at w (s + 1)) (cut_rises w s) le)))
-  where
-    both : (a b : ℤ) → a ≤ℤ b → b ≤ℤ a → a ≡ b
-    both a b h k = omega (arith, ints)
-
-abbrev strip_at : (ℤ → ℤ → Bool) → Rect → ℕ → ℤ
-strip_at p w s = pos (strip_area p w s)
-
--- the strips below the one at `n` are the window up to where that begins
-strips_below : (p : ℤ → ℤ → Bool) (w : Rect) (n : ℕ) → fold ◌+ℤ◌ (pos 0) (map (strip_at p w) (range_with_len 0 n)) ≡ pos (sum_between (line_of p w) w.y1 (cut_at w n))
-strips_below p w zero = ap pos (sym (no_lines (line_of p w) w.y1 (cut_at w 0) (sym (cut_first w))))
-strips_below p w (suc n) =
-    let e : suc n ≡ n + 1 = omega arith in
-    let split : sum_between (line_of p w) w.y1 (cut_at w (n + 1)) ≡ sum_between (line_of p w) w.y1 (cut_at w n) + strip_area p w n = sum_between_split (line_of p w) w.y1 (cut_at w n) (cut_at w (n + 1)) (cut_low w n) (cut_rises w n) in
-    ap (λ m. fold ◌+ℤ◌ (pos 0) (map (strip_at p w) (range_with_len 0 m))) e
-    ∙ (ap (fold ◌+ℤ◌ (pos 0)) (map-range_with_len_more (strip_at p w) 0 n n (omega arith))
-    ∙ (fold_push ◌+ℤ◌ (pos 0) (map (strip_at p w) (range_with_len 0 n)) (strip_at p w n)
-    ∙ (ap (λ z. z +ℤ strip_at p w n) (strips_below p w n)
-    ∙ (ap pos (sym split) ∙ ap (λ m. pos (sum_between (line_of p w) w.y1 (cut_at w m))) (sym e)))))
-
--- all strips together are the window
-pub strips_are : (p : ℤ → ℤ → Bool) (w : Rect) (places : List ℕ) (areas : List ℤ) → places ≡ range_with_len 0 64 → AllZip (λ s n. n ≡ strip_at p w s) places areas
-    → fold ◌+ℤ◌ (pos 0) areas ≡ pos (area_of p w)
-strips_are p w places areas all each =
-    ap (fold ◌+ℤ◌ (pos 0)) (AllZip-map (strip_at p w) places areas each ∙ ap (map (strip_at p w)) all)
-    ∙ (strips_below p w 64 ∙ ap (λ y. pos (sum_between (line_of p w) w.y1 y)) (cut_last w))
-
-pub area_fits : (p : ℤ → ℤ → Bool) (w : Rect) → FitsSigned w64 (pos (area_of p w))
-area_fits p w =
-    let most : area_of p w ≤ span_len w.y1 w.y2 * span_len w.x1 w.x2 = sum_between_le (line_of p w) w.y1 w.y2 (span_len w.x1 w.x2) (λ y. count_between_le (λ x. p x y) w.x1 w.x2) in
-    let small = product_small (span_len w.y1 w.y2) (span_len w.x1 w.x2) (side_short w.y1 w.y2 w.bottom (lt_le w.y1 w.y2 w.tall) w.top) (side_short w.x1 w.x2 w.left (lt_le w.x1 w.x2 w.wide) w.right) in
-    pos_fits (area_of p w) (omega (arith, most, small))
+-- the lines up to the end of a strip are those up to its beginning, and its own
+pub strip_more : (p : ℤ → ℤ → Bool) (g : Grid) (bottom top : ℤ) (strips s a : ℕ) → bottom ≤ℤ top
+    → lines_area p g bottom (cut_at bottom top strips (s + 1)) a ≡ lines_area p g bottom (cut_at bottom top strips s) a + lines_area p g (cut_at bottom top strips s) (cut_at bottom top strips (s + 1)) a
+strip_more p g bottom top strips s a ordered =
+    sum_between_split (λ y. count_between (λ x. p x y) (window_left g a) (window_right g a)) bottom (cut_at bottom top strips s) (cut_at bottom top strips (s + 1)) (cut_low bottom top strips s ordered) (cut_rises bottom top strips s)
 
 -- where a strip begins, as the code finds it
-pub cut_read : (w : Rect) (s height : ℕ) (high low bottom top z : ℤ) → s ≤ 64 → high ≡ w.y2 → low ≡ w.y1 → height ≡ unsigned_abs (read high -ℤ read low) → bottom ≡ w.y1 → top ≡ w.y2
-    → z ≡ int_min (read (read bottom +ℤ to_z w64 (s * (height / 64 + 1)))) (read top) → read z ≡ cut_at w s
-cut_read w s height high low bottom top z few high_is low_is height_is bottom_is top_is z_is =
-    let tall : height ≡ span_len w.y1 w.y2 = height_is ∙ rw (high_is, low_is, read_y2 w, read_y1 w) refl in
-    let small : s * lines_of w ≤ 64 * (2 ^ 31 / 64 + 1) = mul-le-mul few (short (span_len w.y1 w.y2) (side_short w.y1 w.y2 w.bottom (lt_le w.y1 w.y2 w.tall) w.top)) in
-    let move : to_z w64 (s * (height / 64 + 1)) ≡ pos (s * lines_of w) = ap (λ n. to_z w64 (s * (n / 64 + 1))) tall ∙ to_z_pos w64 (s * lines_of w) (below (s * lines_of w) small) in
-    let sum : read (read bottom +ℤ to_z w64 (s * (height / 64 + 1))) ≡ w.y1 +ℤ pos (s * lines_of w) = rw (bottom_is, read_y1 w, move) (read_is _ (fits w.y1 (s * lines_of w) w.bottom (le_trans w.y1 w.y2 _ (lt_le w.y1 w.y2 w.tall) w.top) small)) in
-    let whole : z ≡ cut_at w s = z_is ∙ rw (sum, top_is, read_y2 w) refl in
-    ap read whole ∙ read_is _ (cut_fits w s)
+pub cut_read : (bottom top z : ℤ) (strips s height : ℕ) → 1 ≤ strips → strips ≤ 64 → s ≤ strips → lowest ≤ℤ bottom → bottom ≤ℤ top → top ≤ℤ highest
+    → height ≡ unsigned_abs (read top -ℤ read bottom) → z ≡ int_min (read (read bottom +ℤ to_z w64 (s * (height / strips + 1)))) (read top) → read z ≡ cut_at bottom top strips s
+cut_read bottom top z strips s height some few within low ordered high height_is z_is =
+    let bottom_read : read bottom ≡ bottom = read_is _ (coordinate_fits bottom low (le_trans _ top _ ordered high)) in
+    let top_read : read top ≡ top = read_is _ (coordinate_fits top (le_trans _ bottom _ low ordered) high) in
+    let tall : height ≡ span_len bottom top = height_is ∙ rw (top_read, bottom_read) refl in
+    let small : s * strip_lines bottom top strips ≤ 64 * (2 ^ 31 + 1) = mul-le-mul (le_few s strips within few) (short (span_len bottom top) strips (side_short bottom top low ordered high)) in
+    let move : to_z w64 (s * (height / strips + 1)) ≡ pos (s * strip_lines bottom top strips) = ap (λ n. to_z w64 (s * (n / strips + 1))) tall ∙ to_z_pos w64 (s * strip_lines bottom top strips) (below (s * strip_lines bottom top strips) small) in
+    let sum : read (read bottom +ℤ to_z w64 (s * (height / strips + 1))) ≡ bottom +ℤ pos (s * strip_lines bottom top strips) =
+    rw (bottom_read, move) (read_is _ (fits bottom (s * strip_lines bottom top strips) low (le_trans _ top _ ordered high) small)) in
+    let whole : z ≡ cut_at bottom top strips s = z_is ∙ rw (sum, top_read) refl in
+    ap read whole ∙ read_is _ (cut_fits bottom top strips s low ordered high)
   where
-    short : (n : ℕ) → n ≤ 2 ^ 31 → n / 64 + 1 ≤ 2 ^ 31 / 64 + 1
-    short n most = omega arith
+    le_few : (s n : ℕ) → s ≤ n → n ≤ 64 → s ≤ 64
+    le_few s n a b = omega arith
 
-    below : (n : ℕ) → n ≤ 64 * (2 ^ 31 / 64 + 1) → n < 2 ^ 63
+    short : (n k : ℕ) → n ≤ 2 ^ 31 → n / k + 1 ≤ 2 ^ 31 + 1
+    short n k most = let le : n / k ≤ n = div-le_self n k in omega (arith, le, most)
+
+    below : (n : ℕ) → n ≤ 64 * (2 ^ 31 + 1) → n < 2 ^ 63
     below n most = omega arith
 
-    fits : (y : ℤ) (n : ℕ) → lowest ≤ℤ y → y ≤ℤ highest → n ≤ 64 * (2 ^ 31 / 64 + 1) → FitsSigned w64 (y +ℤ pos n)
+    fits : (y : ℤ) (n : ℕ) → lowest ≤ℤ y → y ≤ℤ highest → n ≤ 64 * (2 ^ 31 + 1) → FitsSigned w64 (y +ℤ pos n)
     fits y n low high most = omega (arith, ints)

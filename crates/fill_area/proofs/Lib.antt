@@ -3,6 +3,9 @@ pub mod Places
 pub mod Sharing
 pub mod GridTests
 pub mod Walking
+pub mod Rows
+pub mod Summing
+pub mod Gathering
 pub mod Shares
 pub mod Measuring
 pub mod Cutting

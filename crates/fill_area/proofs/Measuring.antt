@@ -1,17 +1,12 @@
 -- The list of all windows' areas.
-use Rattle.std.proofs.Common.{◌≡◌, ◌+ℤ◌, ◌≤ℤ◌, ◌≤◌, ◌^◌, ℕ, ◌+◌, ◌*◌, ◌/◌, ◌%◌, ◌<◌, ℤ, pos, Bool, false, List, length, map, get_or, [], ◌∷◌, ◌++◌, refl, arith, ap, ◌∙◌, sym}
-use Rattle.std.specs.List.{range_with_len}
-use Rattle.std.proofs.lemmas.List.FromFn.{length-map-range_with_len, get_or-map-range_with_len, map-range_with_len_more}
+use Rattle.std.proofs.Common.{◌≡◌, ◌+ℤ◌, ◌≤ℤ◌, ◌≤◌, ◌^◌, ℕ, ◌+◌, ◌*◌, ◌/◌, ◌%◌, ◌<◌, ℤ, pos, Bool, false, List, length, get_or, refl, arith, ap, ◌∙◌}
 use Rattle.std.proofs.lemmas.Nat.{mul-add-lt, div-mul-add, mod-mul-add}
 use Rattle.std.specs.List.{All}
 use Rattle.std.proofs.lemmas.Int.{ints}
 use Rattle.std.proofs.Math.Nat.{mul-le-mul}
 use Rattle.fill_base.specs.Counts.{span_len, count_between}
 use Rattle.fill_base.proofs.Counting.{sum_between_le, sum_between_same, sum_between_const, count_between_le, count_between_same, count_between_const}
-use Rattle.fill_base.specs.declared.rect.Rect.{Rect}
-use Rattle.fill_base.specs.Squares.{area_between, area_of}
-use Rattle.fill_base.proofs.Signed.{read, read_is}
-use Rattle.fill_area.proofs.Cutting.{area_fits}
+use Rattle.fill_base.specs.Squares.{area_between}
 use Rattle.fill_area.specs.Grid.{Grid, IsGrid, IsLength, window_left, window_right, window_bottom, window_top}
 use Rattle.fill_area.specs.Density.{AreMeasured, IsArea, window_area}
 
@@ -19,16 +14,15 @@ use Rattle.fill_area.specs.Density.{AreMeasured, IsArea, window_area}
 abbrev pub area_at : (ℤ → ℤ → Bool) → Grid → ℕ → ℤ
 area_at p g k = pos (window_area p g (k % g.columns) (k / g.columns))
 
-pub measured : (p : ℤ → ℤ → Bool) (g : Grid) (totals : List ℤ) → IsGrid g → totals ≡ map (area_at p g) (range_with_len 0 (g.columns * g.rows)) → AreMeasured p g totals
-measured p g totals grid is = record {
+-- the list says the area of each window
+pub measured : (p : ℤ → ℤ → Bool) (g : Grid) (totals : List ℤ) → IsGrid g → length totals ≡ g.columns * g.rows → ((k : ℕ) (d : ℤ) → k < g.columns * g.rows → get_or totals k d ≡ area_at p g k) → AreMeasured p g totals
+measured p g totals grid count each = record {
   grid = grid;
-  count = ap length is ∙ length-map-range_with_len (area_at p g) 0 (g.columns * g.rows);
+  count = count;
   each = λ a b a_in b_in.
-      let within : b * g.columns + a < g.columns * g.rows = mul-add-lt b g.columns a g.rows b_in a_in in
-      ap (λ xs. get_or xs (b * g.columns + a) (pos 0)) is
-      ∙ (get_or-map-range_with_len (area_at p g) 0 (g.columns * g.rows) (b * g.columns + a) (b * g.columns + a) (pos 0) within (omega arith)
+      each (b * g.columns + a) (pos 0) (mul-add-lt b g.columns a g.rows b_in a_in)
       ∙ (ap (λ k. pos (window_area p g k ((b * g.columns + a) / g.columns))) (mod-mul-add b g.columns a a_in)
-      ∙ ap (λ k. pos (window_area p g a k)) (div-mul-add b g.columns a a_in)));
+      ∙ ap (λ k. pos (window_area p g a k)) (div-mul-add b g.columns a a_in));
 }
 
 -- a window has at most 2^40 squares
@@ -45,11 +39,8 @@ window_small p g a b grid =
     short : (lo length : ℤ) → IsLength length → span_len lo (lo +ℤ length) ≤ 1048576
     short lo length is = let least : pos 1 ≤ℤ length = is.least in let most : length ≤ℤ pos 1048576 = is.most in omega (arith, ints)
 
-pub bounded : (p : ℤ → ℤ → Bool) (g : Grid) (totals : List ℤ) → IsGrid g → totals ≡ map (area_at p g) (range_with_len 0 (g.columns * g.rows)) → All IsArea totals
-bounded p g totals grid is k d lt =
-    let inner : k < g.columns * g.rows = rw (is, length-map-range_with_len (area_at p g) 0 (g.columns * g.rows)) at lt in
-    let at_k : get_or totals k d ≡ area_at p g k = ap (λ xs. get_or xs k d) is ∙ get_or-map-range_with_len (area_at p g) 0 (g.columns * g.rows) k k d inner (omega arith) in
-    rw at_k (area_of_count (window_area p g (k % g.columns) (k / g.columns)) (window_small p g (k % g.columns) (k / g.columns) grid))
+pub bounded : (p : ℤ → ℤ → Bool) (g : Grid) (totals : List ℤ) → IsGrid g → length totals ≡ g.columns * g.rows → ((k : ℕ) (d : ℤ) → k < g.columns * g.rows → get_or totals k d ≡ area_at p g k) → All IsArea totals
+bounded p g totals grid count each k d lt = rw (each k d (rw count at lt)) (area_of_count (window_area p g (k % g.columns) (k / g.columns)) (window_small p g (k % g.columns) (k / g.columns) grid))
   where
     area_of_count : (n : ℕ) → n ≤ 2 ^ 40 → IsArea (pos n)
     area_of_count n small = record { least = omega (arith, ints); most = omega (arith, ints) }
@@ -72,12 +63,3 @@ no_area left bottom right top wide tall =
     let z : span_len left right * 0 ≡ 0 = omega arith in
     let whole = sum_between_const (λ y. count_between (λ x. false) left right) bottom top 0 tall (λ y low high. line ∙ z) in
     let none : span_len bottom top * 0 ≡ 0 = omega arith in whole ∙ none
-
--- the list with the area of one window more
-pub window_more : (p : ℤ → ℤ → Bool) (g : Grid) (k : ℕ) (w : Rect) (before after : List ℤ) (area : ℤ) → before ≡ map (area_at p g) (range_with_len 0 k) → after ≡ before ++ read area ∷ [] → area ≡ pos (area_of p w)
-    → w.x1 ≡ window_left g (k % g.columns) → w.y1 ≡ window_bottom g (k / g.columns) → w.x2 ≡ window_right g (k % g.columns) → w.y2 ≡ window_top g (k / g.columns)
-    → after ≡ map (area_at p g) (range_with_len 0 (k + 1))
-window_more p g k w before after area so_far put area_is left bottom right top =
-    let value : read area ≡ pos (area_of p w) = ap read area_is ∙ read_is _ (area_fits p w) in
-    let is : read area ≡ area_at p g k = value ∙ rw (left, bottom, right, top) refl in
-    put ∙ (ap (λ xs. xs ++ read area ∷ []) so_far ∙ (ap (λ n. map (area_at p g) (range_with_len 0 k) ++ n ∷ []) is ∙ sym (map-range_with_len_more (area_at p g) 0 k k (omega arith))))

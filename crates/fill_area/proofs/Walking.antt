@@ -19,9 +19,13 @@ use Rattle.fill_region.proofs.Sweeping.{bottom_inside}
 use Rattle.fill_region.proofs.Looking.{row_of_place, bottoms_rise}
 use Rattle.fill_area.specs.Slabs.{IsBottomBelow, slab_of}
 
+-- how many squares each line has between two edges
+abbrev pub squares_across : List Band → ℤ → ℤ → ℤ → ℕ
+squares_across bs left right y = count_between (λ x. holds bs x y) left right
+
 -- how many squares of the window each line has
 abbrev pub line_count : List Band → Rect → ℤ → ℕ
-line_count bs w y = count_between (λ x. holds bs x y) w.x1 w.x2
+line_count bs w = squares_across bs w.x1 w.x2
 
 -- the walk from the window's lower edge has come to the line `from`, before the band at `k`
 pub record Walked (bs : List Band) (w : Rect) (k : ℕ) (from total : ℤ) : Type 0 where
@@ -37,14 +41,14 @@ same_le : (a : ℤ) → a ≤ℤ a
 same_le a = omega (arith, ints)
 
 -- lines between two bottoms have one row
-slab_counts : (bs : List Band) (w : Rect) (k : ℕ) (from to : ℤ) → IsRegion bs → IsFirstAbove bs from k → from ≤ℤ to → (k < length bs → to ≤ℤ next_bottom bs k)
-    → sum_between (line_count bs w) from to ≡ slab_of bs k from to w
-slab_counts bs w k from to region place ordered before =
-    sum_between_const (line_count bs w) from to (count_between (inside (last_row [] (take k bs))) w.x1 w.x2) ordered
-    (λ y le lt. ap (λ row. count_between (inside row) w.x1 w.x2)
+pub slab_counts : (bs : List Band) (left right : ℤ) (k : ℕ) (from to : ℤ) → IsRegion bs → IsFirstAbove bs from k → from ≤ℤ to → (k < length bs → to ≤ℤ next_bottom bs k)
+    → sum_between (squares_across bs left right) from to ≡ span_len from to * count_between (inside (last_row [] (take k bs))) left right
+slab_counts bs left right k from to region place ordered before =
+    sum_between_const (squares_across bs left right) from to (count_between (inside (last_row [] (take k bs))) left right) ordered
+    (λ y le lt. ap (λ row. count_between (inside row) left right)
     (row_of_place floor ceiling y [] bs k region.bands place.within (λ i below. le_trans _ from y (place.before i below) le) (λ inner. lt_le_trans y to _ lt (before inner))))
 
-next_first : (bs : List Band) (k : ℕ) → IsRegion bs → k < length bs → IsFirstAbove bs (next_bottom bs k) (k + 1)
+pub next_first : (bs : List Band) (k : ℕ) → IsRegion bs → k < length bs → IsFirstAbove bs (next_bottom bs k) (k + 1)
 next_first bs k region lt = record {
   within = omega arith;
   before = λ i below. bottoms_rise floor ceiling [] bs i k region.bands (omega arith) lt;
@@ -72,7 +76,7 @@ pub added : (bs : List Band) (w : Rect) (k : ℕ) (from total to part : ℤ) →
     → (k < length bs → to ≤ℤ next_bottom bs k) → part ≡ pos (slab_of bs k from to w) → Added bs w to total part
 added bs w k from total to part region walked ordered high before part_is =
     let split : sum_between (line_count bs w) w.y1 to ≡ sum_between (line_count bs w) w.y1 from + sum_between (line_count bs w) from to = sum_between_split (line_count bs w) w.y1 from to walked.begun ordered in
-    let slab : sum_between (line_count bs w) from to ≡ slab_of bs k from to w = slab_counts bs w k from to region walked.place ordered before in
+    let slab : sum_between (line_count bs w) from to ≡ slab_of bs k from to w = slab_counts bs w.x1 w.x2 k from to region walked.place ordered before in
     let small : sum_between (line_count bs w) w.y1 to ≤ 2 ^ 62 = sum_small bs w to (le_trans w.y1 from to walked.begun ordered) high in
     let part_fits : FitsSigned w64 part = rw part_is (pos_fits (slab_of bs k from to w) (below_whole _ _ _ _ split slab small)) in
     let whole : total +ℤ read part ≡ pos (sum_between (line_count bs w) w.y1 to) = rw (read_is part part_fits, part_is, walked.counted, split, slab) refl in
@@ -181,7 +185,7 @@ slab_none bs w k from to none =
     ap pos (sym (ap (λ n. span_len from to * count_between (inside (last_row [] (take n bs))) w.x1 w.x2) e ∙ (ap (λ n. span_len from to * n) nothing ∙ zero_whole)))
 
 -- a bottom that the code has found fits its numbers
-found_read : (bs : List Band) (k : ℕ) (top bottom : ℤ) → IsRegion bs → IsBottomBelow bs k top bottom → read bottom ≡ bottom
+pub found_read : (bs : List Band) (k : ℕ) (top bottom : ℤ) → IsRegion bs → IsBottomBelow bs k top bottom → read bottom ≡ bottom
 found_read bs k top bottom region b = let range = bottom_range floor ceiling [] bs k region.bands in rw b.is (read_bottom _ range.0 range.1)
 
 pub walk_start : (bs : List Band) (w : Rect) (k : ℕ) (y : ℤ) → y ≡ w.y1 → IsFirstAbove bs (read y) k → Walked bs w k (read y) (pos 0)

@@ -36,7 +36,7 @@ fn area_in_bands(bands: &[(i32, Spans)], window: &Rect) -> i64
 }
 
 /// The bottom of the band at `k`, where there is one below `top`.
-fn bottom_below(bands: &[(i32, Spans)], k: usize, top: i64) -> Option<i64>
+pub(crate) fn bottom_below(bands: &[(i32, Spans)], k: usize, top: i64) -> Option<i64>
     requires region { IsRegion bands.now }
     requires top { top ≤ℤ highest }
     ensures some { IfSome result (λ bottom. IsBottomBelow bands.now k top bottom) }

@@ -1,21 +1,27 @@
-ghost use Rattle.std.specs.Prelude.{◌≡◌, ◌/◌, ◌%◌, ◌*◌, ◌<◌, IfOk, All, pos};
+ghost use Rattle.std.specs.Prelude.{◌≡◌, ◌/◌, ◌%◌, ◌*◌, ◌+◌, ◌<◌, ◌≤◌, IfOk, All, pos, length, get_or, ℕ, ℤ};
 ghost use Rattle.fill_region.specs.Bands.{holds};
 ghost use Rattle.fill_area.specs.Density.{AreMeasured, IsArea, window_area};
+ghost use Rattle.fill_area.specs.Grid.{IsGrid};
+ghost use Rattle.fill_area.specs.Strips.{AreStripAt, AreStrips};
+ghost use Rattle.fill_area.specs.Parts.{PartAdded};
+ghost use Rattle.fill_spans.specs.Comb.{AreSums};
 
-use crate::area::area_in;
-use crate::strips::area_in_strips;
+use crate::strips::measure_strip;
 use crate::windows::Windows;
 use fill_region::Region;
 use rayon::prelude::*;
 use std::alloc::{AllocError, Global};
 use std::thread::Threads;
 
-/// Up to so many windows are measured one after another, each by all threads.
-const FEW: usize = 16;
+/// Windows are cut into at most so many strips.
+const MOST_STRIPS: usize = 64;
+
+/// So many numbers may be kept for the strips of all windows, besides one for each window.
+const MOST_SUMS: usize = 131_072;
 
 /// How many squares of each window are in the region: row by row, the window in column `a` and row
-/// `b` at `b * columns + a`. The windows are measured in parallel, and so are the parts of few heavy
-/// ones. The list is the same for any number of threads.
+/// `b` at `b * columns + a`. Each row of windows is cut into strips of lines, and all strips are
+/// measured in parallel. The list is the same for any number of threads.
 pub fn measure_all(
     rt: &(impl Threads + Sync),
     alloc: Global,
@@ -25,51 +31,73 @@ pub fn measure_all(
     ensures areas { IfOk result (λ v. AreMeasured (holds region.now) windows.now v.items) }
     ensures bounded { IfOk result (λ v. All IsArea v.items) }
 {
-    if windows.len() <= FEW {
-        measure_few(rt, alloc, region, windows)
-    } else {
-        measure_many(rt, alloc, region, windows)
+    let count = windows.len();
+    let strips = (MOST_SUMS / count).clamp(1, MOST_STRIPS);
+    let mut sums = Vec::from_elem(alloc, 0, strips * count)?;
+    measure_into(rt, region, windows, strips, &mut sums);
+    sums.truncate(count);
+    Ok(sums)
+}
+
+/// The areas of all windows, at the front of a list that has room for all strips.
+fn measure_into(
+    rt: &(impl Threads + Sync),
+    region: &Region,
+    windows: &Windows,
+    strips: usize,
+    sums: &mut [i64],
+)
+    requires some { 1 ≤ strips }
+    requires few { strips ≤ 64 }
+    requires count { length sums.old ≡ strips * (windows.now.columns * windows.now.rows) }
+    ensures len { length sums.new ≡ length sums.old }
+    ensures areas { (k : ℕ) (d : ℤ) → k < windows.now.columns * windows.now.rows → get_or sums.new k d ≡ pos (window_area (holds region.now) windows.now (k % windows.now.columns) (k / windows.now.columns)) }
+{
+    let count = windows.len();
+    measure_strips(rt, region, windows, strips, sums);
+    for s in 1..strips {
+        add_part(sums, count, s);
     }
 }
 
-/// The areas of all windows, one window after another, each measured by all threads.
-fn measure_few(
+/// The areas of the first strips of all windows, then of the second strips, and so on.
+fn measure_strips(
     rt: &(impl Threads + Sync),
-    alloc: Global,
     region: &Region,
     windows: &Windows,
-) -> Result<Vec<i64>, AllocError>
-    ensures areas { IfOk result (λ v. AreMeasured (holds region.now) windows.now v.items) }
-    ensures bounded { IfOk result (λ v. All IsArea v.items) }
+    strips: usize,
+    sums: &mut [i64],
+)
+    requires some { 1 ≤ strips }
+    requires few { strips ≤ 64 }
+    requires grid { IsGrid windows.now }
+    requires count { length sums.old ≡ strips * (windows.now.columns * windows.now.rows) }
+    ensures { AreStrips (holds region.now) windows.now strips sums.new }
 {
-    let count = windows.len();
-    let mut areas = Vec::with_capacity(alloc, count)?;
+    let columns = windows.columns() as usize;
+    par_chunks_mut_for_each(
+        rt,
+        sums,
+        columns,
+        |start: usize, row: &mut [i64]|
+            requires some { 1 ≤ strips }
+            requires few { strips ≤ 64 }
+            requires grid { IsGrid windows.now }
+            requires place { start < strips * (windows.now.columns * windows.now.rows) }
+            requires columns { length row.now ≡ windows.now.columns }
+            ensures { AreStripAt (holds region.entry.now) windows.entry.now strips start row.exit.now }
+        { measure_strip(region, windows, strips, start, row) },
+    );
+}
+
+/// Adds part `s` of the list to its first part. A part has `count` numbers.
+fn add_part(sums: &mut [i64], count: usize, s: usize)
+    requires within { s * count + count ≤ length sums.old }
+    requires later { 1 ≤ s }
+    requires sums { AreSums sums.old }
+    ensures { PartAdded count s sums.old sums.new }
+{
     for k in 0..count {
-        let area = area_in_strips(rt, region, &windows.nth(k));
-        areas.push(area)?;
+        sums[k] += sums[s * count + k];
     }
-    Ok(areas)
-}
-
-/// The areas of all windows, each thread with windows of its own.
-fn measure_many(
-    rt: &(impl Threads + Sync),
-    alloc: Global,
-    region: &Region,
-    windows: &Windows,
-) -> Result<Vec<i64>, AllocError>
-    ensures areas { IfOk result (λ v. AreMeasured (holds region.now) windows.now v.items) }
-    ensures bounded { IfOk result (λ v. All IsArea v.items) }
-{
-    let count = windows.len();
-    (0..count)
-        .into_par_iter()
-        .with_min_len(1)
-        .map(
-            |k: usize| -> i64
-                requires { k < windows.now.columns * windows.now.rows }
-                ensures { result ≡ pos (window_area (holds region.entry.now) windows.entry.now (k % windows.entry.now.columns) (k / windows.entry.now.columns)) }
-            { area_in(region, &windows.nth(k)) },
-        )
-        .collect(rt, alloc)
 }

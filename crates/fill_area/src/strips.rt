@@ -1,53 +1,90 @@
-ghost use Rattle.std.specs.Prelude.{◌≡◌, ◌<◌, ◌≤◌, pos};
-ghost use Rattle.fill_base.specs.Squares.{area_of};
-ghost use Rattle.fill_region.specs.Bands.{holds};
-ghost use Rattle.fill_area.specs.Strips.{cut_at, strip_area};
+//! Rows of windows, cut into strips of lines that are measured one by one.
+ghost use Rattle.std.specs.Prelude.{◌≡◌, ◌<◌, ◌≤◌, ◌+◌, ◌*◌, ◌/◌, ◌%◌, ℤ, pos, ◌+ℤ◌, ◌-ℤ◌, ◌≤ℤ◌, length, take, []};
+ghost use Rattle.fill_base.specs.Coordinates.{lowest, highest};
+ghost use Rattle.fill_region.specs.Bands.{holds, last_row, IsRegion};
+ghost use Rattle.fill_area.specs.Grid.{IsGrid};
+ghost use Rattle.fill_area.specs.Strips.{cut_at, AreLines, AreStripAt};
+ghost use Rattle.fill_area.specs.Slabs.{RowAdded};
+ghost use Rattle.fill_spans.specs.Comb.{AreSums};
 
-use crate::area::area_in;
-use fill_base::Rect;
+use crate::area::bottom_below;
+use crate::windows::Windows;
 use fill_region::Region;
-use rayon::prelude::*;
-use std::thread::Threads;
+use fill_region::region::first_above;
+use fill_spans::Spans;
 
-/// How many squares of the window are in the region, as `area_in` says it: the window is cut into 64
-/// strips of lines, which are measured in parallel.
-pub fn area_in_strips(rt: &(impl Threads + Sync), region: &Region, window: &Rect) -> i64
-    ensures { result ≡ pos (area_of (holds region.now) window.now) }
+/// Measures one strip of a row of windows, all columns together: the numbers that begin at place
+/// `start` of the list of the first strips of all windows, then of the second strips, and so on.
+pub(crate) fn measure_strip(
+    region: &Region,
+    windows: &Windows,
+    strips: usize,
+    start: usize,
+    sums: &mut [i64],
+)
+    requires some { 1 ≤ strips }
+    requires few { strips ≤ 64 }
+    requires grid { IsGrid windows.now }
+    requires place { start < strips * (windows.now.columns * windows.now.rows) }
+    requires columns { length sums.old ≡ windows.now.columns }
+    ensures { AreStripAt (holds region.now) windows.now strips start sums.new }
 {
-    (0..64usize)
-        .into_par_iter()
-        .with_min_len(1)
-        .map(
-            |s: usize| -> i64
-                requires { s < 64 }
-                ensures { result ≡ pos (strip_area (holds region.entry.now) window.entry.now s) }
-            { area_of_strip(region, window, s) },
-        )
-        .sum(rt)
+    let count = windows.len();
+    let window = windows.nth(start % count);
+    let strip = start / count;
+    let from = cut(window.y1(), window.y2(), strips, strip);
+    let to = cut(window.y1(), window.y2(), strips, strip + 1);
+    measure_lines(region.bands(), windows, from, to, sums);
 }
 
-/// How many squares of the strip `s` of the window are in the region.
-fn area_of_strip(region: &Region, window: &Rect, s: usize) -> i64
-    requires { s < 64 }
-    ensures { result ≡ pos (strip_area (holds region.now) window.now s) }
+/// Where strip `s` of so many begins between two lines, and the one before it ends.
+fn cut(bottom: i64, top: i64, strips: usize, s: usize) -> i64
+    requires some { 1 ≤ strips }
+    requires few { strips ≤ 64 }
+    requires place { s ≤ strips }
+    requires low { lowest ≤ℤ bottom }
+    requires ordered { bottom ≤ℤ top }
+    requires high { top ≤ℤ highest }
+    ensures { result ≡ cut_at bottom top strips s }
 {
-    let from = cut(window, s);
-    let to = cut(window, s + 1);
-    if from < to {
-        area_in(
-            region,
-            &Rect::from_edges(window.x1(), from, window.x2(), to),
-        )
-    } else {
-        0
+    let lines = top.abs_diff(bottom) / strips as u64 + 1;
+    (bottom + (s as u64 * lines) as i64).min(top)
+}
+
+/// How many squares each column of windows has in the lines from `from` on and below `to`: one walk
+/// over the bands, and in each over its edges.
+fn measure_lines(bands: &[(i32, Spans)], windows: &Windows, from: i64, to: i64, sums: &mut [i64])
+    requires region { IsRegion bands.now }
+    requires grid { IsGrid windows.now }
+    requires columns { length sums.old ≡ windows.now.columns }
+    requires low { lowest ≤ℤ from }
+    requires ordered { from ≤ℤ to }
+    requires high { to ≤ℤ highest }
+    requires short { (to -ℤ from) ≤ℤ pos 1048576 }
+    ensures { AreLines (holds bands.now) windows.now from to sums.new }
+{
+    sums.fill(0);
+    let mut from = from;
+    let mut k = first_above(bands, from);
+    'walk: while let Some(bottom) = bottom_below(bands, k, to) {
+        add_slab(bands, k, bottom - from, windows, sums);
+        from = bottom;
+        k += 1;
     }
+    add_slab(bands, k, to - from, windows, sums);
 }
 
-/// Where the strip `s` of the window begins, and the one before it ends.
-fn cut(window: &Rect, s: usize) -> i64
-    requires { s ≤ 64 }
-    ensures { result ≡ cut_at window.now s }
+/// Adds what each column has in `height` lines of the row before the band at `k`.
+fn add_slab(bands: &[(i32, Spans)], k: usize, height: i64, windows: &Windows, sums: &mut [i64])
+    requires within { k ≤ length bands.now }
+    requires grid { IsGrid windows.now }
+    requires columns { length sums.old ≡ windows.now.columns }
+    requires least { pos 0 ≤ℤ height }
+    requires most { height ≤ℤ pos 1048576 }
+    requires sums { AreSums sums.old }
+    ensures { RowAdded (last_row [] (take k bands.now)) height windows.now sums.old sums.new }
 {
-    let lines = window.y2().abs_diff(window.y1()) / 64 + 1;
-    (window.y1() + (s as u64 * lines) as i64).min(window.y2())
+    if k > 0 {
+        windows.add_lengths(&bands[k - 1].1, height, sums);
+    }
 }

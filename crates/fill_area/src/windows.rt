@@ -1,13 +1,16 @@
-ghost use Rattle.std.specs.Prelude.{◌≡◌, ◌↔◌, ℕ, ◌<◌, ◌-◌, ◌*◌, ◌/◌, ◌%◌, ◌≤◌, ℤ, pos, ◌+ℤ◌, ◌*ℤ◌, ◌≤ℤ◌, ◌<ℤ◌, IsTrue, IsOk, IfOk};
+ghost use Rattle.std.specs.Prelude.{◌≡◌, ◌↔◌, ℕ, ◌<◌, ◌-◌, ◌*◌, ◌/◌, ◌%◌, ◌≤◌, ℤ, pos, ◌+ℤ◌, ◌*ℤ◌, ◌≤ℤ◌, ◌<ℤ◌, IsTrue, IsOk, IfOk, length};
 ghost use Rattle.fill_base.specs.Coordinates.{lowest, highest, IsCoordinate};
 ghost use Rattle.fill_area.specs.Grid.{Grid, IsLength, IsCount, IsAxis, IsGrid, window_left, window_right, window_bottom, window_top, IsExtent};
 ghost use Rattle.fill_area.specs.Places.{IsBegun, IsLimit, IsPlace, IsTouching, IsContaining, IsWindow, ShareASquare, Holds, window_squares};
 ghost use Rattle.fill_base.specs.Squares.{squares};
 ghost use Rattle.fill_area.specs.Density.{IsArea};
 ghost use Rattle.fill_area.specs.GridOf.{grid_of};
+ghost use Rattle.fill_area.specs.Slabs.{RowAdded};
+ghost use Rattle.fill_spans.specs.Comb.{AreSums};
 
 use fill_base::rect::{HIGHEST, is_coordinate};
 use fill_base::{Point, Rect};
+use fill_spans::Spans;
 use std::marker::Model;
 use std::ops::Range;
 use thiserror::Error;
@@ -195,6 +198,19 @@ impl Windows {
     {
         let columns = self.columns as usize;
         ((k % columns) as u32, (k / columns) as u32)
+    }
+}
+
+impl Windows {
+    /// Adds to the number of each column `height` times the members of the row within its windows.
+    pub(crate) fn add_lengths(&self, row: &Spans, height: i64, sums: &mut [i64])
+        requires columns { length sums.old ≡ self.now.columns }
+        requires least { pos 0 ≤ℤ height }
+        requires most { height ≤ℤ pos 1048576 }
+        requires sums { AreSums sums.old }
+        ensures { RowAdded row.now height self.now sums.old sums.new }
+    {
+        row.add_lengths(self.x, self.step_x, self.width, height, sums);
     }
 }
 
