@@ -93,38 +93,33 @@ fn first_not<T>(items: &[T], passes: impl Fn(&T) -> bool) -> usize {
     low
 }
 
-/// How many of the numbers from `x1` on and below `x2` the row has: the ends less the beginnings, so `sum` has the edges
-/// so far with signs by turns, the last one added.
-fn length_in(edges: &[i32], x1: i32, x2: i32) -> i64 {
-    let first = first_not(edges, |edge| *edge <= x1);
-    let mut last = first;
-    let mut sum = if first % 2 == 1 { i64::from(x1) } else { 0 };
-    for edge in &edges[first..] {
-        if *edge >= x2 {
-            break;
-        }
-        sum = i64::from(*edge) - sum;
-        last += 1;
-    }
-    if last % 2 == 1 { i64::from(x2) - sum } else { sum }
+/// How far a walk along the edges of a row has come. `sum` has the edges so far with signs by turns, the last one added.
+#[derive(Clone, Copy)]
+struct Walk {
+    next: usize,
+    sum: i64,
 }
 
-/// How many unit squares of the window the region has.
-fn area_in(bands: &Bands, window: &Rect) -> i64 {
-    let first = first_not(bands, |band| band.0 <= window.y1);
-    let mut from = window.y1;
-    let mut total = 0;
-    for k in first..=bands.len() {
-        let to = bands.get(k).map_or(window.y2, |band| band.0.min(window.y2));
-        if k > 0 {
-            total += i64::from(to - from) * length_in(&bands[k - 1].1, window.x1, window.x2);
-        }
-        if to == window.y2 {
-            break;
-        }
-        from = to;
+impl Walk {
+    fn begin(edges: &[i32], start: i64) -> Walk {
+        let next = first_not(edges, |edge| i64::from(*edge) <= start);
+        Walk { next, sum: if next % 2 == 1 { start } else { 0 } }
     }
-    total
+
+    /// The walk, gone on to `to`.
+    fn advanced(self, edges: &[i32], to: i64) -> Walk {
+        let Walk { mut next, mut sum } = self;
+        while next < edges.len() && i64::from(edges[next]) < to {
+            sum = i64::from(edges[next]) - sum;
+            next += 1;
+        }
+        Walk { next, sum }
+    }
+
+    /// How many numbers of the row lie from the start on and below `at`, to which the walk has come.
+    fn counted(self, at: i64) -> i64 {
+        if self.next % 2 == 1 { at - self.sum } else { self.sum }
+    }
 }
 
 /// Windows of one size, in columns and rows.
@@ -136,31 +131,61 @@ struct Windows {
 }
 
 impl Windows {
-    fn nth(&self, k: usize) -> Rect {
-        let x1 = (k % self.columns) as i32 * self.step.0;
-        let y1 = (k / self.columns) as i32 * self.step.1;
-        Rect { x1, y1, x2: x1 + self.size.0, y2: y1 + self.size.1 }
+    /// Adds to each number `height` times what the row has in the windows of its column.
+    fn add_lengths(&self, edges: &[i32], height: i64, sums: &mut [i64]) {
+        let mut behind = Walk::begin(edges, 0);
+        let mut ahead = behind;
+        for (a, sum) in sums.iter_mut().enumerate() {
+            let left = a as i64 * i64::from(self.step.0);
+            let right = left + i64::from(self.size.0);
+            behind = behind.advanced(edges, left);
+            ahead = ahead.advanced(edges, right);
+            *sum += height * (ahead.counted(right) - behind.counted(left));
+        }
+    }
+
+    /// Adds what the windows of one row have in one of so many strips.
+    fn measure_strip(&self, bands: &Bands, row: usize, strips: i32, strip: i32, sums: &mut [i64]) {
+        let bottom = row as i32 * self.step.1;
+        let lines = self.size.1 / strips + 1;
+        let mut from = self.size.1.min(strip * lines) + bottom;
+        let to = self.size.1.min((strip + 1) * lines) + bottom;
+        let first = first_not(bands, |band| band.0 <= from);
+        for k in first..=bands.len() {
+            let top = bands.get(k).map_or(to, |band| band.0.min(to));
+            if k > 0 {
+                self.add_lengths(&bands[k - 1].1, i64::from(top - from), sums);
+            }
+            if top == to {
+                break;
+            }
+            from = top;
+        }
     }
 }
 
-/// The area in every window, a few windows at a time on each processor.
+/// The area in every window: strips of rows of windows are taken one by one by each processor.
 fn measure_all(bands: &Bands, windows: &Windows) -> Vec<i64> {
     let count = windows.columns * windows.rows;
+    let strips = (131_072 / count).clamp(1, 64);
     let threads = std::thread::available_parallelism().map_or(1, |n| n.get());
-    let mut areas = vec![0; count];
-    let few = count.div_ceil(threads * 64);
-    let pieces = Mutex::new(areas.chunks_mut(few).enumerate());
+    let mut sums = vec![0; count * strips];
+    let pieces = Mutex::new(sums.chunks_mut(windows.columns).enumerate());
     std::thread::scope(|scope| {
-        for _ in 0..threads.min(count) {
+        for _ in 0..threads {
             scope.spawn(|| loop {
-                let Some((piece, areas)) = pieces.lock().unwrap().next() else { break };
-                for (k, area) in areas.iter_mut().enumerate() {
-                    *area = area_in(bands, &windows.nth(piece * few + k));
-                }
+                let Some((piece, sums)) = pieces.lock().unwrap().next() else { break };
+                let (strip, row) = (piece / windows.rows, piece % windows.rows);
+                windows.measure_strip(bands, row, strips as i32, strip as i32, sums);
             });
         }
     });
-    areas
+    let (areas, rest) = sums.split_at_mut(count);
+    for part in rest.chunks_exact(count) {
+        areas.iter_mut().zip(part).for_each(|(area, more)| *area += more);
+    }
+    sums.truncate(count);
+    sums
 }
 
 /// Whether some number from `x1` on and below `x2` is in the row.
