@@ -5,30 +5,18 @@
 # usage: bench/gds/run.sh        (needs rt, rustc, python3 and GNU time; some two minutes)
 set -eu
 here=$(cd "$(dirname "$0")" && pwd)
-root=$(cd "$here/../.." && pwd)
 work=$(mktemp -d)
 trap 'rm -rf "$work"' EXIT
 
-# The program stands in a repository of its own, since the gate runs no benchmark.
-mkdir -p "$work/repository/crates/read_design/src"
-git -C "$work/repository" init -q
-for crate in fill_base gds_record gds_grammar; do
-    cp -r "$root/crates/$crate" "$work/repository/crates/$crate"
-    grep "^$crate:" "$root/crates.txt" >> "$work/repository/crates.txt"
-done
-echo "read_design: gds_grammar anyhow" >> "$work/repository/crates.txt"
-cp "$here/read_design.rt.txt" "$work/repository/crates/read_design/src/main.rt"
 python3 "$here/generate.py" 1000 "$work/first.gds"
-(cd "$work/repository/crates/read_design" && rt run -- "$work/first.gds") > "$work/build.log" 2>&1 ||
-    { tail -20 "$work/build.log"; exit 1; }
-rustc --edition 2021 -O -o "$work/plain" "$here/plain.rs"
+"$here/../build.sh" "$here" read_design "$work" "$work/first.gds" "fill_base gds_record gds_grammar" anyhow
 
 printf '%-12s %8s %10s %12s\n' reader MB MB/s "peak MB"
 for size in 1 10 100; do
     python3 "$here/generate.py" "${size}000000" "$work/library.gds"
     for reader in gds_grammar plain; do
-        program=$work/plain
-        [ "$reader" = plain ] || program=$work/repository/crates/read_design/out/read_design
+        program=$work/rattle
+        [ "$reader" = gds_grammar ] || program=$work/plain
         /usr/bin/time -f %M -o "$work/peak" "$program" "$work/library.gds" > "$work/said"
         micros=$(sed -n 's/ microseconds$//p' "$work/said")
         awk -v r="$reader" -v s="$size" -v t="$micros" -v p="$(cat "$work/peak")" \

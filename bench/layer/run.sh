@@ -14,25 +14,11 @@
 #                                 processors, and as many again where the crates were not proved before)
 set -eu
 here=$(cd "$(dirname "$0")" && pwd)
-root=$(cd "$here/../.." && pwd)
 work=$(mktemp -d)
 trap 'rm -rf "$work"' EXIT
 
-# The program stands in a repository of its own, since the gate runs no benchmark.
-mkdir -p "$work/repository/crates/layer/src"
-git -C "$work/repository" init -q
-cp "$root/HANDLES" "$work/repository/HANDLES"
-for crate in fill_base fill_spans fill_region fill_size fill_area; do
-    cp -r "$root/crates/$crate" "$work/repository/crates/$crate"
-    grep "^$crate:" "$root/crates.txt" >> "$work/repository/crates.txt"
-done
-echo "layer: fill_area fill_size fill_region fill_spans fill_base rayon anyhow" >> "$work/repository/crates.txt"
-cp "$here/layer.rt.txt" "$work/repository/crates/layer/src/main.rt"
 python3 "$here/generate.py" 1000 "$work/first"
-(cd "$work/repository/crates/layer" && rt run -- "$work/first") > "$work/build.log" 2>&1 ||
-    { tail -20 "$work/build.log"; exit 1; }
-cp "$work/repository/crates/layer/out/layer" "$work/rattle"
-rustc --edition 2021 -O -o "$work/plain" "$here/plain.rs"
+"$here/../build.sh" "$here" layer "$work" "$work/first" "fill_base fill_spans fill_region fill_size fill_area" "rayon anyhow"
 
 # measure SIZE PROCESSORS: runs both programs three times on the first so many processors.
 measure() {
