@@ -19,6 +19,9 @@ const MOST_STRIPS: usize = 64;
 /// So many numbers may be kept for the strips of all windows, besides one for each window.
 const MOST_SUMS: usize = 131_072;
 
+/// So many strips there are over all rows of windows at least, however many windows a row has.
+const FEWEST_STRIPS: usize = 8;
+
 /// How many squares of each window are in the region: row by row, the window in column `a` and row
 /// `b` at `b * columns + a`. Each row of windows is cut into strips of lines, and all strips are
 /// measured in parallel. The list is the same for any number of threads.
@@ -32,7 +35,9 @@ pub fn measure_all(
     ensures bounded { IfOk result (λ v. All IsArea v.items) }
 {
     let count = windows.len();
-    let strips = (MOST_SUMS / count).clamp(1, MOST_STRIPS);
+    let rows = windows.rows() as usize;
+    let strips = (MOST_SUMS / count).max(FEWEST_STRIPS / rows);
+    let strips = strips.clamp(1, MOST_STRIPS);
     let mut sums = Vec::from_elem(alloc, 0, strips * count)?;
     measure_into(rt, region, windows, strips, &mut sums);
     sums.truncate(count);

@@ -36,7 +36,6 @@ pub fn read_input<R: Read>(
     limit: usize,
 ) -> Result<Vec<u8>, InputError>
     requires whole { has_failed tap.old ≡ false }
-    requires small { limit < 2 ^ 32 }
     ensures device { IsErrOf result InputError.Device ↔ (has_failed tap.new ≡ true) }
     ensures short { IfOk result (λ v. vec_len v ≤ limit) }
     ensures bytes { IfOk result (λ v. IfSome (R.remaining (under tap.old)) (λ xs. v.items ≡ xs)) }
@@ -46,7 +45,7 @@ pub fn read_input<R: Read>(
     let mut input = Vec::new(alloc);
     let mut buffer = [0u8; CHUNK];
     'reading: loop {
-        let room = (limit + 1 - input.len()).min(CHUNK);
+        let room = (limit - input.len()).saturating_add(1).min(CHUNK);
         let Ok(count) = tap.read(&mut buffer[..room]) else {
             return Err(InputError::Device);
         };

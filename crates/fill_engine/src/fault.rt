@@ -6,6 +6,7 @@ ghost use Rattle.fill_engine.specs.Faults as spec;
 use fill_device::{DeviceError, InputError};
 use fill_text::{Key, RuleError, ScriptError};
 use std::alloc::{AllocError, Global};
+use thiserror::Error;
 
 /// The input, the run or the output at which a fault arose.
 #[derive(Clone, Copy, Debug, PartialEq, Eq)]
@@ -25,30 +26,40 @@ pub enum Part {
 }
 
 /// Why the program gave up. A line is the number of a record, counted from 1.
-#[derive(Clone, Copy, Debug, PartialEq, Eq)]
+#[derive(Clone, Copy, Debug, PartialEq, Eq, Error)]
 pub enum Fault {
     /// A record that is no rule or no edit.
+    #[error("record {line} is none of this file")]
     BadRow { line: u64 },
     /// A field that should be a number and isn't one.
+    #[error("record {line} has a bad number")]
     BadNumber { line: u64 },
     /// A rule that is missing, or whose value its key doesn't allow.
+    #[error("the rule {key} is missing or out of range")]
     BadRule { key: Key },
     /// A script of more than 100,000 records.
+    #[error("more than 100,000 records")]
     TooManyLines,
     /// A frame that holds no square.
+    #[error("the frame holds no square")]
     BadRect,
     /// Too many windows, or one that leaves the range of coordinates.
+    #[error("the windows are too many or out of range")]
     BadWindows,
     /// An input of more than 2^31 bytes.
+    #[error("the input has more bytes than allowed")]
     TooLong,
     /// A file could not be opened, read or written.
+    #[error("a file could not be opened, read or written")]
     Device,
     /// An allocation was refused.
+    #[error("out of memory")]
     Memory,
 }
 
 /// Why the program gave up, and where.
-#[derive(Clone, Copy, Debug, PartialEq, Eq)]
+#[derive(Clone, Copy, Debug, PartialEq, Eq, Error)]
+#[error("{}: {fault}", part.name())]
 pub struct Refusal {
     /// Where it arose.
     pub part: Part,

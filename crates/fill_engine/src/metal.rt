@@ -29,6 +29,9 @@ fn covered_over(
         return under.union(alloc, over);
     }
     let left = under.minus(alloc, hole)?;
+    if over.is_empty() {
+        return Ok(left);
+    }
     left.union(alloc, over)
 }
 
@@ -90,10 +93,22 @@ fn patch_of(alloc: Global, edits: &[Edit]) -> Result<Patch, AllocError>
     }
 }
 
-/// The metal that the edits leave of nothing, made in their order.
+/// The metal that the edits leave of nothing, made in their order: of a run that only adds, the region of its rectangles,
+/// and else what its first half leaves, with the patch of its second half.
 pub fn metal_left(alloc: Global, edits: &[Edit]) -> Result<Region, AllocError>
     ensures { IfOk result (λ r. (x y : ℤ) → holds r x y ≡ is_metal (map change_of edits.now) x y) }
 {
-    let Patch { metal, cut: _ } = patch_of(alloc, edits)?;
-    Ok(metal)
+    match edits {
+        [] => Ok(Region::empty(alloc)),
+        _ => {
+            if let Some(rects) = rects_added(alloc, edits)? {
+                return Region::from_rects(alloc, &rects);
+            }
+            let (first, then) = edits.split_at(edits.len() / 2);
+            let under = metal_left(alloc, first)?;
+            let then = patch_of(alloc, then)?;
+            let metal = covered_over(alloc, &under, &then.cut, &then.metal)?;
+            Ok(metal)
+        }
+    }
 }

@@ -27,14 +27,9 @@ fn take_rules<R: Read>(alloc: Global, tap: &mut Tap<R>) -> Result<Rules, Fault>
     ensures rules { IfOk result (λ r. IfSome (R.remaining (under tap.old)) (λ text. rules_answer text ≡ Ok (values_of r))) }
     ensures refused { IfErr result (λ f. IfSome (R.remaining (under tap.old)) (λ text. IsFaultOf (rules_answer text) f)) }
 {
-    let text = match read_input(alloc, tap, MOST_BYTES) {
-        Ok(text) => text,
-        Err(error) => return Err(Fault::from(error)),
-    };
-    match read_rules(alloc, &text) {
-        Ok(rules) => Ok(rules),
-        Err(error) => Err(Fault::from(error)),
-    }
+    let text = read_input(alloc, tap, MOST_BYTES)?;
+    let rules = read_rules(alloc, &text)?;
+    Ok(rules)
 }
 
 /// The edits that the reader behind the tap gives.
@@ -44,14 +39,9 @@ fn take_edits<S: Read>(alloc: Global, tap: &mut Tap<S>) -> Result<Vec<Edit>, Fau
     ensures edits { IfOk result (λ v. IfSome (S.remaining (under tap.old)) (λ text. script_answer text ≡ Ok (map change_of v.items))) }
     ensures refused { IfErr result (λ f. IfSome (S.remaining (under tap.old)) (λ text. IsFaultOf (script_answer text) f)) }
 {
-    let text = match read_input(alloc, tap, MOST_BYTES) {
-        Ok(text) => text,
-        Err(error) => return Err(Fault::from(error)),
-    };
-    match read_script(alloc, &text) {
-        Ok(edits) => Ok(edits),
-        Err(error) => Err(Fault::from(error)),
-    }
+    let text = read_input(alloc, tap, MOST_BYTES)?;
+    let edits = read_script(alloc, &text)?;
+    Ok(edits)
 }
 
 /// The report of the metal that the edits leave of nothing.

@@ -15,7 +15,7 @@ use clap::error::ErrorKind;
 use clap::{Arg, ArgMatches, Command};
 use std::alloc::{AllocError, Global};
 use std::convert::AsStr;
-use std::fmt;
+use thiserror::Error;
 
 /// What the program is asked to do.
 #[derive(Clone, Copy, Debug, PartialEq, Eq)]
@@ -30,22 +30,14 @@ pub enum Line<'a> {
 }
 
 /// Why there is no line.
-#[derive(Debug, Drop)]
+#[derive(Debug, Drop, Error)]
 pub enum LineError {
-    /// The words are not a line of this program, or ask for help.
+    /// The words are not a line of this program, or ask for help. The text is `clap`'s.
+    #[error("{0}")]
     Usage(clap::Error),
     /// An allocation was refused.
+    #[error("out of memory")]
     Memory,
-}
-
-impl fmt::Display for LineError {
-    /// The text of a usage fault as `clap` writes it.
-    fn fmt<W: fmt::Write>(&self, f: &mut fmt::Formatter<W>) -> fmt::Result {
-        match self {
-            LineError::Usage(error) => write!(f, "{error}"),
-            LineError::Memory => write!(f, "out of memory"),
-        }
-    }
 }
 
 impl From<AllocError> for LineError {

@@ -89,6 +89,7 @@ fn a_grown_region_has_square_corners(rt: HostRuntime) -> Result<(), Fail> {
     let square = Region::one(alloc, &rect(&rt, [0, 0, 1, 1]))?;
     let grown_square = Region::one(alloc, &rect(&rt, [-2, -2, 3, 3]))?;
     assert!(rt; grown(alloc, &square, 2)? == Some(grown_square));
+    assert!(rt; grown(alloc, &square, 0)? == Some(square));
     let nothing = Region::empty(alloc);
     assert!(rt; grown(alloc, &wire, 3)? == Some(want));
     assert!(rt; grown(alloc, &wire, 0)? == Some(wire));

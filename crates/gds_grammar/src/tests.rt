@@ -156,13 +156,22 @@ fn hostile_bytes(rt: HostRuntime) {
 fn library_names(rt: HostRuntime) -> Result<(), Fail> {
     let twice = joined(
         rt.alloc(),
-        &[HEADER, BGNLIB, LIBNAME, LIBNAME, UNITS, ENDLIB],
+        &[
+            HEADER, BGNLIB, LIBNAME, LIBNAME, UNITS, BGNSTR, TOP, BOUNDARY, LAYER, DATATYPE, XY,
+            ENDEL, ENDSTR, ENDLIB,
+        ],
     )?;
     assert_eq!(rt;
         error_of(rt.alloc(), &twice),
         Some(LibraryError::Unexpected { at: 42 })
     );
-    let none = joined(rt.alloc(), &[HEADER, BGNLIB, UNITS, ENDLIB])?;
+    let none = joined(
+        rt.alloc(),
+        &[
+            HEADER, BGNLIB, UNITS, BGNSTR, TOP, BOUNDARY, LAYER, DATATYPE, XY, ENDEL, ENDSTR,
+            ENDLIB,
+        ],
+    )?;
     assert_eq!(rt;
         error_of(rt.alloc(), &none),
         Some(LibraryError::Unexpected { at: 34 })
@@ -174,6 +183,51 @@ fn library_names(rt: HostRuntime) -> Result<(), Fail> {
     ];
     let among = joined(rt.alloc(), &parts)?;
     assert_eq!(rt; error_of(rt.alloc(), &among), None);
+    Ok(())
+}
+
+/// Kinds of record that have no place in a library: tape numbers and sets, and those that the manual keeps for later.
+const WITHOUT_PLACE: [u8; 16] = [
+    0x14, 0x18, 0x1d, 0x1e, 0x24, 0x25, 0x27, 0x28, 0x29, 0x32, 0x33, 0x35, 0x3c, 0x3d, 0x7f, 0xff,
+];
+
+#[test]
+fn records_out_of_place(rt: HostRuntime) -> Result<(), Fail> {
+    for kind in WITHOUT_PLACE {
+        let record = [0x00, 0x04, kind, 0x00];
+        let bytes = joined(
+            rt.alloc(),
+            &[HEADER, BGNLIB, &record, LIBNAME, UNITS, ENDLIB],
+        )?;
+        assert_eq!(rt;
+            error_of(rt.alloc(), &bytes),
+            Some(LibraryError::Unexpected { at: 34 }),
+            "{kind}"
+        );
+    }
+    // FORMAT holds two-byte numbers, MASK a string, and ENDMASKS nothing.
+    let format: &[u8] = &[0x00, 0x06, 0x36, 0x02, 0x00, 0x00];
+    let mask: &[u8] = &[0x00, 0x06, 0x37, 0x06, 0x31, 0x00];
+    let masks_end: &[u8] = &[0x00, 0x04, 0x38, 0x00];
+    let parts = [
+        HEADER, BGNLIB, LIBNAME, format, mask, masks_end, UNITS, ENDLIB,
+    ];
+    assert_eq!(rt; error_of(rt.alloc(), &joined(rt.alloc(), &parts)?), None);
+    let wrong: [&[u8]; 3] = [
+        &[0x00, 0x06, 0x36, 0x06, 0x00, 0x00],
+        &[0x00, 0x06, 0x37, 0x02, 0x31, 0x00],
+        &[0x00, 0x04, 0x38, 0x02],
+    ];
+    for record in wrong {
+        let bytes = joined(
+            rt.alloc(),
+            &[HEADER, BGNLIB, LIBNAME, record, UNITS, ENDLIB],
+        )?;
+        assert_eq!(rt;
+            error_of(rt.alloc(), &bytes),
+            Some(LibraryError::Unexpected { at: 42 })
+        );
+    }
     Ok(())
 }
 

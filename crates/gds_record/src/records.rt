@@ -1,6 +1,6 @@
 //! A record as it stands in a stream.
 
-ghost use Rattle.std.specs.Prelude.{◌≡◌, ◌+◌, ◌≤◌, ◌↔◌, ◌++◌, ℕ, List, length, Result, Ok, Err, IfOk, OnOk};
+ghost use Rattle.std.specs.Prelude.{◌≡◌, ◌+◌, ◌≤◌, ◌↔◌, ◌++◌, ℕ, List, length, Result, Ok, Err, IfOk, OnErr, OnOk};
 ghost use Rattle.gds_record.specs.Records.{Rec, IsRecord, IsEven, view, spelling, length_of, IsBadLength, IsTruncated};
 ghost use Rattle.gds_record.specs.Reading.{Gives, at_front, size_of, record_at};
 
@@ -85,13 +85,18 @@ pub fn next_record(bytes: &[u8]) -> Result<(Record<'_>, &[u8]), RecordError>
     split_record(bytes)
 }
 
-/// Writes a record at the end. It refuses only where memory is refused.
+/// Writes a record at the end.
+///
+/// # Errors
+/// `AllocError` where memory is refused; nothing is written then.
 pub fn put_record(out: &mut Vec<u8>, kind: u8, form: u8, body: &[u8]) -> Result<(), AllocError>
     requires short { length body.now ≤ 65530 }
     requires even { IsEven (length body.now) }
-    ensures { OnOk result (out.new.items
+    ensures written { OnOk result (out.new.items
         ≡ out.old.items ++ spelling (record { kind = kind; form = form; body = body.now })) }
+    ensures unchanged { OnErr result (out.new.items ≡ out.old.items) }
 {
+    out.reserve(body.len() + 4)?;
     let length = body.len() as u16 + 4;
     out.extend_from_slice(&length.to_be_bytes())?;
     out.push(kind)?;
