@@ -1,7 +1,7 @@
 //! The program: it opens what the command line names, runs the engine and prints a fault.
 #![tactic(auto)]
 
-ghost use Rattle.std.specs.Prelude.{◌≡◌, ◌⊎◌, ◌<◌, ℕ, codes, false, map, take, IfErr, IfOk, IsSome, OnErr, OnOk};
+ghost use Rattle.std.specs.Prelude.{◌≡◌, ◌⊎◌, ◌<◌, ℕ, codes, false, true, map, take, IfErr, IfOk, IsSome, OnErr, OnOk};
 ghost use Rattle.std.specs.Io.KnownBytes.{Appends};
 ghost use Rattle.std.specs.IoError.{error_kind};
 ghost use Rattle.std.specs.Process.{exit_status};
@@ -55,15 +55,16 @@ fn run_rects<R: Files + Threads + Sync, W: Write + Drop>(
     alloc: Global,
     rules: &str,
     script: &str,
-    out: W,
+    out: &mut Tap<W>,
 ) -> Result<(), Refusal>
+    requires { has_failed out.old ≡ false }
     ensures device { IfErr result (λ e. e.fault ≡ Fault.Device → (e.part ≡ Part.Rules) ⊎ (e.part ≡ Part.Script) ⊎ (e.part ≡ Part.Report)) }
     ensures memory { IfErr result (λ e. e.fault ≡ Fault.Memory → (e.part ≡ Part.Rules) ⊎ (e.part ≡ Part.Script) ⊎ (e.part ≡ Part.Run)) }
+    ensures silent { OnErr result ((has_failed out.new ≡ true) ⊎ (out.new ≡ out.old)) }
 {
     let mut rules = opened(rt, Part::Rules, rules)?;
     let mut script = opened(rt, Part::Script, script)?;
-    let mut out = Tap::new(out);
-    rects(rt, alloc, &mut rules, &mut script, &mut out)
+    rects(rt, alloc, &mut rules, &mut script, out)
 }
 
 /// Writes the line of a fault, and gives its exit status; those of want of memory where the line could not be made.
@@ -99,15 +100,18 @@ fn ended<E: Write + Drop>(alloc: Global, err: E, done: Result<(), Refusal>) -> E
 }
 
 /// Does what the words ask for, the program's own name first, and gives the exit status: 0 where it is done, 1 where
-/// they are no line of the program, and else that of the fault.
+/// they are no line of the program, and else that of the fault. Nothing is written to `out` then, unless a write to it
+/// failed.
 fn status_of<R: AllocGlobal + Files + Threads + Sync, S: AsStr, W: Write + Drop, E: Write + Drop>(
     rt: &R,
     words: &[S],
-    out: W,
+    out: &mut Tap<W>,
     err: E,
 ) -> ExitCode
+    requires { has_failed out.old ≡ false }
     ensures done { exit_status result ≡ 0 → IsFaultless (map S.text words.now) }
     ensures usage { IsTaken (map S.text words.now) → IsSome (said_in (map S.text words.now)) → (exit_status result ≡ 0) ⊎ (1 < exit_status result) }
+    ensures silent { (exit_status result ≡ 0) ⊎ (has_failed out.new ≡ true) ⊎ (out.new ≡ out.old) }
 {
     let done = match read_line(rt.alloc(), words) {
         Ok(Line::Rects { rules, script }) => run_rects(rt, rt.alloc(), rules, script, out),
@@ -144,7 +148,12 @@ fn without_words<E: Write + Drop>(alloc: Global, err: E, error: &io::Error) -> E
 
 fn main(rt: HostRuntime) -> ExitCode {
     match words_of(rt) {
-        Ok(words) => status_of(&rt, words.as_slice(), rt.stdout(), rt.stderr()),
+        Ok(words) => status_of(
+            &rt,
+            words.as_slice(),
+            &mut Tap::new(rt.stdout()),
+            rt.stderr(),
+        ),
         Err(error) => without_words(rt.alloc(), rt.stderr(), &error),
     }
 }

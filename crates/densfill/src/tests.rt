@@ -1,5 +1,7 @@
-use crate::{ended, run_rects, status_of};
+use crate::{ended, run_rects, status_of, without_words};
+use fill_device::Tap;
 use fill_engine::{Fault, Part, Refusal};
+use std::io::{self, ErrorKind};
 use std::process::ExitCode;
 
 /// No file has this path.
@@ -27,7 +29,7 @@ fn a_bad_line_is_status_1_with_its_text(rt: HostRuntime) {
     for (words, want) in cases {
         let mut written = Vec::new(rt.alloc());
         let mut told = Vec::new(rt.alloc());
-        let status = status_of(&rt, words, &mut written, &mut told);
+        let status = status_of(&rt, words, &mut Tap::new(&mut written), &mut told);
         assert_eq!(rt; status, ExitCode::from(1));
         assert!(rt;
             written.is_empty() && told.as_slice().starts_with(want.as_bytes()),
@@ -51,7 +53,12 @@ fn a_fault_has_its_line_and_its_status(rt: HostRuntime) {
         let mut written = Vec::new(rt.alloc());
         let mut told = Vec::new(rt.alloc());
         let words = ["densfill", "rects", rules, script];
-        let status = status_of(&rt, words.as_slice(), &mut written, &mut told);
+        let status = status_of(
+            &rt,
+            words.as_slice(),
+            &mut Tap::new(&mut written),
+            &mut told,
+        );
         assert_eq!(rt; status, ExitCode::from(want));
         assert!(rt;
             written.is_empty() && told.as_slice() == line.as_bytes(),
@@ -67,7 +74,8 @@ fn a_missing_file_is_a_device_fault_at_its_part(rt: HostRuntime) {
         (EMPTY, NO_FILE, Part::Script),
         (NO_FILE, NO_FILE, Part::Rules),
     ] {
-        let done = run_rects(&rt, rt.alloc(), rules, script, Vec::<u8>::new(rt.alloc()));
+        let mut out = Tap::new(Vec::<u8>::new(rt.alloc()));
+        let done = run_rects(&rt, rt.alloc(), rules, script, &mut out);
         let fault = Fault::Device;
         assert_eq!(rt; done, Err(Refusal { part, fault }));
     }
@@ -80,4 +88,22 @@ fn want_of_memory_is_status_3(rt: HostRuntime) {
     let status = ended(rt.alloc(), &mut told, Err(Refusal { part, fault }));
     assert_eq!(rt; status, ExitCode::from(3));
     assert!(rt; told.as_slice() == b"densfill: run: 31 Memory\n".as_slice());
+}
+
+#[test]
+fn words_that_cannot_be_had_are_told(rt: HostRuntime) {
+    let cases: [(ErrorKind, u8, &[u8]); 2] = [
+        (
+            ErrorKind::InvalidData,
+            1,
+            b"error: a word of the command line is no text\n",
+        ),
+        (ErrorKind::OutOfMemory, 3, b"densfill: run: 31 Memory\n"),
+    ];
+    for (kind, want, text) in cases {
+        let mut told = Vec::new(rt.alloc());
+        let status = without_words(rt.alloc(), &mut told, &io::Error::from(kind));
+        assert_eq!(rt; status, ExitCode::from(want));
+        assert!(rt; told.as_slice() == text);
+    }
 }

@@ -1,5 +1,5 @@
 //! The density report of the metal that a script leaves of nothing, from bytes to bytes.
-ghost use Rattle.std.specs.Prelude.{◌≡◌, ◌≢◌, ◌↔◌, ◌⊎◌, ℕ, true, false, take, IfOk, IfErr, IfSome, IsErrOf, IsOk, IsOkAnd, OnOk, map};
+ghost use Rattle.std.specs.Prelude.{◌≡◌, ◌≢◌, ◌↔◌, ◌⊎◌, ℕ, true, false, take, IfOk, IfErr, IfSome, IsErrOf, IsOk, IsOkAnd, OnErr, OnOk, map};
 ghost use Rattle.std.specs.Io.KnownBytes.{Appends};
 ghost use Rattle.fill_device.specs.Taps.{has_failed, under};
 ghost use Rattle.fill_report.specs.RulesReport.{metal_report};
@@ -95,6 +95,7 @@ pub fn rects<R: Read, S: Read, W: Write>(
         → IfSome (R.remaining (under rules.old)) (λ r. IfSome (S.remaining (under script.old)) (λ s. IsOkAnd (report_answer r s) (λ text.
         (k : ℕ) × Appends (W.contents (under out.old)) (W.contents (under out.new)) (take k text)))) }
     ensures silent { IfErr result (λ e. e.part ≢ Part.Report → out.new ≡ out.old) }
+    ensures unwritten { OnErr result ((has_failed out.new ≡ true) ⊎ (out.new ≡ out.old)) }
 {
     let values = match take_rules(alloc, rules) {
         Ok(values) => values,
