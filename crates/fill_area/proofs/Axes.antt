@@ -142,25 +142,15 @@ pub size_is : (w h : ℤ) → IsLength w → IsLength h → (read w *ℤ read h 
 size_is w h iw ih = let e : read w *ℤ read h ≡ w *ℤ h = rw (read_is w (length_fits w iw), read_is h (length_fits h ih)) refl in (e, rw e (size_fits w h iw ih))
 
 -- an extent that the code has found, read back
-same_extent : (first length step : ℤ) (count a : ℕ) (lo hi : ℤ) → IsAxis first length step count → IsExtent (read first) (read length) (read step) a lo hi → IsExtent first length step a lo hi
-same_extent first length step count a lo hi axis is =
-    rw (read_is first (coordinate_fits first axis.first_is.least axis.first_is.most), read_is step (length_fits step axis.step_is), read_is length (length_fits length axis.length_is)) at is
-
 extent_read : (first length step : ℤ) (a : ℕ) (lo hi : ℤ) → IsExtent first length step a lo hi → (read lo ≡ lo) × (read hi ≡ hi)
 extent_read first length step a lo hi is =
     (read_is lo (coordinate_fits lo is.low (le_trans lo hi _ (lt_le lo hi is.some) is.high)), read_is hi (coordinate_fits hi (le_trans _ lo hi is.low (lt_le lo hi is.some)) is.high))
 
-pub begins_at : (first length step : ℤ) {count : ℕ} (a : ℕ) (lo hi edge : ℤ) → IsExtent (read first) (read length) (read step) a lo hi → IsAxis first length step count
-    → edge ≡ read lo → edge ≡ first +ℤ (pos a *ℤ step)
-begins_at first length step {count} a lo hi edge is axis edge_is =
-    let e = same_extent first length step count a lo hi axis is in
-    edge_is ∙ ((extent_read first length step a lo hi e).0 ∙ e.begins)
+pub begins_at : (first length step : ℤ) (a : ℕ) (lo hi edge : ℤ) → IsExtent first length step a lo hi → edge ≡ read lo → edge ≡ first +ℤ (pos a *ℤ step)
+begins_at first length step a lo hi edge is edge_is = edge_is ∙ ((extent_read first length step a lo hi is).0 ∙ is.begins)
 
-pub ends_at : (first length step : ℤ) {count : ℕ} (a : ℕ) (lo hi edge : ℤ) → IsExtent (read first) (read length) (read step) a lo hi → IsAxis first length step count
-    → edge ≡ read hi → edge ≡ (first +ℤ (pos a *ℤ step)) +ℤ length
-ends_at first length step {count} a lo hi edge is axis edge_is =
-    let e = same_extent first length step count a lo hi axis is in
-    edge_is ∙ ((extent_read first length step a lo hi e).1 ∙ e.ends)
+pub ends_at : (first length step : ℤ) (a : ℕ) (lo hi edge : ℤ) → IsExtent first length step a lo hi → edge ≡ read hi → edge ≡ (first +ℤ (pos a *ℤ step)) +ℤ length
+ends_at first length step a lo hi edge is edge_is = edge_is ∙ ((extent_read first length step a lo hi is).1 ∙ is.ends)
 
 -- a window's size is an area
 pub size_area : (w h : ℤ) → IsLength w → IsLength h → IsArea (w *ℤ h)

@@ -1,13 +1,13 @@
 -- The tests of a grid's numbers, one after another.
-use Rattle.std.proofs.Common.{◌≡◌, ℕ, ◌-◌, ◌*◌, ◌≤◌, ℤ, pos, ◌+ℤ◌, ◌*ℤ◌, ◌≤ℤ◌, refl, arith, ap, ◌∙◌, Bool, true, ◌&&◌, ◌↔◌}
+use Rattle.std.proofs.Common.{◌≡◌, ℕ, ◌-◌, ◌*◌, ◌≤◌, ℤ, pos, ◌+ℤ◌, ◌*ℤ◌, ◌≤ℤ◌, arith, ap, ◌∙◌, Bool, true, ◌&&◌, ◌↔◌}
 use Rattle.std.specs.Cmp.{first_so, second_so}
 use Rattle.std.proofs.lemmas.Bool.{and_from}
 use Rattle.std.specs.Prelude.{int_le, IsTrue}
 use Rattle.std.proofs.lemmas.Int.{ints}
 use Rattle.fill_base.specs.Coordinates.{highest, IsCoordinate}
-use Rattle.fill_base.proofs.Signed.{read, read_is, coordinate_fits}
+use Rattle.fill_base.proofs.Signed.{read, read_is}
 use Rattle.fill_area.specs.Grid.{Grid, IsLength, IsCount, IsAxis, IsGrid}
-use Rattle.fill_area.proofs.Axes.{end_fits, length_fits}
+use Rattle.fill_area.proofs.Axes.{end_fits}
 
 pub grid_test : (g : Grid) (a b c : Bool) → (IsTrue a ↔ IsAxis g.x g.width g.step_x g.columns) → (IsTrue b ↔ IsAxis g.y g.height g.step_y g.rows)
     → (IsTrue c ↔ (g.columns * g.rows ≤ 1048576)) → IsTrue ((a && b) && c) ↔ IsGrid g
@@ -39,13 +39,11 @@ limited first length step count a b c d la lb lc ld all = record {
 }
 
 pub axis_test : (first length step : ℤ) (count : ℕ) (r : ℤ) → Limited first length step count
-    → r ≡ (read first +ℤ (pos (count - 1) *ℤ read step)) +ℤ read length → (IsTrue (int_le (read r) highest) ↔ IsAxis first length step count)
+    → r ≡ (first +ℤ (pos (count - 1) *ℤ step)) +ℤ length → (IsTrue (int_le (read r) highest) ↔ IsAxis first length step count)
 axis_test first length step count r l r_is =
     let few : count - 1 ≤ 1048576 = let most : count ≤ 1048576 = l.count_is.most in omega arith in
-    let sum : (read first +ℤ (pos (count - 1) *ℤ read step)) +ℤ read length ≡ (first +ℤ (pos (count - 1) *ℤ step)) +ℤ length =
-    rw (read_is first (coordinate_fits first l.first_is.least l.first_is.most), read_is step (length_fits step l.step_is), read_is length (length_fits length l.length_is)) refl in
     let end_is : read r ≡ (first +ℤ (pos (count - 1) *ℤ step)) +ℤ length =
-    ap read (r_is ∙ sum) ∙ read_is _ (end_fits first length (count - 1) step l.first_is l.length_is few l.step_is) in (
+    ap read r_is ∙ read_is _ (end_fits first length (count - 1) step l.first_is l.length_is few l.step_is) in (
       (λ h. record { length_is = l.length_is; step_is = l.step_is; count_is = l.count_is; first_is = l.first_is; last = le_true _ highest (rw end_is at h) }),
       (λ axis. rw end_is (true_le _ highest axis.last)),
     )

@@ -153,7 +153,7 @@ containing_places first length step lo hi count n1 n2 low high a = (
 
 -- the numbers that the code compares with, as the definitions write them
 pub touching_read : (first length step lo hi : ℤ) (count n1 n2 : ℕ) → IsAxis first length step count → IsCoordinate lo → IsCoordinate hi
-    → IsBegun (read first) (read step) count (read (read (read lo -ℤ read length) +ℤ pos 1)) n1 → IsBegun (read first) (read step) count (read hi) n2
+    → IsBegun first step count (read (read (read lo -ℤ read length) +ℤ pos 1)) n1 → IsBegun first step count (read hi) n2
     → (a : ℕ) → IsPlace n1 n2 a ↔ IsTouching first length step count lo hi a
 touching_read first length step lo hi count n1 n2 axis low high begun_low begun_high =
     let a1 : lowest ≤ℤ lo = low.least in let a2 : lo ≤ℤ highest = low.most in
@@ -161,11 +161,11 @@ touching_read first length step lo hi count n1 n2 axis low high begun_low begun_
     let less : read (lo -ℤ length) ≡ lo -ℤ length = read_is (lo -ℤ length) (omega (arith, ints)) in
     let one_more : read ((lo -ℤ length) +ℤ pos 1) ≡ (lo -ℤ length) +ℤ pos 1 = read_is ((lo -ℤ length) +ℤ pos 1) (omega (arith, ints)) in
     touching_places first length step lo hi count n1 n2
-    (rw (read_is first (coordinate_fits first axis.first_is.least axis.first_is.most), read_is step (length_fits step axis.step_is), read_is lo (coordinate_fits lo low.least low.most), read_is length (length_fits length axis.length_is), less, one_more) at begun_low)
-    (rw (read_is first (coordinate_fits first axis.first_is.least axis.first_is.most), read_is step (length_fits step axis.step_is), read_is hi (coordinate_fits hi high.least high.most)) at begun_high)
+    (rw (read_is lo (coordinate_fits lo low.least low.most), read_is length (length_fits length axis.length_is), less, one_more) at begun_low)
+    (rw (read_is hi (coordinate_fits hi high.least high.most)) at begun_high)
 
 pub containing_read : (first length step lo hi : ℤ) (count n1 n2 : ℕ) → IsAxis first length step count → IsCoordinate lo → IsCoordinate hi
-    → IsBegun (read first) (read step) count (read (read hi -ℤ read length)) n1 → IsBegun (read first) (read step) count (read (read lo +ℤ pos 1)) n2
+    → IsBegun first step count (read (read hi -ℤ read length)) n1 → IsBegun first step count (read (read lo +ℤ pos 1)) n2
     → (a : ℕ) → IsPlace n1 n2 a ↔ IsContaining first length step count lo hi a
 containing_read first length step lo hi count n1 n2 axis low high begun_low begun_high =
     let a1 : lowest ≤ℤ lo = low.least in let a2 : lo ≤ℤ highest = low.most in
@@ -174,5 +174,5 @@ containing_read first length step lo hi count n1 n2 axis low high begun_low begu
     let less : read (hi -ℤ length) ≡ hi -ℤ length = read_is (hi -ℤ length) (omega (arith, ints)) in
     let one_more : read (lo +ℤ pos 1) ≡ lo +ℤ pos 1 = read_is (lo +ℤ pos 1) (omega (arith, ints)) in
     containing_places first length step lo hi count n1 n2
-    (rw (read_is first (coordinate_fits first axis.first_is.least axis.first_is.most), read_is step (length_fits step axis.step_is), read_is hi (coordinate_fits hi high.least high.most), read_is length (length_fits length axis.length_is), less) at begun_low)
-    (rw (read_is first (coordinate_fits first axis.first_is.least axis.first_is.most), read_is step (length_fits step axis.step_is), read_is lo (coordinate_fits lo low.least low.most), one_more) at begun_high)
+    (rw (read_is hi (coordinate_fits hi high.least high.most), read_is length (length_fits length axis.length_is), less) at begun_low)
+    (rw (read_is lo (coordinate_fits lo low.least low.most), one_more) at begun_high)

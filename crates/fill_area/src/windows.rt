@@ -20,8 +20,21 @@ use thiserror::Error;
 #[error("a window's size, step, count or place is out of its limits")]
 pub struct BadWindows;
 
-/// The longest side and step of a window, in database units, and the largest number of windows.
-pub const LONGEST: i64 = 1_048_576;
+/// The longest side and step of a window, in database units.
+const LONGEST: i64 = 1_048_576;
+
+/// The largest number of windows, also of one column or row.
+const MOST_WINDOWS: u32 = 1_048_576;
+
+/// The windows of one row, or of one column, along its line: how many there are, the number at
+/// which the first begins, their length, and the step from one to the next.
+#[derive(Clone, Copy)]
+struct Axis {
+    first: i64,
+    length: i64,
+    step: i64,
+    count: u32,
+}
 
 /// A grid of equal density windows, in database units: they may overlap, touch or leave gaps. The
 /// window in column `a` and row `b` has its lower left corner at the first corner moved by `a` and
@@ -57,44 +70,58 @@ fn is_length(z: i64) -> bool
 fn is_count(n: u32) -> bool
     ensures { IsTrue result ↔ IsCount n }
 {
-    1 <= n && n <= 1_048_576
+    1 <= n && n <= MOST_WINDOWS
 }
 
-/// Whether `count` windows of this length, one a step from `first` on, lie within the coordinates.
-fn is_axis(first: i64, length: i64, step: i64, count: u32) -> bool
-    ensures { IsTrue result ↔ IsAxis first length step count }
+/// Whether side, step and count are within their limits, and all windows within the coordinates.
+fn is_axis(axis: Axis) -> bool
+    ensures { IsTrue result ↔ IsAxis axis.first axis.length axis.step axis.count }
 {
-    if !(is_length(length) & is_length(step) & is_count(count) & is_coordinate(first)) {
+    if !(is_length(axis.length)
+        & is_length(axis.step)
+        & is_count(axis.count)
+        & is_coordinate(axis.first))
+    {
         return false;
     }
-    last_end(first, length, step, count) <= HIGHEST
+    last_end(axis) <= HIGHEST
 }
 
-/// Where the last of `count` windows ends.
-fn last_end(first: i64, length: i64, step: i64, count: u32) -> i64
-    requires length { IsLength length }
-    requires step { IsLength step }
-    requires count { IsCount count }
-    requires first { IsCoordinate first }
-    ensures { result ≡ (first +ℤ (pos (count - 1) *ℤ step)) +ℤ length }
+/// Where the last window ends.
+fn last_end(axis: Axis) -> i64
+    requires length { IsLength axis.length }
+    requires step { IsLength axis.step }
+    requires count { IsCount axis.count }
+    requires first { IsCoordinate axis.first }
+    ensures { result ≡ (axis.first +ℤ (pos (axis.count - 1) *ℤ axis.step)) +ℤ axis.length }
 {
-    first + i64::from(count - 1) * step + length
+    axis.first + i64::from(axis.count - 1) * axis.step + axis.length
 }
 
 /// Whether there are at most 2^20 windows.
 fn are_few(columns: u32, rows: u32) -> bool
     ensures { IsTrue result ↔ (columns * rows ≤ 1048576) }
 {
-    u64::from(columns) * u64::from(rows) <= 1_048_576
+    u64::from(columns) * u64::from(rows) <= u64::from(MOST_WINDOWS)
 }
 
 /// Whether these numbers make a grid of windows.
 fn is_grid(origin: Point, size: (i64, i64), step: (i64, i64), count: (u32, u32)) -> bool
     ensures { IsTrue result ↔ IsGrid (grid_of origin size step count) }
 {
-    is_axis(origin.x, size.0, step.0, count.0)
-        & is_axis(origin.y, size.1, step.1, count.1)
-        & are_few(count.0, count.1)
+    let across = Axis {
+        first: origin.x,
+        length: size.0,
+        step: step.0,
+        count: count.0,
+    };
+    let up = Axis {
+        first: origin.y,
+        length: size.1,
+        step: step.1,
+        count: count.1,
+    };
+    is_axis(across) & is_axis(up) & are_few(count.0, count.1)
 }
 
 impl Windows {
@@ -160,13 +187,39 @@ impl Windows {
         ensures right { result.x2 ≡ window_right self.now a }
         ensures top { result.y2 ≡ window_top self.now b }
     {
-        let (x1, x2) = extent(self.x, self.width, self.step_x, self.columns, a);
-        let (y1, y2) = extent(self.y, self.height, self.step_y, self.rows, b);
+        let (x1, x2) = extent(self.across(), a);
+        let (y1, y2) = extent(self.up(), b);
         Rect::from_edges(x1, y1, x2, y2)
     }
 }
 
 impl Windows {
+    /// The windows of a row, from left to right.
+    fn across(&self) -> Axis
+        ensures value { result ≡ record { first = self.now.x; length = self.now.width; step = self.now.step_x; count = self.now.columns } }
+        ensures axis { IsAxis result.first result.length result.step result.count }
+    {
+        Axis {
+            first: self.x,
+            length: self.width,
+            step: self.step_x,
+            count: self.columns,
+        }
+    }
+
+    /// The windows of a column, upwards.
+    fn up(&self) -> Axis
+        ensures value { result ≡ record { first = self.now.y; length = self.now.height; step = self.now.step_y; count = self.now.rows } }
+        ensures axis { IsAxis result.first result.length result.step result.count }
+    {
+        Axis {
+            first: self.y,
+            length: self.height,
+            step: self.step_y,
+            count: self.rows,
+        }
+    }
+
     /// How many windows there are, at most 2^20.
     pub fn len(&self) -> usize
         ensures count { result ≡ self.now.columns * self.now.rows }
@@ -220,22 +273,8 @@ impl Windows {
     pub fn touching(&self, rect: &Rect) -> (Range<u32>, Range<u32>)
         ensures { (a b : ℕ) → (IsPlace result.0.start result.0.end a × IsPlace result.1.start result.1.end b) ↔ (IsWindow self.now a b × ShareASquare (window_squares self.now a b) (squares rect.now)) }
     {
-        let columns = touching_between(
-            self.x,
-            self.width,
-            self.step_x,
-            self.columns,
-            rect.x1(),
-            rect.x2(),
-        );
-        let rows = touching_between(
-            self.y,
-            self.height,
-            self.step_y,
-            self.rows,
-            rect.y1(),
-            rect.y2(),
-        );
+        let columns = touching_between(self.across(), rect.x1(), rect.x2());
+        let rows = touching_between(self.up(), rect.y1(), rect.y2());
         (columns, rows)
     }
 
@@ -244,77 +283,56 @@ impl Windows {
     pub fn containing(&self, rect: &Rect) -> (Range<u32>, Range<u32>)
         ensures { (a b : ℕ) → (IsPlace result.0.start result.0.end a × IsPlace result.1.start result.1.end b) ↔ (IsWindow self.now a b × Holds (window_squares self.now a b) (squares rect.now)) }
     {
-        let columns = containing_between(
-            self.x,
-            self.width,
-            self.step_x,
-            self.columns,
-            rect.x1(),
-            rect.x2(),
-        );
-        let rows = containing_between(
-            self.y,
-            self.height,
-            self.step_y,
-            self.rows,
-            rect.y1(),
-            rect.y2(),
-        );
+        let columns = containing_between(self.across(), rect.x1(), rect.x2());
+        let rows = containing_between(self.up(), rect.y1(), rect.y2());
         (columns, rows)
     }
 }
 
-/// How many of the windows in a row begin below `limit`. They are the first ones.
-fn begun_below(first: i64, step: i64, count: u32, limit: i64) -> u32
-    requires first { IsCoordinate first }
-    requires step { IsLength step }
+/// How many of the windows begin below `limit`. They are the first ones.
+fn begun_below(axis: Axis, limit: i64) -> u32
+    requires first { IsCoordinate axis.first }
+    requires step { IsLength axis.step }
     requires limit { IsLimit limit }
-    ensures { IsBegun first step count limit result }
+    ensures { IsBegun axis.first axis.step axis.count limit result }
 {
-    if limit <= first {
+    if limit <= axis.first {
         return 0;
     }
-    let steps = ((limit - first) as u64).div_ceil(step as u64);
-    if steps < u64::from(count) {
+    let steps = ((limit - axis.first) as u64).div_ceil(axis.step as u64);
+    if steps < u64::from(axis.count) {
         steps as u32
     } else {
-        count
+        axis.count
     }
 }
 
-/// Which windows in a row share a number with the range from `lo` below `hi`.
-fn touching_between(first: i64, length: i64, step: i64, count: u32, lo: i64, hi: i64) -> Range<u32>
-    requires axis { IsAxis first length step count }
+/// Which windows share a number with the range from `lo` below `hi`.
+fn touching_between(axis: Axis, lo: i64, hi: i64) -> Range<u32>
+    requires axis { IsAxis axis.first axis.length axis.step axis.count }
     requires low { IsCoordinate lo }
     requires high { IsCoordinate hi }
-    ensures { (a : ℕ) → IsPlace result.start result.end a ↔ IsTouching first length step count lo hi a }
+    ensures { (a : ℕ) → IsPlace result.start result.end a ↔ IsTouching axis.first axis.length axis.step axis.count lo hi a }
 {
-    begun_below(first, step, count, lo - length + 1)..begun_below(first, step, count, hi)
+    begun_below(axis, lo - axis.length + 1)..begun_below(axis, hi)
 }
 
-/// Which windows in a row hold the range from `lo` below `hi`.
-fn containing_between(
-    first: i64,
-    length: i64,
-    step: i64,
-    count: u32,
-    lo: i64,
-    hi: i64,
-) -> Range<u32>
-    requires axis { IsAxis first length step count }
+/// Which windows hold the range from `lo` below `hi`.
+fn containing_between(axis: Axis, lo: i64, hi: i64) -> Range<u32>
+    requires axis { IsAxis axis.first axis.length axis.step axis.count }
     requires low { IsCoordinate lo }
     requires high { IsCoordinate hi }
-    ensures { (a : ℕ) → IsPlace result.start result.end a ↔ IsContaining first length step count lo hi a }
+    ensures { (a : ℕ) → IsPlace result.start result.end a ↔ IsContaining axis.first axis.length axis.step axis.count lo hi a }
 {
-    begun_below(first, step, count, hi - length)..begun_below(first, step, count, lo + 1)
+    begun_below(axis, hi - axis.length)..begun_below(axis, lo + 1)
 }
 
-/// Both ends of the window at place `a` of `count` windows in a row.
-fn extent(first: i64, length: i64, step: i64, count: u32, a: u32) -> (i64, i64)
-    requires axis { IsAxis first length step count }
-    requires place { a < count }
-    ensures { IsExtent first length step a result.0 result.1 }
+/// Both ends of the window at place `a`.
+fn extent(axis: Axis, a: u32) -> (i64, i64)
+    requires axis { IsAxis axis.first axis.length axis.step axis.count }
+    requires place { a < axis.count }
+    ensures { IsExtent axis.first axis.length axis.step a result.0 result.1 }
 {
-    let lo = first + i64::from(a) * step;
-    (lo, lo + length)
+    let lo = axis.first + i64::from(a) * axis.step;
+    (lo, lo + axis.length)
 }

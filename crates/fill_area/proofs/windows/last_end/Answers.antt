@@ -4,10 +4,10 @@ use Rattle.fill_area.proofs.Axes.{end_is, end_fits}
 use Rattle.fill_area.proofs.windows.last_end.Goals as goal
 
 pub overflow_add-result-2 : goal.overflow_add-result-2
-overflow_add-result-2 c = (end_is c.args.first c.args.length c.args.step c.from.result (c.args.count - 1) c.requires.first c.requires.length c.requires.step (let most : c.args.count ≤ 1048576 = c.requires.count.most in omega arith) c.from.ensures).0
+overflow_add-result-2 c = (end_is c.args.axis.first c.args.axis.length c.args.axis.step c.from.result (c.args.axis.count - 1) c.requires.first c.requires.length c.requires.step (let most : c.args.axis.count ≤ 1048576 = c.requires.count.most in omega arith) c.from.ensures).0
 
 pub returns : goal.returns
 returns c =
-    let few : c.args.count - 1 ≤ 1048576 = let most : c.args.count ≤ 1048576 = c.requires.count.most in omega arith in
-    ap read (end_is c.args.first c.args.length c.args.step c.from.result (c.args.count - 1) c.requires.first c.requires.length c.requires.step few c.from.ensures).1
-    ∙ read_is _ (end_fits c.args.first c.args.length (c.args.count - 1) c.args.step c.requires.first c.requires.length few c.requires.step)
+    let few : c.args.axis.count - 1 ≤ 1048576 = let most : c.args.axis.count ≤ 1048576 = c.requires.count.most in omega arith in
+    ap read (end_is c.args.axis.first c.args.axis.length c.args.axis.step c.from.result (c.args.axis.count - 1) c.requires.first c.requires.length c.requires.step few c.from.ensures).1
+    ∙ read_is _ (end_fits c.args.axis.first c.args.axis.length (c.args.axis.count - 1) c.args.axis.step c.requires.first c.requires.length few c.requires.step)

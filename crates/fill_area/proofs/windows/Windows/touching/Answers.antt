@@ -4,8 +4,9 @@ use Rattle.fill_area.proofs.Sharing.{windows_sharing, as_written}
 use Rattle.fill_area.proofs.windows.Windows.touching.Goals as goal
 
 pub returns : goal.returns
-returns c = rw (← c.self.view_is) (windows_sharing _ c.args.rect.now c.touching_between-columns.result.start c.touching_between-columns.result.end c.touching_between-rows.result.start c.touching_between-rows.result.end c.self.invariant
-    (as_written IsTouching c.self.inside.x c.self.inside.width c.self.inside.step_x c.x1.result c.x2.result c.args.rect.now.x1 c.args.rect.now.x2 c.self.inside.columns _ _ c.self.invariant.across c.x1.ensures c.x2.ensures
-    (read_x1 c.args.rect.now) (read_x2 c.args.rect.now) c.touching_between-columns.ensures)
-    (as_written IsTouching c.self.inside.y c.self.inside.height c.self.inside.step_y c.y1.result c.y2.result c.args.rect.now.y1 c.args.rect.now.y2 c.self.inside.rows _ _ c.self.invariant.up c.y1.ensures c.y2.ensures
-    (read_y1 c.args.rect.now) (read_y2 c.args.rect.now) c.touching_between-rows.ensures))
+returns c = windows_sharing c.args.self.now c.args.rect.now c.touching_between-columns.result.start c.touching_between-columns.result.end c.touching_between-rows.result.start c.touching_between-rows.result.end
+    (rw (c.across.ensures.value) at c.across.ensures.axis).length_is (rw (c.up.ensures.value) at c.up.ensures.axis).length_is
+    (as_written IsTouching _ _ _ c.x1.result c.x2.result c.args.rect.now.x1 c.args.rect.now.x2 _ _ _ c.x1.ensures c.x2.ensures
+    (read_x1 c.args.rect.now) (read_x2 c.args.rect.now) (rw (c.across.ensures.value) at c.touching_between-columns.ensures))
+    (as_written IsTouching _ _ _ c.y1.result c.y2.result c.args.rect.now.y1 c.args.rect.now.y2 _ _ _ c.y1.ensures c.y2.ensures
+    (read_y1 c.args.rect.now) (read_y2 c.args.rect.now) (rw (c.up.ensures.value) at c.touching_between-rows.ensures))
