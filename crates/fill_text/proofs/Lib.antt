@@ -8,4 +8,6 @@ pub mod RuleFiles
 pub mod SameRules
 pub mod GridTests
 pub mod Written
+pub mod Once
+pub mod KeyNames
 pub mod WrittenEdits

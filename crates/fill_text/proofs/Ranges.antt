@@ -33,7 +33,7 @@ pub ok_same : {B : Type 0} (x y : B) → (let same : Result B RuleError = Ok x i
 ok_same x y e = cc e
 
 -- each key stands at its place
-key_at : (key : NumberKey) → get_or all_number_keys (number_rule key).place FrameX1 ≡ key
+pub key_at : (key : NumberKey) → get_or all_number_keys (number_rule key).place FrameX1 ≡ key
 key_at FrameX1 = refl
 key_at FrameY1 = refl
 key_at FrameX2 = refl
@@ -163,7 +163,7 @@ take_rows_ranged line (row ∷ rows) found new e ranged =
 pub all_ranged : (rows : List (List (List ℕ))) (new : Found) → take_rows 0 rows nothing_found ≡ Ok new → AreRanged new.numbers
 all_ranged rows new e = take_rows_ranged 0 rows nothing_found new e nothing_ranged
 
-front_ok : (n : ℤ) (rest : Result (List ℤ) RuleError) (values : List ℤ) → with_front (n ∷ []) rest ≡ Ok values
+pub front_ok : (n : ℤ) (rest : Result (List ℤ) RuleError) (values : List ℤ) → with_front (n ∷ []) rest ≡ Ok values
     → (more : List ℤ) × (rest ≡ Ok more) × (n ∷ more ≡ values)
 front_ok n (Ok more) values e = (more, refl, ok_same (n ∷ more) values e)
 front_ok n (Err why) values e = cc e

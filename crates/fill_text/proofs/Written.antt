@@ -62,7 +62,7 @@ two_fields (a ∷ []) e = absurd (omega arith)
 two_fields (a ∷ b ∷ []) e = refl
 two_fields (a ∷ b ∷ c ∷ more) e = absurd (omega arith)
 
-ok_or_some : {X E : Type 0} (o : Option X) (why : E) (x : X) → ok_or o why ≡ Ok x → o ≡ Some x
+pub ok_or_some : {X E : Type 0} (o : Option X) (why : E) (x : X) → ok_or o why ≡ Ok x → o ≡ Some x
 ok_or_some None why x e = cc e
 ok_or_some (Some y) why x e = let same : y ≡ x = cc e in ap Some same
 
@@ -131,7 +131,7 @@ text_step line (Text k) word found new e key w h =
       | inr (at, this) ↦ inr (ap Text at, this)
     ]
 
-new_key_named : (line : ℕ) (word : List ℕ) (found : Found) (key : Key) → new_key line word found ≡ Ok key → word ≡ key_name key
+pub new_key_named : (line : ℕ) (word : List ℕ) (found : Found) (key : Key) → new_key line word found ≡ Ok key → word ≡ key_name key
 unfolding new_key
 new_key_named line word found key e =
     let (k, named, rest) = then_ok (ok_or (key_named word) (BadRow line)) (λ k. if is_found found k then Err (BadRow line) else Ok k) key e in
@@ -187,7 +187,7 @@ rows_text line (row ∷ rows) found new e key w h =
     ]
 
 -- what an accepted rule file was made of
-accepted : (rows : List (List (List ℕ))) (values : Values) → (take_rows 0 rows nothing_found >>= rules_found) ≡ Ok values
+pub accepted : (rows : List (List (List ℕ))) (values : Values) → (take_rows 0 rows nothing_found >>= rules_found) ≡ Ok values
     → (found : Found) × (take_rows 0 rows nothing_found ≡ Ok found) × (all_values found ≡ Ok values)
 unfolding checked
 accepted rows values e =
@@ -199,7 +199,7 @@ accepted rows values e =
     let (windows, windowed, five) = then_ok (ok_or (grid_with (windows_of all.numbers)) BadWindows) _ values four in
     (found, read, filled ∙ five)
 
-values_parts : (found : Found) (values : Values) → all_values found ≡ Ok values
+pub values_parts : (found : Found) (values : Values) → all_values found ≡ Ok values
     → (all_numbers all_number_keys found.numbers ≡ Ok values.numbers) × ((key : TextKey) → text_found found key ≡ Some (text_of values key))
 unfolding all_values
 values_parts found values e =

@@ -1,12 +1,14 @@
--- The two texts in the words of their files: each value of the rules stands in a record of its own key, and each record of a
--- script is one change.
-use Rattle.std.specs.Prelude.{◌≡◌, ℕ, ℤ, List, [], ◌∷◌, Some, Ok, Any, codes}
+-- The two texts in the words of their files: each key of the rules stands in one record, each value in a record of its own
+-- key, and each record of a script is one change.
+use Rattle.std.specs.Prelude.{◌≡◌, ℕ, ℤ, List, [], ◌∷◌, ◌++◌, length, get_or, map, Some, Ok, Any, codes}
 use Rattle.std.specs.List.{AllZip}
-use Rattle.fill_text.specs.Keys.{number_rule, text_name}
+use Rattle.std.specs.List.Sorted.{IsPermutation}
+use Rattle.fill_text.specs.Keys.{all_number_keys, all_text_keys, key_name, key_named, number_rule, text_name}
 use Rattle.fill_text.specs.Numbers.{number_of}
 use Rattle.fill_text.specs.Rows.{rows_of}
 use Rattle.fill_text.specs.Rules.{Values, rules_of, text_of, value_of}
 use Rattle.fill_text.specs.Script.{Change, edits_of}
+use Rattle.fill_text.specs.declared.keys.Key.{Key}
 use Rattle.fill_text.specs.declared.keys.NumberKey.{NumberKey}
 use Rattle.fill_text.specs.declared.keys.TextKey.{TextKey}
 use Rattle.fill_text.specs.declared.script.Kind.{Kind}
@@ -27,6 +29,26 @@ EachNumberIsWritten = (file : List ℕ) (values : Values) → rules_of file ≡ 
 -- and each text
 abbrev pub EachTextIsWritten : Type 0
 EachTextIsWritten = (file : List ℕ) (values : Values) → rules_of file ≡ Ok values → (key : TextKey) → Any (WritesText key (text_of values key)) (rows_of file)
+
+-- the names of the 32 keys, in table order
+abbrev pub all_key_names : List (List ℕ)
+all_key_names = map (λ key. (number_rule key).name) all_number_keys ++ map text_name all_text_keys
+
+-- the names that records begin with
+abbrev pub first_fields : List (List (List ℕ)) → List (List ℕ)
+first_fields = map (λ fields. get_or fields 0 [])
+
+-- where a rule file is accepted, its records begin with the names of the keys, each name once, in any order
+abbrev pub EachKeyStandsOnce : Type 0
+EachKeyStandsOnce = (file : List ℕ) (values : Values) → rules_of file ≡ Ok values → IsPermutation (first_fields (rows_of file)) all_key_names
+
+-- and so it has 32 records, and nothing else stands in it
+abbrev pub ThirtyTwoRecords : Type 0
+ThirtyTwoRecords = (file : List ℕ) (values : Values) → rules_of file ≡ Ok values → length (rows_of file) ≡ 32
+
+-- the name of each key names that key, so that no two keys have one name
+abbrev pub EachNameIsOfOneKey : Type 0
+EachNameIsOfOneKey = (key : Key) → key_named (key_name key) ≡ Some key
 
 -- the word of a kind of change
 abbrev pub kind_word : Kind → List ℕ

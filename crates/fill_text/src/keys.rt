@@ -25,9 +25,12 @@ pub enum NumberKey {
     StepX,
     /// From one row of the raster to the next, 1 to 2^20.
     StepY,
-    /// The left edge of the raster's first place, -2^30 to 2^30.
+    /// The left edge of the box of place (0, 0), -2^30 to 2^30. The box of place (i, j) lies i steps to the right of
+    /// that one, for any whole i. The raster has the places whose box lies wholly in the frame, so (0, 0) need not be
+    /// one of them.
     OriginX,
-    /// The lower edge of the raster's first place, -2^30 to 2^30.
+    /// The lower edge of the box of place (0, 0), -2^30 to 2^30. The box of place (i, j) lies j steps above that one, for
+    /// any whole j.
     OriginY,
     /// The least gap between a fill box and drawn metal, 0 to 2^20.
     Spacing,

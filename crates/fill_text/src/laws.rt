@@ -1,5 +1,5 @@
 //! What holds of rule files and scripts whatever the code does. Each function's contract is the law.
-ghost use Rattle.fill_text.specs.Laws.{EachNumberIsWritten, EachRecordIsAChange, EachTextIsWritten};
+ghost use Rattle.fill_text.specs.Laws.{EachKeyStandsOnce, EachNameIsOfOneKey, EachNumberIsWritten, EachRecordIsAChange, EachTextIsWritten, ThirtyTwoRecords};
 
 /// Where a rule file is accepted, each number is what some record writes: a record of two fields, the key's name and
 /// the number in decimal.
@@ -11,6 +11,22 @@ pub fn each_number_is_written()
 /// text.
 pub fn each_text_is_written()
     ensures { EachTextIsWritten }
+{}
+
+/// Where a rule file is accepted, its records begin with the names of the keys, each name once, in any order: no key is
+/// missing, none stands twice, and no record has another name.
+pub fn each_key_stands_once()
+    ensures { EachKeyStandsOnce }
+{}
+
+/// Where a rule file is accepted, it has as many records as there are keys, 32.
+pub fn thirty_two_records()
+    ensures { ThirtyTwoRecords }
+{}
+
+/// The name of each key names that key, so no two keys have one name.
+pub fn each_name_is_of_one_key()
+    ensures { EachNameIsOfOneKey }
 {}
 
 /// Where a script is accepted, its edits are those that its records write, one each and in their order: a record of five

@@ -2,8 +2,9 @@
 //!
 //! [`read_rules`] gives the rules and [`read_script`] the edits, or the first refusal. The layer above may rely on this:
 //! what is answered is what the definitions `rules_of` and `edits_of` say of the bytes, but for want of memory, and every
-//! number of [`Rules`] is in the range of its key. The [`laws`] say the same in the words of the files: each value stands in
-//! a record of its own key, and each record of a script is one edit.
+//! number of [`Rules`] is in the range of its key. The [`laws`] say the same in the words of the files: each key stands in
+//! one record and nothing else stands there, each value is in a record of its own key, and each record of a script is one
+//! edit.
 #![tactic(auto)]
 
 mod corners;

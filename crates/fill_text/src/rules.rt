@@ -106,6 +106,9 @@ impl Rules {
     }
 
     /// The same rules once more.
+    ///
+    /// # Errors
+    /// `AllocError` where memory is refused.
     pub fn copy(&self, alloc: Global) -> Result<Rules, AllocError>
         ensures { IfOk result (λ r. values_of r ≡ values_of self.now) }
     {

@@ -92,6 +92,10 @@ impl Slots {
     }
 
     /// Takes what one record adds.
+    ///
+    /// # Errors
+    /// `BadRow` for other than two fields and for a key that is unknown or has stood before, then `BadNumber` for a
+    /// value that writes no number, then `BadRule` for one that its key doesn't allow. `Memory` where memory is refused.
     #[tactic(auto, unfolding(crate::specs::Rules::take_row))]
     pub fn take_row(&mut self, alloc: Global, line: u64, row: &ByteRecord) -> Result<(), RuleError>
         ensures { Gives RuleError.Memory (λ _. found_in self.new) result (spec.take_row line (fields_of row.now) (found_in self.old)) }
@@ -107,6 +111,9 @@ impl Slots {
     }
 
     /// Every number, or the first that is missing.
+    ///
+    /// # Errors
+    /// `BadRule` for the first key in table order that has no number.
     pub fn all_numbers(&self) -> Result<[i64; 28], RuleError>
         ensures { result ≡ spec.all_numbers all_number_keys self.now.numbers }
     {

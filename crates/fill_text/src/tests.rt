@@ -366,6 +366,36 @@ fn records_are_those_of_csv(rt: HostRuntime) -> Result<(), Fail> {
 }
 
 #[test]
+fn an_open_quote_runs_to_the_end_of_the_file(rt: HostRuntime) -> Result<(), Fail> {
+    let alloc = rt.alloc();
+    let endings: [(&[u8], &[u8]); 3] = [
+        (b"top,\"TOP", b"TOP"),
+        (b"top,\"TOP\n\"\",\n", b"TOP\n\",\n"),
+        (b"\"top\",\"T,P\nspacing,3", b"T,P\nspacing,3"),
+    ];
+    for (ending, want) in endings {
+        let mut text = rules_with(alloc, 29, "")?;
+        text.extend_from_slice(ending)?;
+        let rules = read_rules(alloc, &text)?;
+        assert!(rt; rules.top() == want);
+        assert_eq!(rt; rules.spacing(), 2);
+    }
+    assert_refused(
+        &rt,
+        alloc,
+        &rules_with(alloc, 3, "frame_x2,\"100")?,
+        RuleError::BadNumber { line: 3 },
+    );
+    assert_refused(
+        &rt,
+        alloc,
+        &rules_with(alloc, 3, "\"frame_x2,100")?,
+        RuleError::BadRow { line: 3 },
+    );
+    Ok(())
+}
+
+#[test]
 fn a_script_gives_its_edits(rt: HostRuntime) -> Result<(), Fail> {
     let edits = read_script(
         rt.alloc(),
@@ -426,6 +456,16 @@ fn a_script_has_at_most_100_000_records(rt: HostRuntime) -> Result<(), Fail> {
         read_script(rt.alloc(), &text).is_ok(),
         "empty lines are no records"
     );
+    let allowed = text.len();
+    text.extend_from_slice(b"cut,0,0,1,1")?;
+    assert!(rt;
+        matches!(
+            read_script(rt.alloc(), &text),
+            Err(ScriptError::TooManyLines)
+        ),
+        "one record more, and a good one"
+    );
+    text.truncate(allowed);
     text.extend_from_slice(b"nonsense")?;
     assert!(rt;
         matches!(
