@@ -10,7 +10,7 @@ use crate::line::{Density, Measures, put_line};
 use csv::{ByteRecord, Writer};
 use fill_area::{Windows, is_high, is_low, measure_all};
 use fill_region::Region;
-use fill_text::{NumberKey, Rules};
+use fill_text::Rules;
 use std::alloc::{AllocError, Global};
 use std::thread::Threads;
 
@@ -25,8 +25,8 @@ pub fn report_of(
 ) -> Result<Vec<u8>, AllocError>
     ensures { IfOk result (λ v. v.items ≡ metal_report (holds region.now) (values_of rules.now)) }
 {
-    let least = rules.number(NumberKey::Min);
-    let most = rules.number(NumberKey::Max);
+    let least = rules.min();
+    let most = rules.max();
     windows_report(rt, alloc, region, &rules.windows(), least, most)
 }
 

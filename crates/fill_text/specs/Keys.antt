@@ -1,5 +1,5 @@
 -- The table of rules: for each key its place, its name and what its value may be. The numbers stand before the texts.
-use Rattle.std.specs.Prelude.{ℕ, ℤ, pos, List, [], ◌∷◌, Option, Some, None, find, option_map, bytes_eq, codes}
+use Rattle.std.specs.Prelude.{ℕ, ℤ, pos, ◌≤ℤ◌, List, [], ◌∷◌, Option, Some, None, find, option_map, bytes_eq, codes}
 use Rattle.fill_base.specs.Coordinates.{lowest, highest}
 use Rattle.fill_text.specs.declared.keys.Key.{Key}
 use Rattle.fill_text.specs.declared.keys.Key.TheVariants.{Number, Text}
@@ -70,6 +70,10 @@ number_rule Layer = layer_number 24 (codes "layer")
 number_rule Datatype = layer_number 25 (codes "datatype")
 number_rule FillLayer = layer_number 26 (codes "fill_layer")
 number_rule FillDatatype = layer_number 27 (codes "fill_datatype")
+
+-- within the range of the key
+abbrev pub IsWithin : NumberKey → ℤ → Type 0
+IsWithin key n = ((number_rule key).low ≤ℤ n) × (n ≤ℤ (number_rule key).high)
 
 -- the keys of the numbers in table order
 abbrev pub all_number_keys : List NumberKey

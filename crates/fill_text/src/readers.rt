@@ -1,6 +1,7 @@
 //! A reader for each rule. Lengths, gaps and coordinates are in database units.
 ghost use Rattle.std.specs.Prelude.{◌≡◌};
 ghost use Rattle.fill_text.specs.Corners.{corners_of};
+ghost use Rattle.fill_text.specs.Keys.{IsWithin};
 ghost use Rattle.fill_text.specs.Rules as spec;
 ghost use Rattle.fill_text.specs.Rules.{value_of};
 ghost use Rattle.fill_text.specs.Views.{values_of};
@@ -27,196 +28,224 @@ impl Rules {
 
     /// The frame's left edge.
     pub fn frame_x1(&self) -> i64
-        ensures { result ≡ value_of (values_of self.now) NumberKey.FrameX1 }
+        ensures value { result ≡ value_of (values_of self.now) NumberKey.FrameX1 }
+        ensures range { IsWithin NumberKey.FrameX1 result }
     {
         self.number(NumberKey::FrameX1)
     }
 
     /// The frame's lower edge.
     pub fn frame_y1(&self) -> i64
-        ensures { result ≡ value_of (values_of self.now) NumberKey.FrameY1 }
+        ensures value { result ≡ value_of (values_of self.now) NumberKey.FrameY1 }
+        ensures range { IsWithin NumberKey.FrameY1 result }
     {
         self.number(NumberKey::FrameY1)
     }
 
     /// The frame's right edge.
     pub fn frame_x2(&self) -> i64
-        ensures { result ≡ value_of (values_of self.now) NumberKey.FrameX2 }
+        ensures value { result ≡ value_of (values_of self.now) NumberKey.FrameX2 }
+        ensures range { IsWithin NumberKey.FrameX2 result }
     {
         self.number(NumberKey::FrameX2)
     }
 
     /// The frame's upper edge.
     pub fn frame_y2(&self) -> i64
-        ensures { result ≡ value_of (values_of self.now) NumberKey.FrameY2 }
+        ensures value { result ≡ value_of (values_of self.now) NumberKey.FrameY2 }
+        ensures range { IsWithin NumberKey.FrameY2 result }
     {
         self.number(NumberKey::FrameY2)
     }
 
     /// The width of a fill box, 1 to 2^20.
     pub fn box_w(&self) -> i64
-        ensures { result ≡ value_of (values_of self.now) NumberKey.BoxW }
+        ensures value { result ≡ value_of (values_of self.now) NumberKey.BoxW }
+        ensures range { IsWithin NumberKey.BoxW result }
     {
         self.number(NumberKey::BoxW)
     }
 
     /// The height of a fill box, 1 to 2^20.
     pub fn box_h(&self) -> i64
-        ensures { result ≡ value_of (values_of self.now) NumberKey.BoxH }
+        ensures value { result ≡ value_of (values_of self.now) NumberKey.BoxH }
+        ensures range { IsWithin NumberKey.BoxH result }
     {
         self.number(NumberKey::BoxH)
     }
 
     /// How far the next column of the raster is to the right, 1 to 2^20.
     pub fn step_x(&self) -> i64
-        ensures { result ≡ value_of (values_of self.now) NumberKey.StepX }
+        ensures value { result ≡ value_of (values_of self.now) NumberKey.StepX }
+        ensures range { IsWithin NumberKey.StepX result }
     {
         self.number(NumberKey::StepX)
     }
 
     /// How far the next row of the raster is upwards, 1 to 2^20.
     pub fn step_y(&self) -> i64
-        ensures { result ≡ value_of (values_of self.now) NumberKey.StepY }
+        ensures value { result ≡ value_of (values_of self.now) NumberKey.StepY }
+        ensures range { IsWithin NumberKey.StepY result }
     {
         self.number(NumberKey::StepY)
     }
 
     /// Where the boxes of the raster's column zero have their left edge.
     pub fn origin_x(&self) -> i64
-        ensures { result ≡ value_of (values_of self.now) NumberKey.OriginX }
+        ensures value { result ≡ value_of (values_of self.now) NumberKey.OriginX }
+        ensures range { IsWithin NumberKey.OriginX result }
     {
         self.number(NumberKey::OriginX)
     }
 
     /// Where the boxes of the raster's line zero have their lower edge.
     pub fn origin_y(&self) -> i64
-        ensures { result ≡ value_of (values_of self.now) NumberKey.OriginY }
+        ensures value { result ≡ value_of (values_of self.now) NumberKey.OriginY }
+        ensures range { IsWithin NumberKey.OriginY result }
     {
         self.number(NumberKey::OriginY)
     }
 
     /// The least gap between a fill box and drawn metal, 0 to 2^20.
     pub fn spacing(&self) -> i64
-        ensures { result ≡ value_of (values_of self.now) NumberKey.Spacing }
+        ensures value { result ≡ value_of (values_of self.now) NumberKey.Spacing }
+        ensures range { IsWithin NumberKey.Spacing result }
     {
         self.number(NumberKey::Spacing)
     }
 
     /// The least gap between two fill boxes, 0 to 2^20.
     pub fn fill_spacing(&self) -> i64
-        ensures { result ≡ value_of (values_of self.now) NumberKey.FillSpacing }
+        ensures value { result ≡ value_of (values_of self.now) NumberKey.FillSpacing }
+        ensures range { IsWithin NumberKey.FillSpacing result }
     {
         self.number(NumberKey::FillSpacing)
     }
 
     /// The width of a density window, 1 to 2^20.
     pub fn win_w(&self) -> i64
-        ensures { result ≡ value_of (values_of self.now) NumberKey.WinW }
+        ensures value { result ≡ value_of (values_of self.now) NumberKey.WinW }
+        ensures range { IsWithin NumberKey.WinW result }
     {
         self.number(NumberKey::WinW)
     }
 
     /// The height of a density window, 1 to 2^20.
     pub fn win_h(&self) -> i64
-        ensures { result ≡ value_of (values_of self.now) NumberKey.WinH }
+        ensures value { result ≡ value_of (values_of self.now) NumberKey.WinH }
+        ensures range { IsWithin NumberKey.WinH result }
     {
         self.number(NumberKey::WinH)
     }
 
     /// How far the next column of windows is to the right, 1 to 2^20.
     pub fn win_step_x(&self) -> i64
-        ensures { result ≡ value_of (values_of self.now) NumberKey.WinStepX }
+        ensures value { result ≡ value_of (values_of self.now) NumberKey.WinStepX }
+        ensures range { IsWithin NumberKey.WinStepX result }
     {
         self.number(NumberKey::WinStepX)
     }
 
     /// How far the next row of windows is upwards, 1 to 2^20.
     pub fn win_step_y(&self) -> i64
-        ensures { result ≡ value_of (values_of self.now) NumberKey.WinStepY }
+        ensures value { result ≡ value_of (values_of self.now) NumberKey.WinStepY }
+        ensures range { IsWithin NumberKey.WinStepY result }
     {
         self.number(NumberKey::WinStepY)
     }
 
     /// The left edge of the windows of the first column.
     pub fn win_x(&self) -> i64
-        ensures { result ≡ value_of (values_of self.now) NumberKey.WinX }
+        ensures value { result ≡ value_of (values_of self.now) NumberKey.WinX }
+        ensures range { IsWithin NumberKey.WinX result }
     {
         self.number(NumberKey::WinX)
     }
 
     /// The lower edge of the windows of the first row.
     pub fn win_y(&self) -> i64
-        ensures { result ≡ value_of (values_of self.now) NumberKey.WinY }
+        ensures value { result ≡ value_of (values_of self.now) NumberKey.WinY }
+        ensures range { IsWithin NumberKey.WinY result }
     {
         self.number(NumberKey::WinY)
     }
 
     /// How many columns of windows there are, 1 to 2^20.
     pub fn win_nx(&self) -> i64
-        ensures { result ≡ value_of (values_of self.now) NumberKey.WinNx }
+        ensures value { result ≡ value_of (values_of self.now) NumberKey.WinNx }
+        ensures range { IsWithin NumberKey.WinNx result }
     {
         self.number(NumberKey::WinNx)
     }
 
     /// How many rows of windows there are, 1 to 2^20.
     pub fn win_ny(&self) -> i64
-        ensures { result ≡ value_of (values_of self.now) NumberKey.WinNy }
+        ensures value { result ≡ value_of (values_of self.now) NumberKey.WinNy }
+        ensures range { IsWithin NumberKey.WinNy result }
     {
         self.number(NumberKey::WinNy)
     }
 
     /// The least density, in millionths.
     pub fn min(&self) -> i64
-        ensures { result ≡ value_of (values_of self.now) NumberKey.Min }
+        ensures value { result ≡ value_of (values_of self.now) NumberKey.Min }
+        ensures range { IsWithin NumberKey.Min result }
     {
         self.number(NumberKey::Min)
     }
 
     /// The greatest density, in millionths, at least the least one.
     pub fn max(&self) -> i64
-        ensures { result ≡ value_of (values_of self.now) NumberKey.Max }
+        ensures value { result ≡ value_of (values_of self.now) NumberKey.Max }
+        ensures range { IsWithin NumberKey.Max result }
     {
         self.number(NumberKey::Max)
     }
 
     /// How many columns of places a tile has, 1 to 4,096.
     pub fn tile_nx(&self) -> i64
-        ensures { result ≡ value_of (values_of self.now) NumberKey.TileNx }
+        ensures value { result ≡ value_of (values_of self.now) NumberKey.TileNx }
+        ensures range { IsWithin NumberKey.TileNx result }
     {
         self.number(NumberKey::TileNx)
     }
 
     /// How many rows of places a tile has, 1 to 4,096.
     pub fn tile_ny(&self) -> i64
-        ensures { result ≡ value_of (values_of self.now) NumberKey.TileNy }
+        ensures value { result ≡ value_of (values_of self.now) NumberKey.TileNy }
+        ensures range { IsWithin NumberKey.TileNy result }
     {
         self.number(NumberKey::TileNy)
     }
 
     /// The checked layer, 0 to 65,535.
     pub fn layer(&self) -> i64
-        ensures { result ≡ value_of (values_of self.now) NumberKey.Layer }
+        ensures value { result ≡ value_of (values_of self.now) NumberKey.Layer }
+        ensures range { IsWithin NumberKey.Layer result }
     {
         self.number(NumberKey::Layer)
     }
 
     /// The checked data type, 0 to 65,535.
     pub fn datatype(&self) -> i64
-        ensures { result ≡ value_of (values_of self.now) NumberKey.Datatype }
+        ensures value { result ≡ value_of (values_of self.now) NumberKey.Datatype }
+        ensures range { IsWithin NumberKey.Datatype result }
     {
         self.number(NumberKey::Datatype)
     }
 
     /// The layer of the fill boxes, 0 to 65,535.
     pub fn fill_layer(&self) -> i64
-        ensures { result ≡ value_of (values_of self.now) NumberKey.FillLayer }
+        ensures value { result ≡ value_of (values_of self.now) NumberKey.FillLayer }
+        ensures range { IsWithin NumberKey.FillLayer result }
     {
         self.number(NumberKey::FillLayer)
     }
 
     /// The data type of the fill boxes, 0 to 65,535.
     pub fn fill_datatype(&self) -> i64
-        ensures { result ≡ value_of (values_of self.now) NumberKey.FillDatatype }
+        ensures value { result ≡ value_of (values_of self.now) NumberKey.FillDatatype }
+        ensures range { IsWithin NumberKey.FillDatatype result }
     {
         self.number(NumberKey::FillDatatype)
     }

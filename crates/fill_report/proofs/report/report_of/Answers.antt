@@ -4,6 +4,6 @@ use Rattle.fill_report.proofs.report.report_of.Goals as goal
 
 pub returns : goal.returns
 returns g c =
-    let least : FitsSigned w64 c.number-least.result = search rules in
-    let most : FitsSigned w64 c.number-most.result = search rules in
-    rw (read_is _ least, read_is _ most, c.windows.ensures, c.number-least.ensures.value, c.number-most.ensures.value) at c.windows_report.ensures
+    let least : FitsSigned w64 c.min-least.result = search rules in
+    let most : FitsSigned w64 c.max-most.result = search rules in
+    rw (read_is _ least, read_is _ most, c.windows.ensures, c.min-least.ensures.value, c.max-most.ensures.value) at c.windows_report.ensures
