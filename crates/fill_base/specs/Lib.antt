@@ -1,3 +1,4 @@
 pub mod Counts
 pub mod Coordinates
 pub mod Squares
+pub mod Sequence

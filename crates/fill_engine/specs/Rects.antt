@@ -1,6 +1,6 @@
 -- What the program answers to a rule file and a script.
 use Rattle.std.specs.Prelude.{◌≡◌, ◌⊎◌, ◌^◌, ℕ, List, length, Result, Ok, Err, IsOk, nat_lt, if◌then◌else◌}
-use Rattle.fill_text.specs.Answers.{◌>>=◌}
+use Rattle.fill_base.specs.Sequence.{◌>>=◌}
 use Rattle.fill_text.specs.Rules.{Values, rules_of}
 use Rattle.fill_text.specs.Script.{Change, edits_of}
 use Rattle.fill_report.specs.RulesReport.{metal_report}

@@ -4,7 +4,7 @@ use Rattle.std.specs.Prelude.{is_some, ok_or, if◌then◌else◌}
 use Rattle.std.specs.List.Sorted.{IsPermutation}
 use Rattle.std.proofs.lemmas.List.{append-nil, length-set, length-map}
 use Rattle.std.proofs.lemmas.List.Sorted.{IsPermutation-append_left, IsPermutation-append_right, IsPermutation-middle, IsPermutation-refl, IsPermutation-sym, IsPermutation-trans, length_permutation}
-use Rattle.fill_text.specs.Answers.{◌>>=◌}
+use Rattle.fill_base.specs.Sequence.{◌>>=◌}
 use Rattle.fill_text.specs.Keys.{all_number_keys, all_text_keys, key_name, key_named, number_rule, text_name}
 use Rattle.fill_text.specs.Laws.{EachKeyStandsOnce, ThirtyTwoRecords, all_key_names, first_fields}
 use Rattle.fill_text.specs.Rows.{rows_of}

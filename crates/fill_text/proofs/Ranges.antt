@@ -3,7 +3,8 @@ use Rattle.std.proofs.Common.{◌≡◌, ◌∙◌, ◌⊎◌, ◌<◌, ◌≤�
 use Rattle.std.proofs.lemmas.List.{get_or-replicate}
 use Rattle.std.specs.Prelude.{ok_or, int_le, if◌then◌else◌}
 use Rattle.std.proofs.lemmas.Int.{ints}
-use Rattle.fill_text.specs.Answers.{◌>>=◌, with_front}
+use Rattle.fill_base.specs.Sequence.{◌>>=◌}
+use Rattle.fill_text.specs.Answers.{with_front}
 use Rattle.fill_text.specs.Numbers.{number_of}
 use Rattle.fill_text.specs.Keys.{all_number_keys, number_rule}
 use Rattle.fill_text.specs.Rules.{AreRanged, Found, all_numbers, is_in_range, new_key, nothing_found, number_for, number_found, number_in, take_number, take_row, take_rows, take_text, take_value, with_text}

@@ -4,7 +4,7 @@ use Rattle.std.specs.Prelude.{Any, bytes_eq, int_lt, find, ok_or, if◌then◌el
 use Rattle.std.proofs.lemmas.Bool.Decides.{nat_tests}
 use Rattle.std.proofs.lemmas.List.{get_or-replicate}
 use Rattle.std.proofs.lemmas.Slice.Eq.{bytes_eq-Decides}
-use Rattle.fill_text.specs.Answers.{◌>>=◌}
+use Rattle.fill_base.specs.Sequence.{◌>>=◌}
 use Rattle.fill_text.specs.Keys.{all_number_keys, all_text_keys, either_key, key_name, key_named, number_rule, text_name}
 use Rattle.fill_text.specs.Laws.{EachNumberIsWritten, EachTextIsWritten, WritesNumber, WritesText}
 use Rattle.fill_text.specs.Numbers.{number_of}

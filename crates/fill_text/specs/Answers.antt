@@ -1,11 +1,6 @@
 -- Answers that may be a refusal, in the order in which a text is read.
 use Rattle.std.specs.Prelude.{◌≡◌, ◌⊎◌, List, ◌++◌, Result, Ok, Err}
-
-infixl 10 ◌>>=◌
--- one answer after the other: the first refusal stands
-abbrev pub ◌>>=◌ : {A B E : Type 0} → Result A E → (A → Result B E) → Result B E
-(Ok x) >>= f = f x
-(Err e) >>= f = Err e
+use Rattle.fill_base.specs.Sequence.{◌>>=◌}
 
 -- an answer that begins with this list
 abbrev pub with_front : {A E : Type 0} → List A → Result (List A) E → Result (List A) E

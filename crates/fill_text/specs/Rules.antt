@@ -1,7 +1,8 @@
 -- What a rule file says: the value of each key, or the first refusal.
 use Rattle.std.specs.Prelude.{unsigned_abs, ◌≤ℤ◌, IfSome, ℕ, ℤ, pos, ◌+◌, ◌==◌, ◌&&◌, ◌||◌, Bool, List, [], ◌∷◌, length, get_or, replicate, slice_set, Option, Some, None, ok_or, is_some, Result, Ok, Err, bytes_eq, int_le, int_lt, nat_lt, nat_le, if◌then◌else◌}
 use Rattle.std.specs.List.{list_all}
-use Rattle.fill_text.specs.Answers.{◌>>=◌, with_front}
+use Rattle.fill_base.specs.Sequence.{◌>>=◌}
+use Rattle.fill_text.specs.Answers.{with_front}
 use Rattle.fill_text.specs.Corners.{Corners, rect_with}
 use Rattle.fill_area.specs.Grid.{Grid}
 use Rattle.fill_text.specs.Grids.{grid_with}

@@ -1,6 +1,7 @@
 -- What a script says: the changes that its records ask for, in turn, or the first refusal.
 use Rattle.std.specs.Prelude.{ℕ, ℤ, ◌+◌, ◌==◌, List, [], ◌∷◌, length, get_or, Option, Some, None, ok_or, Result, Ok, Err, bytes_eq, codes, nat_lt, if◌then◌else◌}
-use Rattle.fill_text.specs.Answers.{◌>>=◌, with_front}
+use Rattle.fill_base.specs.Sequence.{◌>>=◌}
+use Rattle.fill_text.specs.Answers.{with_front}
 use Rattle.fill_text.specs.Corners.{Corners, corners_of, rect_with}
 use Rattle.fill_text.specs.Numbers.{number_of}
 use Rattle.fill_text.specs.Rows.{rows_of}

@@ -8,7 +8,8 @@ use Rattle.gds_grammar.specs.declared.refusal.Refusal.{Refusal}
 use Rattle.gds_grammar.specs.declared.refusal.Refusal.TheVariants.{Unexpected}
 use Rattle.gds_grammar.specs.Forms.{is_well, IsWell}
 use Rattle.gds_grammar.specs.Grammar.{Rules}
-use Rattle.gds_grammar.specs.Machine.{State, fine, refuse, expect, ◌>>=◌, next_state, step, run}
+use Rattle.fill_base.specs.Sequence.{◌>>=◌}
+use Rattle.gds_grammar.specs.Machine.{State, fine, refuse, expect, next_state, step, run}
 
 -- ---- tests and results
 

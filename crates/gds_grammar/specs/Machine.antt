@@ -1,5 +1,6 @@
 -- The reader as a machine that takes one record after another.
 use Rattle.std.specs.Prelude.{ℕ, Bool, true, false, cond, List, [], ◌∷◌, ◌++◌, Option, Some, None, Result, Ok, Err, ◌==◌}
+use Rattle.fill_base.specs.Sequence.{◌>>=◌}
 use Rattle.gds_record.specs.declared.kind.TheConstants as kinds
 use Rattle.gds_record.specs.Records.{Rec}
 use Rattle.gds_record.specs.Numbers.{trimmed}
@@ -109,11 +110,6 @@ next_state ρ (Done l) r = refuse Unexpected
 -- where a record leads
 abbrev pub step : Rules → State → Rec → Result State Refusal
 step ρ s r = cond (is_well r) (next_state ρ s r) (refuse Unexpected)
-
-infixl 10 ◌>>=◌
-abbrev pub ◌>>=◌ : {A B E : Type 0} → Result A E → (A → Result B E) → Result B E
-(Ok x) >>= f = f x
-(Err e) >>= f = Err e
 
 -- where records lead, one after another
 unfoldable pub run : Rules → State → List Rec → Result State Refusal

@@ -12,7 +12,8 @@ use Rattle.gds_record.specs.declared.records.Record.{Record}
 use Rattle.gds_record.specs.declared.records.RecordError.{RecordError}
 use Rattle.gds_record.specs.declared.records.RecordError.TheVariants.{Truncated, BadLength}
 use Rattle.gds_record.specs.Records.{Rec, IsRecord, view, spelling, length_of, IsBadLength, IsTruncated}
-use Rattle.gds_record.specs.Reading.{Gives, at_front, ◌>>=◌, size_of, body_at, record_at}
+use Rattle.fill_base.specs.Sequence.{◌>>=◌}
+use Rattle.gds_record.specs.Reading.{Gives, at_front, size_of, body_at, record_at}
 
 abbrev pub IsBytes : List ℕ → Type 0
 IsBytes bytes = (i : ℕ) → get_or bytes i 0 < 256

@@ -1,6 +1,7 @@
 -- Reading a record from the front of a list of bytes.
 use Rattle.std.specs.Prelude.{◌≡◌, ℕ, ◌-◌, ◌%◌, List, [], ◌∷◌, length, take, drop, Result, Ok, Err, nat_lt, ◌==◌, ◌||◌, if◌then◌else◌}
 use Rattle.std.specs.Borrow.{Bor}
+use Rattle.fill_base.specs.Sequence.{◌>>=◌}
 use Rattle.gds_record.specs.declared.records.Record.{Record}
 use Rattle.gds_record.specs.declared.records.RecordError.{RecordError}
 use Rattle.gds_record.specs.declared.records.RecordError.TheVariants.{Truncated, BadLength}
@@ -14,11 +15,6 @@ Gives view (Err e) read = read ≡ Err e
 -- a record and the bytes after it
 abbrev pub at_front : Record × Bor (List ℕ) → Rec × List ℕ
 at_front x = (view x.0, x.1.now)
-
-infixl 10 ◌>>=◌
-abbrev pub ◌>>=◌ : {A B E : Type 0} → Result A E → (A → Result B E) → Result B E
-(Ok x) >>= f = f x
-(Err e) >>= f = Err e
 
 -- how many bytes of data a record of this length has
 abbrev pub size_of : ℕ → Result ℕ RecordError

@@ -1,6 +1,6 @@
 use Rattle.std.proofs.Common.{ℕ, List, Bor, Some, ap, inl, inr, arith}
 use Rattle.std.proofs.lemmas.Result.{err_from_is_err_and}
-use Rattle.fill_text.specs.Answers.{◌>>=◌}
+use Rattle.fill_base.specs.Sequence.{◌>>=◌}
 use Rattle.fill_text.specs.Rules.{rules_found}
 use Rattle.fill_text.specs.Views.{values_of}
 use Rattle.fill_text.proofs.Ranges.{all_ranged}
