@@ -10,3 +10,4 @@ pub mod Ordered
 pub mod NextLines
 pub mod UpwardSweep
 pub mod Within
+pub mod Clipping

@@ -1,6 +1,8 @@
 //! Sets of unit squares, as bands of sorted intervals in one canonical form. Every operation is that
-//! of sets of squares, and equal sets are equal values: the layers above rely on both, and no clause
-//! that they use speaks of bands but where a region is compared or listed.
+//! of sets of squares, and equal sets are equal values: the layers above rely on both. The clauses that
+//! they use speak of squares, with two exceptions: where a region is compared or listed, and where a
+//! layer goes over the bands itself, as those of sizes and of areas do, by `bands`, `first_above` and
+//! `bottom_at`.
 #![tactic(auto)]
 
 pub mod laws;

@@ -116,14 +116,17 @@ impl Region {
         self.combined(alloc, Operation::Meet, other)
     }
 
-    /// The squares of the region within the rectangle.
+    /// The squares of the region within the rectangle. A search by halving finds its lowest band, and in
+    /// each row its edges, so what lies around the rectangle costs little.
+    ///
+    /// # Errors
+    /// `AllocError` where there is no memory for the bands.
     pub fn clip(&self, alloc: Global, rect: &Rect) -> Result<Region, AllocError>
         ensures region { IfOk result IsRegion }
         ensures squares { IfOk result (λ r. (x y : ℤ) → holds r x y ≡ holds self.now x y && squares rect.now x y) }
     {
-        let window = Region::one(alloc, rect)?;
-        let part = self.meet(alloc, &window)?;
-        Ok(part)
+        let bands = clipped(alloc, &self.bands, rect)?;
+        Ok(Region { bands })
     }
 
     /// The same region once more.
@@ -320,7 +323,7 @@ fn merged(
     ensures region { IfOk result (λ v. IsRegion v.items) }
     ensures squares { IfOk result (λ v. (x y : ℤ) → holds v.items x y ≡ applied operation (holds a.now x y) (holds b.now x y)) }
 {
-    let mut out = Vec::new(alloc);
+    let mut out = Vec::with_capacity(alloc, a.len().saturating_add(b.len()))?;
     let mut i = 0;
     let mut j = 0;
     'sweep: while i < a.len() || j < b.len() {
@@ -332,5 +335,32 @@ fn merged(
         let row = combined_row(alloc, operation, a, i, b, j)?;
         put_row(alloc, &mut out, at, row)?;
     }
+    out.shrink_to_fit();
+    Ok(out)
+}
+
+/// The bands of the squares within the rectangle: the row of its bottom line, then each row that begins
+/// below its top, and nothing from its top on.
+fn clipped(
+    alloc: Global,
+    bands: &[(i32, Spans)],
+    rect: &Rect,
+) -> Result<Vec<(i32, Spans)>, AllocError>
+    requires { IsRegion bands.now }
+    ensures region { IfOk result (λ v. IsRegion v.items) }
+    ensures squares { IfOk result (λ v. (x y : ℤ) → holds v.items x y ≡ holds bands.now x y && squares rect.now x y) }
+{
+    let nothing = Spans::empty(alloc);
+    let mut out = Vec::new(alloc);
+    let top = rect.y2();
+    let mut at = rect.y1();
+    let mut k = first_above(bands, at);
+    'rows: while at < top {
+        let row = row_before(bands, k, &nothing).clip(alloc, rect.x1(), rect.x2())?;
+        put_row(alloc, &mut out, at as i32, row)?;
+        at = i64::from(bottom_at(bands, k));
+        k += 1;
+    }
+    put_row(alloc, &mut out, top as i32, nothing)?;
     Ok(out)
 }

@@ -79,6 +79,58 @@ fn every_operation_is_a_count_over_squares(rt: HostRuntime) -> Result<(), Fail> 
     Ok(())
 }
 
+/// Whether the region has the squares of the rectangles within the window, and no others.
+fn is_part_within(part: &Region, rects: &[Rect], window: &Rect) -> bool {
+    for y in -2..9i64 {
+        for x in -2..9i64 {
+            let across = window.x1() <= x && x < window.x2();
+            let up = window.y1() <= y && y < window.y2();
+            if part.has(x, y) != (some_holds(rects, x, y) && across && up) {
+                return false;
+            }
+        }
+    }
+    true
+}
+
+#[test]
+fn every_window_of_a_board_holds_its_squares(rt: HostRuntime) -> Result<(), Fail> {
+    let alloc = rt.alloc();
+    for chosen in [0, 35, 158, 211, 255usize] {
+        let rects = some_rects(&rt, alloc, chosen)?;
+        let whole = Region::from_rects(alloc, &rects)?;
+        for low in 0..81i64 {
+            for high in 0..81i64 {
+                let (x1, y1) = (low % 9 - 1, low / 9 - 1);
+                let (x2, y2) = (high % 9 - 1, high / 9 - 1);
+                if x1 < x2 && y1 < y2 {
+                    let window = rect(&rt, [x1, y1, x2, y2]);
+                    let part = whole.clip(alloc, &window)?;
+                    assert!(rt; is_part_within(&part, &rects, &window));
+                }
+            }
+        }
+    }
+    Ok(())
+}
+
+#[test]
+fn clipped_rows_that_become_equal_are_one_band(rt: HostRuntime) -> Result<(), Fail> {
+    let alloc = rt.alloc();
+    let rects = [
+        rect(&rt, [0, 0, 4, 1]),
+        rect(&rt, [0, 1, 3, 2]),
+        rect(&rt, [5, 2, 6, 3]),
+    ];
+    let region = Region::from_rects(alloc, &rects)?;
+    let part = region.clip(alloc, &rect(&rt, [1, -1, 3, 4]))?;
+    let pieces = part.pieces(alloc)?;
+    assert!(rt; pieces.as_slice() == &[rect(&rt, [1, 0, 3, 2])][..]);
+    let gap = region.clip(alloc, &rect(&rt, [0, 2, 5, 3]))?;
+    assert!(rt; gap.is_empty());
+    Ok(())
+}
+
 #[test]
 fn equal_sets_are_equal_values(rt: HostRuntime) -> Result<(), Fail> {
     let alloc = rt.alloc();

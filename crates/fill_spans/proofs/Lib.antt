@@ -8,3 +8,4 @@ pub mod Walking
 pub mod ColumnEnds
 pub mod ColumnWalks
 pub mod ColumnSums
+pub mod Clipping

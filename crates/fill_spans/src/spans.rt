@@ -122,6 +122,22 @@ impl Spans {
         self.combined(alloc, Operation::Meet, other)
     }
 
+    /// The members from `lo` on and below `hi`, in database units. A search by halving finds the edges
+    /// between the two, so those around them cost little.
+    ///
+    /// # Errors
+    /// `AllocError` where there is no memory for the edges.
+    pub fn clip(&self, alloc: Global, lo: i64, hi: i64) -> Result<Spans, AllocError>
+        requires ordered { lo <ℤ hi }
+        requires low { lowest ≤ℤ lo }
+        requires high { hi ≤ℤ highest }
+        ensures canonical { IfOk result IsCanonical }
+        ensures members { IfOk result (λ r. (x : ℤ) → inside r x ≡ inside self.now x && is_between lo hi x) }
+    {
+        let edges = clipped(alloc, &self.edges, lo, hi)?;
+        Ok(Spans { edges })
+    }
+
     /// The same set once more.
     pub fn copy(&self, alloc: Global) -> Result<Spans, AllocError>
         ensures { IfOk result (λ r. r ≡ self.now) }
@@ -219,6 +235,26 @@ fn merged(alloc: Global, operation: Operation, a: &[i32], b: &[i32]) -> Result<V
         put_edge(&mut out, at, operation.apply(i % 2 == 1, j % 2 == 1))?;
     }
     Ok(out)
+}
+
+/// The edges between `lo` and `hi`, with an edge at `lo` where the set has come in from the left, and
+/// one at `hi` where it goes on to the right.
+fn clipped(alloc: Global, edges: &[i32], lo: i64, hi: i64) -> Result<Vec<i32>, AllocError>
+    requires canonical { IsCanonical edges.now }
+    requires ordered { lo <ℤ hi }
+    requires low { lowest ≤ℤ lo }
+    requires high { hi ≤ℤ highest }
+    ensures canonical { IfOk result (λ v. IsCanonical v.items) }
+    ensures members { IfOk result (λ v. (x : ℤ) → inside v.items x ≡ inside edges.now x && is_between lo hi x) }
+{
+    let from = first_above(edges, lo);
+    let to = first_above(edges, hi - 1);
+    let between = &edges[from..to];
+    let mut part = Vec::with_capacity(alloc, from % 2 + between.len() + to % 2)?;
+    put_edge(&mut part, lo as i32, from % 2 == 1)?;
+    part.extend_from_slice(between)?;
+    put_edge(&mut part, hi as i32, false)?;
+    Ok(part)
 }
 
 /// The edges of one interval.

@@ -33,6 +33,55 @@ fn columns_of_rectangles_that_overlap_touch_and_lie_apart(rt: HostRuntime) -> Re
     Ok(())
 }
 
+/// Whether a number lies in one of the stretches 0 to 1, 3 to 5 and 7.
+fn in_three_stretches(x: i64) -> bool {
+    (0 <= x && x < 2) || (3 <= x && x < 6) || x == 7
+}
+
+#[test]
+fn every_part_of_a_set_is_a_count_over_numbers(rt: HostRuntime) -> Result<(), Fail> {
+    let alloc = rt.alloc();
+    let rects = [
+        Rect::new(0, 0, 2, 1)?,
+        Rect::new(3, 0, 6, 1)?,
+        Rect::new(7, 0, 8, 1)?,
+    ];
+    let set = Spans::across(alloc, &rects)?;
+    for first in 0..12u32 {
+        for after in 0..12u32 {
+            if first < after {
+                let (lo, hi) = (i64::from(first) - 2, i64::from(after) - 2);
+                let part = set.clip(alloc, lo, hi)?;
+                let mut edges = Vec::new(alloc);
+                let mut before = false;
+                for x in -3..11i32 {
+                    let at = i64::from(x);
+                    let now = in_three_stretches(at) && lo <= at && at < hi;
+                    assert_eq!(rt; part.has(at), now);
+                    if now != before {
+                        edges.push(x)?;
+                    }
+                    before = now;
+                }
+                assert_eq!(rt; part.edges(), edges.as_slice());
+            }
+        }
+    }
+    Ok(())
+}
+
+#[test]
+fn parts_at_the_ends_of_the_range(rt: HostRuntime) -> Result<(), Fail> {
+    let alloc = rt.alloc();
+    let whole = Spans::one(alloc, -1_073_741_824, 1_073_741_824)?;
+    let all = whole.clip(alloc, -1_073_741_824, 1_073_741_824)?;
+    assert_eq!(rt; all.edges(), [-1_073_741_824, 1_073_741_824].as_slice());
+    let last = whole.clip(alloc, 1_073_741_823, 1_073_741_824)?;
+    assert_eq!(rt; last.edges(), [1_073_741_823, 1_073_741_824].as_slice());
+    assert!(rt; Spans::empty(alloc).clip(alloc, -5, 5)?.is_empty());
+    Ok(())
+}
+
 #[test]
 fn lengths_of_columns_that_overlap_lie_apart_and_begin_inside(rt: HostRuntime) -> Result<(), Fail> {
     let alloc = rt.alloc();

@@ -20,7 +20,7 @@ pub sweep-preserved : goal.sweep-preserved
 sweep-preserved c = turn_keeps c.args.operation c.args.a.now c.args.b.now c.sweep.i c.sweep.j c.passed-i.result c.passed-j.result c.sweep.out.items c.put_row.new.out.items c.bottom_at-next_a.result c.bottom_at-next_b.result c.min-at.result c.in_ok-row.row c.requires.first c.requires.second c.sweep.invariant (here c) c.passed-i.ensures c.passed-j.ensures c.in_ok-row.ensures c.in_ok-put_row.ensures
 
 pub sweep-init : goal.sweep-init
-sweep-init c = rw c.new-out.ensures.items (merged_start c.args.operation c.args.a.now c.args.b.now c.requires.first c.requires.second)
+sweep-init c = rw c.in_ok-out.ensures.items (merged_start c.args.operation c.args.a.now c.args.b.now c.requires.first c.requires.second)
 
 pub returns-clause-region : goal.returns-clause-region
-returns-clause-region c = merged_region c.args.operation c.args.a.now c.args.b.now c.sweep.i c.sweep.j c.sweep.out.items c.requires.first c.requires.second c.sweep.invariant c.if-i-a.false c.if-j-b.false
+returns-clause-region c = rw c.shrink_to_fit.ensures.items (merged_region c.args.operation c.args.a.now c.args.b.now c.sweep.i c.sweep.j c.sweep.out.items c.requires.first c.requires.second c.sweep.invariant c.if-i-a.false c.if-j-b.false)
