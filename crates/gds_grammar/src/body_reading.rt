@@ -1,6 +1,6 @@
 //! Reads the records of an element up to its points.
 
-ghost use Rattle.std.specs.Prelude.{◌≡◌, ◌<◌, ◌++◌, [], List, ℕ, true, length, map, IfOk, IfErr, MatchResult};
+ghost use Rattle.std.specs.Prelude.{◌≡◌, ◌<◌, ◌++◌, [], List, ℕ, true, length, map, IfOk, IfErr, OnOk, MatchResult};
 ghost use Rattle.std.specs.List.{AllByRecursion};
 ghost use Rattle.gds_record.specs.Records.{view};
 ghost use Rattle.gds_grammar.specs.Forms.{IsWell};
@@ -17,7 +17,6 @@ use crate::next::next;
 use crate::refusal::Refusal;
 use crate::stop::Stop;
 use gds_record::{Record, kind};
-use std::alloc::Global;
 
 /// Whether the record is the XY of an element with these records before it.
 #[tactic(auto, unfolding(crate::specs::Machine::next_state))]
@@ -76,28 +75,28 @@ fn next_in_body<'a>(
     }
 }
 
-/// The records of an element up to its points.
+/// Reads an element up to its points. The records before XY are put into `before`, in the order of
+/// the file; what stood there is taken off, so that one list serves all elements.
 pub fn read_body<'a>(
-    alloc: Global,
+    before: &mut Vec<Record<'a>>,
     element: ElementKind,
     bytes: &'a [u8],
 ) -> Result<ElementBody<'a>, Stop>
-    ensures well { IfOk result (λ b. AllByRecursion IsWell (map view b.before.items)) }
-    ensures whole { IfOk result (λ b. IsBody element (map view b.before.items) b.xy.now) }
+    ensures well { OnOk result (AllByRecursion IsWell (map view before.new.items)) }
+    ensures whole { IfOk result (λ b. IsBody element (map view before.new.items) b.xy.now) }
     ensures found { IfOk result (λ b. (l : Contents) (n : List ℕ) (sh : List Shape) →
         Reaches bytes.now (Body l n sh element []) b.rest.now
         (behind_xy (has_string element) l n
-        (sh ++ shapes_in element (map view b.before.items) b.xy.now))) }
+        (sh ++ shapes_in element (map view before.new.items) b.xy.now))) }
     ensures refused { IfErr result (λ e. (l : Contents) (n : List ℕ) (sh : List Shape) →
         Fails bytes.now (Body l n sh element []) e) }
 {
-    let mut before = Vec::new(alloc);
+    before.clear();
     let mut rest = bytes;
     'body: loop {
-        let (last, found, after) = next_in_body(element, &before, rest)?;
+        let (last, found, after) = next_in_body(element, before, rest)?;
         if last {
             return Ok(ElementBody {
-                before,
                 xy: found.body,
                 rest: after,
             });

@@ -71,9 +71,10 @@ fn put(elements: &mut Vec<Element>, made: Option<Element>) -> Result<(), AllocEr
 }
 
 /// Reads one element to the end of the list, or passes one STRCLASS or the structure's end; whether
-/// that was its end, and the bytes after it.
+/// that was its end, and the bytes after it. `before` is room for an element's records.
 fn read_step<'a>(
     alloc: Global,
+    before: &mut Vec<Record<'a>>,
     elements: &mut Vec<Element>,
     fresh: bool,
     bytes: &'a [u8],
@@ -92,7 +93,7 @@ fn read_step<'a>(
         CellStep::Class => Ok((false, after)),
         CellStep::Ends => Ok((true, after)),
         CellStep::Opens(element) => {
-            let (made, rest) = read_element(alloc, element, after)?;
+            let (made, rest) = read_element(alloc, before, element, after)?;
             put(elements, made)?;
             Ok((false, rest))
         }
@@ -106,11 +107,12 @@ pub fn read_elements(alloc: Global, bytes: &[u8]) -> Result<(Vec<Element>, &[u8]
     ensures refused { IfErr result (λ e. (l : Contents) (n : List ℕ) →
         Fails bytes.now (Named l n) e) }
 {
+    let mut before = Vec::new(alloc);
     let mut elements = Vec::new(alloc);
     let mut rest = bytes;
     let mut fresh = true;
     'elements: loop {
-        let (ended, after) = read_step(alloc, &mut elements, fresh, rest)?;
+        let (ended, after) = read_step(alloc, &mut before, &mut elements, fresh, rest)?;
         if ended {
             return Ok((elements, after));
         }

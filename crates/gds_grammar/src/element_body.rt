@@ -1,12 +1,8 @@
-//! The records of an element up to its points.
+//! The points of an element.
 
-use gds_record::Record;
-
-/// The records of an element before XY, in the order of the file, the data of XY, and the bytes
-/// after it.
-#[derive(Drop)]
+/// The data of an element's XY, and the bytes after it.
+#[derive(Clone, Copy)]
 pub struct ElementBody<'a> {
-    pub before: Vec<Record<'a>>,
     pub xy: &'a [u8],
     pub rest: &'a [u8],
 }

@@ -14,7 +14,7 @@ use crate::elements::Element;
 use crate::next::{expect, next};
 use crate::refusal::Refusal;
 use crate::stop::Stop;
-use gds_record::kind;
+use gds_record::{Record, kind};
 use std::alloc::Global;
 
 /// The bytes behind the string of a text; other elements have none.
@@ -68,18 +68,20 @@ fn skip_tail(bytes: &[u8]) -> Result<&[u8], Stop>
 }
 
 /// The element behind the record that opened it, if it says something, and the bytes after it.
-pub fn read_element(
+/// `before` is room for the records before its points, whatever stands there.
+pub fn read_element<'a>(
     alloc: Global,
+    before: &mut Vec<Record<'a>>,
     element: ElementKind,
-    bytes: &[u8],
-) -> Result<(Option<Element>, &[u8]), Stop>
+    bytes: &'a [u8],
+) -> Result<(Option<Element>, &'a [u8]), Stop>
     ensures found { IfOk result (λ x. (l : Contents) (n : List ℕ) (sh : List Shape) →
         Reaches bytes.now (Body l n sh element []) x.1.now (Within l n (sh ++ shapes_of x.0))) }
     ensures refused { IfErr result (λ e. (l : Contents) (n : List ℕ) (sh : List Shape) →
         Fails bytes.now (Body l n sh element []) e) }
 {
-    let body = read_body(alloc, element, bytes)?;
-    let made = element_of(alloc, element, &body.before, body.xy)?;
+    let body = read_body(before, element, bytes)?;
+    let made = element_of(alloc, element, before, body.xy)?;
     let tail = skip_string(element, body.rest)?;
     let rest = skip_tail(tail)?;
     Ok((made, rest))

@@ -11,6 +11,7 @@ use crate::well_formed::is_well;
 use gds_record::{Record, RecordError, next_record};
 
 /// The well-formed record that the bytes begin with, and the bytes after it.
+#[inline(always)]
 pub fn next(bytes: &[u8]) -> Result<(Record<'_>, &[u8]), Stop>
     ensures found { IfOk result (λ x. IsNext bytes.now (view x.0) x.1.now) }
     ensures refused { IfErr result (λ e. (s : State) → IsOpen s → Fails bytes.now s e) }

@@ -11,7 +11,7 @@ use Rattle.gds_grammar.proofs.Paths.{stays_put, and_then, fails_after}
 use Rattle.gds_grammar.proofs.body_reading.read_body.Goals as goal
 
 pub body-init : goal.body-init
-body-init c = rw c.new-before.ensures.items (record { well = tt; reaches = λ x n sh. stays_put _ _ })
+body-init c = rw c.clear.ensures.items (record { well = tt; reaches = λ x n sh. stays_put _ _ })
 
 pub returns-in_err-last-clause-refused : goal.returns-in_err-last-clause-refused
 returns-in_err-last-clause-refused c =
