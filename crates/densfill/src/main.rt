@@ -1,12 +1,13 @@
 //! The program: it opens what the command line names, runs the engine and prints a fault.
 #![tactic(auto)]
 
-ghost use Rattle.std.specs.Prelude.{◌≡◌, ◌⊎◌, ◌<◌, ℕ, codes, false, true, map, take, IfErr, IfOk, IsSome, OnErr, OnOk};
+ghost use Rattle.std.specs.Prelude.{◌≡◌, ◌⊎◌, ◌<◌, ℕ, codes, false, true, map, take, IfErr, IfOk, IfSome, IsOkAnd, IsSome, OnErr, OnOk};
 ghost use Rattle.std.specs.Io.KnownBytes.{Appends};
 ghost use Rattle.std.specs.IoError.{error_kind};
 ghost use Rattle.std.specs.Process.{exit_status};
 ghost use Rattle.fill_device.specs.Taps.{has_failed, under};
 ghost use Rattle.fill_engine.specs.Faults.{fault_number, fault_status, fault_text};
+ghost use Rattle.fill_engine.specs.Rects.{report_answer, IsReason};
 ghost use Rattle.fill_line.specs.Grammar.{said_in, IsFaultless, IsTaken};
 
 use fill_device::{Tap, write_text};
@@ -61,6 +62,12 @@ fn run_rects<R: Files + Threads + Sync, W: Write + Drop>(
     ensures device { IfErr result (λ e. e.fault ≡ Fault.Device → (e.part ≡ Part.Rules) ⊎ (e.part ≡ Part.Script) ⊎ (e.part ≡ Part.Report)) }
     ensures memory { IfErr result (λ e. e.fault ≡ Fault.Memory → (e.part ≡ Part.Rules) ⊎ (e.part ≡ Part.Script) ⊎ (e.part ≡ Part.Run)) }
     ensures silent { OnErr result ((has_failed out.new ≡ true) ⊎ (out.new ≡ out.old)) }
+
+    // What is answered is of two files, opened before it.
+    ensures refused { IfErr result (λ e. ((e.fault ≡ Fault.Device) ⊎ (e.fault ≡ Fault.Memory)) ⊎ ((f g : R.File) × IfSome (R.File.remaining f) (λ r. IfSome (R.File.remaining g) (λ s.
+        IsReason r s e)))) }
+    ensures written { OnOk result ((f g : R.File) × IfSome (R.File.remaining f) (λ r. IfSome (R.File.remaining g) (λ s.
+        IsOkAnd (report_answer r s) (Appends (W.contents (under out.old)) (W.contents (under out.new)))))) }
 {
     let mut rules = opened(rt, Part::Rules, rules)?;
     let mut script = opened(rt, Part::Script, script)?;
