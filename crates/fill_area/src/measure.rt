@@ -16,10 +16,11 @@ use std::thread::Threads;
 /// Windows are cut into at most so many strips.
 const MOST_STRIPS: usize = 64;
 
-/// So many numbers may be kept for the strips of all windows, besides one for each window.
+/// So many numbers may be kept for the strips of all windows, besides one for each window, but where
+/// rows are few.
 const MOST_SUMS: usize = 131_072;
 
-/// So many strips there are over all rows of windows at least, however many windows a row has.
+/// Fewer rows than this are cut into about so many strips in all, however many windows a row has.
 const FEWEST_STRIPS: usize = 8;
 
 /// How many squares of each window are in the region: row by row, the window in column `a` and row
