@@ -11,3 +11,4 @@ pub mod NextLines
 pub mod UpwardSweep
 pub mod Within
 pub mod Clipping
+pub mod RowSteps

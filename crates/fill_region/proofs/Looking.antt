@@ -15,7 +15,7 @@ use Rattle.fill_base.proofs.Signed.{lt_le, le_trans}
 use Rattle.fill_base.proofs.Between.{is_between_true}
 use Rattle.fill_spans.specs.Spans.{inside, floor, ceiling, IsCanonical}
 use Rattle.fill_region.specs.Bands.{Band, row_from, holds, last_row, bottom_or, AreBands, IsRegion}
-use Rattle.fill_region.specs.Search.{IsFirstAbove}
+use Rattle.fill_region.specs.steps.FirstAbove.{IsFirstAbove}
 use Rattle.fill_region.proofs.Stack.{bottom_at, bottom_within, last_before}
 use Rattle.fill_region.proofs.Sweeping.{nothing_canonical}
 use Rattle.fill_region.proofs.Same.{equal_regions}

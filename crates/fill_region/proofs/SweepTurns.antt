@@ -8,7 +8,7 @@ use Rattle.fill_spans.specs.Spans.{floor, ceiling}
 use Rattle.fill_spans.specs.Sweep.{Passed}
 use Rattle.fill_spans.proofs.SweepTurns.{edge_fits, passes_one}
 use Rattle.fill_region.specs.Bands.{Band, last_row, next_bottom, IsRegion}
-use Rattle.fill_region.specs.Sweep.{IsRowOf, RowPut}
+use Rattle.fill_region.specs.steps.Merging.{IsRowOf, RowPut}
 use Rattle.fill_region.proofs.Stack.{bottom_range, bottom_within}
 use Rattle.fill_region.proofs.Sweeping.{Merged, merged_step, front, passed_in}
 

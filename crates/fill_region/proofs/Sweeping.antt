@@ -12,7 +12,7 @@ use Rattle.fill_spans.specs.Sweep.{Passed}
 use Rattle.fill_spans.proofs.Merging.{nothing_from_nothing}
 use Rattle.fill_spans.proofs.Canonical.{equal_sets}
 use Rattle.fill_region.specs.Bands.{Band, row_from, holds, last_row, next_bottom, AreBands, IsRegion}
-use Rattle.fill_region.specs.Sweep.{IsRowOf, RowPut}
+use Rattle.fill_region.specs.steps.Merging.{IsRowOf, RowPut}
 use Rattle.fill_region.proofs.Stack.{bands_raise, bands_push, bands_take, bottom_next, bottom_range, bottom_past, bottom_at, row_past, row_push_below, last_row_push, last_canonical, last_taken}
 
 -- the empty row

@@ -17,8 +17,8 @@ use Rattle.fill_spans.specs.Columns.{IsRisingBy, has_column}
 use Rattle.fill_spans.proofs.Canonical.{equal_sets}
 use Rattle.fill_region.specs.Bands.{Band, holds, last_row, AreBands, IsRegion}
 use Rattle.fill_region.specs.Squares.{covered}
-use Rattle.fill_region.specs.Sweep.{RowPut}
-use Rattle.fill_region.specs.Lines.{Crosses, IsNextLine, IsCrossed}
+use Rattle.fill_region.specs.steps.Merging.{RowPut}
+use Rattle.fill_region.specs.steps.Lines.{Crosses, IsNextLine, IsCrossed}
 use Rattle.fill_region.proofs.Stack.{bands_lt, row_past, last_canonical}
 use Rattle.fill_region.proofs.Sweeping.{Grows, grows_written, last_is, nothing_canonical}
 

@@ -1,7 +1,6 @@
 pub mod Bands
 pub mod Squares
-pub mod Laws
-pub mod Sweep
-pub mod Search
 pub mod Pieces
-pub mod Lines
+pub mod Rows
+pub mod steps
+pub mod Comparison

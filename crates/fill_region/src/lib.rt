@@ -1,15 +1,17 @@
 //! Sets of unit squares, as bands of sorted intervals in one canonical form. Every operation is that
-//! of sets of squares, and equal sets are equal values: the layers above rely on both. The clauses that
-//! they use speak of squares, with two exceptions: where a region is compared or listed, and where a
-//! layer goes over the bands itself, as those of sizes and of areas do, by `bands`, `first_above` and
-//! `bottom_at`.
+//! of sets of squares, and equal sets are equal values: the layers above rely on both. Their clauses
+//! speak of squares, also where a layer goes over a region row by row ([`Region::rows`]).
 #![tactic(auto)]
 
+mod bands;
 pub mod laws;
 mod lines;
-pub mod region;
+mod pieces;
+mod region;
+mod rows;
 
 pub use region::Region;
+pub use rows::{Row, Rows};
 
 #[cfg(test)]
 mod tests;

@@ -5,9 +5,9 @@ ghost use Rattle.std.specs.List.Sorted.{IsPermutation, IsPartitionPoint};
 ghost use Rattle.fill_spans.specs.Columns.{IsRisingBy};
 ghost use Rattle.fill_region.specs.Bands.{holds, IsRegion};
 ghost use Rattle.fill_region.specs.Squares.{covered};
-ghost use Rattle.fill_region.specs.Lines.{IsNextLine, IsCrossed};
+ghost use Rattle.fill_region.specs.steps.Lines.{IsNextLine, IsCrossed};
 
-use crate::region::put_row;
+use crate::bands::put_row;
 use fill_base::Rect;
 use fill_spans::Spans;
 use fill_spans::sweep::CEILING;

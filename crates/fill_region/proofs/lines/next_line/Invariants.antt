@@ -1,5 +1,5 @@
 use Rattle.std.proofs.Common.{take}
-use Rattle.fill_region.specs.Lines.{IsNextLine}
+use Rattle.fill_region.specs.steps.Lines.{IsNextLine}
 use Rattle.fill_region.proofs.lines.next_line.Given as goal
 
 abbrev pub invariant-loop-rect : goal.invariant-loop-rect

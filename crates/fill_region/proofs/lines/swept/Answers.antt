@@ -1,6 +1,6 @@
 use Rattle.std.proofs.Common.{to_z, w64, ◌<ℤ◌, []}
 use Rattle.fill_spans.specs.Spans.{ceiling}
-use Rattle.fill_region.specs.Lines.{IsNextLine}
+use Rattle.fill_region.specs.steps.Lines.{IsNextLine}
 use Rattle.fill_region.proofs.UpwardSweep.{SweptTo, swept_start, swept_turn, swept_smaller, swept_squares, swept_region, turn_read, line_fits, line_is, goes_on, ended}
 use Rattle.fill_region.proofs.lines.swept.Goals as goal
 
