@@ -5,7 +5,12 @@ use Rattle.std.proofs.Math.Nat.{mul-le-mul}
 use Rattle.fill_base.specs.Coordinates.{lowest, highest, IsCoordinate}
 use Rattle.fill_base.proofs.Signed.{read, read_is, coordinate_fits, lt_le, le_trans}
 use Rattle.fill_area.specs.Density.{IsArea}
-use Rattle.fill_area.specs.Grid.{Grid, IsLength, IsCount, IsAxis, IsGrid, IsExtent}
+use Rattle.fill_area.specs.Axes.{IsLength, IsCount, IsAxis, IsExtent, axis_begin, axis_end}
+use Rattle.fill_area.specs.declared.axis.Axis.{Axis}
+
+-- the axis with these numbers
+abbrev pub axis_of : ℤ → ℤ → ℤ → ℕ → Axis
+axis_of first length step count = record { first = first; length = length; step = step; count = count }
 
 -- a step many times is a natural number of at most 2^40
 pub record IsMove (a : ℕ) (step : ℤ) (m : ℕ) : Type 0 where
@@ -39,8 +44,8 @@ end_fits first length a step coordinate long few is = let m = moved a step few i
         let one : pos 1 ≤ℤ length = l.least in let long : length ≤ℤ pos 1048576 = l.most in omega (arith, ints)
 
 -- an earlier window lies within the coordinates as the last one does
-pub extent : (first length step : ℤ) (count a : ℕ) → IsAxis first length step count → a < count
-    → IsExtent first length step a (first +ℤ (pos a *ℤ step)) ((first +ℤ (pos a *ℤ step)) +ℤ length)
+pub extent : (first length step : ℤ) (count a : ℕ) → IsAxis (axis_of first length step count) → a < count
+    → IsExtent (axis_of first length step count) a (first +ℤ (pos a *ℤ step)) ((first +ℤ (pos a *ℤ step)) +ℤ length)
 extent first length (pos s) count a axis lt =
     let one : pos 1 ≤ℤ length = axis.length_is.least in
     let le : a * s ≤ (count - 1) * s = mul-le-mul (before a count lt) (same s) in
@@ -93,8 +98,8 @@ end_is first length step p a coordinate long is few p_is =
     rw (begin.1, read_is (first +ℤ (pos a *ℤ step)) (begin_fits first a step coordinate few is), read_is length (length_fits length long)) refl in
     (rw sum (end_fits first length a step coordinate long few is), sum)
 
-pub extent_is : (first length step p : ℤ) (count a : ℕ) → IsAxis first length step count → a < count → p ≡ pos a
-    → IsExtent first length step a (read (read first +ℤ read (read p *ℤ read step))) (read (read (read first +ℤ read (read p *ℤ read step)) +ℤ read length))
+pub extent_is : (first length step p : ℤ) (count a : ℕ) → IsAxis (axis_of first length step count) → a < count → p ≡ pos a
+    → IsExtent (axis_of first length step count) a (read (read first +ℤ read (read p *ℤ read step))) (read (read (read first +ℤ read (read p *ℤ read step)) +ℤ read length))
 extent_is first length step p count a axis lt p_is =
     let few = under a count lt axis.count_is in
     let begin = begin_is first step p a axis.first_is axis.step_is few p_is in
@@ -109,22 +114,12 @@ extent_is first length step p count a axis lt p_is =
 pub place_few : (a count : ℕ) → a < count → IsCount count → a ≤ 1048576
 place_few a count lt is = let most : count ≤ 1048576 = is.most in omega arith
 
--- the grid's numbers, as the code reads them
-pub grid_reads : (g : Grid) → IsGrid g → IsGrid (record { x = read g.x; y = read g.y; width = read g.width; height = read g.height; step_x = read g.step_x; step_y = read g.step_y; columns = g.columns; rows = g.rows })
-grid_reads g is = rw (
-  coordinate_read g.x is.across.first_is,
-  coordinate_read g.y is.up.first_is,
-  length_read g.width is.across.length_is,
-  length_read g.height is.up.length_is,
-  length_read g.step_x is.across.step_is,
-  length_read g.step_y is.up.step_is,
-) is
-  where
-    coordinate_read : (z : ℤ) → IsCoordinate z → read z ≡ z
-    coordinate_read z c = read_is z (coordinate_fits z c.least c.most)
+-- an axis as the code reads its numbers
+abbrev pub axis_read : Axis → Axis
+axis_read axis = record { first = read axis.first; length = read axis.length; step = read axis.step; count = axis.count }
 
-    length_read : (z : ℤ) → IsLength z → read z ≡ z
-    length_read z l = read_is z (length_fits z l)
+pub axis_read_is : (axis : Axis) → FitsSigned w64 axis.first → FitsSigned w64 axis.length → FitsSigned w64 axis.step → axis_read axis ≡ axis
+axis_read_is axis first length step = rw (read_is axis.first first, read_is axis.length length, read_is axis.step step) refl
 
 -- a window's size is a product of two lengths
 pub size_fits : (w h : ℤ) → IsLength w → IsLength h → FitsSigned w64 (w *ℤ h)
@@ -142,15 +137,15 @@ pub size_is : (w h : ℤ) → IsLength w → IsLength h → (read w *ℤ read h 
 size_is w h iw ih = let e : read w *ℤ read h ≡ w *ℤ h = rw (read_is w (length_fits w iw), read_is h (length_fits h ih)) refl in (e, rw e (size_fits w h iw ih))
 
 -- an extent that the code has found, read back
-extent_read : (first length step : ℤ) (a : ℕ) (lo hi : ℤ) → IsExtent first length step a lo hi → (read lo ≡ lo) × (read hi ≡ hi)
-extent_read first length step a lo hi is =
+extent_read : (axis : Axis) (a : ℕ) (lo hi : ℤ) → IsExtent axis a lo hi → (read lo ≡ lo) × (read hi ≡ hi)
+extent_read axis a lo hi is =
     (read_is lo (coordinate_fits lo is.low (le_trans lo hi _ (lt_le lo hi is.some) is.high)), read_is hi (coordinate_fits hi (le_trans _ lo hi is.low (lt_le lo hi is.some)) is.high))
 
-pub begins_at : (first length step : ℤ) (a : ℕ) (lo hi edge : ℤ) → IsExtent first length step a lo hi → edge ≡ read lo → edge ≡ first +ℤ (pos a *ℤ step)
-begins_at first length step a lo hi edge is edge_is = edge_is ∙ ((extent_read first length step a lo hi is).0 ∙ is.begins)
+pub begins_at : (axis : Axis) (a : ℕ) (lo hi edge : ℤ) → IsExtent axis a lo hi → edge ≡ read lo → edge ≡ axis_begin axis a
+begins_at axis a lo hi edge is edge_is = edge_is ∙ ((extent_read axis a lo hi is).0 ∙ is.begins)
 
-pub ends_at : (first length step : ℤ) (a : ℕ) (lo hi edge : ℤ) → IsExtent first length step a lo hi → edge ≡ read hi → edge ≡ (first +ℤ (pos a *ℤ step)) +ℤ length
-ends_at first length step a lo hi edge is edge_is = edge_is ∙ ((extent_read first length step a lo hi is).1 ∙ is.ends)
+pub ends_at : (axis : Axis) (a : ℕ) (lo hi edge : ℤ) → IsExtent axis a lo hi → edge ≡ read hi → edge ≡ axis_end axis a
+ends_at axis a lo hi edge is edge_is = edge_is ∙ ((extent_read axis a lo hi is).1 ∙ is.ends)
 
 -- a window's size is an area
 pub size_area : (w h : ℤ) → IsLength w → IsLength h → IsArea (w *ℤ h)
@@ -176,5 +171,5 @@ size_some (pos w) (negsuc h) iw ih = absurd (let least : pos 1 ≤ℤ negsuc h =
 size_some (negsuc w) h iw ih = absurd (let least : pos 1 ≤ℤ negsuc w = iw.least in omega (arith, ints))
 
 -- each column ends within the coordinates, as the code reads its numbers
-pub columns_end : (first length step : ℤ) (count a : ℕ) → IsAxis first length step count → a < count → ((read first +ℤ (pos a *ℤ read step)) +ℤ read length) ≤ℤ highest
+pub columns_end : (first length step : ℤ) (count a : ℕ) → IsAxis (axis_of first length step count) → a < count → ((read first +ℤ (pos a *ℤ read step)) +ℤ read length) ≤ℤ highest
 columns_end first length step count a axis lt = rw (read_is first (coordinate_fits first axis.first_is.least axis.first_is.most), read_is step (length_fits step axis.step_is), read_is length (length_fits length axis.length_is)) ((extent first length step count a axis lt).high)

@@ -10,7 +10,8 @@ use Rattle.fill_base.specs.Counts.{span_len, sum_between, count_between}
 use Rattle.fill_base.proofs.Signed.{read, read_is, coordinate_fits, side_short, le_trans}
 use Rattle.fill_base.proofs.Counting.{sum_between_split, sum_between_const}
 use Rattle.fill_area.specs.Grid.{Grid, window_left, window_right}
-use Rattle.fill_area.specs.Strips.{cut_at, lines_area}
+use Rattle.fill_area.specs.steps.Strips.{cut_at}
+use Rattle.fill_area.specs.steps.Lines.{lines_area}
 
 -- the lines of one strip
 abbrev strip_lines : ℤ → ℤ → ℕ → ℕ

@@ -6,11 +6,12 @@ use Rattle.std.specs.Prelude.{int_le, IsTrue}
 use Rattle.std.proofs.lemmas.Int.{ints}
 use Rattle.fill_base.specs.Coordinates.{highest, IsCoordinate}
 use Rattle.fill_base.proofs.Signed.{read, read_is}
-use Rattle.fill_area.specs.Grid.{Grid, IsLength, IsCount, IsAxis, IsGrid}
-use Rattle.fill_area.proofs.Axes.{end_fits}
+use Rattle.fill_area.specs.Grid.{Grid, IsGrid}
+use Rattle.fill_area.specs.Axes.{IsLength, IsCount, IsAxis}
+use Rattle.fill_area.proofs.Axes.{axis_of, end_fits}
 
-pub grid_test : (g : Grid) (a b c : Bool) → (IsTrue a ↔ IsAxis g.x g.width g.step_x g.columns) → (IsTrue b ↔ IsAxis g.y g.height g.step_y g.rows)
-    → (IsTrue c ↔ (g.columns * g.rows ≤ 1048576)) → IsTrue ((a && b) && c) ↔ IsGrid g
+pub grid_test : (g : Grid) (a b c : Bool) → (IsTrue a ↔ IsAxis g.across) → (IsTrue b ↔ IsAxis g.up)
+    → (IsTrue c ↔ (g.across.count * g.up.count ≤ 1048576)) → IsTrue ((a && b) && c) ↔ IsGrid g
 grid_test g a b c across up few = (
   (λ h. record { across = across.0 (first_so a b (first_so (a && b) c h)); up = up.0 (second_so a b (first_so (a && b) c h)); few = few.0 (second_so (a && b) c h) }),
   (λ is. and_from (a && b) c (and_from a b (across.1 is.across) (up.1 is.up)) (few.1 is.few)),
@@ -39,7 +40,7 @@ limited first length step count a b c d la lb lc ld all = record {
 }
 
 pub axis_test : (first length step : ℤ) (count : ℕ) (r : ℤ) → Limited first length step count
-    → r ≡ (first +ℤ (pos (count - 1) *ℤ step)) +ℤ length → (IsTrue (int_le (read r) highest) ↔ IsAxis first length step count)
+    → r ≡ (first +ℤ (pos (count - 1) *ℤ step)) +ℤ length → (IsTrue (int_le (read r) highest) ↔ IsAxis (axis_of first length step count))
 axis_test first length step count r l r_is =
     let few : count - 1 ≤ 1048576 = let most : count ≤ 1048576 = l.count_is.most in omega arith in
     let end_is : read r ≡ (first +ℤ (pos (count - 1) *ℤ step)) +ℤ length =

@@ -1,5 +1,5 @@
 pub mod Axes
-pub mod Places
+pub mod Begun
 pub mod Sharing
 pub mod GridTests
 pub mod Walking

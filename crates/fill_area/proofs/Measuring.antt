@@ -7,29 +7,30 @@ use Rattle.std.proofs.Math.Nat.{mul-le-mul}
 use Rattle.fill_base.specs.Counts.{span_len, count_between}
 use Rattle.fill_base.proofs.Counting.{sum_between_le, sum_between_same, sum_between_const, count_between_le, count_between_same, count_between_const}
 use Rattle.fill_base.specs.Squares.{area_between}
-use Rattle.fill_area.specs.Grid.{Grid, IsGrid, IsLength, window_left, window_right, window_bottom, window_top}
+use Rattle.fill_area.specs.Grid.{Grid, IsGrid, window_left, window_right, window_bottom, window_top}
+use Rattle.fill_area.specs.Axes.{IsLength}
 use Rattle.fill_area.specs.Density.{AreMeasured, IsArea, window_area}
 
 -- the area of the window at place `k` of the list
 abbrev pub area_at : (ℤ → ℤ → Bool) → Grid → ℕ → ℤ
-area_at p g k = pos (window_area p g (k % g.columns) (k / g.columns))
+area_at p g k = pos (window_area p g (k % g.across.count) (k / g.across.count))
 
 -- the list says the area of each window
-pub measured : (p : ℤ → ℤ → Bool) (g : Grid) (totals : List ℤ) → IsGrid g → length totals ≡ g.columns * g.rows → ((k : ℕ) (d : ℤ) → k < g.columns * g.rows → get_or totals k d ≡ area_at p g k) → AreMeasured p g totals
+pub measured : (p : ℤ → ℤ → Bool) (g : Grid) (totals : List ℤ) → IsGrid g → length totals ≡ g.across.count * g.up.count → ((k : ℕ) (d : ℤ) → k < g.across.count * g.up.count → get_or totals k d ≡ area_at p g k) → AreMeasured p g totals
 measured p g totals grid count each = record {
   grid = grid;
   count = count;
   each = λ a b a_in b_in.
-      each (b * g.columns + a) (pos 0) (mul-add-lt b g.columns a g.rows b_in a_in)
-      ∙ (ap (λ k. pos (window_area p g k ((b * g.columns + a) / g.columns))) (mod-mul-add b g.columns a a_in)
-      ∙ ap (λ k. pos (window_area p g a k)) (div-mul-add b g.columns a a_in));
+      each (b * g.across.count + a) (pos 0) (mul-add-lt b g.across.count a g.up.count b_in a_in)
+      ∙ (ap (λ k. pos (window_area p g k ((b * g.across.count + a) / g.across.count))) (mod-mul-add b g.across.count a a_in)
+      ∙ ap (λ k. pos (window_area p g a k)) (div-mul-add b g.across.count a a_in));
 }
 
 -- a window has at most 2^40 squares
 window_small : (p : ℤ → ℤ → Bool) (g : Grid) (a b : ℕ) → IsGrid g → window_area p g a b ≤ 2 ^ 40
 window_small p g a b grid =
-    let wide : span_len (window_left g a) (window_right g a) ≤ 1048576 = short (window_left g a) g.width grid.across.length_is in
-    let tall : span_len (window_bottom g b) (window_top g b) ≤ 1048576 = short (window_bottom g b) g.height grid.up.length_is in
+    let wide : span_len (window_left g a) (window_right g a) ≤ 1048576 = short (window_left g a) g.across.length grid.across.length_is in
+    let tall : span_len (window_bottom g b) (window_top g b) ≤ 1048576 = short (window_bottom g b) g.up.length grid.up.length_is in
     let lines : window_area p g a b ≤ span_len (window_bottom g b) (window_top g b) * span_len (window_left g a) (window_right g a) =
     sum_between_le (λ y. count_between (λ x. p x y) (window_left g a) (window_right g a)) (window_bottom g b) (window_top g b) (span_len (window_left g a) (window_right g a))
     (λ y. count_between_le (λ x. p x y) (window_left g a) (window_right g a)) in
@@ -39,8 +40,8 @@ window_small p g a b grid =
     short : (lo length : ℤ) → IsLength length → span_len lo (lo +ℤ length) ≤ 1048576
     short lo length is = let least : pos 1 ≤ℤ length = is.least in let most : length ≤ℤ pos 1048576 = is.most in omega (arith, ints)
 
-pub bounded : (p : ℤ → ℤ → Bool) (g : Grid) (totals : List ℤ) → IsGrid g → length totals ≡ g.columns * g.rows → ((k : ℕ) (d : ℤ) → k < g.columns * g.rows → get_or totals k d ≡ area_at p g k) → All IsArea totals
-bounded p g totals grid count each k d lt = rw (each k d (rw count at lt)) (area_of_count (window_area p g (k % g.columns) (k / g.columns)) (window_small p g (k % g.columns) (k / g.columns) grid))
+pub bounded : (p : ℤ → ℤ → Bool) (g : Grid) (totals : List ℤ) → IsGrid g → length totals ≡ g.across.count * g.up.count → ((k : ℕ) (d : ℤ) → k < g.across.count * g.up.count → get_or totals k d ≡ area_at p g k) → All IsArea totals
+bounded p g totals grid count each k d lt = rw (each k d (rw count at lt)) (area_of_count (window_area p g (k % g.across.count) (k / g.across.count)) (window_small p g (k % g.across.count) (k / g.across.count) grid))
   where
     area_of_count : (n : ℕ) → n ≤ 2 ^ 40 → IsArea (pos n)
     area_of_count n small = record { least = omega (arith, ints); most = omega (arith, ints) }

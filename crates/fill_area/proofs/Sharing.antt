@@ -9,8 +9,11 @@ use Rattle.fill_base.specs.Counts.{is_between}
 use Rattle.fill_base.specs.Squares.{squares}
 use Rattle.fill_base.proofs.Signed.{read}
 use Rattle.fill_base.proofs.Between.{is_between_true, is_between_bounds}
-use Rattle.fill_area.specs.Grid.{Grid, IsLength, window_left, window_right, window_bottom, window_top}
-use Rattle.fill_area.specs.Places.{IsPlace, IsTouching, IsContaining, IsWindow, ShareASquare, Holds, window_squares}
+use Rattle.fill_area.specs.Grid.{Grid, window_left, window_right, window_bottom, window_top}
+use Rattle.fill_area.specs.Axes.{IsLength}
+use Rattle.fill_area.specs.Axes.{IsIndex, IsTouching, IsContaining, IsRangeOf}
+use Rattle.fill_area.specs.declared.axis.Axis.{Axis}
+use Rattle.fill_area.specs.Sharing.{IsWindow, ShareASquare, Holds, window_squares}
 
 -- two ranges that each begin below the other's end share a number
 record Shared (a b c d : ℤ) : Type 0 where
@@ -34,15 +37,15 @@ apart a b c d x h k =
 longer : (z length : ℤ) → pos 1 ≤ℤ length → z <ℤ (z +ℤ length)
 longer z length one = omega (arith, ints)
 
-pub windows_sharing : (g : Grid) (r : Rect) (c0 c1 r0 r1 : ℕ) → IsLength g.width → IsLength g.height
-    → ((a : ℕ) → IsPlace c0 c1 a ↔ IsTouching g.x g.width g.step_x g.columns r.x1 r.x2 a) → ((b : ℕ) → IsPlace r0 r1 b ↔ IsTouching g.y g.height g.step_y g.rows r.y1 r.y2 b)
-    → (a b : ℕ) → (IsPlace c0 c1 a × IsPlace r0 r1 b) ↔ (IsWindow g a b × ShareASquare (window_squares g a b) (squares r))
+pub windows_sharing : (g : Grid) (r : Rect) (c0 c1 r0 r1 : ℕ) → IsLength g.across.length → IsLength g.up.length
+    → ((a : ℕ) → IsIndex c0 c1 a ↔ IsTouching g.across r.x1 r.x2 a) → ((b : ℕ) → IsIndex r0 r1 b ↔ IsTouching g.up r.y1 r.y2 b)
+    → (a b : ℕ) → (IsIndex c0 c1 a × IsIndex r0 r1 b) ↔ (IsWindow g a b × ShareASquare (window_squares g a b) (squares r))
 windows_sharing g r c0 c1 r0 r1 wide tall columns rows a b = (
   (λ h.
       let across = (columns a).0 h.0 in
       let up = (rows b).0 h.1 in
-      let x = shared (window_left g a) (window_right g a) r.x1 r.x2 (longer (window_left g a) g.width wide.least) r.wide across.1 across.2 in
-      let y = shared (window_bottom g b) (window_top g b) r.y1 r.y2 (longer (window_bottom g b) g.height tall.least) r.tall up.1 up.2 in
+      let x = shared (window_left g a) (window_right g a) r.x1 r.x2 (longer (window_left g a) g.across.length wide.least) r.wide across.1 across.2 in
+      let y = shared (window_bottom g b) (window_top g b) r.y1 r.y2 (longer (window_bottom g b) g.up.length tall.least) r.tall up.1 up.2 in
       ((across.0, up.0), record { x = x.x; y = y.x; first = and_from _ _ x.first y.first; second = and_from _ _ x.second y.second })),
   (λ h.
       let x = apart (window_left g a) (window_right g a) r.x1 r.x2 h.1.x (first_so _ _ h.1.first) (first_so _ _ h.1.second) in
@@ -69,8 +72,8 @@ ends_in a b c d h k =
     (p.0, omega (arith, ints))
 
 pub windows_holding : (g : Grid) (r : Rect) (c0 c1 r0 r1 : ℕ)
-    → ((a : ℕ) → IsPlace c0 c1 a ↔ IsContaining g.x g.width g.step_x g.columns r.x1 r.x2 a) → ((b : ℕ) → IsPlace r0 r1 b ↔ IsContaining g.y g.height g.step_y g.rows r.y1 r.y2 b)
-    → (a b : ℕ) → (IsPlace c0 c1 a × IsPlace r0 r1 b) ↔ (IsWindow g a b × Holds (window_squares g a b) (squares r))
+    → ((a : ℕ) → IsIndex c0 c1 a ↔ IsContaining g.across r.x1 r.x2 a) → ((b : ℕ) → IsIndex r0 r1 b ↔ IsContaining g.up r.y1 r.y2 b)
+    → (a b : ℕ) → (IsIndex c0 c1 a × IsIndex r0 r1 b) ↔ (IsWindow g a b × Holds (window_squares g a b) (squares r))
 windows_holding g r c0 c1 r0 r1 columns rows a b = (
   (λ h.
       let across = (columns a).0 h.0 in
@@ -89,6 +92,6 @@ windows_holding g r c0 c1 r0 r1 columns rows a b = (
 )
 
 -- what the code asks of one axis, with its numbers as they were handed in
-pub as_written : (T : ℤ → ℤ → ℤ → ℕ → ℤ → ℤ → ℕ → Type 0) (first length step x1 x2 lo hi : ℤ) (count c0 c1 : ℕ) → x1 ≡ lo → x2 ≡ hi → read lo ≡ lo → read hi ≡ hi
-    → ((a : ℕ) → IsPlace c0 c1 a ↔ T first length step count (read x1) (read x2) a) → (a : ℕ) → IsPlace c0 c1 a ↔ T first length step count lo hi a
-as_written T first length step x1 x2 lo hi count c0 c1 low high low_read high_read h = rw (low, high, low_read, high_read) at h
+pub as_written : (T : Axis → ℤ → ℤ → ℕ → Type 0) (axis : Axis) (x1 x2 lo hi : ℤ) (count c0 c1 : ℕ) → x1 ≡ lo → x2 ≡ hi → read lo ≡ lo → read hi ≡ hi
+    → IsRangeOf (T axis (read x1) (read x2)) count c0 c1 → IsRangeOf (T axis lo hi) count c0 c1
+as_written T axis x1 x2 lo hi count c0 c1 low high low_read high_read h = rw (low, high, low_read, high_read) at h

@@ -4,7 +4,7 @@ use Rattle.std.proofs.lemmas.Int.{ints}
 use Rattle.std.proofs.lemmas.List.{get_or-set_same, get_or-set_other, length-set, get_or_default}
 use Rattle.fill_base.proofs.Signed.{read, read_is}
 use Rattle.fill_spans.specs.Comb.{AreSums}
-use Rattle.fill_area.specs.Parts.{PartAdded}
+use Rattle.fill_area.specs.steps.Parts.{PartAdded}
 
 -- the first `n` numbers have grown, and the others are as they were
 pub record PartGrown (count s n : ℕ) (old new : List ℤ) : Type 0 where

@@ -10,8 +10,8 @@ window_area p g a b = area_between p (window_left g a) (window_bottom g b) (wind
 -- a list of the areas of all windows of a grid, row by row
 pub record AreMeasured (p : ℤ → ℤ → Bool) (g : Grid) (totals : List ℤ) : Type 0 where
   pub grid : IsGrid g
-  pub count : length totals ≡ g.columns * g.rows
-  pub each : (a b : ℕ) → a < g.columns → b < g.rows → get_or totals (b * g.columns + a) (pos 0) ≡ pos (window_area p g a b)
+  pub count : length totals ≡ g.across.count * g.up.count
+  pub each : (a b : ℕ) → a < g.across.count → b < g.up.count → get_or totals (b * g.across.count + a) (pos 0) ≡ pos (window_area p g a b)
 
 -- the share is below `least` parts in a million
 abbrev pub IsBelow : ℤ → ℤ → ℤ → Type 0

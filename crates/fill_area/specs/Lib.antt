@@ -1,7 +1,5 @@
+pub mod Axes
 pub mod Grid
-pub mod Places
+pub mod Sharing
 pub mod Density
-pub mod GridOf
-pub mod Slabs
-pub mod Parts
-pub mod Strips
+pub mod steps

@@ -2,12 +2,14 @@
 //! squares: the layers above rely on that, and on the windows' places.
 #![tactic(auto)]
 
-pub mod area;
-pub mod measure;
-pub mod strips;
-pub mod windows;
+mod area;
+mod axis;
+mod measure;
+mod strips;
+mod windows;
 
 pub use area::{area_in, is_high, is_low};
+pub use axis::Axis;
 pub use measure::measure_all;
 pub use windows::{BadWindows, Windows};
 

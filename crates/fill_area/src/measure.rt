@@ -1,9 +1,10 @@
+//! All windows of a grid, measured in parallel.
 ghost use Rattle.std.specs.Prelude.{◌≡◌, ◌/◌, ◌%◌, ◌*◌, ◌+◌, ◌<◌, ◌≤◌, IfOk, All, pos, length, get_or, ℕ, ℤ};
 ghost use Rattle.fill_region.specs.Bands.{holds};
 ghost use Rattle.fill_area.specs.Density.{AreMeasured, IsArea, window_area};
 ghost use Rattle.fill_area.specs.Grid.{IsGrid};
-ghost use Rattle.fill_area.specs.Strips.{AreStripAt, AreStrips};
-ghost use Rattle.fill_area.specs.Parts.{PartAdded};
+ghost use Rattle.fill_area.specs.steps.Strips.{AreStripAt, AreStrips};
+ghost use Rattle.fill_area.specs.steps.Parts.{PartAdded};
 ghost use Rattle.fill_spans.specs.Comb.{AreSums};
 
 use crate::strips::measure_strip;
@@ -55,9 +56,9 @@ fn measure_into(
 )
     requires some { 1 ≤ strips }
     requires few { strips ≤ 64 }
-    requires count { length sums.old ≡ strips * (windows.now.columns * windows.now.rows) }
+    requires count { length sums.old ≡ strips * (windows.now.across.count * windows.now.up.count) }
     ensures len { length sums.new ≡ length sums.old }
-    ensures areas { (k : ℕ) (d : ℤ) → k < windows.now.columns * windows.now.rows → get_or sums.new k d ≡ pos (window_area (holds region.now) windows.now (k % windows.now.columns) (k / windows.now.columns)) }
+    ensures areas { (k : ℕ) (d : ℤ) → k < windows.now.across.count * windows.now.up.count → get_or sums.new k d ≡ pos (window_area (holds region.now) windows.now (k % windows.now.across.count) (k / windows.now.across.count)) }
 {
     let count = windows.len();
     measure_strips(rt, region, windows, strips, sums);
@@ -77,7 +78,7 @@ fn measure_strips(
     requires some { 1 ≤ strips }
     requires few { strips ≤ 64 }
     requires grid { IsGrid windows.now }
-    requires count { length sums.old ≡ strips * (windows.now.columns * windows.now.rows) }
+    requires count { length sums.old ≡ strips * (windows.now.across.count * windows.now.up.count) }
     ensures { AreStrips (holds region.now) windows.now strips sums.new }
 {
     let columns = windows.columns() as usize;
@@ -89,8 +90,8 @@ fn measure_strips(
             requires some { 1 ≤ strips }
             requires few { strips ≤ 64 }
             requires grid { IsGrid windows.now }
-            requires place { start < strips * (windows.now.columns * windows.now.rows) }
-            requires columns { length row.now ≡ windows.now.columns }
+            requires index { start < strips * (windows.now.across.count * windows.now.up.count) }
+            requires columns { length row.now ≡ windows.now.across.count }
             ensures { AreStripAt (holds region.entry.now) windows.entry.now strips start row.exit.now }
         { measure_strip(region, windows, strips, start, row) },
     );

@@ -6,7 +6,7 @@ use Rattle.std.proofs.lemmas.Int.{ints, clamps, by_lt_z}
 use Rattle.std.proofs.lemmas.List.{take_all}
 use Rattle.fill_base.specs.Coordinates.{lowest, highest, IsInRange}
 use Rattle.fill_base.specs.Counts.{span_len}
-use Rattle.fill_base.proofs.Signed.{read, read32, read_is, fits_max, le_trans}
+use Rattle.fill_base.proofs.Signed.{read, read32, read_is, fits_max, fits_min, le_trans}
 use Rattle.fill_spans.specs.Spans.{inside, floor, ceiling}
 use Rattle.fill_region.specs.Bands.{Band, row_from, holds, last_row, next_bottom, IsRegion}
 use Rattle.fill_region.specs.steps.FirstAbove.{IsFirstAbove}
@@ -82,64 +82,77 @@ row_passed bs from top next n at lt within is = record {
 pub record IsBegun (bs : List Band) (bottom from top : ℤ) (n : ℕ) : Type 0 where
   pub at : IsAtBand bs from top n
   pub passed : (x y : ℤ) → bottom ≤ℤ y → y <ℤ from → holds bs x y ≡ false
+  pub within : bottom ≤ℤ top → from ≤ℤ top
 
-at_begin : (bs : List Band) (bottom from top : ℤ) (k : ℕ) → IsRegion bs → FitsSigned w64 from → FitsSigned w64 top → IsFirstAbove bs bottom k → from ≡ int_max bottom (next_bottom bs (max k 1 - 1)) → IsAtBand bs from top (max k 1)
+at_begin : (bs : List Band) (bottom from top : ℤ) (k : ℕ) → IsRegion bs → FitsSigned w64 from → FitsSigned w64 top → IsFirstAbove bs bottom k → from ≡ int_max bottom (int_min (next_bottom bs (max k 1 - 1)) top) → IsAtBand bs from top (max k 1)
 at_begin bs bottom from top zero region from_fits top_fits first is = record {
   region = region;
   from_fits = from_fits;
   top_fits = top_fits;
   some = omega arith;
-  before = λ lt k less inner. let e : k ≡ 0 = omega arith in rw (e, is) (later bottom (next_bottom bs 0));
-  after = λ lt inner. rw is (both bottom (next_bottom bs 0) (next_bottom bs 1) (first.after (omega arith)) (bottom_next floor ceiling [] bs 0 (omega arith) region.bands));
+  before = λ lt k less inner. let e : k ≡ 0 = omega arith in rw e (later bottom from top (next_bottom bs 0) lt is);
+  after = λ lt inner. both bottom from top (next_bottom bs 0) (next_bottom bs 1) lt is (first.after (omega arith)) (bottom_next floor ceiling [] bs 0 (omega arith) region.bands);
 }
   where
-    later : (a b : ℤ) → b ≤ℤ int_max a b
-    later a b = omega (arith, ints, clamps)
+    later : (bottom from top first : ℤ) → from <ℤ top → from ≡ int_max bottom (int_min first top) → first ≤ℤ from
+    later bottom from top first lt is = omega (arith, ints, clamps)
 
-    both : (a b c : ℤ) → a <ℤ b → b <ℤ c → int_max a b <ℤ c
-    both a b c h k = omega (arith, ints, clamps)
+    both : (bottom from top first next : ℤ) → from <ℤ top → from ≡ int_max bottom (int_min first top) → bottom <ℤ first → first <ℤ next → from <ℤ next
+    both bottom from top first next lt is h k = omega (arith, ints, clamps)
 at_begin bs bottom from top (suc k) region from_fits top_fits first is = record {
   region = region;
   from_fits = from_fits;
   top_fits = top_fits;
   some = omega arith;
   before = λ lt j less inner. le_trans _ bottom from (first.before j (omega arith)) (rw is (omega (arith, ints, clamps)));
-  after = λ lt inner. rw (whole bs bottom from k is (first.before k (omega arith))) (rw (index k) (first.after (rw (sym (index k)) inner)));
+  after = λ lt inner. rw (whole bs bottom from top k lt is (first.before k (omega arith))) (rw (index k) (first.after (rw (sym (index k)) inner)));
 }
   where
     index : (k : ℕ) → max (suc k) 1 ≡ suc k
     index k = omega arith
 
-    whole : (bs : List Band) (bottom from : ℤ) (k : ℕ) → from ≡ int_max bottom (next_bottom bs (max (suc k) 1 - 1)) → next_bottom bs k ≤ℤ bottom → from ≡ bottom
-    whole bs bottom from k is le = let e : max (suc k) 1 - 1 ≡ k = omega arith in is ∙ (ap (λ n. int_max bottom (next_bottom bs n)) e ∙ (omega (arith, ints, clamps)))
-
-passed_at_begin : (bs : List Band) (bottom from : ℤ) (k : ℕ) → IsRegion bs → IsFirstAbove bs bottom k → from ≡ int_max bottom (next_bottom bs (max k 1 - 1)) → (x y : ℤ) → bottom ≤ℤ y → y <ℤ from → holds bs x y ≡ false
-passed_at_begin bs bottom from zero region first is x y low high =
-    ap (λ row. inside row x) (row_of_place floor ceiling y [] bs 0 region.bands (omega arith) (λ k less. absurd (omega arith)) (λ inner. below y bottom from (next_bottom bs 0) low high is))
-  where
-    below : (y bottom from first : ℤ) → bottom ≤ℤ y → y <ℤ from → from ≡ int_max bottom first → y <ℤ first
-    below y bottom from first low lt is = omega (arith, ints, clamps)
-passed_at_begin bs bottom from (suc k) region first is x y low high = absurd (none bs bottom from k y low high is (first.before k (omega arith)))
-  where
-    none : (bs : List Band) (bottom from : ℤ) (k : ℕ) (y : ℤ) → bottom ≤ℤ y → y <ℤ from → from ≡ int_max bottom (next_bottom bs (max (suc k) 1 - 1)) → next_bottom bs k ≤ℤ bottom → ⊥
-    none bs bottom from k y low high is le =
+    whole : (bs : List Band) (bottom from top : ℤ) (k : ℕ) → from <ℤ top → from ≡ int_max bottom (int_min (next_bottom bs (max (suc k) 1 - 1)) top) → next_bottom bs k ≤ℤ bottom → from ≡ bottom
+    whole bs bottom from top k lt is le =
         let e : max (suc k) 1 - 1 ≡ k = omega arith in
-        let is' : from ≡ int_max bottom (next_bottom bs k) = is ∙ ap (λ n. int_max bottom (next_bottom bs n)) e in
+        let is' : from ≡ int_max bottom (int_min (next_bottom bs k) top) = is ∙ ap (λ n. int_max bottom (int_min (next_bottom bs n) top)) e in
         omega (arith, ints, clamps)
 
-pub begun : (bs : List Band) (bottom top below cast from : ℤ) (k n : ℕ) → IsRegion bs → FitsSigned w64 bottom → FitsSigned w64 top → IsFirstAbove bs (read bottom) k → n ≡ max k 1
-    → below ≡ next_bottom bs (n - 1) → cast ≡ read32 below → from ≡ int_max (read bottom) (read cast) → IsBegun bs bottom (read from) (read top) n
-begun bs bottom top below cast from k n region bottom_fits top_fits first n_is below_is cast_is from_is =
-    let low : read bottom ≡ bottom = read_is bottom bottom_fits in
-    let here : IsFirstAbove bs bottom k = rw low at first in
+passed_at_begin : (bs : List Band) (bottom from top : ℤ) (k : ℕ) → IsRegion bs → IsFirstAbove bs bottom k → from ≡ int_max bottom (int_min (next_bottom bs (max k 1 - 1)) top) → (x y : ℤ) → bottom ≤ℤ y → y <ℤ from → holds bs x y ≡ false
+passed_at_begin bs bottom from top zero region first is x y low high =
+    ap (λ row. inside row x) (row_of_place floor ceiling y [] bs 0 region.bands (omega arith) (λ k less. absurd (omega arith)) (λ inner. below y bottom from top (next_bottom bs 0) low high is))
+  where
+    below : (y bottom from top first : ℤ) → bottom ≤ℤ y → y <ℤ from → from ≡ int_max bottom (int_min first top) → y <ℤ first
+    below y bottom from top first low lt is = omega (arith, ints, clamps)
+passed_at_begin bs bottom from top (suc k) region first is x y low high = absurd (none bs bottom from top k y low high is (first.before k (omega arith)))
+  where
+    none : (bs : List Band) (bottom from top : ℤ) (k : ℕ) (y : ℤ) → bottom ≤ℤ y → y <ℤ from → from ≡ int_max bottom (int_min (next_bottom bs (max (suc k) 1 - 1)) top) → next_bottom bs k ≤ℤ bottom → ⊥
+    none bs bottom from top k y low high is le =
+        let e : max (suc k) 1 - 1 ≡ k = omega arith in
+        let is' : from ≡ int_max bottom (int_min (next_bottom bs k) top) = is ∙ ap (λ n. int_max bottom (int_min (next_bottom bs n) top)) e in
+        omega (arith, ints, clamps)
+
+pub begun : (bs : List Band) (bottom top below cast low from : ℤ) (k n : ℕ) → IsRegion bs → FitsSigned w64 bottom → FitsSigned w64 top → IsFirstAbove bs (read bottom) k → n ≡ max k 1
+    → below ≡ next_bottom bs (n - 1) → cast ≡ read32 below → low ≡ int_min (read cast) (read top) → from ≡ int_max (read bottom) (read low) → IsBegun bs bottom (read from) (read top) n
+begun bs bottom top below cast low from k n region bottom_fits top_fits first n_is below_is cast_is low_is from_is =
+    let here : IsFirstAbove bs bottom k = rw (read_is bottom bottom_fits) at first in
     let band : cast ≡ next_bottom bs (max k 1 - 1) = cast_is ∙ (ap read32 (below_is ∙ ap (λ m. next_bottom bs (m - 1)) n_is) ∙ bottom_read bs (max k 1 - 1) region) in
     let range = bottom_range floor ceiling [] bs (max k 1 - 1) region.bands in
-    let is : from ≡ int_max bottom (next_bottom bs (max k 1 - 1)) = from_is ∙ (ap (λ z. int_max z (read cast)) low ∙ ap (λ z. int_max bottom z) (ap read band ∙ read_is _ (edge_fits _ range.0 range.1))) in
-    let from_fits : FitsSigned w64 from = rw is (fits_max bottom (next_bottom bs (max k 1 - 1)) bottom_fits (edge_fits _ range.0 range.1)) in
-    rw (read_is from from_fits, read_is top top_fits, n_is) (record { at = at_begin bs bottom from top k region from_fits top_fits here is; passed = passed_at_begin bs bottom from k region here is })
+    let band_fits : FitsSigned w64 (next_bottom bs (max k 1 - 1)) = edge_fits _ range.0 range.1 in
+    let low' : low ≡ int_min (next_bottom bs (max k 1 - 1)) top = low_is ∙ rw (band, read_is _ band_fits, read_is top top_fits) refl in
+    let low_fits : FitsSigned w64 (int_min (next_bottom bs (max k 1 - 1)) top) = fits_min _ top band_fits top_fits in
+    let is : from ≡ int_max bottom (int_min (next_bottom bs (max k 1 - 1)) top) = from_is ∙ rw (read_is bottom bottom_fits, low', read_is _ low_fits) refl in
+    let from_fits : FitsSigned w64 from = rw is (fits_max bottom _ bottom_fits low_fits) in
+    rw (read_is from from_fits, read_is top top_fits, n_is) (record {
+      at = at_begin bs bottom from top k region from_fits top_fits here is;
+      passed = passed_at_begin bs bottom from top k region here is;
+      within = λ ordered. below_top bottom from top (next_bottom bs (max k 1 - 1)) is ordered;
+    })
   where
     edge_fits : (z : ℤ) → floor <ℤ z → z ≤ℤ ceiling → FitsSigned w64 z
     edge_fits z low high = omega (arith, ints)
+
+    below_top : (bottom from top first : ℤ) → from ≡ int_max bottom (int_min first top) → bottom ≤ℤ top → from ≤ℤ top
+    below_top bottom from top first is ordered = omega (arith, ints, clamps)
 
 -- as the code reads its numbers
 int_below : (a b : ℤ) → int_le b a ≡ false → a <ℤ b

@@ -52,13 +52,15 @@ impl Region {
     pub fn rows(&self, bottom: i64, top: i64) -> Rows<'_>
         ensures region { result.region ≡ self.now }
         ensures begins { bottom ≤ℤ result.from }
+        ensures within { bottom ≤ℤ top → result.from ≤ℤ top }
         ensures top { result.top ≡ top }
         ensures passed { (x y : ℤ) → bottom ≤ℤ y → y <ℤ result.from → holds self.now x y ≡ false }
         ensures in_range { (x y : ℤ) → holds self.now x y ≡ true → IsInRange x y }
     {
         let bands = self.bands();
         let next = first_above(bands, bottom).max(1);
-        let from = bottom.max(i64::from(bottom_at(bands, next - 1)));
+        let first = i64::from(bottom_at(bands, next - 1));
+        let from = bottom.max(first.min(top));
         Rows {
             bands,
             next,

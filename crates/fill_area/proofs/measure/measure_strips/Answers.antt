@@ -14,8 +14,8 @@ returns g c =
     record {
       count = c.par_chunks_mut_for_each.auto.s ∙ c.requires.count;
       each = λ s k d s_in k_in.
-          let place = s * (windows.columns * windows.rows) + k in
-          let here = (c.par_chunks_mut_for_each.ensures.by_index place d (rw c.requires.count (place_within windows c.args.strips s k s_in k_in))).1 in
+          let index = s * (windows.across.count * windows.up.count) + k in
+          let here = (c.par_chunks_mut_for_each.ensures.by_index index d (rw c.requires.count (place_within windows c.args.strips s k s_in k_in))).1 in
           let inner = offset_within windows _ here.start here.offset c.args.sums.now here.argument.now c.columns-columns.ensures here.argument_is here.offset_in_chunk in
           sym here.new_element ∙ strip_number (holds c.args.region.now) windows c.args.strips s k here.start here.offset d here.after_call.now c.requires.grid k_in inner.0 inner.1 here.start_plus_offset here.call;
     }

@@ -1,39 +1,35 @@
 use Rattle.std.proofs.Common.{◌∙◌, ap, replicate, pos}
-use Rattle.fill_area.proofs.Rows.{few_lines, row_starts, turn_ready, end_ready, row_turn, lines_end}
+use Rattle.fill_area.proofs.Rows.{few_lines, row_starts, row_ready, row_added, rows_end}
 use Rattle.fill_area.proofs.strips.measure_lines.Goals as goal
 
-pub walk-init : goal.walk-init
-walk-init c = row_starts c.args.bands.now c.args.windows.now c.args.from c.args.to c.first_above-k.result c.fill.new.self c.ranges.from c.ranges.to c.first_above-k.ensures c.requires.ordered
-    (c.fill.ensures.after (λ y same. same) ∙ ap (λ n. replicate n (pos 0)) c.requires.columns)
+pub rows-init : goal.rows-init
+rows-init c =
+    let rows = c.rows-row-items.ensures in
+    rw c.into_iter-row-iterator.ensures.into_iter_gives
+    (row_starts c.args.region.now c.args.windows.now c.args.from c.args.to c.rows-row-items.result c.fill.new.self c.requires.grid
+    (few_lines c.args.from c.args.to c.ranges.from c.ranges.to c.requires.low c.requires.ordered c.requires.high c.requires.short)
+    (c.fill.ensures.after (λ y same. same) ∙ ap (λ n. replicate n (pos 0)) c.requires.columns) rows.region rows.begins rows.within rows.top rows.passed)
 
-pub add_slab-requires-clause-least : goal.add_slab-requires-clause-least
-add_slab-requires-clause-least c = (turn_ready c.args.bands.now c.args.windows.now _ _ _ c.in-Some.bottom c.walk.k c.walk.sums c.requires.region c.requires.grid
-    (few_lines c.args.from c.args.to c.ranges.from c.ranges.to c.requires.low c.requires.ordered c.requires.high c.requires.short) c.walk.invariant c.in-Some.ensures.some).least
+pub overflow_sub-row : goal.overflow_sub-row
+overflow_sub-row c = (row_ready c.args.region.now c.args.windows.now _ _ c.rows.row-iterator c.in-Some.row c.next.new.self c.rows.sums c.requires.grid
+    (few_lines c.args.from c.args.to c.ranges.from c.ranges.to c.requires.low c.requires.ordered c.requires.high c.requires.short) c.rows.invariant c.in-Some.ensures.steps).fits
 
-pub add_slab-requires-clause-most : goal.add_slab-requires-clause-most
-add_slab-requires-clause-most c = (turn_ready c.args.bands.now c.args.windows.now _ _ _ c.in-Some.bottom c.walk.k c.walk.sums c.requires.region c.requires.grid
-    (few_lines c.args.from c.args.to c.ranges.from c.ranges.to c.requires.low c.requires.ordered c.requires.high c.requires.short) c.walk.invariant c.in-Some.ensures.some).most
+pub add_lengths-requires-clause-least : goal.add_lengths-requires-clause-least
+add_lengths-requires-clause-least c = (row_ready c.args.region.now c.args.windows.now _ _ c.rows.row-iterator c.in-Some.row c.next.new.self c.rows.sums c.requires.grid
+    (few_lines c.args.from c.args.to c.ranges.from c.ranges.to c.requires.low c.requires.ordered c.requires.high c.requires.short) c.rows.invariant c.in-Some.ensures.steps).least
 
-pub add_slab-requires-clause-sums : goal.add_slab-requires-clause-sums
-add_slab-requires-clause-sums c = (turn_ready c.args.bands.now c.args.windows.now _ _ _ c.in-Some.bottom c.walk.k c.walk.sums c.requires.region c.requires.grid
-    (few_lines c.args.from c.args.to c.ranges.from c.ranges.to c.requires.low c.requires.ordered c.requires.high c.requires.short) c.walk.invariant c.in-Some.ensures.some).ready
+pub add_lengths-requires-clause-most : goal.add_lengths-requires-clause-most
+add_lengths-requires-clause-most c = (row_ready c.args.region.now c.args.windows.now _ _ c.rows.row-iterator c.in-Some.row c.next.new.self c.rows.sums c.requires.grid
+    (few_lines c.args.from c.args.to c.ranges.from c.ranges.to c.requires.low c.requires.ordered c.requires.high c.requires.short) c.rows.invariant c.in-Some.ensures.steps).most
 
-pub walk-preserved : goal.walk-preserved
-walk-preserved c = row_turn c.args.bands.now c.args.windows.now _ _ _ c.in-Some.bottom c.walk.k c.walk.sums c.add_slab.new.sums c.requires.region c.requires.grid
-    (few_lines c.args.from c.args.to c.ranges.from c.ranges.to c.requires.low c.requires.ordered c.requires.high c.requires.short) c.walk.invariant c.in-Some.ensures.some c.add_slab.ensures
+pub add_lengths-requires-clause-sums : goal.add_lengths-requires-clause-sums
+add_lengths-requires-clause-sums c = (row_ready c.args.region.now c.args.windows.now _ _ c.rows.row-iterator c.in-Some.row c.next.new.self c.rows.sums c.requires.grid
+    (few_lines c.args.from c.args.to c.ranges.from c.ranges.to c.requires.low c.requires.ordered c.requires.high c.requires.short) c.rows.invariant c.in-Some.ensures.steps).ready
 
-pub add_slab-requires-2-clause-least : goal.add_slab-requires-2-clause-least
-add_slab-requires-2-clause-least c = (end_ready c.args.bands.now c.args.windows.now _ _ _ c.walk.k c.walk.sums c.requires.grid
-    (few_lines c.args.from c.args.to c.ranges.from c.ranges.to c.requires.low c.requires.ordered c.requires.high c.requires.short) c.walk.invariant).least
-
-pub add_slab-requires-2-clause-most : goal.add_slab-requires-2-clause-most
-add_slab-requires-2-clause-most c = (end_ready c.args.bands.now c.args.windows.now _ _ _ c.walk.k c.walk.sums c.requires.grid
-    (few_lines c.args.from c.args.to c.ranges.from c.ranges.to c.requires.low c.requires.ordered c.requires.high c.requires.short) c.walk.invariant).most
-
-pub add_slab-requires-2-clause-sums : goal.add_slab-requires-2-clause-sums
-add_slab-requires-2-clause-sums c = (end_ready c.args.bands.now c.args.windows.now _ _ _ c.walk.k c.walk.sums c.requires.grid
-    (few_lines c.args.from c.args.to c.ranges.from c.ranges.to c.requires.low c.requires.ordered c.requires.high c.requires.short) c.walk.invariant).ready
+pub rows-preserved : goal.rows-preserved
+rows-preserved c = row_added c.args.region.now c.args.windows.now _ _ _ c.rows.row-iterator c.in-Some.row c.next.new.self c.rows.sums c.add_lengths.new.sums c.requires.grid c.rows.invariant c.in-Some.ensures.steps
+    (row_ready c.args.region.now c.args.windows.now _ _ c.rows.row-iterator c.in-Some.row c.next.new.self c.rows.sums c.requires.grid
+    (few_lines c.args.from c.args.to c.ranges.from c.ranges.to c.requires.low c.requires.ordered c.requires.high c.requires.short) c.rows.invariant c.in-Some.ensures.steps).is c.add_lengths.ensures
 
 pub returns : goal.returns
-returns c = lines_end c.args.bands.now c.args.windows.now c.args.from c.args.to _ c.walk.k c.walk.sums c.add_slab-2.new.sums c.ranges.from c.ranges.to c.requires.region c.requires.grid
-    (few_lines c.args.from c.args.to c.ranges.from c.ranges.to c.requires.low c.requires.ordered c.requires.high c.requires.short) c.walk.invariant c.in_default.ensures.none c.add_slab-2.ensures
+returns c = rows_end c.args.region.now c.args.windows.now c.args.from c.args.to c.rows.row-iterator c.next.new.self c.rows.sums c.ranges.from c.ranges.to c.requires.grid c.rows.invariant c.in-None.ensures.steps

@@ -1,11 +1,11 @@
 use Rattle.std.proofs.Common.{rules, w64, FitsSigned}
 use Rattle.fill_base.proofs.Signed.{read_is}
 use Rattle.fill_area.proofs.GridTests.{limited, axis_test}
-use Rattle.fill_area.proofs.windows.is_axis.Goals as goal
+use Rattle.fill_area.proofs.axis.Axis.is_within.Goals as goal
 
 pub returns : goal.returns
 returns c =
-    let axis = c.args.axis in
+    let axis = c.args.self in
     let first : FitsSigned w64 axis.first = search rules in
     let length : FitsSigned w64 axis.length = search rules in
     let step : FitsSigned w64 axis.step = search rules in

@@ -1,5 +1,5 @@
 -- Which windows in a row begin below a number.
-use Rattle.std.proofs.Common.{◌≡◌, ℕ, suc, zero, ◌+◌, ◌*◌, ◌≤◌, ◌<◌, ℤ, pos, negsuc, ◌+ℤ◌, ◌-ℤ◌, ◌*ℤ◌, ◌≤ℤ◌, ◌<ℤ◌, ◌↔◌, refl, arith, ◌∙◌}
+use Rattle.std.proofs.Common.{◌≡◌, ℕ, suc, zero, ◌+◌, ◌*◌, ◌≤◌, ◌<◌, ℤ, pos, negsuc, ◌+ℤ◌, ◌-ℤ◌, ◌*ℤ◌, ◌≤ℤ◌, ◌<ℤ◌, ◌↔◌, refl, arith, ◌∙◌, max}
 use Rattle.std.proofs.lemmas.Int.{ints, by_lt_z}
 use Rattle.std.proofs.lemmas.Grind.{div_ceil_times}
 use Rattle.std.proofs.Math.Nat.{mul-le-mul}
@@ -7,9 +7,10 @@ use Rattle.std.specs.Prelude.{false, int_le, nat_abs}
 use Rattle.std.specs.Int.{div_ceil}
 use Rattle.fill_base.specs.Coordinates.{lowest, highest, IsCoordinate}
 use Rattle.fill_base.proofs.Signed.{read, read_is, coordinate_fits}
-use Rattle.fill_area.specs.Grid.{IsLength, IsAxis}
-use Rattle.fill_area.specs.Places.{IsBegun, IsLimit, IsPlace, IsTouching, IsContaining}
-use Rattle.fill_area.proofs.Axes.{length_fits}
+use Rattle.fill_area.specs.Axes.{IsLength, IsAxis}
+use Rattle.fill_area.specs.Axes.{IsIndex, IsTouching, IsContaining, IsRangeOf}
+use Rattle.fill_area.specs.steps.Begun.{IsBegun, IsLimit}
+use Rattle.fill_area.proofs.Axes.{axis_of, length_fits}
 
 same : (s : ℕ) → s ≤ s
 same s = omega arith
@@ -33,8 +34,8 @@ later : (m s n a : ℕ) → IsCeiling m s n → n ≤ a → m ≤ a * s
 later m s n a is le = let h : n * s ≤ a * s = mul-le-mul le (same s) in let k : m ≤ n * s = is.reaches in omega arith
 
 -- the steps to the limit, or all of the windows where those are more
-pub begun_steps : (first limit : ℤ) (count m s n : ℕ) → limit -ℤ first ≡ pos m → IsCeiling m s n → n ≤ count → IsBegun first (pos s) count limit n
-begun_steps first limit count m s n gap is le = record {
+pub begun_steps : (first length limit : ℤ) (count m s n : ℕ) → limit -ℤ first ≡ pos m → IsCeiling m s n → n ≤ count → IsBegun (axis_of first length (pos s) count) limit n
+begun_steps first length limit count m s n gap is le = record {
   few = le;
   begun = λ a lt. low (a * s) (earlier m s n a is lt);
   later = λ a lt h. high (a * s) (later m s n a is h);
@@ -46,8 +47,8 @@ begun_steps first limit count m s n gap is le = record {
     high : (k : ℕ) → m ≤ k → limit ≤ℤ (first +ℤ pos k)
     high k le = omega (arith, ints)
 
-pub begun_all : (first limit : ℤ) (count m s n : ℕ) → limit -ℤ first ≡ pos m → IsCeiling m s n → count ≤ n → IsBegun first (pos s) count limit count
-begun_all first limit count m s n gap is le = record {
+pub begun_all : (first length limit : ℤ) (count m s n : ℕ) → limit -ℤ first ≡ pos m → IsCeiling m s n → count ≤ n → IsBegun (axis_of first length (pos s) count) limit count
+begun_all first length limit count m s n gap is le = record {
   few = same count;
   begun = λ a lt. low (a * s) (earlier m s n a is (omega arith));
   later = λ a lt h. absurd (omega arith);
@@ -102,11 +103,11 @@ reckoned first step limit n coordinate length near after is =
       ceiling = ceiling gap.m s.m n (let one : pos 1 ≤ℤ step = length.least in positive step s.m s.is one) (steps ∙ both (limit -ℤ first) step gap.m s.m gap.is s.is);
     }
 
-pub begun_by_steps : (first step limit : ℤ) (count c n : ℕ) → IsReckoned first step limit n → c ≡ count → n < c → IsBegun first step count limit n
-begun_by_steps first step limit count c n r same_count lt = rw r.step_is (begun_steps first limit count r.m r.s n r.gap r.ceiling (omega arith))
+pub begun_by_steps : (first length step limit : ℤ) (count c n : ℕ) → IsReckoned first step limit n → c ≡ count → n < c → IsBegun (axis_of first length step count) limit n
+begun_by_steps first length step limit count c n r same_count lt = rw r.step_is (begun_steps first length limit count r.m r.s n r.gap r.ceiling (omega arith))
 
-pub begun_by_count : (first step limit : ℤ) (count c n : ℕ) → IsReckoned first step limit n → c ≡ count → c ≤ n → IsBegun first step count limit count
-begun_by_count first step limit count c n r same_count le = rw r.step_is (begun_all first limit count r.m r.s n r.gap r.ceiling (omega arith))
+pub begun_by_count : (first length step limit : ℤ) (count c n : ℕ) → IsReckoned first step limit n → c ≡ count → c ≤ n → IsBegun (axis_of first length step count) limit count
+begun_by_count first length step limit count c n r same_count le = rw r.step_is (begun_all first length limit count r.m r.s n r.gap r.ceiling (omega arith))
 
 under : {a b c : ℕ} → a < b → b ≤ c → a < c
 under h k = omega arith
@@ -115,8 +116,8 @@ by_lt : {P : Type 0} (a b : ℕ) → (a < b → P) → (b ≤ a → P) → P
 by_lt a b f g = by_lt_z (pos a) (pos b) (λ h. f (omega (arith, ints))) (λ h. g (omega (arith, ints)))
 
 -- on one axis: the windows that share a number with a range
-pub touching_places : (first length step lo hi : ℤ) (count n1 n2 : ℕ) → IsBegun first step count ((lo -ℤ length) +ℤ pos 1) n1 → IsBegun first step count hi n2
-    → (a : ℕ) → IsPlace n1 n2 a ↔ IsTouching first length step count lo hi a
+pub touching_places : (first length step lo hi : ℤ) (count n1 n2 : ℕ) → IsBegun (axis_of first length step count) ((lo -ℤ length) +ℤ pos 1) n1 → IsBegun (axis_of first length step count) hi n2
+    → (a : ℕ) → IsIndex n1 n2 a ↔ IsTouching (axis_of first length step count) lo hi a
 touching_places first length step lo hi count n1 n2 low high a = (
   (λ h. let near : ((lo -ℤ length) +ℤ pos 1) ≤ℤ (first +ℤ (pos a *ℤ step)) = low.later a (under h.1 high.few) h.0 in (under h.1 high.few, high.begun a h.1, over (first +ℤ (pos a *ℤ step)) near)),
   (λ h. (by_lt a n1 (λ lt. absurd (apart (first +ℤ (pos a *ℤ step)) (low.begun a lt) h.2)) (λ le. le), by_lt a n2 (λ lt. lt) (λ le. absurd (not_below (first +ℤ (pos a *ℤ step)) (high.later a h.0 le) h.1)))),
@@ -132,8 +133,8 @@ touching_places first length step lo hi count n1 n2 low high a = (
     not_below z h k = omega (arith, ints)
 
 -- on one axis: the windows that hold a range
-pub containing_places : (first length step lo hi : ℤ) (count n1 n2 : ℕ) → IsBegun first step count (hi -ℤ length) n1 → IsBegun first step count (lo +ℤ pos 1) n2
-    → (a : ℕ) → IsPlace n1 n2 a ↔ IsContaining first length step count lo hi a
+pub containing_places : (first length step lo hi : ℤ) (count n1 n2 : ℕ) → IsBegun (axis_of first length step count) (hi -ℤ length) n1 → IsBegun (axis_of first length step count) (lo +ℤ pos 1) n2
+    → (a : ℕ) → IsIndex n1 n2 a ↔ IsContaining (axis_of first length step count) lo hi a
 containing_places first length step lo hi count n1 n2 low high a = (
   (λ h. let near : (hi -ℤ length) ≤ℤ (first +ℤ (pos a *ℤ step)) = low.later a (under h.1 high.few) h.0 in (under h.1 high.few, most (first +ℤ (pos a *ℤ step)) (high.begun a h.1), over (first +ℤ (pos a *ℤ step)) near)),
   (λ h. (by_lt a n1 (λ lt. absurd (apart (first +ℤ (pos a *ℤ step)) (low.begun a lt) h.2)) (λ le. le), by_lt a n2 (λ lt. lt) (λ le. absurd (not_below (first +ℤ (pos a *ℤ step)) (high.later a h.0 le) h.1)))),
@@ -151,28 +152,42 @@ containing_places first length step lo hi count n1 n2 low high a = (
     not_below : (z : ℤ) → (lo +ℤ pos 1) ≤ℤ z → z ≤ℤ lo → ⊥
     not_below z h k = omega (arith, ints)
 
+-- the two counts as a range
+range_of : (P : ℕ → Type 0) (count n1 n2 n3 : ℕ) → n1 ≤ count → n2 ≤ count → n3 ≡ max n2 n1 → ((a : ℕ) → IsIndex n1 n2 a ↔ P a) → IsRangeOf P count n1 n3
+range_of P count n1 n2 n3 first last is exact = record {
+  ordered = omega arith;
+  within = omega arith;
+  exact = λ a. ((λ h. (exact a).0 (h.0, inside n1 n2 n3 a is h.0 h.1)), (λ p. let h = (exact a).1 p in (h.0, wider n1 n2 n3 a is h.1)));
+}
+  where
+    inside : (n1 n2 n3 a : ℕ) → n3 ≡ max n2 n1 → n1 ≤ a → a < n3 → a < n2
+    inside n1 n2 n3 a is low high = omega arith
+
+    wider : (n1 n2 n3 a : ℕ) → n3 ≡ max n2 n1 → a < n2 → a < n3
+    wider n1 n2 n3 a is high = omega arith
+
 -- the numbers that the code compares with, as the definitions write them
-pub touching_read : (first length step lo hi : ℤ) (count n1 n2 : ℕ) → IsAxis first length step count → IsCoordinate lo → IsCoordinate hi
-    → IsBegun first step count (read (read (read lo -ℤ read length) +ℤ pos 1)) n1 → IsBegun first step count (read hi) n2
-    → (a : ℕ) → IsPlace n1 n2 a ↔ IsTouching first length step count lo hi a
-touching_read first length step lo hi count n1 n2 axis low high begun_low begun_high =
+pub touching_read : (first length step lo hi : ℤ) (count n1 n2 n3 : ℕ) → IsAxis (axis_of first length step count) → IsCoordinate lo → IsCoordinate hi
+    → IsBegun (axis_of first length step count) (read (read (read lo -ℤ read length) +ℤ pos 1)) n1 → IsBegun (axis_of first length step count) (read hi) n2
+    → n3 ≡ max n2 n1 → IsRangeOf (IsTouching (axis_of first length step count) lo hi) count n1 n3
+touching_read first length step lo hi count n1 n2 n3 axis low high begun_low begun_high n3_is =
     let a1 : lowest ≤ℤ lo = low.least in let a2 : lo ≤ℤ highest = low.most in
     let b1 : pos 1 ≤ℤ length = axis.length_is.least in let b2 : length ≤ℤ pos 1048576 = axis.length_is.most in
     let less : read (lo -ℤ length) ≡ lo -ℤ length = read_is (lo -ℤ length) (omega (arith, ints)) in
     let one_more : read ((lo -ℤ length) +ℤ pos 1) ≡ (lo -ℤ length) +ℤ pos 1 = read_is ((lo -ℤ length) +ℤ pos 1) (omega (arith, ints)) in
-    touching_places first length step lo hi count n1 n2
+    range_of _ count n1 n2 n3 begun_low.few begun_high.few n3_is (touching_places first length step lo hi count n1 n2
     (rw (read_is lo (coordinate_fits lo low.least low.most), read_is length (length_fits length axis.length_is), less, one_more) at begun_low)
-    (rw (read_is hi (coordinate_fits hi high.least high.most)) at begun_high)
+    (rw (read_is hi (coordinate_fits hi high.least high.most)) at begun_high))
 
-pub containing_read : (first length step lo hi : ℤ) (count n1 n2 : ℕ) → IsAxis first length step count → IsCoordinate lo → IsCoordinate hi
-    → IsBegun first step count (read (read hi -ℤ read length)) n1 → IsBegun first step count (read (read lo +ℤ pos 1)) n2
-    → (a : ℕ) → IsPlace n1 n2 a ↔ IsContaining first length step count lo hi a
-containing_read first length step lo hi count n1 n2 axis low high begun_low begun_high =
+pub containing_read : (first length step lo hi : ℤ) (count n1 n2 n3 : ℕ) → IsAxis (axis_of first length step count) → IsCoordinate lo → IsCoordinate hi
+    → IsBegun (axis_of first length step count) (read (read hi -ℤ read length)) n1 → IsBegun (axis_of first length step count) (read (read lo +ℤ pos 1)) n2
+    → n3 ≡ max n2 n1 → IsRangeOf (IsContaining (axis_of first length step count) lo hi) count n1 n3
+containing_read first length step lo hi count n1 n2 n3 axis low high begun_low begun_high n3_is =
     let a1 : lowest ≤ℤ lo = low.least in let a2 : lo ≤ℤ highest = low.most in
     let c1 : lowest ≤ℤ hi = high.least in let c2 : hi ≤ℤ highest = high.most in
     let b1 : pos 1 ≤ℤ length = axis.length_is.least in let b2 : length ≤ℤ pos 1048576 = axis.length_is.most in
     let less : read (hi -ℤ length) ≡ hi -ℤ length = read_is (hi -ℤ length) (omega (arith, ints)) in
     let one_more : read (lo +ℤ pos 1) ≡ lo +ℤ pos 1 = read_is (lo +ℤ pos 1) (omega (arith, ints)) in
-    containing_places first length step lo hi count n1 n2
+    range_of _ count n1 n2 n3 begun_low.few begun_high.few n3_is (containing_places first length step lo hi count n1 n2
     (rw (read_is hi (coordinate_fits hi high.least high.most), read_is length (length_fits length axis.length_is), less) at begun_low)
-    (rw (read_is lo (coordinate_fits lo low.least low.most), one_more) at begun_high)
+    (rw (read_is lo (coordinate_fits lo low.least low.most), one_more) at begun_high))

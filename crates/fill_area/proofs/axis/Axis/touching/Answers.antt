@@ -1,0 +1,5 @@
+use Rattle.fill_area.proofs.Begun.{touching_read}
+use Rattle.fill_area.proofs.axis.Axis.touching.Goals as goal
+
+pub returns : goal.returns
+returns c = touching_read c.args.self.first c.args.self.length c.args.self.step c.args.lo c.args.hi c.args.self.count c.begun_below-start.result c.begun_below.result c.max.result c.requires.axis c.requires.low c.requires.high c.begun_below-start.ensures c.begun_below.ensures c.max.ensures

@@ -1,0 +1,23 @@
+-- What a window shares with a rectangle.
+use Rattle.std.specs.Prelude.{◌≡◌, ℕ, ◌<◌, ℤ, Bool, true, ◌&&◌}
+use Rattle.fill_base.specs.Counts.{is_between}
+use Rattle.fill_area.specs.Grid.{Grid, window_left, window_right, window_bottom, window_top}
+
+-- the window in column `a` and row `b` holds the square
+abbrev pub window_squares : Grid → ℕ → ℕ → ℤ → ℤ → Bool
+window_squares g a b x y = is_between (window_left g a) (window_right g a) x && is_between (window_bottom g b) (window_top g b) y
+
+-- the grid has a window in column `a` and row `b`
+abbrev pub IsWindow : Grid → ℕ → ℕ → Type 0
+IsWindow g a b = (a < g.across.count) × (b < g.up.count)
+
+-- some square is in both sets
+pub record ShareASquare (p q : ℤ → ℤ → Bool) : Type 0 where
+  pub x : ℤ
+  pub y : ℤ
+  pub first : p x y ≡ true
+  pub second : q x y ≡ true
+
+-- each square of `q` is in `p`
+abbrev pub Holds : (ℤ → ℤ → Bool) → (ℤ → ℤ → Bool) → Type 0
+Holds p q = (x y : ℤ) → q x y ≡ true → p x y ≡ true
