@@ -1,29 +1,18 @@
 -- Regions grown on all sides.
-use Rattle.std.proofs.Common.{◌≡◌, ◌≢◌, ℕ, zero, suc, ◌+◌, ◌≤◌, ◌<◌, ℤ, pos, ◌+ℤ◌, ◌-ℤ◌, ◌≤ℤ◌, ◌<ℤ◌, List, [], ◌∷◌, ◌++◌, length, take, get_or, refl, arith, ap, ◌∙◌, sym, Bool, true, false, not, ◌&&◌, ◌||◌, ◌↔◌, ◌⊎◌, inl, inr, w64}
+use Rattle.std.proofs.Common.{◌≡◌, ℕ, zero, suc, ◌+◌, ◌≤◌, ◌<◌, ℤ, pos, ◌+ℤ◌, ◌-ℤ◌, ◌≤ℤ◌, ◌<ℤ◌, List, [], ◌∷◌, ◌++◌, length, take, get_or, refl, arith, ap, ◌∙◌, sym, Bool, true, false, not, ◌||◌, ◌↔◌}
 use Rattle.std.specs.Prelude.{IsTrue}
 use Rattle.std.proofs.lemmas.Int.{ints, by_lt_z}
 use Rattle.std.proofs.lemmas.List.{take_more, take_all}
 use Rattle.fill_base.specs.declared.rect.Rect.{Rect}
-use Rattle.fill_base.specs.Coordinates.{lowest, highest}
+use Rattle.fill_base.specs.Coordinates.{lowest, highest, IsInRange}
 use Rattle.fill_base.specs.Squares.{squares}
 use Rattle.fill_base.proofs.Signed.{read}
-use Rattle.fill_spans.specs.Spans.{inside, floor, ceiling}
-use Rattle.fill_spans.proofs.Searching.{outside_low, outside_high}
-use Rattle.fill_region.specs.Bands.{Band, holds, row_from, IsRegion}
+use Rattle.fill_region.specs.Bands.{Band, holds}
 use Rattle.fill_region.specs.Squares.{covered}
-use Rattle.fill_region.proofs.Stack.{row_below, row_past, row_canonical}
-use Rattle.fill_region.proofs.Sweeping.{nothing_canonical}
 use Rattle.fill_size.specs.Distance.{IsNear, Reaches, HasSquare, IsSpacing, IsSized, StaysInRange}
 use Rattle.fill_size.specs.Growth.{FitsGrown, IsAdded}
 use Rattle.fill_size.proofs.Widening.{covered_more}
 use Rattle.fill_size.proofs.Ranges.{squares_inside, spacing_read, grown_read, shrunk_read, squares_true, nearest}
-
--- a square of a region lies within the coordinates
-pub record InRange (x y : ℤ) : Type 0 where
-  pub left : lowest ≤ℤ x
-  pub right : x <ℤ highest
-  pub bottom : lowest ≤ℤ y
-  pub top : y <ℤ highest
 
 not_both : (b : Bool) → b ≡ true → b ≡ false → ⊥
 not_both b h k = let e : true ≡ false = sym h ∙ k in cc
@@ -33,16 +22,6 @@ at_least a b none = by_lt_z a b (λ lt. absurd (none lt)) (λ le. le)
 
 below : (a b : ℤ) → (b ≤ℤ a → ⊥) → a <ℤ b
 below a b none = by_lt_z a b (λ lt. lt) (λ le. absurd (none le))
-
-pub region_in_range : (bs : List Band) (x y : ℤ) → IsRegion bs → holds bs x y ≡ true → InRange x y
-region_in_range bs x y region is =
-    let canonical = row_canonical floor ceiling y [] bs nothing_canonical region.bands in
-    record {
-      left = at_least x lowest (λ lt. not_both _ is (outside_low (row_from [] bs y) x canonical lt));
-      right = below x highest (λ le. not_both _ is (outside_high (row_from [] bs y) x canonical le));
-      bottom = at_least y lowest (λ lt. not_both _ is (ap (λ row. inside row x) (row_below floor ceiling y [] bs region.bands (omega (arith, ints)))));
-      top = below y highest (λ le. not_both _ is (ap (λ row. inside row x) (row_past floor ceiling y [] bs region.bands (omega (arith, ints)) ∙ region.closed)));
-    }
 
 -- no square lies in the strips that growing would leave the range from
 pub record StripsEmpty (p : ℤ → ℤ → Bool) (d : ℤ) : Type 0 where
@@ -87,13 +66,13 @@ stay_strips p d some stays = record {
     down x h = omega (arith, ints)
 
 -- the four strips, as the code looks at them
-pub strips_none : (bs : List Band) (d : ℤ) → IsRegion bs → (HasSquare (holds bs) lowest lowest (lowest +ℤ d) highest → ⊥) → (HasSquare (holds bs) (highest -ℤ d) lowest highest highest → ⊥)
+pub strips_none : (bs : List Band) (d : ℤ) → ((x y : ℤ) → holds bs x y ≡ true → IsInRange x y) → (HasSquare (holds bs) lowest lowest (lowest +ℤ d) highest → ⊥) → (HasSquare (holds bs) (highest -ℤ d) lowest highest highest → ⊥)
     → (HasSquare (holds bs) lowest lowest highest (lowest +ℤ d) → ⊥) → (HasSquare (holds bs) lowest (highest -ℤ d) highest highest → ⊥) → StripsEmpty (holds bs) d
 strips_none bs d region no_left no_right no_bottom no_top = record {
-  left = λ x y is. let r = region_in_range bs x y region is in at_least x _ (λ lt. no_left (record { x = x; y = y; square = is; from_left = r.left; to_right = lt; from_bottom = r.bottom; to_top = r.top }));
-  right = λ x y is. let r = region_in_range bs x y region is in below x _ (λ le. no_right (record { x = x; y = y; square = is; from_left = le; to_right = r.right; from_bottom = r.bottom; to_top = r.top }));
-  bottom = λ x y is. let r = region_in_range bs x y region is in at_least y _ (λ lt. no_bottom (record { x = x; y = y; square = is; from_left = r.left; to_right = r.right; from_bottom = r.bottom; to_top = lt }));
-  top = λ x y is. let r = region_in_range bs x y region is in below y _ (λ le. no_top (record { x = x; y = y; square = is; from_left = r.left; to_right = r.right; from_bottom = le; to_top = r.top }));
+  left = λ x y is. let r = region x y is in at_least x _ (λ lt. no_left (record { x = x; y = y; square = is; from_left = r.left; to_right = lt; from_bottom = r.bottom; to_top = r.top }));
+  right = λ x y is. let r = region x y is in below x _ (λ le. no_right (record { x = x; y = y; square = is; from_left = le; to_right = r.right; from_bottom = r.bottom; to_top = r.top }));
+  bottom = λ x y is. let r = region x y is in at_least y _ (λ lt. no_bottom (record { x = x; y = y; square = is; from_left = r.left; to_right = r.right; from_bottom = r.bottom; to_top = lt }));
+  top = λ x y is. let r = region x y is in below y _ (λ le. no_top (record { x = x; y = y; square = is; from_left = r.left; to_right = r.right; from_bottom = le; to_top = r.top }));
 }
 
 pub none_of_strips : (p : ℤ → ℤ → Bool) (d : ℤ) → StripsEmpty p d
@@ -108,7 +87,7 @@ none_of_strips p d e = (
     over : (a b : ℤ) → b ≤ℤ a → a <ℤ b → ⊥
     over a b h k = omega (arith, ints)
 
-pub fits_test : (bs : List Band) (d : ℤ) (a b c e : Bool) → IsRegion bs → pos 0 ≤ℤ d
+pub fits_test : (bs : List Band) (d : ℤ) (a b c e : Bool) → ((x y : ℤ) → holds bs x y ≡ true → IsInRange x y) → pos 0 ≤ℤ d
     → (IsTrue a ↔ HasSquare (holds bs) lowest lowest (lowest +ℤ d) highest) → (IsTrue b ↔ HasSquare (holds bs) (highest -ℤ d) lowest highest highest)
     → (IsTrue c ↔ HasSquare (holds bs) lowest lowest highest (lowest +ℤ d)) → (IsTrue e ↔ HasSquare (holds bs) lowest (highest -ℤ d) highest highest)
     → (IsTrue (not (((a || b) || c) || e)) ↔ StaysInRange (holds bs) d)
@@ -134,7 +113,7 @@ fits_test bs d a b c e region some la lb lc le = (
     not_true false false true e f g h i = absurd (h refl)
     not_true false false false true f g h i = absurd (i refl)
 
-pub fits_reads : (bs : List Band) (d : ℤ) (a b c e : Bool) → IsRegion bs → IsSpacing d
+pub fits_reads : (bs : List Band) (d : ℤ) (a b c e : Bool) → ((x y : ℤ) → holds bs x y ≡ true → IsInRange x y) → IsSpacing d
     → (IsTrue a ↔ HasSquare (holds bs) lowest lowest (read (lowest +ℤ read d)) highest) → (IsTrue b ↔ HasSquare (holds bs) (read (highest -ℤ read d)) lowest highest highest)
     → (IsTrue c ↔ HasSquare (holds bs) lowest lowest highest (read (lowest +ℤ read d))) → (IsTrue e ↔ HasSquare (holds bs) lowest (read (highest -ℤ read d)) highest highest)
     → (IsTrue (not (((a || b) || c) || e)) ↔ StaysInRange (holds bs) d)
@@ -142,18 +121,6 @@ fits_reads bs d a b c e region is la lb lc le =
     let low : read (lowest +ℤ read d) ≡ lowest +ℤ d = rw (spacing_read d is) (grown_read lowest d (record { least = omega (arith, ints); most = omega (arith, ints) }) is) in
     let high : read (highest -ℤ read d) ≡ highest -ℤ d = rw (spacing_read d is) (shrunk_read highest d (record { least = omega (arith, ints); most = omega (arith, ints) }) is) in
     fits_test bs d a b c e region is.least (rw low at la) (rw high at lb) (rw low at lc) (rw high at le)
-
-pub stays_by_none : (bs : List Band) → IsRegion bs → StaysInRange (holds bs) (pos 0)
-stays_by_none bs region = strips_stay (holds bs) (pos 0) (record {
-  left = λ x y is. let h = (region_in_range bs x y region is).left in omega (arith, ints);
-  right = λ x y is. let h = (region_in_range bs x y region is).right in omega (arith, ints);
-  bottom = λ x y is. let h = (region_in_range bs x y region is).bottom in omega (arith, ints);
-  top = λ x y is. let h = (region_in_range bs x y region is).top in omega (arith, ints);
-})
-
--- an equal number of numbers is spelled by an equal word
-pub zero_of_word : (d : ℤ) → IsSpacing d → Rattle.std.proofs.Common.of_z w64 d ≡ 0 → d ≡ pos 0
-zero_of_word d is h = sym (spacing_read d is) ∙ ap (λ n. Rattle.std.proofs.Common.to_z w64 n) h
 
 -- the squares of a grown rectangle are those that the rectangle reaches
 pub rect_sized : (r g : Rect) (d : ℤ) → pos 0 ≤ℤ d → g.x1 ≡ r.x1 -ℤ d → g.y1 ≡ r.y1 -ℤ d → g.x2 ≡ r.x2 +ℤ d → g.y2 ≡ r.y2 +ℤ d → IsSized (squares r) d (squares g)

@@ -1,14 +1,12 @@
-ghost use Rattle.std.specs.Prelude.{◌≡◌, ◌↔◌, ◌≤◌, ◌<◌, length, take, [], ℤ, pos, ◌≤ℤ◌, ◌<ℤ◌, IsTrue};
-ghost use Rattle.fill_base.specs.Coordinates.{IsCoordinate};
+//! Whether rectangles keep a spacing.
+ghost use Rattle.std.specs.Prelude.{◌≡◌, ◌↔◌, ℤ, true, IsTrue};
+ghost use Rattle.fill_base.specs.Coordinates.{IsCoordinate, IsInRange};
 ghost use Rattle.fill_base.specs.Squares.{squares};
-ghost use Rattle.fill_spans.specs.Search.{HasMember};
-ghost use Rattle.fill_region.specs.Bands.{holds, last_row, next_bottom, IsRegion};
+ghost use Rattle.fill_region.specs.Bands.{holds};
 ghost use Rattle.fill_size.specs.Distance.{AreNear, HasSquare, InConflict, IsSpacing};
 
 use fill_base::Rect;
 use fill_region::Region;
-use fill_region::region::{bottom_at, first_above};
-use fill_spans::Spans;
 
 /// Whether two rectangles are too near: the greater of their gaps in x and in y is below `spacing`,
 /// or they share a square (KLayout's `space` in the square metric). A gap equal to the spacing is
@@ -31,14 +29,14 @@ fn are_near(a: i64, b: i64, c: i64, d: i64, spacing: i64) -> bool
     (a < d + spacing) & (c < b + spacing)
 }
 
-/// Whether no square of the region is too near to the rectangle: by a search for the bands and edges
+/// Whether no square of the region is too near to the rectangle: by a search for the rows and edges
 /// around it, without memory. The spacing is 0 to 2^20 database units.
 pub fn is_clear(region: &Region, rect: &Rect, spacing: i64) -> bool
     requires { IsSpacing spacing }
     ensures { IsTrue result ↔ ¬ InConflict (holds region.now) (squares rect.now) spacing }
 {
     !has_square(
-        region.bands(),
+        region,
         rect.x1() - spacing,
         rect.y1() - spacing,
         rect.x2() + spacing,
@@ -46,42 +44,15 @@ pub fn is_clear(region: &Region, rect: &Rect, spacing: i64) -> bool
     )
 }
 
-/// Whether some square of the bands lies between these edges.
-pub(crate) fn has_square(
-    bands: &[(i32, Spans)],
-    left: i64,
-    bottom: i64,
-    right: i64,
-    top: i64,
-) -> bool
-    requires region { IsRegion bands.now }
-    requires tall { bottom <ℤ top }
-    ensures { IsTrue result ↔ HasSquare (holds bands.now) left bottom right top }
+/// Whether some square of the region lies between these edges.
+pub(crate) fn has_square(region: &Region, left: i64, bottom: i64, right: i64, top: i64) -> bool
+    ensures found { IsTrue result ↔ HasSquare (holds region.now) left bottom right top }
+    ensures in_range { (x y : ℤ) → holds region.now x y ≡ true → IsInRange x y }
 {
-    let mut k = first_above(bands, bottom);
-    'walk: loop {
-        if row_meets(bands, k, left, right) {
+    'rows: for row in region.rows(bottom, top) {
+        if row.spans.meets(left, right) {
             return true;
         }
-        if !begins_below(bands, k, top) {
-            return false;
-        }
-        k += 1;
     }
-}
-
-/// Whether the row before `k` has a member from `left` on and below `right`.
-fn row_meets(bands: &[(i32, Spans)], k: usize, left: i64, right: i64) -> bool
-    requires { k ≤ length bands.now }
-    ensures { IsTrue result ↔ HasMember (last_row [] (take k bands.now)) left right }
-{
-    k > 0 && bands[k - 1].1.meets(left, right)
-}
-
-/// Whether there is a band at `k` and it begins below `top`.
-fn begins_below(bands: &[(i32, Spans)], k: usize, top: i64) -> bool
-    requires { IsRegion bands.now }
-    ensures { IsTrue result ↔ ((k < length bands.now) × (next_bottom bands.now k <ℤ top)) }
-{
-    k < bands.len() && i64::from(bottom_at(bands, k)) < top
+    false
 }

@@ -1,3 +1,4 @@
+//! Regions grown on all sides.
 ghost use Rattle.std.specs.Prelude.{◌≡◌, ◌↔◌, ◌||◌, ◌+ℤ◌, ◌-ℤ◌, ℤ, IsTrue, IfOk, OnOk};
 ghost use Rattle.fill_base.specs.Squares.{squares};
 ghost use Rattle.fill_region.specs.Bands.{holds};
@@ -11,20 +12,16 @@ use fill_region::Region;
 use fill_spans::Spans;
 use std::alloc::{AllocError, Global};
 
-/// Whether the region, grown by `d` on all sides, stays within the range of coordinates. `d` is 0 to
-/// 2^20 database units.
+/// Whether the region, grown by `d` on all sides, stays within the range of coordinates, for any `d` from
+/// 0 to 2^20 database units.
 pub fn fits(region: &Region, d: i64) -> bool
     requires { IsSpacing d }
     ensures { IsTrue result ↔ StaysInRange (holds region.now) d }
 {
-    let bands = region.bands();
-    if d == 0 {
-        return true;
-    }
-    let left = has_square(bands, LOWEST, LOWEST, LOWEST + d, HIGHEST);
-    let right = has_square(bands, HIGHEST - d, LOWEST, HIGHEST, HIGHEST);
-    let bottom = has_square(bands, LOWEST, LOWEST, HIGHEST, LOWEST + d);
-    let top = has_square(bands, LOWEST, HIGHEST - d, HIGHEST, HIGHEST);
+    let left = has_square(region, LOWEST, LOWEST, LOWEST + d, HIGHEST);
+    let right = has_square(region, HIGHEST - d, LOWEST, HIGHEST, HIGHEST);
+    let bottom = has_square(region, LOWEST, LOWEST, HIGHEST, LOWEST + d);
+    let top = has_square(region, LOWEST, HIGHEST - d, HIGHEST, HIGHEST);
     !(left | right | bottom | top)
 }
 

@@ -1,24 +1,24 @@
 use Rattle.std.proofs.Common.{refl}
 use Rattle.fill_base.proofs.Signed.{read_is}
-use Rattle.fill_size.proofs.Scanning.{scan_found, scan_on, scan_ends, not_from, not_same}
+use Rattle.fill_size.proofs.Scanning.{scan_begins, scan_found, scan_on, scan_ends, not_from, not_same}
 use Rattle.fill_size.proofs.clearance.has_square.Goals as goal
 
-pub returns-then-row_meets : goal.returns-then-row_meets
-returns-then-row_meets c =
-    let scan = rw (read_is c.args.left c.ranges.left, read_is c.args.bottom c.ranges.bottom, read_is c.args.right c.ranges.right, read_is c.args.top c.ranges.top) at c.walk.invariant in
-    let meets = rw (read_is c.args.left c.ranges.left, read_is c.args.right c.ranges.right) at c.row_meets.ensures in
-    ((λ yes. scan_found c.args.bands.now c.args.left c.args.bottom c.args.right c.args.top c.first_above-k.result c.walk.k c.requires.region scan (meets.0 c.if-row_meets.true)), (λ h. refl))
+pub rows-init : goal.rows-init
+rows-init c =
+    let rows = c.rows-row-items.ensures in
+    rw c.into_iter-row-iterator.ensures.into_iter_gives
+    (scan_begins c.args.region.now _ _ _ _ c.rows-row-items.result rows.region rows.top rows.begins rows.passed)
 
-pub returns-then-not-begins_below : goal.returns-then-not-begins_below
-returns-then-not-begins_below c =
-    let scan = rw (read_is c.args.left c.ranges.left, read_is c.args.bottom c.ranges.bottom, read_is c.args.right c.ranges.right, read_is c.args.top c.ranges.top) at c.walk.invariant in
-    let meets = rw (read_is c.args.left c.ranges.left, read_is c.args.right c.ranges.right) at c.row_meets.ensures in
-    let below = rw (read_is c.args.top c.ranges.top) at c.begins_below.ensures in (
-      (λ yes. absurd (not_same yes)),
-      (λ h. absurd (scan_ends c.args.bands.now c.args.left c.args.bottom c.args.right c.args.top c.first_above-k.result c.walk.k c.requires.region scan
-          (not_from c.row_meets.result meets c.if-row_meets.false) (not_from c.begins_below.result below c.if-not-begins_below.true) h)),
-    )
+pub rows-preserved : goal.rows-preserved
+rows-preserved c = scan_on c.args.region.now _ _ _ _ c.rows.row-iterator c.in-Some.row c.next.new.self c.rows.invariant c.in-Some.ensures.steps (not_from c.meets.result c.meets.ensures c.if-meets.false)
 
-pub walk-preserved : goal.walk-preserved
-walk-preserved c = scan_on c.args.bands.now _ _ _ _ c.first_above-k.result c.walk.k c.requires.region c.walk.invariant (not_from c.row_meets.result c.row_meets.ensures c.if-row_meets.false)
-    (c.begins_below.ensures.0 c.if-not-begins_below.false).0 (c.begins_below.ensures.0 c.if-not-begins_below.false).1
+pub returns-then-meets-clause-found : goal.returns-then-meets-clause-found
+returns-then-meets-clause-found c =
+    let scan = rw (read_is c.args.left c.ranges.left, read_is c.args.bottom c.ranges.bottom, read_is c.args.right c.ranges.right, read_is c.args.top c.ranges.top) at c.rows.invariant in
+    let meets = rw (read_is c.args.left c.ranges.left, read_is c.args.right c.ranges.right) at c.meets.ensures in
+    ((λ yes. scan_found c.args.region.now c.args.left c.args.bottom c.args.right c.args.top c.rows.row-iterator c.in-Some.row c.next.new.self scan c.in-Some.ensures.steps (meets.0 c.if-meets.true)), (λ h. refl))
+
+pub returns-clause-found : goal.returns-clause-found
+returns-clause-found c =
+    let scan = rw (read_is c.args.left c.ranges.left, read_is c.args.bottom c.ranges.bottom, read_is c.args.right c.ranges.right, read_is c.args.top c.ranges.top) at c.rows.invariant in
+    ((λ yes. absurd (not_same yes)), (λ h. absurd (scan_ends c.args.region.now c.args.left c.args.bottom c.args.right c.args.top c.rows.row-iterator c.next.new.self scan c.in-None.ensures.steps h)))
