@@ -1,5 +1,5 @@
 -- The table of rules: for each key its place, its name and what its value may be. The numbers stand before the texts.
-use Rattle.std.specs.Prelude.{ℕ, ℤ, pos, ◌≤ℤ◌, List, [], ◌∷◌, Option, Some, None, find, option_map, bytes_eq, codes}
+use Rattle.std.specs.Prelude.{ℕ, ℤ, pos, ◌≤ℤ◌, List, [], ◌∷◌, ◌++◌, map, Option, Some, None, find, option_map, bytes_eq, codes}
 use Rattle.fill_base.specs.Coordinates.{lowest, highest}
 use Rattle.fill_text.specs.declared.keys.Key.{Key}
 use Rattle.fill_text.specs.declared.keys.Key.TheVariants.{Number, Text}
@@ -88,6 +88,10 @@ text_name FillTop = codes "fill_top"
 -- the keys of the texts in table order
 abbrev pub all_text_keys : List TextKey
 all_text_keys = Top ∷ FillLib ∷ FillCell ∷ FillTop ∷ []
+
+-- all keys in table order
+abbrev pub all_keys : List Key
+all_keys = map Number all_number_keys ++ map Text all_text_keys
 
 abbrev pub key_name : Key → List ℕ
 key_name (Number key) = (number_rule key).name

@@ -1,9 +1,10 @@
 ghost use Rattle.std.specs.Prelude.{◌≡◌, option_map};
-ghost use Rattle.fill_text.specs.Answers.{seen, Gives};
+ghost use Rattle.fill_text.specs.Refusals.{seen, Gives};
 ghost use Rattle.fill_text.specs.Corners.{corners_of, rect_with};
 ghost use Rattle.fill_text.specs.Grids.{grid_with};
 ghost use Rattle.fill_text.specs.Rules as spec;
-ghost use Rattle.fill_text.specs.Slots.{found_in};
+ghost use Rattle.fill_text.specs.steps.Slots as step;
+ghost use Rattle.fill_text.specs.steps.Slots.{found_in};
 ghost use Rattle.fill_text.specs.Views.{values_from, values_of};
 
 use crate::corners::rect_from;
@@ -49,9 +50,9 @@ fn windows_in(numbers: &Numbers) -> Option<Windows>
 }
 
 /// What is asked of the values together.
-#[tactic(auto, unfolding(crate::specs::Rules::checked))]
+#[tactic(auto, unfolding(crate::specs::steps::Slots::checked))]
 fn checked(numbers: Numbers, texts: Texts) -> Result<Rules, RuleError>
-    ensures { seen values_of result ≡ spec.checked (values_from numbers texts) }
+    ensures { seen values_of result ≡ step.checked (values_from numbers texts) }
 {
     if numbers.value(NumberKey::Max) < numbers.value(NumberKey::Min) {
         return Err(RuleError::BadRule {
@@ -74,10 +75,10 @@ fn checked(numbers: Numbers, texts: Texts) -> Result<Rules, RuleError>
 }
 
 /// The rules that were found, none of which may miss.
-#[tactic(auto, unfolding(crate::specs::Rules::all_values))]
+#[tactic(auto, unfolding(crate::specs::steps::Slots::all_values))]
 fn rules_found(slots: Slots) -> Result<Rules, RuleError>
-    requires { spec.AreRanged (found_in slots).numbers }
-    ensures { seen values_of result ≡ spec.rules_found (found_in slots) }
+    requires { step.AreRanged (found_in slots).numbers }
+    ensures { seen values_of result ≡ step.rules_found (found_in slots) }
 {
     let numbers = Numbers::new(slots.all_numbers()?);
     let Slots {

@@ -1,7 +1,8 @@
 ghost use Rattle.std.specs.Prelude.{◌≡◌, [], Some, get_or};
 ghost use Rattle.csv.specs.Reading.{owned_rows_left, owned_rows_reader};
 ghost use Rattle.csv.specs.Records.{fields_of};
-ghost use Rattle.fill_text.specs.Rows.{rows_of, StandsBefore};
+ghost use Rattle.fill_text.specs.Rows.{rows_of};
+ghost use Rattle.fill_text.specs.steps.Rows.{StandsBefore};
 
 use csv::{ByteRecord, ByteRecordsIntoIter, ReaderBuilder};
 use std::alloc::Global;

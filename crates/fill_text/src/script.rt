@@ -1,7 +1,8 @@
 ghost use Rattle.std.specs.Prelude.{◌≡◌, map};
 ghost use Rattle.csv.specs.Records.{fields_of};
-ghost use Rattle.fill_text.specs.Answers.{seen, Gives};
-ghost use Rattle.fill_text.specs.Script.{kind_of, number_at, change_at, change_of, edits_of};
+ghost use Rattle.fill_text.specs.Refusals.{seen, Gives};
+ghost use Rattle.fill_text.specs.Script.{kind_of, change_of, edits_of};
+ghost use Rattle.fill_text.specs.steps.Changes as step;
 
 use crate::corners::rect_from;
 use crate::numbers::number;
@@ -63,15 +64,15 @@ fn kind_named(word: &[u8]) -> Option<Kind>
 }
 
 fn number_in(row: &ByteRecord, i: usize, line: u64) -> Result<i64, ScriptError>
-    ensures { result ≡ number_at line (fields_of row.now) i }
+    ensures { result ≡ step.number_in line (fields_of row.now) i }
 {
     number(field(row, i)).ok_or(ScriptError::BadNumber { line })
 }
 
 /// The edit that one record writes.
-#[tactic(auto, unfolding(crate::specs::Script::change_at))]
+#[tactic(auto, unfolding(crate::specs::steps::Changes::change_at))]
 fn edit_in(row: &ByteRecord, line: u64) -> Result<Edit, ScriptError>
-    ensures { seen change_of result ≡ change_at line (fields_of row.now) }
+    ensures { seen change_of result ≡ step.change_at line (fields_of row.now) }
 {
     if row.len() != 5 {
         return Err(ScriptError::BadRow { line });
