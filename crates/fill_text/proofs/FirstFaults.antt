@@ -1,8 +1,8 @@
 -- The first of several faults, and how far a text has been found to have none.
-use Rattle.std.proofs.Common.{◌≡◌, ◌∙◌, ℕ, zero, suc, Bool, true, false, List, [], ◌∷◌, ◌++◌, get_or, Option, Some, None, Ok, append_assoc, refl, sym}
+use Rattle.std.proofs.Common.{◌≡◌, ◌∙◌, ℕ, zero, suc, Bool, true, false, List, [], ◌∷◌, ◌++◌, get_or, Option, Some, None, Result, Ok, Err, append_assoc, inr, refl, sym}
 use Rattle.std.specs.Prelude.{find, if◌then◌else◌}
 use Rattle.std.proofs.lemmas.List.{append-nil}
-use Rattle.fill_text.specs.Refusals.{each_fault, fault_unless, first_some, refused_or}
+use Rattle.fill_text.specs.Refusals.{Gives, each_fault, fault_unless, first_some, refused_or, seen}
 
 pub first_stays : {E : Type 0} (a b : List (Option E)) (x : E) → first_some a ≡ Some x → first_some (a ++ b) ≡ Some x
 first_stays [] b x e = cc e
@@ -22,6 +22,11 @@ none_in_both (Some y ∷ a) b e = cc e
 pub not_refused : {A E : Type 0} (fault : Option E) (x y : A) → refused_or fault x ≡ Ok y → (fault ≡ None) × (x ≡ y)
 not_refused None x y e = (refl, cc e)
 not_refused (Some f) x y e = cc e
+
+-- what was read is given, whatever is seen of it
+pub gives_seen : {A B E : Type 0} (memory : E) (view : A → B) (r : Result A E) (read : Result B E) → seen view r ≡ read → Gives memory view r read
+gives_seen memory view (Ok x) read e = sym e
+gives_seen memory view (Err why) read e = inr (sym e)
 
 -- the first fault of the rows is that of the rest, for the rows before have none
 pub record IsSoundUpTo {R E : Type 0} (fault : List R → R → Option E) (rows before rest : List R) : Type 0 where

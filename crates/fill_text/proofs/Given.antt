@@ -1,4 +1,4 @@
--- Once every record is taken: the slots give the value of each key, and the first fault of the file is known.
+-- Once every record is taken: the entries give the value of each key, and the first fault of the file is known.
 use Rattle.std.proofs.Common.{◌≡◌, ◌∙◌, ℕ, ℤ, Bool, true, false, List, [], ◌∷◌, ◌++◌, length, get_or, map, Option, Some, None, option_map, Result, Ok, Err, ap, sym, refl}
 use Rattle.std.specs.Prelude.{bytes_eq, int_lt, is_some, ok_or, option_and_then, pos, unwrap_or, if◌then◌else◌}
 use Rattle.std.proofs.lemmas.List.FromFn.{fill_by_all}
@@ -14,9 +14,9 @@ use Rattle.fill_text.specs.declared.keys.Key.TheVariants.{Number, Text}
 use Rattle.fill_text.specs.declared.keys.NumberKey.{NumberKey}
 use Rattle.fill_text.specs.declared.keys.NumberKey.TheVariants as number
 use Rattle.fill_text.specs.declared.keys.TextKey.TheVariants as text
-use Rattle.fill_text.specs.declared.refusal.RuleError.{RuleError}
-use Rattle.fill_text.specs.declared.refusal.RuleError.TheVariants.{BadRect, BadRule, BadWindows}
-use Rattle.fill_text.specs.steps.Slots.{Found, all_numbers, all_values, checked, number_found, rules_found, with_front}
+use Rattle.fill_text.specs.declared.rule_error.RuleError.{RuleError}
+use Rattle.fill_text.specs.declared.rule_error.RuleError.TheVariants.{BadRect, BadRule, BadWindows}
+use Rattle.fill_text.specs.steps.Entries.{Found, all_numbers, all_values, checked, number_found, rules_found, with_front}
 use Rattle.fill_text.proofs.FirstFaults.{first_stays, later_first}
 use Rattle.fill_text.proofs.Holding.{Holds}
 

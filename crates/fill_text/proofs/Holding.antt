@@ -1,4 +1,4 @@
--- The slots hold what the records that were read give each key, and a record adds its own.
+-- The entries hold what the records that were read give each key, and a record adds its own.
 use Rattle.std.proofs.Common.{◌≡◌, ◌∙◌, ◌<◌, ◌+◌, ◌==◌, ℕ, ℤ, Bool, true, false, List, [], ◌∷◌, ◌++◌, length, get_or, set, cond, Option, Some, None, option_map, Result, Ok, Err, ap, sym, subst, refl}
 use Rattle.std.specs.Prelude.{bytes_eq, find, is_some, ok_or, if◌then◌else◌}
 use Rattle.std.specs.Option.{option_or}
@@ -14,11 +14,11 @@ use Rattle.fill_text.specs.declared.keys.Key.TheVariants.{Number, Text}
 use Rattle.fill_text.specs.declared.keys.NumberKey.{NumberKey}
 use Rattle.fill_text.specs.declared.keys.TextKey.{TextKey}
 use Rattle.fill_text.specs.declared.keys.TextKey.TheVariants as text
-use Rattle.fill_text.specs.declared.refusal.RuleError.{RuleError}
-use Rattle.fill_text.specs.declared.refusal.RuleError.TheVariants.{BadNumber, BadRow, BadRule}
-use Rattle.fill_text.specs.steps.Slots.{AreRanged, Found, is_found, new_key, nothing_found, number_found, ranged_number, take_number, take_row, take_text, take_value, text_found, with_text}
+use Rattle.fill_text.specs.declared.rule_error.RuleError.{RuleError}
+use Rattle.fill_text.specs.declared.rule_error.RuleError.TheVariants.{BadNumber, BadRow, BadRule}
+use Rattle.fill_text.specs.steps.Entries.{AreRanged, Found, is_found, new_key, nothing_found, number_found, ranged_number, take_number, take_row, take_text, take_value, text_found, with_text}
 use Rattle.fill_text.proofs.Names.{another_name, its_name, same_key}
-use Rattle.fill_text.proofs.Ranges.{in_range_facts, nothing_here, place_below, places_differ, set_ranged}
+use Rattle.fill_text.proofs.Ranges.{in_range_facts, nothing_here, index_below, same_index, set_ranged}
 
 pub record Holds (found : Found) (before : List (List (List ℕ))) : Type 0 where
   pub many : length found.numbers ≡ 28
@@ -115,27 +115,27 @@ other_text found text.FillTop text.FillTop word differs = absurd (differs refl)
 number_held : (found : Found) (before : List (List (List ℕ))) (fields : List (List ℕ)) (key : NumberKey) (n : ℤ)
     → Holds found before → key_named (get_or fields 0 []) ≡ Some (Number key) → word_for (Number key) before ≡ None
     → number_of (get_or fields 1 []) ≡ Some n → is_in_range key n ≡ true
-    → Holds (record found { numbers = set found.numbers (number_rule key).place (Some n) }) (before ++ fields ∷ [])
+    → Holds (record found { numbers = set found.numbers (number_rule key).index (Some n) }) (before ++ fields ∷ [])
 number_held found before fields key n held named fresh written within = record {
-  many = length-set found.numbers (number_rule key).place (Some n) ∙ held.many;
+  many = length-set found.numbers (number_rule key).index (Some n) ∙ held.many;
   number = λ other. by other (bytes_eq (get_or fields 0 []) (number_rule other).name) refl;
   words = λ other.
       word_kept before fields (Text other) (another_name (get_or fields 0 []) (Number key) (Text other) named (λ e. cc e))
-      ∙ held.words other ∙ sym (text_kept found (set found.numbers (number_rule key).place (Some n)) other);
+      ∙ held.words other ∙ sym (text_kept found (set found.numbers (number_rule key).index (Some n)) other);
   ranged = set_ranged found.numbers key n held.ranged (in_range_facts key n within);
 }
   where
     by : (other : NumberKey) (b : Bool) → bytes_eq (get_or fields 0 []) (number_rule other).name ≡ b
-        → option_map number_of (word_for (Number other) (before ++ fields ∷ [])) ≡ option_map Some (number_found (set found.numbers (number_rule key).place (Some n)) other)
+        → option_map number_of (word_for (Number other) (before ++ fields ∷ [])) ≡ option_map Some (number_found (set found.numbers (number_rule key).index (Some n)) other)
     by other true test =
         let same : Number other ≡ Number key = same_key (get_or fields 0 []) (Number key) (Number other) named test in
         let it : other ≡ key = cc same in
-        let inside : (number_rule key).place < length found.numbers = subst (λ count. (number_rule key).place < count) (sym held.many) (place_below key) in
-        rw (it, word_added before fields (Number key) (its_name (get_or fields 0 []) (Number key) named) fresh, written, get_or-set_same found.numbers (number_rule key).place (Some n) None inside) refl
+        let inside : (number_rule key).index < length found.numbers = subst (λ count. (number_rule key).index < count) (sym held.many) (index_below key) in
+        rw (it, word_added before fields (Number key) (its_name (get_or fields 0 []) (Number key) named) fresh, written, get_or-set_same found.numbers (number_rule key).index (Some n) None inside) refl
     by other false test =
-        let apart : (number_rule other).place ≡ (number_rule key).place → ⊥ = λ e. let it : other ≡ key = places_differ other key e in let h : true ≡ false = sym (its_name (get_or fields 0 []) (Number key) named) ∙ ap (λ (k : NumberKey). bytes_eq (get_or fields 0 []) (number_rule k).name) (sym it) ∙ test in cc h in
+        let apart : (number_rule other).index ≡ (number_rule key).index → ⊥ = λ e. let it : other ≡ key = same_index other key e in let h : true ≡ false = sym (its_name (get_or fields 0 []) (Number key) named) ∙ ap (λ (k : NumberKey). bytes_eq (get_or fields 0 []) (number_rule k).name) (sym it) ∙ test in cc h in
         ap (option_map number_of) (word_kept before fields (Number other) test) ∙ held.number other
-        ∙ ap (option_map Some) (sym (get_or-set_other found.numbers (number_rule key).place (number_rule other).place (Some n) None apart))
+        ∙ ap (option_map Some) (sym (get_or-set_other found.numbers (number_rule key).index (number_rule other).index (Some n) None apart))
 
 text_held : (found : Found) (before : List (List (List ℕ))) (fields : List (List ℕ)) (key : TextKey)
     → Holds found before → key_named (get_or fields 0 []) ≡ Some (Text key) → word_for (Text key) before ≡ None
@@ -177,13 +177,13 @@ value_taken found before fields line (Number key) held named fresh = by (number_
   where
     ranged : (n : ℤ) → number_of (get_or fields 1 []) ≡ Some n → (b : Bool) → is_in_range key n ≡ b
         → Takes (fault_unless b (BadRule (Number key)))
-        ((if b then Ok n else Err (BadRule (Number key))) >>= λ n. Ok (record found { numbers = set found.numbers (number_rule key).place (Some n) })) (before ++ fields ∷ [])
-    ranged n written true within = (record found { numbers = set found.numbers (number_rule key).place (Some n) }, refl, number_held found before fields key n held named fresh written within)
+        ((if b then Ok n else Err (BadRule (Number key))) >>= λ n. Ok (record found { numbers = set found.numbers (number_rule key).index (Some n) })) (before ++ fields ∷ [])
+    ranged n written true within = (record found { numbers = set found.numbers (number_rule key).index (Some n) }, refl, number_held found before fields key n held named fresh written within)
     ranged n written false within = refl
 
     by : (o : Option ℤ) → number_of (get_or fields 1 []) ≡ o
         → Takes (number_fault line key o)
-        ((ok_or o (BadNumber line) >>= λ n. if is_in_range key n then Ok n else Err (BadRule (Number key))) >>= λ n. Ok (record found { numbers = set found.numbers (number_rule key).place (Some n) })) (before ++ fields ∷ [])
+        ((ok_or o (BadNumber line) >>= λ n. if is_in_range key n then Ok n else Err (BadRule (Number key))) >>= λ n. Ok (record found { numbers = set found.numbers (number_rule key).index (Some n) })) (before ++ fields ∷ [])
     by None written = refl
     by (Some n) written = ranged n written (is_in_range key n) refl
 value_taken found before fields line (Text key) held named fresh = by (is_text key (get_or fields 1 [])) refl

@@ -9,7 +9,6 @@ pub mod Found
 pub mod Ranges
 pub mod Holding
 pub mod Given
-pub mod RuleFiles
 pub mod SameRules
 pub mod GridTests
 pub mod Standing

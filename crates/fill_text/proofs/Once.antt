@@ -18,7 +18,7 @@ use Rattle.fill_text.specs.declared.keys.TextKey.TheVariants as text
 use Rattle.fill_text.proofs.FirstFaults.{first_none}
 use Rattle.fill_text.proofs.Holding.{word_added, word_kept}
 use Rattle.fill_text.proofs.Names.{its_name, named_by, same_key}
-use Rattle.fill_text.proofs.Ranges.{key_at, place_below}
+use Rattle.fill_text.proofs.Ranges.{key_at, index_below}
 use Rattle.fill_text.proofs.Standing.{accepted, sound_record}
 
 -- one more in a part behind is one more in the whole
@@ -157,9 +157,9 @@ has_front name (k ∷ keys) more e = by (bytes_eq name (key_name k)) e (has_fron
 
 has_all : (key : Key) → has (key_name key) all_keys ≡ true
 has_all (Number key) =
-    let place : get_or (map Number all_number_keys) (number_rule key).place (Number FrameX1) ≡ Number key = get_or-map Number all_number_keys (number_rule key).place FrameX1 (Number FrameX1) (place_below key) ∙ ap Number (key_at key) in
+    let there : get_or (map Number all_number_keys) (number_rule key).index (Number FrameX1) ≡ Number key = get_or-map Number all_number_keys (number_rule key).index FrameX1 (Number FrameX1) (index_below key) ∙ ap Number (key_at key) in
     has_front (key_name (Number key)) (map Number all_number_keys) (map Text all_text_keys)
-    (rw place at (has_at (map Number all_number_keys) (number_rule key).place (Number FrameX1) (place_below key)))
+    (rw there at (has_at (map Number all_number_keys) (number_rule key).index (Number FrameX1) (index_below key)))
 has_all (Text text.Top) = refl
 has_all (Text text.FillLib) = refl
 has_all (Text text.FillCell) = refl

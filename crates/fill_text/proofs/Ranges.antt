@@ -5,13 +5,13 @@ use Rattle.std.specs.Prelude.{int_le}
 use Rattle.std.proofs.lemmas.Int.{ints}
 use Rattle.fill_text.specs.Keys.{all_number_keys, number_rule}
 use Rattle.fill_text.specs.Rules.{is_in_range, number_in}
-use Rattle.fill_text.specs.steps.Slots.{AreRanged, all_numbers, nothing_found, number_found, with_front}
+use Rattle.fill_text.specs.steps.Entries.{AreRanged, all_numbers, nothing_found, number_found, with_front}
 use Rattle.fill_text.specs.declared.keys.NumberKey.{NumberKey}
 use Rattle.fill_text.specs.declared.keys.NumberKey.TheVariants.{FrameX1, FrameY1, FrameX2, FrameY2, BoxW, BoxH, StepX, StepY, OriginX, OriginY, Spacing, FillSpacing, WinW, WinH, WinStepX, WinStepY, WinX, WinY, WinNx, WinNy, Min, Max, TileNx, TileNy, Layer, Datatype, FillLayer, FillDatatype}
-use Rattle.fill_text.specs.declared.refusal.RuleError.{RuleError}
+use Rattle.fill_text.specs.declared.rule_error.RuleError.{RuleError}
 
--- each key stands at its place
-pub key_at : (key : NumberKey) → get_or all_number_keys (number_rule key).place FrameX1 ≡ key
+-- each key stands at its index
+pub key_at : (key : NumberKey) → get_or all_number_keys (number_rule key).index FrameX1 ≡ key
 key_at FrameX1 = refl
 key_at FrameY1 = refl
 key_at FrameX2 = refl
@@ -41,38 +41,38 @@ key_at Datatype = refl
 key_at FillLayer = refl
 key_at FillDatatype = refl
 
-pub places_differ : (a b : NumberKey) → (number_rule a).place ≡ (number_rule b).place → a ≡ b
-places_differ a b e = sym (key_at a) ∙ ap (λ i. get_or all_number_keys i FrameX1) e ∙ key_at b
+pub same_index : (a b : NumberKey) → (number_rule a).index ≡ (number_rule b).index → a ≡ b
+same_index a b e = sym (key_at a) ∙ ap (λ i. get_or all_number_keys i FrameX1) e ∙ key_at b
 
-pub place_below : (key : NumberKey) → (number_rule key).place < 28
-place_below FrameX1 = lit< tt
-place_below FrameY1 = lit< tt
-place_below FrameX2 = lit< tt
-place_below FrameY2 = lit< tt
-place_below BoxW = lit< tt
-place_below BoxH = lit< tt
-place_below StepX = lit< tt
-place_below StepY = lit< tt
-place_below OriginX = lit< tt
-place_below OriginY = lit< tt
-place_below Spacing = lit< tt
-place_below FillSpacing = lit< tt
-place_below WinW = lit< tt
-place_below WinH = lit< tt
-place_below WinStepX = lit< tt
-place_below WinStepY = lit< tt
-place_below WinX = lit< tt
-place_below WinY = lit< tt
-place_below WinNx = lit< tt
-place_below WinNy = lit< tt
-place_below Min = lit< tt
-place_below Max = lit< tt
-place_below TileNx = lit< tt
-place_below TileNy = lit< tt
-place_below Layer = lit< tt
-place_below Datatype = lit< tt
-place_below FillLayer = lit< tt
-place_below FillDatatype = lit< tt
+pub index_below : (key : NumberKey) → (number_rule key).index < 28
+index_below FrameX1 = lit< tt
+index_below FrameY1 = lit< tt
+index_below FrameX2 = lit< tt
+index_below FrameY2 = lit< tt
+index_below BoxW = lit< tt
+index_below BoxH = lit< tt
+index_below StepX = lit< tt
+index_below StepY = lit< tt
+index_below OriginX = lit< tt
+index_below OriginY = lit< tt
+index_below Spacing = lit< tt
+index_below FillSpacing = lit< tt
+index_below WinW = lit< tt
+index_below WinH = lit< tt
+index_below WinStepX = lit< tt
+index_below WinStepY = lit< tt
+index_below WinX = lit< tt
+index_below WinY = lit< tt
+index_below WinNx = lit< tt
+index_below WinNy = lit< tt
+index_below Min = lit< tt
+index_below Max = lit< tt
+index_below TileNx = lit< tt
+index_below TileNy = lit< tt
+index_below Layer = lit< tt
+index_below Datatype = lit< tt
+index_below FillLayer = lit< tt
+index_below FillDatatype = lit< tt
 
 pub in_range_facts : (key : NumberKey) (n : ℤ) → is_in_range key n ≡ true → ((number_rule key).low ≤ℤ n) × (n ≤ℤ (number_rule key).high)
 in_range_facts key n test = between (number_rule key).low (number_rule key).high test
@@ -81,9 +81,9 @@ in_range_facts key n test = between (number_rule key).low (number_rule key).high
     between low high test = (grind (arith, ints), grind (arith, ints))
 
 pub nothing_here : (key : NumberKey) → number_found nothing_found.numbers key ≡ None
-nothing_here key = get_or-replicate 28 (number_rule key).place None None (place_below key)
+nothing_here key = get_or-replicate 28 (number_rule key).index None None (index_below key)
 
--- a write changes the number at its place alone
+-- a write changes the number at its index alone
 get_or_set : (numbers : List (Option ℤ)) (i j : ℕ) (n : Option ℤ)
     → (get_or (set numbers i n) j None ≡ get_or numbers j None) ⊎ ((j ≡ i) × (get_or (set numbers i n) j None ≡ n))
 get_or_set [] i j n = inl refl
@@ -93,10 +93,10 @@ get_or_set (m ∷ numbers) (suc i) zero n = inl refl
 get_or_set (m ∷ numbers) (suc i) (suc j) n = elim (get_or_set numbers i j n) [ inl same ↦ inl same | inr (e, this) ↦ inr (ap suc e, this) ]
 
 pub set_ranged : (numbers : List (Option ℤ)) (key : NumberKey) (n : ℤ) → AreRanged numbers → ((number_rule key).low ≤ℤ n) × (n ≤ℤ (number_rule key).high)
-    → AreRanged (set numbers (number_rule key).place (Some n))
-set_ranged numbers key n ranged within other = elim (get_or_set numbers (number_rule key).place (number_rule other).place (Some n)) [
+    → AreRanged (set numbers (number_rule key).index (Some n))
+set_ranged numbers key n ranged within other = elim (get_or_set numbers (number_rule key).index (number_rule other).index (Some n)) [
   | inl same ↦ rw same (ranged other)
-  | inr (e, this) ↦ rw (this, places_differ other key e) within
+  | inr (e, this) ↦ rw (this, same_index other key e) within
 ]
 
 front_ok : (n : ℤ) (rest : Result (List ℤ) RuleError) (values : List ℤ) → with_front (n ∷ []) rest ≡ Ok values
@@ -121,5 +121,5 @@ number_kept (key ∷ keys) (Some n ∷ numbers) values e (suc i) below =
 pub values_ranged : (numbers : List (Option ℤ)) (values : List ℤ) → AreRanged numbers → all_numbers all_number_keys numbers ≡ Ok values → (key : NumberKey)
     → ((number_rule key).low ≤ℤ number_in values key) × (number_in values key ≤ℤ (number_rule key).high)
 values_ranged numbers values ranged e key =
-    let kept : number_found numbers key ≡ Some (number_in values key) = number_kept all_number_keys numbers values e (number_rule key).place (place_below key) in
+    let kept : number_found numbers key ≡ Some (number_in values key) = number_kept all_number_keys numbers values e (number_rule key).index (index_below key) in
     rw kept at (ranged key)

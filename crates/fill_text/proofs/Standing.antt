@@ -13,13 +13,13 @@ use Rattle.fill_text.specs.declared.keys.Key.TheVariants.{Number, Text}
 use Rattle.fill_text.specs.declared.keys.NumberKey.{NumberKey}
 use Rattle.fill_text.specs.declared.keys.NumberKey.TheVariants.{FrameX1}
 use Rattle.fill_text.specs.declared.keys.TextKey.TheVariants as text
-use Rattle.fill_text.specs.declared.refusal.RuleError.{RuleError}
-use Rattle.fill_text.specs.declared.refusal.RuleError.TheVariants.{BadRow}
+use Rattle.fill_text.specs.declared.rule_error.RuleError.{RuleError}
+use Rattle.fill_text.specs.declared.rule_error.RuleError.TheVariants.{BadRow}
 use Rattle.fill_text.proofs.FirstFaults.{found_sound, none_at, none_in_both, not_refused, unless_holds}
 use Rattle.fill_text.proofs.Holding.{none_there}
 use Rattle.fill_text.proofs.KeyNames.{each_named}
 use Rattle.fill_text.proofs.Names.{found_passes}
-use Rattle.fill_text.proofs.Ranges.{key_at, place_below}
+use Rattle.fill_text.proofs.Ranges.{key_at, index_below}
 
 length_is : (n m : ℕ) → (n == m) ≡ true → n ≡ m
 length_is n m test = grind (arith, nat_tests)
@@ -50,7 +50,7 @@ sound_record before fields sound = by (length fields == 2) refl (key_named (get_
 
 number_there : (f : NumberKey → Option RuleError) → first_some (map f all_number_keys) ≡ None → (key : NumberKey) → f key ≡ None
 number_there f none key =
-    sym (ap f (key_at key)) ∙ sym (get_or-map f all_number_keys (number_rule key).place FrameX1 None (place_below key)) ∙ none_at (map f all_number_keys) (number_rule key).place none
+    sym (ap f (key_at key)) ∙ sym (get_or-map f all_number_keys (number_rule key).index FrameX1 None (index_below key)) ∙ none_at (map f all_number_keys) (number_rule key).index none
 
 key_there : (f : Key → Option RuleError) → first_some (map f all_keys) ≡ None → (key : Key) → f key ≡ None
 key_there f none (Number key) = number_there (λ k. f (Number k)) (none_in_both (map (λ k. f (Number k)) all_number_keys) (map (λ k. f (Text k)) all_text_keys) none).0 key
@@ -60,7 +60,7 @@ key_there f none (Text text.FillCell) = none_at (map f all_keys) 30 none
 key_there f none (Text text.FillTop) = none_at (map f all_keys) 31 none
 
 pub value_listed : (f : NumberKey → ℤ) (key : NumberKey) → number_in (map f all_number_keys) key ≡ f key
-value_listed f key = get_or-map f all_number_keys (number_rule key).place FrameX1 (pos 0) (place_below key) ∙ ap f (key_at key)
+value_listed f key = get_or-map f all_number_keys (number_rule key).index FrameX1 (pos 0) (index_below key) ∙ ap f (key_at key)
 
 -- an accepted file: no record breaks a rule, no key is missing, and the values are those of the records
 pub accepted : (file : List ℕ) (values : Values) → rules_of file ≡ Ok values

@@ -8,5 +8,5 @@ pub mod Refusals
 pub mod Rows
 pub mod Rules
 pub mod Script
-pub mod Views
+pub mod ValuesOfRules
 pub mod steps

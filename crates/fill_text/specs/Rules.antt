@@ -14,8 +14,8 @@ use Rattle.fill_text.specs.declared.keys.NumberKey.{NumberKey}
 use Rattle.fill_text.specs.declared.keys.NumberKey.TheVariants as number
 use Rattle.fill_text.specs.declared.keys.TextKey.{TextKey}
 use Rattle.fill_text.specs.declared.keys.TextKey.TheVariants as text
-use Rattle.fill_text.specs.declared.refusal.RuleError.{RuleError}
-use Rattle.fill_text.specs.declared.refusal.RuleError.TheVariants.{BadRow, BadNumber, BadRule, BadRect, BadWindows}
+use Rattle.fill_text.specs.declared.rule_error.RuleError.{RuleError}
+use Rattle.fill_text.specs.declared.rule_error.RuleError.TheVariants.{BadRow, BadNumber, BadRule, BadRect, BadWindows}
 
 -- the value of each key
 pub record Values : Type 0 where
@@ -26,7 +26,7 @@ pub record Values : Type 0 where
   pub fill_top : List ℕ
 
 abbrev pub number_in : List ℤ → NumberKey → ℤ
-number_in numbers key = get_or numbers (number_rule key).place (pos 0)
+number_in numbers key = get_or numbers (number_rule key).index (pos 0)
 
 abbrev pub value_of : Values → NumberKey → ℤ
 value_of values key = number_in values.numbers key

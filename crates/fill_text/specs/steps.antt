@@ -1,4 +1,4 @@
 -- What the private functions do, step by step.
 pub mod Changes
 pub mod Rows
-pub mod Slots
+pub mod Entries

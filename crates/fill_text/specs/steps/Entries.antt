@@ -1,4 +1,4 @@
--- How a rule file is read: what each record adds to the slots, and what the slots then give. This serves the private
+-- How a rule file is read: what each record adds to the entries, and what the entries then give. This serves the private
 -- functions; what a rule file says is `rules_of`.
 use Rattle.std.specs.Prelude.{◌≤ℤ◌, IfSome, ℕ, ℤ, ◌==◌, Bool, List, [], ◌∷◌, ◌++◌, length, get_or, replicate, slice_set, Option, Some, None, option_map, ok_or, is_some, Result, Ok, Err, bytes_eq, int_lt, if◌then◌else◌}
 use Rattle.fill_base.specs.Sequence.{◌>>=◌}
@@ -13,9 +13,9 @@ use Rattle.fill_text.specs.declared.keys.NumberKey.{NumberKey}
 use Rattle.fill_text.specs.declared.keys.NumberKey.TheVariants as number
 use Rattle.fill_text.specs.declared.keys.TextKey.{TextKey}
 use Rattle.fill_text.specs.declared.keys.TextKey.TheVariants as text
-use Rattle.fill_text.specs.declared.refusal.RuleError.{RuleError}
-use Rattle.fill_text.specs.declared.refusal.RuleError.TheVariants.{BadRow, BadNumber, BadRule, BadRect, BadWindows}
-use Rattle.fill_text.specs.declared.slots.Slots.{Slots}
+use Rattle.fill_text.specs.declared.rule_error.RuleError.{RuleError}
+use Rattle.fill_text.specs.declared.rule_error.RuleError.TheVariants.{BadRow, BadNumber, BadRule, BadRect, BadWindows}
+use Rattle.fill_text.specs.declared.entries.Entries.{Entries}
 
 -- an answer that begins with this list
 abbrev pub with_front : {A E : Type 0} → List A → Result (List A) E → Result (List A) E
@@ -45,7 +45,7 @@ with_text found text.FillCell word = record found { fill_cell = Some word }
 with_text found text.FillTop word = record found { fill_top = Some word }
 
 abbrev pub number_found : List (Option ℤ) → NumberKey → Option ℤ
-number_found numbers key = get_or numbers (number_rule key).place None
+number_found numbers key = get_or numbers (number_rule key).index None
 
 -- each number that was found is in its key's range
 abbrev pub AreRanged : List (Option ℤ) → Type 0
@@ -65,7 +65,7 @@ ranged_number line key word = do
 unfoldable pub take_number : ℕ → NumberKey → List ℕ → Found → Result Found RuleError
 take_number line key word found = do
   n ← ranged_number line key word
-  Ok (record found { numbers = slice_set found.numbers (number_rule key).place (Some n) })
+  Ok (record found { numbers = slice_set found.numbers (number_rule key).index (Some n) })
 
 unfoldable pub take_text : TextKey → List ℕ → Found → Result Found RuleError
 take_text key word found = if is_text key word then Ok (with_text found key word) else Err (BadRule (Text key))
@@ -116,6 +116,6 @@ checked values =
 abbrev pub rules_found : Found → Result Values RuleError
 rules_found found = all_values found >>= checked
 
--- what the slots hold
-abbrev pub found_in : Slots → Found
+-- what the entries hold
+abbrev pub found_in : Entries → Found
 found_in s = record { numbers = s.numbers; top = option_map (λ v. v.items) s.top; fill_lib = option_map (λ v. v.items) s.fill_lib; fill_cell = option_map (λ v. v.items) s.fill_cell; fill_top = option_map (λ v. v.items) s.fill_top }

@@ -4,25 +4,24 @@ use Rattle.std.proofs.lemmas.Result.{err_from_is_err_and}
 use Rattle.csv.specs.Records.{fields_of}
 use Rattle.fill_text.specs.Rows.{rows_of}
 use Rattle.fill_text.specs.Rules.{record_fault}
-use Rattle.fill_text.specs.Views.{values_of}
-use Rattle.fill_text.proofs.FirstFaults.{all_sound, at_start, first_found, one_more}
+use Rattle.fill_text.specs.ValuesOfRules.{values_of}
+use Rattle.fill_text.proofs.FirstFaults.{all_sound, at_start, first_found, gives_seen, one_more}
 use Rattle.fill_text.proofs.Given.{refused_at, rules_given}
 use Rattle.fill_text.proofs.Holding.{nothing_held, row_added, row_refused}
 use Rattle.fill_text.proofs.RowSteps.{stands_end, stands_next}
-use Rattle.fill_text.proofs.RuleFiles.{gives_seen}
-use Rattle.fill_text.proofs.reading.read_rules.Goals as goal
+use Rattle.fill_text.proofs.rule_file.read_rules.Goals as goal
 
 pub loop-row-init : goal.loop-row-init
 loop-row-init c =
     let same : c.into_iter-row-iterator.result ≡ c.rows-row-items.result = search rules in
-    ([], rows_of c.args.text.now, rw same c.rows-row-items.ensures, at_start record_fault (rows_of c.args.text.now), rw c.new-slots.ensures nothing_held, refl, search rules)
+    ([], rows_of c.args.text.now, rw same c.rows-row-items.ensures, at_start record_fault (rows_of c.args.text.now), rw c.new-entries.ensures nothing_held, refl, search rules)
 
 pub returns-in_err-take_row : goal.returns-in_err-take_row
 returns-in_err-take_row c =
     let (before, rest, stands, sound, held, count, below) = c.loop-row.invariant in
-    let s = rw (c.in-Some.is, c.in-Ok.is) at (c.next.ensures.steps stands.turns stands.plain) in
-    let (more, this, then) = stands_next (λ (s : Bor (List ℕ)). Some s.now) c.loop-row.row-iterator.rdr c.next.new.self.rdr c.loop-row.row-iterator.left c.next.new.self.left rest c.in-Ok.row stands (s.0 stands.ready) s.3 in
-    let p = err_from_is_err_and c.from_residual.result c.from_residual.ensures.1 in
+    let s = rw (c.in-Some.is, c.in_ok-row.was) at (c.next.ensures.steps stands.turns stands.plain) in
+    let (more, this, then) = stands_next (λ (s : Bor (List ℕ)). Some s.now) c.loop-row.row-iterator.rdr c.next.new.self.rdr c.loop-row.row-iterator.left c.next.new.self.left rest c.in_ok-row.row stands (s.0 stands.ready) s.3 in
+    let p = err_from_is_err_and c.from_residual-in_err-take_row.result c.from_residual-in_err-take_row.ensures.1 in
     let h = c.in_err-take_row.ensures in
     rw (p.1, p.2) (elim h [
       | inl memory ↦ inl memory
@@ -32,11 +31,11 @@ returns-in_err-take_row c =
 pub loop-row-preserved : goal.loop-row-preserved
 loop-row-preserved c =
     let (before, rest, stands, sound, held, count, below) = c.loop-row.invariant in
-    let s = rw (c.in-Some.is, c.in-Ok.is) at (c.next.ensures.steps stands.turns stands.plain) in
-    let (more, this, then) = stands_next (λ (s : Bor (List ℕ)). Some s.now) c.loop-row.row-iterator.rdr c.next.new.self.rdr c.loop-row.row-iterator.left c.next.new.self.left rest c.in-Ok.row stands (s.0 stands.ready) s.3 in
+    let s = rw (c.in-Some.is, c.in_ok-row.was) at (c.next.ensures.steps stands.turns stands.plain) in
+    let (more, this, then) = stands_next (λ (s : Bor (List ℕ)). Some s.now) c.loop-row.row-iterator.rdr c.next.new.self.rdr c.loop-row.row-iterator.left c.next.new.self.left rest c.in_ok-row.row stands (s.0 stands.ready) s.3 in
     let g = rw c.in-Some.is at (c.next.ensures.goes.on tt) in
-    let (good, holds) = row_added _ _ before (fields_of c.in-Ok.row) _ held count c.in_ok-take_row.ensures in
-    (_, more, then, one_more record_fault _ before _ more (rw this at sound) good, holds, length_push before (fields_of c.in-Ok.row) ∙ omega (arith, count), omega (arith, g.2, below))
+    let (good, holds) = row_added _ _ before (fields_of c.in_ok-row.row) _ held count c.in_ok-take_row.ensures in
+    (_, more, then, one_more record_fault _ before _ more (rw this at sound) good, holds, length_push before (fields_of c.in_ok-row.row) ∙ omega (arith, count), omega (arith, g.2, below))
 
 pub rules_found-requires : goal.rules_found-requires
 rules_found-requires c = c.loop-row.invariant.4.ranged
