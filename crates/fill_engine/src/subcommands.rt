@@ -4,16 +4,16 @@ ghost use Rattle.std.specs.Io.KnownBytes.{Appends};
 ghost use Rattle.fill_device.specs.Taps.{has_failed, under};
 ghost use Rattle.fill_report.specs.RulesReport.{metal_report};
 ghost use Rattle.fill_text.specs.Script.{change_of};
-ghost use Rattle.fill_text.specs.Views.{values_of};
+ghost use Rattle.fill_text.specs.ValuesOfRules.{values_of};
 ghost use Rattle.fill_engine.specs.Metal.{is_metal};
 ghost use Rattle.fill_engine.specs.Rects.{report_answer, rules_answer, script_answer, IsFaultOf, IsReason};
 
 use crate::fault::{Fault, Part, Refusal};
 use crate::metal::metal_left;
 use fill_device::{Tap, read_input, write_text};
-use fill_report::report_of;
+use fill_report::{OutOfMemory, report_of};
 use fill_text::{Edit, Rules, read_rules, read_script};
-use std::alloc::{AllocError, Global};
+use std::alloc::Global;
 use std::io::{Read, Write};
 use std::thread::Threads;
 
@@ -50,7 +50,7 @@ fn report_after(
     alloc: Global,
     rules: &Rules,
     edits: &[Edit],
-) -> Result<Vec<u8>, AllocError>
+) -> Result<Vec<u8>, OutOfMemory>
     ensures { IfOk result (λ v. v.items ≡ metal_report (is_metal (map change_of edits.now)) (values_of rules.now)) }
 {
     let metal = metal_left(alloc, edits)?;

@@ -1,7 +1,17 @@
--- What a line shows.
-use Rattle.fill_line.specs.Grammar.{Said}
+-- What a line shows, and what a refusal says of the words.
+use Rattle.std.specs.Prelude.{◌≡◌, ◌⊎◌, List}
+use Rattle.clap.specs.Words.{IsAmong, Text, fault_of, kind_of}
+use Rattle.clap.specs.declared.error.kind.ErrorKind.TheVariants.{MissingSubcommand}
+use Rattle.fill_line.specs.Grammar.{Said, program_words}
 use Rattle.fill_line.specs.declared.Line.{Line}
 use Rattle.fill_line.specs.declared.Line.TheVariants.{Rects}
+use Rattle.fill_line.specs.declared.LineError.{LineError}
+use Rattle.fill_line.specs.declared.LineError.TheVariants.{Memory, Usage}
 
 abbrev pub text_of : Line → Said
 text_of (Rects rules script) = record { rules = rules.now; script = script.now }
+
+-- a usage fault is one that `clap` finds in the words, or that they name no subcommand
+abbrev pub IsRefusalOf : List Text → LineError → Type 0
+IsRefusalOf words Memory = Unit {0}
+IsRefusalOf words (Usage e) = IsAmong (kind_of e) (fault_of program_words words) ⊎ (kind_of e ≡ MissingSubcommand)

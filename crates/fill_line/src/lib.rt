@@ -5,10 +5,10 @@
 //! and a call for help is a usage fault too.
 #![tactic(auto)]
 
-ghost use Rattle.std.specs.Prelude.{◌≡◌, Some, IfErr, IfOk, IsSome, OnOk, map, option_map};
+ghost use Rattle.std.specs.Prelude.{◌≡◌, ◌≢◌, ◌⊎◌, Some, IfErr, IfOk, IsSome, OnOk, map, option_map};
 ghost use Rattle.clap.specs.Words.{app_of, found_of, kind_of, rows_of};
 ghost use Rattle.fill_line.specs.Grammar.{program_words, said_by, said_in, IsFaultless, IsTaken};
-ghost use Rattle.fill_line.specs.Lines.{text_of};
+ghost use Rattle.fill_line.specs.Lines.{text_of, IsRefusalOf};
 ghost use Rattle.fill_line.specs.declared.LineError.TheVariants.{Memory};
 
 use clap::error::ErrorKind;
@@ -87,6 +87,7 @@ pub fn read_line<'a, S: AsStr>(alloc: Global, words: &'a [S]) -> Result<Line<'a>
     ensures line { IfOk result (λ line. said_in (map S.text words.entry.now) ≡ Some (text_of line)) }
     ensures faultless { OnOk result (IsFaultless (map S.text words.entry.now)) }
     ensures usage { IsTaken (map S.text words.entry.now) → IsSome (said_in (map S.text words.entry.now)) → IfErr result (λ e. e ≡ LineError.Memory) }
+    ensures refused { IfErr result (λ e. IsRefusalOf (map S.text words.entry.now) e) }
 {
     let matches = match grammar(alloc)?.try_get_matches_from(words) {
         Ok(matches) => matches,
@@ -102,9 +103,9 @@ pub fn read_line<'a, S: AsStr>(alloc: Global, words: &'a [S]) -> Result<Line<'a>
     }
 }
 
-/// A refusal of `clap` is want of memory or a usage fault.
+/// A refusal of `clap` is want of memory where it says so, and else a usage fault with its text.
 fn refused(error: clap::Error) -> LineError
-    ensures { kind_of error ≡ ErrorKind.OutOfMemory → result ≡ LineError.Memory }
+    ensures { ((kind_of error ≡ ErrorKind.OutOfMemory) × (result ≡ LineError.Memory)) ⊎ ((kind_of error ≢ ErrorKind.OutOfMemory) × (result ≡ LineError.Usage error)) }
 {
     if error.kind() == ErrorKind::OutOfMemory {
         LineError::Memory
@@ -114,7 +115,9 @@ fn refused(error: clap::Error) -> LineError
 }
 
 /// The usage fault of words that name no subcommand.
-fn no_line(alloc: Global) -> Result<clap::Error, AllocError> {
+fn no_line(alloc: Global) -> Result<clap::Error, AllocError>
+    ensures { IfOk result (λ e. kind_of e ≡ ErrorKind.MissingSubcommand) }
+{
     let mut grammar = grammar(alloc)?;
     grammar.error(ErrorKind::MissingSubcommand, "a subcommand is missing")
 }

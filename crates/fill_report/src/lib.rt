@@ -2,9 +2,11 @@
 //! too high. The layers above rely on the bytes being the text of the squares, each line and digit.
 #![tactic(auto)]
 
+pub mod error;
 pub mod line;
 pub mod report;
 
+pub use error::OutOfMemory;
 pub use line::{Density, Measures};
 pub use report::report_of;
 

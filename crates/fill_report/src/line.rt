@@ -1,9 +1,11 @@
+//! One line of the report: its numbers and its word.
 ghost use Rattle.std.specs.Prelude.{◌≡◌, ◌<◌, ◌++◌, ◌∷◌, [], map, length, ℕ, List, ℤ, Some, OnOk};
 ghost use Rattle.std.specs.Fmt.{signed_decimal};
 ghost use Rattle.csv.specs.Records.{fields_of, partial_of};
 ghost use Rattle.fill_report.specs.Report.{density_word, line_text};
 ghost use Rattle.fill_report.specs.Writing.{IsReady, AllPlain, written};
 
+use crate::error::OutOfMemory;
 use csv::{ByteRecord, Writer};
 use itoa::Buffer;
 use std::alloc::AllocError;
@@ -63,7 +65,7 @@ pub(crate) fn put_line(
     row: &mut ByteRecord,
     numbers: &[i64],
     density: Density,
-) -> Result<(), AllocError>
+) -> Result<(), OutOfMemory>
     requires ready { IsReady writer.old }
     requires some { 0 < length numbers.now }
     ensures ready { OnOk result (IsReady writer.new) }
@@ -72,8 +74,6 @@ pub(crate) fn put_line(
     row.clear();
     put_numbers(row, numbers)?;
     row.push_field(density.word())?;
-    let Ok(()) = writer.write_byte_record(row) else {
-        return Err(AllocError);
-    };
+    writer.write_byte_record(row)?;
     Ok(())
 }

@@ -1,28 +1,33 @@
+//! The report of all windows.
 ghost use Rattle.std.specs.Prelude.{◌≡◌, ◌++◌, ◌*◌, ◌/◌, ◌%◌, ◌<◌, length, ℕ, List, ℤ, pos, ◌≤ℤ◌, Some, IfOk, OnOk, All};
 ghost use Rattle.fill_region.specs.Bands.{holds};
-ghost use Rattle.fill_text.specs.Views.{values_of};
+ghost use Rattle.fill_text.specs.ValuesOfRules.{values_of};
 ghost use Rattle.fill_area.specs.Density.{IsArea, IsShare, AreMeasured};
 ghost use Rattle.fill_report.specs.Report.{density_of, share_of, window_line, windows_text, report_text, drawn_only, nothing};
 ghost use Rattle.fill_report.specs.RulesReport.{metal_report};
 ghost use Rattle.fill_report.specs.Writing.{IsReady, written};
 
+use crate::error::OutOfMemory;
 use crate::line::{Density, Measures, put_line};
 use csv::{ByteRecord, Writer};
 use fill_area::{Windows, is_high, is_low, measure_all};
 use fill_region::Region;
 use fill_text::Rules;
-use std::alloc::{AllocError, Global};
+use std::alloc::Global;
 use std::thread::Threads;
 
 /// The report of a region's metal without fill, over the windows of the rules: one line a window with
 /// its column and row, its edges, the areas of metal, of fill (0) and of both, the share in parts of a
 /// million rounded down, and `LOW`, `HIGH` or `OK` (this project's profile).
+///
+/// # Errors
+/// `OutOfMemory` where memory runs out.
 pub fn report_of(
     rt: &(impl Threads + Sync),
     alloc: Global,
     region: &Region,
     rules: &Rules,
-) -> Result<Vec<u8>, AllocError>
+) -> Result<Vec<u8>, OutOfMemory>
     ensures { IfOk result (λ v. v.items ≡ metal_report (holds region.now) (values_of rules.now)) }
 {
     let least = rules.min();
@@ -39,7 +44,7 @@ fn windows_report(
     windows: &Windows,
     least: i64,
     most: i64,
-) -> Result<Vec<u8>, AllocError>
+) -> Result<Vec<u8>, OutOfMemory>
     requires least { IsShare least }
     requires most { IsShare most }
     ensures { IfOk result (λ v. v.items ≡ report_text (holds region.now) nothing windows.now least most) }
@@ -55,7 +60,7 @@ fn drawn_lines(
     totals: &[i64],
     least: i64,
     most: i64,
-) -> Result<Vec<u8>, AllocError>
+) -> Result<Vec<u8>, OutOfMemory>
     requires count { length totals.now ≡ windows.now.columns * windows.now.rows }
     requires areas { All IsArea totals.now }
     requires least { IsShare least }
@@ -64,18 +69,15 @@ fn drawn_lines(
 {
     let mut writer = Writer::from_writer(Vec::new(alloc));
     let mut row = ByteRecord::new(alloc);
-    for k in 0..totals.len() {
-        let drawn = totals[k];
+    for (k, total) in totals.iter().enumerate() {
         let measures = Measures {
-            drawn,
+            drawn: *total,
             fill: 0,
-            total: drawn,
+            total: *total,
         };
         put_window(&mut writer, &mut row, windows, k, measures, least, most)?;
     }
-    let Ok(text) = writer.into_inner() else {
-        return Err(AllocError);
-    };
+    let text = writer.into_inner()?;
     Ok(text)
 }
 
@@ -88,7 +90,7 @@ fn put_window(
     measures: Measures,
     least: i64,
     most: i64,
-) -> Result<(), AllocError>
+) -> Result<(), OutOfMemory>
     requires ready { IsReady writer.old }
     requires within { k < windows.now.columns * windows.now.rows }
     requires total { IsArea measures.total }

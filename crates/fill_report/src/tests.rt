@@ -115,3 +115,31 @@ fn an_equal_share_is_ok_at_the_end_of_the_range(rt: HostRuntime) -> Result<(), F
     }
     Ok(())
 }
+
+/// A hundred rows of a thousand windows, each of one square.
+const MANY_WINDOWS: &str = "win_x,0
+win_y,0
+win_w,1
+win_h,1
+win_step_x,1
+win_step_y,1
+win_nx,1000
+win_ny,100
+min,300000
+max,800000
+";
+
+#[test]
+fn each_of_100_000_windows_has_its_line(rt: HostRuntime) -> Result<(), Fail> {
+    let text = report(
+        &rt,
+        rt.alloc(),
+        MANY_WINDOWS,
+        &[Rect::new(999, 99, 1000, 100)?],
+    )?;
+    let lines = text.iter().filter(|c| **c == b'\n').count();
+    assert_eq!(rt; lines, 100_000);
+    assert!(rt; text.starts_with(b"0,0,0,0,1,1,0,0,0,0,LOW\n1,0,1,0,2,1,0,0,0,0,LOW\n"));
+    assert!(rt; text.ends_with(b"\n999,99,999,99,1000,100,1,0,1,1000000,HIGH\n"));
+    Ok(())
+}

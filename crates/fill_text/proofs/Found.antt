@@ -2,13 +2,12 @@
 use Rattle.std.proofs.Common.{◌≡◌, ◌∙◌, ℕ, ◌+◌, ◌<◌, ◌≤◌, List, [], ◌∷◌, ◌++◌, ℤ, Option, Some, None, suc, Result, Ok, Err, length, get_or, take, drop, set, append_assoc, ap, refl, sym, add-one}
 use Rattle.std.proofs.Math.Seq.{drop-cons, take-suc-set}
 use Rattle.std.proofs.lemmas.List.{append-nil, drop_all, take_all}
-use Rattle.fill_text.specs.Answers.{with_front}
-use Rattle.fill_text.specs.Rules.{all_numbers}
+use Rattle.fill_text.specs.steps.Entries.{all_numbers, with_front}
 use Rattle.fill_text.specs.declared.keys.Key.TheVariants.{Number}
 use Rattle.fill_text.specs.declared.keys.NumberKey.{NumberKey}
 use Rattle.fill_text.specs.declared.keys.NumberKey.TheVariants.{FrameX1}
-use Rattle.fill_text.specs.declared.refusal.RuleError.{RuleError}
-use Rattle.fill_text.specs.declared.refusal.RuleError.TheVariants.{BadRule}
+use Rattle.fill_text.specs.declared.rule_error.RuleError.{RuleError}
+use Rattle.fill_text.specs.declared.rule_error.RuleError.TheVariants.{BadRule}
 
 front_further : (front : List ℤ) (n : ℤ) (rest : Result (List ℤ) RuleError) → with_front front (with_front (n ∷ []) rest) ≡ with_front (front ++ n ∷ []) rest
 front_further front n (Ok more) = ap Ok (sym (append_assoc front (n ∷ []) more))

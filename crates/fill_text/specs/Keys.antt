@@ -1,5 +1,5 @@
--- The table of rules: for each key its place, its name and what its value may be. The numbers stand before the texts.
-use Rattle.std.specs.Prelude.{ℕ, ℤ, pos, ◌≤ℤ◌, List, [], ◌∷◌, Option, Some, None, find, option_map, bytes_eq, codes}
+-- The table of rules: for each key its index, its name and what its value may be. The numbers stand before the texts.
+use Rattle.std.specs.Prelude.{ℕ, ℤ, pos, ◌≤ℤ◌, List, [], ◌∷◌, ◌++◌, map, Option, Some, None, find, option_map, bytes_eq, codes}
 use Rattle.fill_base.specs.Coordinates.{lowest, highest}
 use Rattle.fill_text.specs.declared.keys.Key.{Key}
 use Rattle.fill_text.specs.declared.keys.Key.TheVariants.{Number, Text}
@@ -8,15 +8,15 @@ use Rattle.fill_text.specs.declared.keys.NumberKey.TheVariants.{FrameX1, FrameY1
 use Rattle.fill_text.specs.declared.keys.TextKey.{TextKey}
 use Rattle.fill_text.specs.declared.keys.TextKey.TheVariants.{Top, FillLib, FillCell, FillTop}
 
--- a row of the table for a number: the place from 0, the name, the least and the greatest value
+-- a row of the table for a number: the index from 0, the name, the least and the greatest value
 pub record NumberRule : Type 0 where
-  pub place : ℕ
+  pub index : ℕ
   pub name : List ℕ
   pub low : ℤ
   pub high : ℤ
 
 abbrev pub from_to : ℤ → ℤ → ℕ → List ℕ → NumberRule
-from_to low high place name = record { place = place; name = name; low = low; high = high }
+from_to low high index name = record { index = index; name = name; low = low; high = high }
 
 -- a coordinate
 abbrev pub coordinate : ℕ → List ℕ → NumberRule
@@ -88,6 +88,10 @@ text_name FillTop = codes "fill_top"
 -- the keys of the texts in table order
 abbrev pub all_text_keys : List TextKey
 all_text_keys = Top ∷ FillLib ∷ FillCell ∷ FillTop ∷ []
+
+-- all keys in table order
+abbrev pub all_keys : List Key
+all_keys = map Number all_number_keys ++ map Text all_text_keys
 
 abbrev pub key_name : Key → List ℕ
 key_name (Number key) = (number_rule key).name

@@ -1,9 +1,9 @@
 -- The two texts in the words of their files: each key of the rules stands in one record, each value in a record of its own
 -- key, and each record of a script is one change.
-use Rattle.std.specs.Prelude.{◌≡◌, ℕ, ℤ, List, [], ◌∷◌, ◌++◌, length, get_or, map, Some, Ok, Any, codes}
+use Rattle.std.specs.Prelude.{◌≡◌, ℕ, ℤ, List, [], ◌∷◌, length, get_or, map, Some, Ok, Any, codes}
 use Rattle.std.specs.List.{AllZip}
 use Rattle.std.specs.List.Sorted.{IsPermutation}
-use Rattle.fill_text.specs.Keys.{all_number_keys, all_text_keys, key_name, key_named, number_rule, text_name}
+use Rattle.fill_text.specs.Keys.{all_keys, key_name, key_named, number_rule, text_name}
 use Rattle.fill_text.specs.Numbers.{number_of}
 use Rattle.fill_text.specs.Rows.{rows_of}
 use Rattle.fill_text.specs.Rules.{Values, rules_of, text_of, value_of}
@@ -32,7 +32,7 @@ EachTextIsWritten = (file : List ℕ) (values : Values) → rules_of file ≡ Ok
 
 -- the names of the 32 keys, in table order
 abbrev pub all_key_names : List (List ℕ)
-all_key_names = map (λ key. (number_rule key).name) all_number_keys ++ map text_name all_text_keys
+all_key_names = map key_name all_keys
 
 -- the names that records begin with
 abbrev pub first_fields : List (List (List ℕ)) → List (List ℕ)

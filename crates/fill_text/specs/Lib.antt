@@ -1,12 +1,12 @@
 -- What the two texts say.
-pub mod Answers
 pub mod Corners
 pub mod Grids
 pub mod Keys
 pub mod Laws
 pub mod Numbers
+pub mod Refusals
 pub mod Rows
 pub mod Rules
 pub mod Script
-pub mod Slots
-pub mod Views
+pub mod ValuesOfRules
+pub mod steps

@@ -1,13 +1,12 @@
--- What a rule file says: the value of each key, or the first refusal.
-use Rattle.std.specs.Prelude.{unsigned_abs, ◌≤ℤ◌, IfSome, ℕ, ℤ, pos, ◌+◌, ◌==◌, ◌&&◌, ◌||◌, Bool, List, [], ◌∷◌, length, get_or, replicate, slice_set, Option, Some, None, ok_or, is_some, Result, Ok, Err, bytes_eq, int_le, int_lt, nat_lt, nat_le, if◌then◌else◌}
+-- What a rule file says: the value of each key, or the first rule that it breaks.
+use Rattle.std.specs.Prelude.{unsigned_abs, ℕ, ℤ, pos, ◌+◌, ◌==◌, ◌&&◌, ◌||◌, ◌++◌, Bool, List, [], ◌∷◌, length, get_or, map, find, Option, Some, None, option_map, option_and_then, unwrap_or, is_some, Result, bytes_eq, int_le, int_lt, nat_lt, nat_le, if◌then◌else◌}
 use Rattle.std.specs.List.{list_all}
-use Rattle.fill_base.specs.Sequence.{◌>>=◌}
-use Rattle.fill_text.specs.Answers.{with_front}
-use Rattle.fill_text.specs.Corners.{Corners, rect_with}
 use Rattle.fill_area.specs.Grid.{Grid}
-use Rattle.fill_text.specs.Grids.{grid_with}
-use Rattle.fill_text.specs.Keys.{all_number_keys, key_named, number_rule}
+use Rattle.fill_text.specs.Corners.{Corners, is_rect}
+use Rattle.fill_text.specs.Grids.{is_grid}
+use Rattle.fill_text.specs.Keys.{all_keys, all_number_keys, key_name, key_named, number_rule}
 use Rattle.fill_text.specs.Numbers.{number_of}
+use Rattle.fill_text.specs.Refusals.{each_fault, fault_if, fault_unless, first_some, refused_or}
 use Rattle.fill_text.specs.Rows.{rows_of}
 use Rattle.fill_text.specs.declared.keys.Key.{Key}
 use Rattle.fill_text.specs.declared.keys.Key.TheVariants.{Number, Text}
@@ -15,43 +14,47 @@ use Rattle.fill_text.specs.declared.keys.NumberKey.{NumberKey}
 use Rattle.fill_text.specs.declared.keys.NumberKey.TheVariants as number
 use Rattle.fill_text.specs.declared.keys.TextKey.{TextKey}
 use Rattle.fill_text.specs.declared.keys.TextKey.TheVariants as text
-use Rattle.fill_text.specs.declared.refusal.RuleError.{RuleError}
-use Rattle.fill_text.specs.declared.refusal.RuleError.TheVariants.{BadRow, BadNumber, BadRule, BadRect, BadWindows}
+use Rattle.fill_text.specs.declared.rule_error.RuleError.{RuleError}
+use Rattle.fill_text.specs.declared.rule_error.RuleError.TheVariants.{BadRow, BadNumber, BadRule, BadRect, BadWindows}
 
--- a number or a text for each key that has stood in a record
-pub record Found : Type 0 where
-  pub numbers : List (Option ℤ)
-  pub top : Option (List ℕ)
-  pub fill_lib : Option (List ℕ)
-  pub fill_cell : Option (List ℕ)
-  pub fill_top : Option (List ℕ)
+-- the value of each key
+pub record Values : Type 0 where
+  pub numbers : List ℤ
+  pub top : List ℕ
+  pub fill_lib : List ℕ
+  pub fill_cell : List ℕ
+  pub fill_top : List ℕ
 
-abbrev pub nothing_found : Found
-nothing_found = record { numbers = replicate 28 None; top = None; fill_lib = None; fill_cell = None; fill_top = None }
+abbrev pub number_in : List ℤ → NumberKey → ℤ
+number_in numbers key = get_or numbers (number_rule key).index (pos 0)
 
-abbrev pub text_found : Found → TextKey → Option (List ℕ)
-text_found found text.Top = found.top
-text_found found text.FillLib = found.fill_lib
-text_found found text.FillCell = found.fill_cell
-text_found found text.FillTop = found.fill_top
+abbrev pub value_of : Values → NumberKey → ℤ
+value_of values key = number_in values.numbers key
 
-abbrev pub with_text : Found → TextKey → List ℕ → Found
-with_text found text.Top word = record found { top = Some word }
-with_text found text.FillLib word = record found { fill_lib = Some word }
-with_text found text.FillCell word = record found { fill_cell = Some word }
-with_text found text.FillTop word = record found { fill_top = Some word }
+abbrev pub text_of : Values → TextKey → List ℕ
+text_of values text.Top = values.top
+text_of values text.FillLib = values.fill_lib
+text_of values text.FillCell = values.fill_cell
+text_of values text.FillTop = values.fill_top
 
-abbrev pub number_found : List (Option ℤ) → NumberKey → Option ℤ
-number_found numbers key = get_or numbers (number_rule key).place None
+abbrev pub frame_of : List ℤ → Corners
+frame_of numbers = record { x1 = number_in numbers number.FrameX1; y1 = number_in numbers number.FrameY1; x2 = number_in numbers number.FrameX2; y2 = number_in numbers number.FrameY2 }
 
--- each number that was found is in its key's range
-abbrev pub AreRanged : List (Option ℤ) → Type 0
-AreRanged numbers = (key : NumberKey) → IfSome (number_found numbers key) (λ n. ((number_rule key).low ≤ℤ n) × (n ≤ℤ (number_rule key).high))
+abbrev pub windows_of : List ℤ → Grid
+windows_of numbers = record {
+  x = number_in numbers number.WinX;
+  y = number_in numbers number.WinY;
+  width = number_in numbers number.WinW;
+  height = number_in numbers number.WinH;
+  step_x = number_in numbers number.WinStepX;
+  step_y = number_in numbers number.WinStepY;
+  columns = unsigned_abs (number_in numbers number.WinNx);
+  rows = unsigned_abs (number_in numbers number.WinNy);
+}
 
--- the key has stood in a record
-abbrev pub is_found : Found → Key → Bool
-is_found found (Number key) = is_some (number_found found.numbers key)
-is_found found (Text key) = is_some (text_found found key)
+-- the word that the records give a key: the second field of the first that begins with its name
+abbrev pub word_for : Key → List (List (List ℕ)) → Option (List ℕ)
+word_for key rows = option_map (λ fields. get_or fields 1 []) (find (λ fields. bytes_eq (get_or fields 0 []) (key_name key)) rows)
 
 -- a letter, a digit, `_`, `?` or `$`
 abbrev pub is_name_byte : ℕ → Bool
@@ -71,105 +74,61 @@ is_text text.FillTop word = is_fill_name word
 abbrev pub is_in_range : NumberKey → ℤ → Bool
 is_in_range key n = int_le (number_rule key).low n && int_le n (number_rule key).high
 
--- the number that a word gives a key
-unfoldable pub number_for : ℕ → NumberKey → List ℕ → Result ℤ RuleError
-number_for line key word = do
-  n ← ok_or (number_of word) (BadNumber line)
-  if is_in_range key n then Ok n else Err (BadRule (Number key))
+-- what is wrong with the number that a record writes, if it writes one
+abbrev pub number_fault : ℕ → NumberKey → Option ℤ → Option RuleError
+number_fault line key None = Some (BadNumber line)
+number_fault line key (Some n) = fault_unless (is_in_range key n) (BadRule (Number key))
 
-unfoldable pub take_number : ℕ → NumberKey → List ℕ → Found → Result Found RuleError
-take_number line key word found = do
-  n ← number_for line key word
-  Ok (record found { numbers = slice_set found.numbers (number_rule key).place (Some n) })
+-- what is wrong with a word as the value of a key
+abbrev pub value_fault : ℕ → Key → List ℕ → Option RuleError
+value_fault line (Number key) word = number_fault line key (number_of word)
+value_fault line (Text key) word = fault_unless (is_text key word) (BadRule (Text key))
 
-unfoldable pub take_text : TextKey → List ℕ → Found → Result Found RuleError
-take_text key word found = if is_text key word then Ok (with_text found key word) else Err (BadRule (Text key))
+-- what is wrong with a record of this key, if its name is that of one, and this word, behind the records before
+abbrev pub keyed_fault : ℕ → List (List (List ℕ)) → Option Key → List ℕ → Option RuleError
+keyed_fault line before None word = Some (BadRow line)
+keyed_fault line before (Some key) word = if is_some (word_for key before) then Some (BadRow line) else value_fault line key word
 
-abbrev pub take_value : ℕ → Key → List ℕ → Found → Result Found RuleError
-take_value line (Number key) word found = take_number line key word found
-take_value line (Text key) word found = take_text key word found
+-- the first rule that a record breaks, behind the records before: it has two fields, its key is known, no record before has
+-- that key, and its word is a value of the key
+abbrev pub record_fault : List (List (List ℕ)) → List (List ℕ) → Option RuleError
+record_fault before fields =
+    let line = length before + 1 in
+    if length fields == 2 then keyed_fault line before (key_named (get_or fields 0 [])) (get_or fields 1 []) else Some (BadRow line)
 
--- the key that a record names, which has not stood before
-unfoldable pub new_key : ℕ → List ℕ → Found → Result Key RuleError
-new_key line word found = do
-  key ← ok_or (key_named word) (BadRow line)
-  if is_found found key then Err (BadRow line) else Ok key
+-- each key stands in a record
+abbrev pub missing : List (List (List ℕ)) → Key → Option RuleError
+missing rows key = fault_unless (is_some (word_for key rows)) (BadRule key)
 
--- what a record adds: two fields, a key and its value
-unfoldable pub take_row : ℕ → List (List ℕ) → Found → Result Found RuleError
-take_row line fields found = if length fields == 2 then (do
-  key ← new_key line (get_or fields 0 []) found
-  take_value line key (get_or fields 1 []) found) else Err (BadRow line)
+-- the number and the text that the records give
+abbrev pub number_for : List (List (List ℕ)) → NumberKey → ℤ
+number_for rows key = unwrap_or (option_and_then number_of (word_for (Number key) rows)) (pos 0)
 
--- what the records behind the first `line` ones add
-unfoldable pub take_rows : ℕ → List (List (List ℕ)) → Found → Result Found RuleError
-take_rows line [] found = Ok found
-take_rows line (row ∷ rows) found = take_row (line + 1) row found >>= take_rows (line + 1) rows
+abbrev pub text_for : List (List (List ℕ)) → TextKey → List ℕ
+text_for rows key = unwrap_or (word_for (Text key) rows) []
 
--- the numbers of these keys, which none may miss
-unfoldable pub all_numbers : List NumberKey → List (Option ℤ) → Result (List ℤ) RuleError
-all_numbers [] numbers = Ok []
-all_numbers (key ∷ keys) [] = Err (BadRule (Number key))
-all_numbers (key ∷ keys) (n ∷ numbers) = ok_or n (BadRule (Number key)) >>= λ v. with_front (v ∷ []) (all_numbers keys numbers)
-
--- the value of each key
-pub record Values : Type 0 where
-  pub numbers : List ℤ
-  pub top : List ℕ
-  pub fill_lib : List ℕ
-  pub fill_cell : List ℕ
-  pub fill_top : List ℕ
-
-abbrev pub number_in : List ℤ → NumberKey → ℤ
-number_in numbers key = get_or numbers (number_rule key).place (pos 0)
-
-abbrev pub value_of : Values → NumberKey → ℤ
-value_of values key = number_in values.numbers key
-
-abbrev pub text_of : Values → TextKey → List ℕ
-text_of values text.Top = values.top
-text_of values text.FillLib = values.fill_lib
-text_of values text.FillCell = values.fill_cell
-text_of values text.FillTop = values.fill_top
-
--- the values, none of which may miss: the first missing key in table order is refused
-unfoldable pub all_values : Found → Result Values RuleError
-all_values found = do
-  numbers ← all_numbers all_number_keys found.numbers
-  top ← ok_or found.top (BadRule (Text text.Top))
-  fill_lib ← ok_or found.fill_lib (BadRule (Text text.FillLib))
-  fill_cell ← ok_or found.fill_cell (BadRule (Text text.FillCell))
-  fill_top ← ok_or found.fill_top (BadRule (Text text.FillTop))
-  Ok (record { numbers = numbers; top = top; fill_lib = fill_lib; fill_cell = fill_cell; fill_top = fill_top })
-
-abbrev pub frame_of : List ℤ → Corners
-frame_of numbers = record { x1 = number_in numbers number.FrameX1; y1 = number_in numbers number.FrameY1; x2 = number_in numbers number.FrameX2; y2 = number_in numbers number.FrameY2 }
-
-abbrev pub windows_of : List ℤ → Grid
-windows_of numbers = record {
-  x = number_in numbers number.WinX;
-  y = number_in numbers number.WinY;
-  width = number_in numbers number.WinW;
-  height = number_in numbers number.WinH;
-  step_x = number_in numbers number.WinStepX;
-  step_y = number_in numbers number.WinStepY;
-  columns = unsigned_abs (number_in numbers number.WinNx);
-  rows = unsigned_abs (number_in numbers number.WinNy);
+abbrev pub values_for : List (List (List ℕ)) → Values
+values_for rows = record {
+  numbers = map (number_for rows) all_number_keys;
+  top = text_for rows text.Top;
+  fill_lib = text_for rows text.FillLib;
+  fill_cell = text_for rows text.FillCell;
+  fill_top = text_for rows text.FillTop;
 }
 
--- what is asked of the values together, in this order
-unfoldable pub checked : Values → Result Values RuleError
-checked values =
-    if int_lt (value_of values number.Max) (value_of values number.Min) then Err (BadRule (Number number.Max))
-    else if bytes_eq values.fill_top values.fill_cell then Err (BadRule (Text text.FillTop))
-    else (do
-      frame ← ok_or (rect_with (frame_of values.numbers)) BadRect
-      windows ← ok_or (grid_with (windows_of values.numbers)) BadWindows
-      Ok values)
+-- what is asked of the values together
+abbrev pub joint_faults : Values → List (Option RuleError)
+joint_faults values =
+    fault_if (int_lt (value_of values number.Max) (value_of values number.Min)) (BadRule (Number number.Max))
+    ∷ fault_if (bytes_eq values.fill_top values.fill_cell) (BadRule (Text text.FillTop))
+    ∷ fault_unless (is_rect (frame_of values.numbers)) BadRect
+    ∷ fault_unless (is_grid (windows_of values.numbers)) BadWindows
+    ∷ []
 
--- the rules that were found
-abbrev pub rules_found : Found → Result Values RuleError
-rules_found found = all_values found >>= checked
+-- every fault of a rule file, in the order in which it is refused: of each record, of each key in table order, of the values
+abbrev pub rule_faults : List (List (List ℕ)) → List (Option RuleError)
+rule_faults rows = each_fault record_fault [] rows ++ map (missing rows) all_keys ++ joint_faults (values_for rows)
 
-abbrev pub rules_of : List ℕ → Result Values RuleError
-rules_of text = take_rows 0 (rows_of text) nothing_found >>= rules_found
+-- the values that a rule file gives, or its first fault
+unfoldable pub rules_of : List ℕ → Result Values RuleError
+rules_of file = let rows = rows_of file in refused_or (first_some (rule_faults rows)) (values_for rows)

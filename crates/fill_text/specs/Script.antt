@@ -1,9 +1,8 @@
--- What a script says: the changes that its records ask for, in turn, or the first refusal.
-use Rattle.std.specs.Prelude.{ℕ, ℤ, ◌+◌, ◌==◌, List, [], ◌∷◌, length, get_or, Option, Some, None, ok_or, Result, Ok, Err, bytes_eq, codes, nat_lt, if◌then◌else◌}
-use Rattle.fill_base.specs.Sequence.{◌>>=◌}
-use Rattle.fill_text.specs.Answers.{with_front}
-use Rattle.fill_text.specs.Corners.{Corners, corners_of, rect_with}
+-- What a script says: the changes that its records ask for, in turn, or the first rule that it breaks.
+use Rattle.std.specs.Prelude.{ℕ, ℤ, pos, ◌+◌, ◌==◌, List, [], ◌∷◌, length, get_or, map, Option, Some, None, is_some, unwrap_or, Result, bytes_eq, codes, nat_lt, if◌then◌else◌}
+use Rattle.fill_text.specs.Corners.{Corners, corners_of, is_rect}
 use Rattle.fill_text.specs.Numbers.{number_of}
+use Rattle.fill_text.specs.Refusals.{each_fault, fault_unless, first_some, refused_or}
 use Rattle.fill_text.specs.Rows.{rows_of}
 use Rattle.fill_text.specs.declared.script.Edit.{Edit}
 use Rattle.fill_text.specs.declared.script.Edit.TheVariants as edit
@@ -21,31 +20,41 @@ abbrev pub change_of : Edit → Change
 change_of (edit.Add r) = record { kind = kind.Add; rect = corners_of r }
 change_of (edit.Cut r) = record { kind = kind.Cut; rect = corners_of r }
 
+-- the kind that a record's first field names
 abbrev pub kind_of : List ℕ → Option Kind
 kind_of word = if bytes_eq word (codes "add") then Some kind.Add else (if bytes_eq word (codes "cut") then Some kind.Cut else None)
 
--- the number in a field of a record
-abbrev pub number_at : ℕ → List (List ℕ) → ℕ → Result ℤ ScriptError
-number_at line fields i = ok_or (number_of (get_or fields i [])) (BadNumber line)
+-- the number that a field of a record writes, if it writes one
+abbrev pub number_at : List (List ℕ) → ℕ → Option ℤ
+number_at fields i = number_of (get_or fields i [])
 
--- what a record says: five fields, of which the first is `add` or `cut` and the others are a rectangle's numbers
-unfoldable pub change_at : ℕ → List (List ℕ) → Result Change ScriptError
-change_at line fields = if length fields == 5 then (do
-  kind ← ok_or (kind_of (get_or fields 0 [])) (BadRow line)
-  x1 ← number_at line fields 1
-  y1 ← number_at line fields 2
-  x2 ← number_at line fields 3
-  y2 ← number_at line fields 4
-  rect ← ok_or (rect_with (record { x1 = x1; y1 = y1; x2 = x2; y2 = y2 })) (BadRow line)
-  Ok (record { kind = kind; rect = rect })) else Err (BadRow line)
+abbrev pub corner : List (List ℕ) → ℕ → ℤ
+corner fields i = unwrap_or (number_at fields i) (pos 0)
 
--- the changes of the records behind the first `line` ones; a script has at most 100,000 records
-unfoldable pub changes_from : ℕ → List (List (List ℕ)) → Result (List Change) ScriptError
-changes_from line [] = Ok []
-changes_from line (row ∷ rows) =
-    if nat_lt line 100000
-    then (change_at (line + 1) row >>= λ change. with_front (change ∷ []) (changes_from (line + 1) rows))
-    else Err TooManyLines
+-- the rectangle of a record, and its change
+abbrev pub corners_in : List (List ℕ) → Corners
+corners_in fields = record { x1 = corner fields 1; y1 = corner fields 2; x2 = corner fields 3; y2 = corner fields 4 }
 
-abbrev pub edits_of : List ℕ → Result (List Change) ScriptError
-edits_of text = changes_from 0 (rows_of text)
+abbrev pub change_in : List (List ℕ) → Change
+change_in fields = record { kind = unwrap_or (kind_of (get_or fields 0 [])) kind.Add; rect = corners_in fields }
+
+-- what is asked of a record of this number, in this order: five fields, of which the first is `add` or `cut` and the others
+-- are numbers, which make a rectangle
+abbrev pub change_faults : ℕ → List (List ℕ) → List (Option ScriptError)
+change_faults line fields =
+    fault_unless (length fields == 5) (BadRow line)
+    ∷ fault_unless (is_some (kind_of (get_or fields 0 []))) (BadRow line)
+    ∷ fault_unless (is_some (number_at fields 1)) (BadNumber line)
+    ∷ fault_unless (is_some (number_at fields 2)) (BadNumber line)
+    ∷ fault_unless (is_some (number_at fields 3)) (BadNumber line)
+    ∷ fault_unless (is_some (number_at fields 4)) (BadNumber line)
+    ∷ fault_unless (is_rect (corners_in fields)) (BadRow line)
+    ∷ []
+
+-- the first rule that a record breaks, behind the records before; behind 100,000 it breaks one whatever it holds
+abbrev pub change_fault : List (List (List ℕ)) → List (List ℕ) → Option ScriptError
+change_fault before fields = if nat_lt (length before) 100000 then first_some (change_faults (length before + 1) fields) else Some TooManyLines
+
+-- the changes of a script, one for each record, or its first fault
+unfoldable pub edits_of : List ℕ → Result (List Change) ScriptError
+edits_of text = let rows = rows_of text in refused_or (first_some (each_fault change_fault [] rows)) (map change_in rows)

@@ -1,3 +1,4 @@
+//! A rectangle from four numbers that a text gives.
 ghost use Rattle.std.specs.Prelude.{◌≡◌, option_map};
 ghost use Rattle.fill_text.specs.Corners.{corners_of, rect_with};
 

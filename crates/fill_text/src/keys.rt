@@ -1,3 +1,4 @@
+//! The table of rules: their keys, names and ranges.
 ghost use Rattle.std.specs.Prelude.{◌≡◌, ◌<◌, find, bytes_eq};
 ghost use Rattle.fill_text.specs.Keys.{all_number_keys, all_text_keys, key_name, key_named, number_rule, text_name};
 
@@ -92,8 +93,11 @@ pub enum Key {
     Text(TextKey),
 }
 
+/// How many rules have a number for their value.
+pub const NUMBER_COUNT: usize = 28;
+
 /// The keys of the numbers, in table order.
-pub const NUMBER_KEYS: [NumberKey; 28] = [
+pub const NUMBER_KEYS: [NumberKey; NUMBER_COUNT] = [
     NumberKey::FrameX1,
     NumberKey::FrameY1,
     NumberKey::FrameX2,
@@ -196,9 +200,9 @@ impl NumberKey {
         (rule.low, rule.high)
     }
 
-    /// The key's place in the table, from 0.
-    pub fn place(self) -> usize
-        ensures place { result ≡ (number_rule self).place }
+    /// The key's index in the table, from 0.
+    pub fn index(self) -> usize
+        ensures index { result ≡ (number_rule self).index }
         ensures within { result < 28 }
     {
         self as usize

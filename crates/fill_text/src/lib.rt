@@ -7,21 +7,21 @@
 //! edit.
 #![tactic(auto)]
 
+mod accessors;
 mod corners;
+mod entries;
 mod keys;
 pub mod laws;
 mod numbers;
-mod readers;
-mod reading;
-mod refusal;
 mod rows;
+mod rule_error;
+mod rule_file;
 mod rules;
 mod script;
-mod slots;
 
 pub use keys::{Key, NumberKey, TextKey};
-pub use reading::read_rules;
-pub use refusal::RuleError;
+pub use rule_error::RuleError;
+pub use rule_file::read_rules;
 pub use rules::{Numbers, Rules, Texts};
 pub use script::{Edit, ScriptError, read_script};
 

@@ -1,3 +1,4 @@
+//! How a text writes a number.
 ghost use Rattle.std.specs.Prelude.{◌≡◌, ◌<◌, ◌^◌, IfSome};
 ghost use Rattle.fill_text.specs.Numbers.{natural_of, number_of};
 

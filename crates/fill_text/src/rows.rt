@@ -1,7 +1,9 @@
+//! The records of a text and their fields.
 ghost use Rattle.std.specs.Prelude.{◌≡◌, [], Some, get_or};
 ghost use Rattle.csv.specs.Reading.{owned_rows_left, owned_rows_reader};
 ghost use Rattle.csv.specs.Records.{fields_of};
-ghost use Rattle.fill_text.specs.Rows.{rows_of, StandsBefore};
+ghost use Rattle.fill_text.specs.Rows.{rows_of};
+ghost use Rattle.fill_text.specs.steps.Rows.{StandsBefore};
 
 use csv::{ByteRecord, ByteRecordsIntoIter, ReaderBuilder};
 use std::alloc::Global;
@@ -17,7 +19,7 @@ pub fn rows(alloc: Global, text: &[u8]) -> ByteRecordsIntoIter<&[u8]>
         .into_byte_records()
 }
 
-/// The field at a place of a record, or no bytes where it has none.
+/// The field at an index of a record, or no bytes where it has none.
 pub fn field(row: &ByteRecord, i: usize) -> &[u8]
     ensures { result.now ≡ get_or (fields_of row.now) i [] }
 {

@@ -1,10 +1,11 @@
+//! The rules that a rule file gives: a number or a text for each key.
 ghost use Rattle.std.specs.Prelude.{◌≡◌, ◌≤ℤ◌, ◌↔◌, IfOk, IsTrue, unsigned_abs};
 ghost use Rattle.fill_text.specs.Corners.{corners_of};
 ghost use Rattle.fill_text.specs.Keys.{number_rule};
 ghost use Rattle.fill_text.specs.Rules as spec;
 ghost use Rattle.fill_text.specs.declared.keys.NumberKey.{NumberKey};
 
-use crate::keys::NumberKey;
+use crate::keys::{NUMBER_COUNT, NumberKey};
 use fill_area::Windows;
 use fill_base::Rect;
 use std::alloc::{AllocError, Global};
@@ -12,14 +13,14 @@ use std::alloc::{AllocError, Global};
 /// The numbers of the rules, each in the range of its key.
 #[derive(Clone, Copy, Debug, PartialEq, Eq)]
 pub struct Numbers {
-    values: [i64; 28],
+    values: [i64; NUMBER_COUNT],
     pub ghost low: { (key : NumberKey) → (number_rule key).low ≤ℤ spec.number_in values key },
     pub ghost high: { (key : NumberKey) → spec.number_in values key ≤ℤ (number_rule key).high },
 }
 
 impl Numbers {
-    /// The numbers at the places of their keys.
-    pub fn new(values: [i64; 28]) -> Numbers
+    /// The numbers at the indices of their keys.
+    pub fn new(values: [i64; NUMBER_COUNT]) -> Numbers
         requires low { (key : NumberKey) → (number_rule key).low ≤ℤ spec.number_in values key }
         requires high { (key : NumberKey) → spec.number_in values key ≤ℤ (number_rule key).high }
         ensures { result.values ≡ values }
@@ -31,7 +32,7 @@ impl Numbers {
     pub fn value(&self, key: NumberKey) -> i64
         ensures { result ≡ spec.number_in self.now.values key }
     {
-        self.values[key.place()]
+        self.values[key.index()]
     }
 
     /// How many columns of windows there are.
@@ -79,7 +80,7 @@ pub struct Rules {
 }
 
 impl Texts {
-    ghost use Rattle.fill_text.specs.Views.{SameTexts};
+    ghost use Rattle.fill_text.specs.ValuesOfRules.{SameTexts};
 
     fn copy(&self, alloc: Global) -> Result<Texts, AllocError>
         ensures { IfOk result (λ t. SameTexts t self.now) }
@@ -94,7 +95,7 @@ impl Texts {
 }
 
 impl Rules {
-    ghost use Rattle.fill_text.specs.Views.{values_of};
+    ghost use Rattle.fill_text.specs.ValuesOfRules.{values_of};
 
     /// The number of a key.
     pub fn number(&self, key: NumberKey) -> i64

@@ -1,14 +1,17 @@
+//! The script of edits and its reader.
 ghost use Rattle.std.specs.Prelude.{◌≡◌, map};
 ghost use Rattle.csv.specs.Records.{fields_of};
-ghost use Rattle.fill_text.specs.Answers.{seen, Gives};
-ghost use Rattle.fill_text.specs.Script.{kind_of, number_at, change_at, change_of, edits_of};
+ghost use Rattle.fill_text.specs.Refusals.{seen, Gives};
+ghost use Rattle.fill_text.specs.Script.{kind_of, change_of, edits_of};
+ghost use Rattle.fill_text.specs.declared.script.ScriptError.TheVariants.{Memory};
+ghost use Rattle.fill_text.specs.steps.Changes as step;
 
 use crate::corners::rect_from;
 use crate::numbers::number;
 use crate::rows::{field, rows};
 use csv::ByteRecord;
 use fill_base::Rect;
-use std::alloc::Global;
+use std::alloc::{AllocFailed, Global};
 use thiserror::Error;
 
 /// How many records a script may have.
@@ -40,6 +43,23 @@ pub enum ScriptError {
     Memory,
 }
 
+impl From<csv::Error> for ScriptError {
+    ghost from_gives = { λ _ e. e ≡ Memory };
+
+    /// A reader of bytes in memory fails for want of memory alone.
+    fn from(_error: csv::Error) -> ScriptError {
+        ScriptError::Memory
+    }
+}
+
+impl<T: Drop> From<AllocFailed<T>> for ScriptError {
+    ghost from_gives = { λ _ e. e ≡ Memory };
+
+    fn from(_error: AllocFailed<T>) -> ScriptError {
+        ScriptError::Memory
+    }
+}
+
 /// What an edit does with its rectangle.
 #[derive(Clone, Copy)]
 pub enum Kind {
@@ -63,15 +83,15 @@ fn kind_named(word: &[u8]) -> Option<Kind>
 }
 
 fn number_in(row: &ByteRecord, i: usize, line: u64) -> Result<i64, ScriptError>
-    ensures { result ≡ number_at line (fields_of row.now) i }
+    ensures { result ≡ step.number_in line (fields_of row.now) i }
 {
     number(field(row, i)).ok_or(ScriptError::BadNumber { line })
 }
 
 /// The edit that one record writes.
-#[tactic(auto, unfolding(crate::specs::Script::change_at))]
+#[tactic(auto, unfolding(crate::specs::steps::Changes::change_at))]
 fn edit_in(row: &ByteRecord, line: u64) -> Result<Edit, ScriptError>
-    ensures { seen change_of result ≡ change_at line (fields_of row.now) }
+    ensures { seen change_of result ≡ step.change_at line (fields_of row.now) }
 {
     if row.len() != 5 {
         return Err(ScriptError::BadRow { line });
@@ -101,17 +121,13 @@ pub fn read_script(alloc: Global, text: &[u8]) -> Result<Vec<Edit>, ScriptError>
     let mut edits = Vec::new(alloc);
     let mut line = 0u64;
     for row in rows(alloc, text) {
-        let Ok(row) = row else {
-            return Err(ScriptError::Memory);
-        };
+        let row = row?;
         if line == MOST_RECORDS {
             return Err(ScriptError::TooManyLines);
         }
         line += 1;
         let edit = edit_in(&row, line)?;
-        if edits.push(edit).is_err() {
-            return Err(ScriptError::Memory);
-        }
+        edits.push(edit)?;
     }
     Ok(edits)
 }

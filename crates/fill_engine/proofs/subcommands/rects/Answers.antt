@@ -3,7 +3,7 @@ use Rattle.std.specs.Io.KnownBytes.{Appends}
 use Rattle.fill_device.specs.Taps.{under}
 use Rattle.fill_report.specs.RulesReport.{metal_report}
 use Rattle.fill_text.specs.Script.{change_of}
-use Rattle.fill_text.specs.Views.{values_of}
+use Rattle.fill_text.specs.ValuesOfRules.{values_of}
 use Rattle.fill_text.specs.declared.script.Edit.{Edit}
 use Rattle.fill_engine.specs.Metal.{is_metal}
 use Rattle.fill_engine.specs.declared.fault.Fault.TheVariants.{Device, Memory}

@@ -2,7 +2,7 @@ use Rattle.std.proofs.Common.{◌≡◌, ℤ, Bool, IfOk, map, subst}
 use Rattle.fill_region.specs.Bands.{holds}
 use Rattle.fill_report.specs.RulesReport.{metal_report}
 use Rattle.fill_text.specs.Script.{change_of}
-use Rattle.fill_text.specs.Views.{values_of}
+use Rattle.fill_text.specs.ValuesOfRules.{values_of}
 use Rattle.fill_engine.specs.Metal.{is_metal}
 use Rattle.fill_engine.proofs.subcommands.report_after.Goals as goal
 

@@ -1,4 +1,4 @@
-use Rattle.fill_text.specs.Views.{values_of}
+use Rattle.fill_text.specs.ValuesOfRules.{values_of}
 use Rattle.fill_text.proofs.SameRules.{same_values}
 use Rattle.fill_text.proofs.rules.Rules.same_as.Goals as goal
 

@@ -1,9 +1,8 @@
 -- The numbers so far, and then those of the keys behind them, are the whole.
 use Rattle.std.proofs.Common.{◌≡◌, length, take, drop}
-use Rattle.fill_text.specs.Answers.{with_front}
 use Rattle.fill_text.specs.Keys.{all_number_keys}
-use Rattle.fill_text.specs.Rules.{all_numbers}
-use Rattle.fill_text.proofs.slots.Slots.all_numbers.Given as goal
+use Rattle.fill_text.specs.steps.Entries.{all_numbers, with_front}
+use Rattle.fill_text.proofs.entries.Entries.all_numbers.Given as goal
 
 abbrev pub invariant-loop-i : goal.invariant-loop-i
 invariant-loop-i l = record {

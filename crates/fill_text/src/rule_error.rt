@@ -1,4 +1,9 @@
+//! Why a rule file is refused.
+ghost use Rattle.std.specs.Prelude.{◌≡◌};
+ghost use Rattle.fill_text.specs.declared.rule_error.RuleError.TheVariants.{Memory};
+
 use crate::keys::Key;
+use std::alloc::AllocError;
 use std::fmt;
 use thiserror::Error;
 
@@ -23,6 +28,23 @@ pub enum RuleError {
     /// An allocation was refused.
     #[error("out of memory")]
     Memory,
+}
+
+impl From<AllocError> for RuleError {
+    ghost from_gives = { λ _ e. e ≡ Memory };
+
+    fn from(_error: AllocError) -> RuleError {
+        RuleError::Memory
+    }
+}
+
+impl From<csv::Error> for RuleError {
+    ghost from_gives = { λ _ e. e ≡ Memory };
+
+    /// A reader of bytes in memory fails for want of memory alone.
+    fn from(_error: csv::Error) -> RuleError {
+        RuleError::Memory
+    }
 }
 
 impl fmt::Display for Key {

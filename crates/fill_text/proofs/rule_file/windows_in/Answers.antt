@@ -4,7 +4,7 @@ use Rattle.fill_text.specs.Grids.{grid_with}
 use Rattle.fill_text.specs.Rules.{number_in}
 use Rattle.fill_text.specs.declared.keys.NumberKey.TheVariants.{WinX, WinY, WinW, WinH, WinStepX, WinStepY}
 use Rattle.fill_text.proofs.GridTests.{grid_kept, grids_same}
-use Rattle.fill_text.proofs.reading.windows_in.Goals as goal
+use Rattle.fill_text.proofs.rule_file.windows_in.Goals as goal
 
 pub returns : goal.returns
 returns c =

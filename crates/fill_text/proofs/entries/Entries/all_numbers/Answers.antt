@@ -3,7 +3,7 @@ use Rattle.std.proofs.lemmas.Int.{to_z-of_z}
 use Rattle.std.proofs.Math.ListN.{length-set}
 use Rattle.fill_text.specs.Keys.{all_number_keys}
 use Rattle.fill_text.proofs.Found.{all_found, number_missing, one_number_more}
-use Rattle.fill_text.proofs.slots.Slots.all_numbers.Goals as goal
+use Rattle.fill_text.proofs.entries.Entries.all_numbers.Goals as goal
 
 pub returns-in_default : goal.returns-in_default
 returns-in_default c =

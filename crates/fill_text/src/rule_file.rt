@@ -1,17 +1,19 @@
+//! The reader of a rule file.
 ghost use Rattle.std.specs.Prelude.{◌≡◌, option_map};
-ghost use Rattle.fill_text.specs.Answers.{seen, Gives};
+ghost use Rattle.fill_text.specs.Refusals.{seen, Gives};
 ghost use Rattle.fill_text.specs.Corners.{corners_of, rect_with};
 ghost use Rattle.fill_text.specs.Grids.{grid_with};
 ghost use Rattle.fill_text.specs.Rules as spec;
-ghost use Rattle.fill_text.specs.Slots.{found_in};
-ghost use Rattle.fill_text.specs.Views.{values_from, values_of};
+ghost use Rattle.fill_text.specs.steps.Entries as step;
+ghost use Rattle.fill_text.specs.steps.Entries.{found_in};
+ghost use Rattle.fill_text.specs.ValuesOfRules.{values_from, values_of};
 
 use crate::corners::rect_from;
+use crate::entries::Entries;
 use crate::keys::{Key, NumberKey, TextKey};
-use crate::refusal::RuleError;
 use crate::rows::rows;
+use crate::rule_error::RuleError;
 use crate::rules::{Numbers, Rules, Texts};
-use crate::slots::Slots;
 use fill_area::Windows;
 use fill_base::{Point, Rect};
 use std::alloc::Global;
@@ -49,9 +51,9 @@ fn windows_in(numbers: &Numbers) -> Option<Windows>
 }
 
 /// What is asked of the values together.
-#[tactic(auto, unfolding(crate::specs::Rules::checked))]
+#[tactic(auto, unfolding(crate::specs::steps::Entries::checked))]
 fn checked(numbers: Numbers, texts: Texts) -> Result<Rules, RuleError>
-    ensures { seen values_of result ≡ spec.checked (values_from numbers texts) }
+    ensures { seen values_of result ≡ step.checked (values_from numbers texts) }
 {
     if numbers.value(NumberKey::Max) < numbers.value(NumberKey::Min) {
         return Err(RuleError::BadRule {
@@ -74,19 +76,19 @@ fn checked(numbers: Numbers, texts: Texts) -> Result<Rules, RuleError>
 }
 
 /// The rules that were found, none of which may miss.
-#[tactic(auto, unfolding(crate::specs::Rules::all_values))]
-fn rules_found(slots: Slots) -> Result<Rules, RuleError>
-    requires { spec.AreRanged (found_in slots).numbers }
-    ensures { seen values_of result ≡ spec.rules_found (found_in slots) }
+#[tactic(auto, unfolding(crate::specs::steps::Entries::all_values))]
+fn rules_found(entries: Entries) -> Result<Rules, RuleError>
+    requires { step.AreRanged (found_in entries).numbers }
+    ensures { seen values_of result ≡ step.rules_found (found_in entries) }
 {
-    let numbers = Numbers::new(slots.all_numbers()?);
-    let Slots {
+    let numbers = Numbers::new(entries.all_numbers()?);
+    let Entries {
         numbers: _,
         top,
         fill_lib,
         fill_cell,
         fill_top,
-    } = slots;
+    } = entries;
     let top = top.ok_or(missing(TextKey::Top))?;
     let fill_lib = fill_lib.ok_or(missing(TextKey::FillLib))?;
     let fill_cell = fill_cell.ok_or(missing(TextKey::FillCell))?;
@@ -122,14 +124,12 @@ fn missing(key: TextKey) -> RuleError
 pub fn read_rules(alloc: Global, text: &[u8]) -> Result<Rules, RuleError>
     ensures { Gives RuleError.Memory values_of result (spec.rules_of text.now) }
 {
-    let mut slots = Slots::new();
+    let mut entries = Entries::new();
     let mut line = 0u64;
     for row in rows(alloc, text) {
-        let Ok(row) = row else {
-            return Err(RuleError::Memory);
-        };
+        let row = row?;
         line += 1;
-        slots.take_row(alloc, line, &row)?;
+        entries.take_row(alloc, line, &row)?;
     }
-    rules_found(slots)
+    rules_found(entries)
 }

@@ -1,35 +1,37 @@
+//! The entries of a rule file that have been read: at most one for each key.
 ghost use Rattle.std.specs.Prelude.{◌≡◌};
 ghost use Rattle.std.specs.List.{list_all};
 ghost use Rattle.csv.specs.Records.{fields_of};
-ghost use Rattle.fill_text.specs.Answers.{seen, Gives};
+ghost use Rattle.fill_text.specs.Refusals.{seen, Gives};
 ghost use Rattle.fill_text.specs.Keys.{all_number_keys};
 ghost use Rattle.fill_text.specs.Rules as spec;
-ghost use Rattle.fill_text.specs.Slots.{found_in};
+ghost use Rattle.fill_text.specs.steps.Entries as step;
+ghost use Rattle.fill_text.specs.steps.Entries.{found_in};
 
-use crate::keys::{Key, NUMBER_KEYS, NumberKey, TextKey};
+use crate::keys::{Key, NUMBER_COUNT, NUMBER_KEYS, NumberKey, TextKey};
 use crate::numbers::number;
-use crate::refusal::RuleError;
 use crate::rows::field;
+use crate::rule_error::RuleError;
 use csv::ByteRecord;
 use std::alloc::Global;
 
 /// A number or a text for each key that has stood in a record.
 #[derive(Drop)]
-pub struct Slots {
-    pub numbers: [Option<i64>; 28],
+pub struct Entries {
+    pub numbers: [Option<i64>; NUMBER_COUNT],
     pub top: Option<Vec<u8>>,
     pub fill_lib: Option<Vec<u8>>,
     pub fill_cell: Option<Vec<u8>>,
     pub fill_top: Option<Vec<u8>>,
 }
 
-impl Slots {
+impl Entries {
     /// No key has stood in a record yet.
-    pub fn new() -> Slots
-        ensures { found_in result ≡ spec.nothing_found }
+    pub fn new() -> Entries
+        ensures { found_in result ≡ step.nothing_found }
     {
-        Slots {
-            numbers: [None; 28],
+        Entries {
+            numbers: [None; NUMBER_COUNT],
             top: None,
             fill_lib: None,
             fill_cell: None,
@@ -39,10 +41,10 @@ impl Slots {
 
     /// Whether the key has stood in a record.
     fn has(&self, key: Key) -> bool
-        ensures { result ≡ spec.is_found (found_in self.now) key }
+        ensures { result ≡ step.is_found (found_in self.now) key }
     {
         match key {
-            Key::Number(key) => self.numbers[key.place()].is_some(),
+            Key::Number(key) => self.numbers[key.index()].is_some(),
             Key::Text(TextKey::Top) => self.top.is_some(),
             Key::Text(TextKey::FillLib) => self.fill_lib.is_some(),
             Key::Text(TextKey::FillCell) => self.fill_cell.is_some(),
@@ -51,9 +53,9 @@ impl Slots {
     }
 
     /// The key that a record's first field names, which has not stood before.
-    #[tactic(auto, unfolding(crate::specs::Rules::new_key))]
+    #[tactic(auto, unfolding(crate::specs::steps::Entries::new_key))]
     fn new_key(&self, line: u64, word: &[u8]) -> Result<Key, RuleError>
-        ensures { result ≡ spec.new_key line word.now (found_in self.now) }
+        ensures { result ≡ step.new_key line word.now (found_in self.now) }
     {
         let key = Key::named(word).ok_or(RuleError::BadRow { line })?;
         if self.has(key) {
@@ -62,26 +64,24 @@ impl Slots {
         Ok(key)
     }
 
-    #[tactic(auto, unfolding(crate::specs::Rules::take_number))]
+    #[tactic(auto, unfolding(crate::specs::steps::Entries::take_number))]
     fn take_number(&mut self, line: u64, key: NumberKey, word: &[u8]) -> Result<(), RuleError>
-        ensures { seen (λ _. found_in self.new) result ≡ spec.take_number line key word.now (found_in self.old) }
+        ensures { seen (λ _. found_in self.new) result ≡ step.take_number line key word.now (found_in self.old) }
     {
-        self.numbers[key.place()] = Some(number_for(line, key, word)?);
+        self.numbers[key.index()] = Some(number_for(line, key, word)?);
         Ok(())
     }
 
-    #[tactic(auto, unfolding(crate::specs::Rules::take_text))]
+    #[tactic(auto, unfolding(crate::specs::steps::Entries::take_text))]
     fn take_text(&mut self, alloc: Global, key: TextKey, word: &[u8]) -> Result<(), RuleError>
-        ensures { Gives RuleError.Memory (λ _. found_in self.new) result (spec.take_text key word.now (found_in self.old)) }
+        ensures { Gives RuleError.Memory (λ _. found_in self.new) result (step.take_text key word.now (found_in self.old)) }
     {
         if !is_text(key, word) {
             return Err(RuleError::BadRule {
                 key: Key::Text(key),
             });
         }
-        let Ok(kept) = word.to_vec(alloc) else {
-            return Err(RuleError::Memory);
-        };
+        let kept = word.to_vec(alloc)?;
         match key {
             TextKey::Top => self.top = Some(kept),
             TextKey::FillLib => self.fill_lib = Some(kept),
@@ -96,9 +96,9 @@ impl Slots {
     /// # Errors
     /// `BadRow` for other than two fields and for a key that is unknown or has stood before, then `BadNumber` for a
     /// value that writes no number, then `BadRule` for one that its key doesn't allow. `Memory` where memory is refused.
-    #[tactic(auto, unfolding(crate::specs::Rules::take_row))]
+    #[tactic(auto, unfolding(crate::specs::steps::Entries::take_row))]
     pub fn take_row(&mut self, alloc: Global, line: u64, row: &ByteRecord) -> Result<(), RuleError>
-        ensures { Gives RuleError.Memory (λ _. found_in self.new) result (spec.take_row line (fields_of row.now) (found_in self.old)) }
+        ensures { Gives RuleError.Memory (λ _. found_in self.new) result (step.take_row line (fields_of row.now) (found_in self.old)) }
     {
         if row.len() != 2 {
             return Err(RuleError::BadRow { line });
@@ -114,11 +114,11 @@ impl Slots {
     ///
     /// # Errors
     /// `BadRule` for the first key in table order that has no number.
-    pub fn all_numbers(&self) -> Result<[i64; 28], RuleError>
-        ensures { result ≡ spec.all_numbers all_number_keys self.now.numbers }
+    pub fn all_numbers(&self) -> Result<[i64; NUMBER_COUNT], RuleError>
+        ensures { result ≡ step.all_numbers all_number_keys self.now.numbers }
     {
-        let mut numbers = [0; 28];
-        for i in 0..28 {
+        let mut numbers = [0; NUMBER_COUNT];
+        for i in 0..NUMBER_COUNT {
             let Some(n) = self.numbers[i] else {
                 return Err(RuleError::BadRule {
                     key: Key::Number(NUMBER_KEYS[i]),
@@ -131,9 +131,9 @@ impl Slots {
 }
 
 /// The number that a record's second field gives a key.
-#[tactic(auto, unfolding(crate::specs::Rules::number_for))]
+#[tactic(auto, unfolding(crate::specs::steps::Entries::ranged_number))]
 fn number_for(line: u64, key: NumberKey, word: &[u8]) -> Result<i64, RuleError>
-    ensures { result ≡ spec.number_for line key word.now }
+    ensures { result ≡ step.ranged_number line key word.now }
 {
     let n = number(word).ok_or(RuleError::BadNumber { line })?;
     let (low, high) = key.range();

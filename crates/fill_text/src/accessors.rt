@@ -1,10 +1,10 @@
-//! A reader for each rule. Lengths, gaps and coordinates are in database units.
+//! The value of each rule. Lengths, gaps and coordinates are in database units.
 ghost use Rattle.std.specs.Prelude.{◌≡◌};
 ghost use Rattle.fill_text.specs.Corners.{corners_of};
 ghost use Rattle.fill_text.specs.Keys.{IsWithin};
 ghost use Rattle.fill_text.specs.Rules as spec;
 ghost use Rattle.fill_text.specs.Rules.{value_of};
-ghost use Rattle.fill_text.specs.Views.{values_of};
+ghost use Rattle.fill_text.specs.ValuesOfRules.{values_of};
 
 use crate::keys::NumberKey;
 use crate::rules::Rules;

@@ -1,6 +1,6 @@
 use Rattle.fill_text.proofs.GridTests.{grid_with_same}
 use Rattle.fill_text.proofs.Rectangles.{rect_with_same}
-use Rattle.fill_text.proofs.reading.checked.Goals as goal
+use Rattle.fill_text.proofs.rule_file.checked.Goals as goal
 
 pub invariant_of-result : goal.invariant_of-result
 invariant_of-result c = record {

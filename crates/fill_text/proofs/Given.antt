@@ -1,0 +1,118 @@
+-- Once every record is taken: the entries give the value of each key, and the first fault of the file is known.
+use Rattle.std.proofs.Common.{◌≡◌, ◌∙◌, ℕ, ℤ, Bool, true, false, List, [], ◌∷◌, ◌++◌, length, get_or, map, Option, Some, None, option_map, Result, Ok, Err, ap, sym, refl}
+use Rattle.std.specs.Prelude.{bytes_eq, int_lt, is_some, ok_or, option_and_then, pos, unwrap_or, if◌then◌else◌}
+use Rattle.std.proofs.lemmas.List.FromFn.{fill_by_all}
+use Rattle.fill_base.specs.Sequence.{◌>>=◌}
+use Rattle.fill_text.specs.Corners.{is_rect, rect_with}
+use Rattle.fill_text.specs.Grids.{grid_with, is_grid}
+use Rattle.fill_text.specs.Keys.{all_keys, all_number_keys, all_text_keys}
+use Rattle.fill_text.specs.Numbers.{number_of}
+use Rattle.fill_text.specs.Refusals.{each_fault, fault_if, fault_unless, first_some, refused_or}
+use Rattle.fill_text.specs.Rules.{Values, frame_of, joint_faults, missing, number_for, record_fault, rule_faults, rules_of, value_of, values_for, windows_of, word_for}
+use Rattle.fill_text.specs.Rows.{rows_of}
+use Rattle.fill_text.specs.declared.keys.Key.TheVariants.{Number, Text}
+use Rattle.fill_text.specs.declared.keys.NumberKey.{NumberKey}
+use Rattle.fill_text.specs.declared.keys.NumberKey.TheVariants as number
+use Rattle.fill_text.specs.declared.keys.TextKey.TheVariants as text
+use Rattle.fill_text.specs.declared.rule_error.RuleError.{RuleError}
+use Rattle.fill_text.specs.declared.rule_error.RuleError.TheVariants.{BadRect, BadRule, BadWindows}
+use Rattle.fill_text.specs.steps.Entries.{Found, all_numbers, all_values, checked, number_found, rules_found, with_front}
+use Rattle.fill_text.proofs.FirstFaults.{first_stays, later_first}
+use Rattle.fill_text.proofs.Holding.{Holds}
+
+-- the numbers of these keys, or the first key that is missing
+numbers_given : (rows : List (List (List ℕ))) (found : NumberKey → Option ℤ) (keys : List NumberKey)
+    → ((key : NumberKey) → option_map number_of (word_for (Number key) rows) ≡ option_map Some (found key))
+    → all_numbers keys (map found keys) ≡ refused_or (first_some (map (missing rows) (map Number keys))) (map (number_for rows) keys)
+unfolding all_numbers
+numbers_given rows found [] held = refl
+numbers_given rows found (key ∷ keys) held = by (word_for (Number key) rows) (found key) (held key) (numbers_given rows found keys held)
+  where
+    front : (n : ℤ) (o : Option RuleError) (more : List ℤ) → with_front (n ∷ []) (refused_or o more) ≡ refused_or o (n ∷ more)
+    front n None more = refl
+    front n (Some e) more = refl
+
+    written : (word : List ℕ) (n : ℤ) → number_of word ≡ Some n → unwrap_or (option_and_then number_of (Some word)) (pos 0) ≡ n
+    written word n e = rw e refl
+
+    by : (o : Option (List ℕ)) (n : Option ℤ) → option_map number_of o ≡ option_map Some n
+        → all_numbers keys (map found keys) ≡ refused_or (first_some (map (missing rows) (map Number keys))) (map (number_for rows) keys)
+        → (ok_or n (BadRule (Number key)) >>= λ v. with_front (v ∷ []) (all_numbers keys (map found keys)))
+        ≡ refused_or (first_some (fault_unless (is_some o) (BadRule (Number key)) ∷ map (missing rows) (map Number keys))) (unwrap_or (option_and_then number_of o) (pos 0) ∷ map (number_for rows) keys)
+    by None None e later = refl
+    by None (Some n) e later = cc e
+    by (Some word) None e later = cc e
+    by (Some word) (Some n) e later =
+        let this : number_of word ≡ Some n = cc e in
+        rw (written word n this, later) (front n (first_some (map (missing rows) (map Number keys))) (map (number_for rows) keys))
+
+-- the four texts, or the first that is missing
+texts_given : (numbers : List ℤ) (a b c d : Option (List ℕ))
+    → (ok_or a (BadRule (Text text.Top)) >>= λ top. ok_or b (BadRule (Text text.FillLib)) >>= λ fill_lib. ok_or c (BadRule (Text text.FillCell)) >>= λ fill_cell. ok_or d (BadRule (Text text.FillTop)) >>= λ fill_top.
+    let values : Result Values RuleError = Ok (record { numbers = numbers; top = top; fill_lib = fill_lib; fill_cell = fill_cell; fill_top = fill_top }) in values)
+    ≡ refused_or (first_some (fault_unless (is_some a) (BadRule (Text text.Top)) ∷ fault_unless (is_some b) (BadRule (Text text.FillLib)) ∷ fault_unless (is_some c) (BadRule (Text text.FillCell)) ∷ fault_unless (is_some d) (BadRule (Text text.FillTop)) ∷ []))
+    (record { numbers = numbers; top = unwrap_or a []; fill_lib = unwrap_or b []; fill_cell = unwrap_or c []; fill_top = unwrap_or d [] })
+texts_given numbers None b c d = refl
+texts_given numbers (Some w) None c d = refl
+texts_given numbers (Some w) (Some x) None d = refl
+texts_given numbers (Some w) (Some x) (Some y) None = refl
+texts_given numbers (Some w) (Some x) (Some y) (Some z) = refl
+
+-- a list of 28 is what its places give
+listed : (numbers : List (Option ℤ)) → length numbers ≡ 28 → numbers ≡ map (number_found numbers) all_number_keys
+listed numbers many = fill_by_all (λ i. get_or numbers i None) numbers 28 None many (λ i below. refl)
+
+values_given : (rows : List (List (List ℕ))) (found : Found) → Holds found rows
+    → all_values found ≡ refused_or (first_some (map (missing rows) all_keys)) (values_for rows)
+unfolding all_values
+values_given rows found held = by (first_some (map (missing rows) (map Number all_number_keys))) refl
+  where
+    numbers : all_numbers all_number_keys found.numbers ≡ refused_or (first_some (map (missing rows) (map Number all_number_keys))) (map (number_for rows) all_number_keys)
+    numbers = ap (all_numbers all_number_keys) (listed found.numbers held.many) ∙ numbers_given rows (number_found found.numbers) all_number_keys held.number
+
+    by : (o : Option RuleError) → first_some (map (missing rows) (map Number all_number_keys)) ≡ o
+        → all_values found ≡ refused_or (first_some (map (missing rows) all_keys)) (values_for rows)
+    by (Some e) first = rw (numbers, first, first_stays (map (missing rows) (map Number all_number_keys)) (map (missing rows) (map Text all_text_keys)) e first) refl
+    by None first =
+        rw (numbers, first, later_first (map (missing rows) (map Number all_number_keys)) (map (missing rows) (map Text all_text_keys)) first, ← held.words text.Top, ← held.words text.FillLib, ← held.words text.FillCell, ← held.words text.FillTop)
+        (texts_given (map (number_for rows) all_number_keys) (word_for (Text text.Top) rows) (word_for (Text text.FillLib) rows) (word_for (Text text.FillCell) rows) (word_for (Text text.FillTop) rows))
+
+checked_given : (values : Values) → checked values ≡ refused_or (first_some (joint_faults values)) values
+unfolding checked rect_with grid_with
+checked_given values = by (int_lt (value_of values number.Max) (value_of values number.Min)) (bytes_eq values.fill_top values.fill_cell) (is_rect (frame_of values.numbers)) (is_grid (windows_of values.numbers))
+  where
+    by : (less same rect grid : Bool)
+        → (if less then Err (BadRule (Number number.Max)) else if same then Err (BadRule (Text text.FillTop))
+        else (ok_or (if rect then Some (frame_of values.numbers) else None) BadRect >>= λ _. ok_or (if grid then Some (windows_of values.numbers) else None) BadWindows >>= λ _. Ok values))
+        ≡ refused_or (first_some (fault_if less (BadRule (Number number.Max)) ∷ fault_if same (BadRule (Text text.FillTop)) ∷ fault_unless rect BadRect ∷ fault_unless grid BadWindows ∷ [])) values
+    by true same rect grid = refl
+    by false true rect grid = refl
+    by false false false grid = refl
+    by false false true false = refl
+    by false false true true = refl
+
+-- a file with a record at fault
+pub refused_at : (file : List ℕ) (e : RuleError) → first_some (each_fault record_fault [] (rows_of file)) ≡ Some e → rules_of file ≡ Err e
+unfolding rules_of
+refused_at file e first =
+    let rows = rows_of file in
+    let keys = map (missing rows) all_keys in
+    let each = each_fault record_fault [] rows in
+    rw (first_stays (each ++ keys) (joint_faults (values_for rows)) e (first_stays each keys e first)) refl
+
+-- a file with none
+pub rules_given : (file : List ℕ) (found : Found) → first_some (each_fault record_fault [] (rows_of file)) ≡ None → Holds found (rows_of file)
+    → rules_of file ≡ rules_found found
+unfolding rules_of
+rules_given file found sound held = by (first_some (map (missing (rows_of file)) all_keys)) refl (values_given (rows_of file) found held)
+  where
+    by : (o : Option RuleError) → first_some (map (missing (rows_of file)) all_keys) ≡ o → all_values found ≡ refused_or o (values_for (rows_of file))
+        → refused_or (first_some (rule_faults (rows_of file))) (values_for (rows_of file)) ≡ (all_values found >>= checked)
+    by (Some e) first given =
+        let each = each_fault record_fault [] (rows_of file) in
+        let keys = map (missing (rows_of file)) all_keys in
+        rw (first_stays (each ++ keys) (joint_faults (values_for (rows_of file))) e (later_first each keys sound ∙ first), given) refl
+    by None first given =
+        let each = each_fault record_fault [] (rows_of file) in
+        let keys = map (missing (rows_of file)) all_keys in
+        rw (later_first (each ++ keys) (joint_faults (values_for (rows_of file))) (later_first each keys sound ∙ first), given) (sym (checked_given (values_for (rows_of file))))

@@ -1,0 +1,121 @@
+-- How a rule file is read: what each record adds to the entries, and what the entries then give. This serves the private
+-- functions; what a rule file says is `rules_of`.
+use Rattle.std.specs.Prelude.{◌≤ℤ◌, IfSome, ℕ, ℤ, ◌==◌, Bool, List, [], ◌∷◌, ◌++◌, length, get_or, replicate, slice_set, Option, Some, None, option_map, ok_or, is_some, Result, Ok, Err, bytes_eq, int_lt, if◌then◌else◌}
+use Rattle.fill_base.specs.Sequence.{◌>>=◌}
+use Rattle.fill_text.specs.Corners.{rect_with}
+use Rattle.fill_text.specs.Grids.{grid_with}
+use Rattle.fill_text.specs.Keys.{all_number_keys, key_named, number_rule}
+use Rattle.fill_text.specs.Numbers.{number_of}
+use Rattle.fill_text.specs.Rules.{Values, frame_of, is_in_range, is_text, value_of, windows_of}
+use Rattle.fill_text.specs.declared.keys.Key.{Key}
+use Rattle.fill_text.specs.declared.keys.Key.TheVariants.{Number, Text}
+use Rattle.fill_text.specs.declared.keys.NumberKey.{NumberKey}
+use Rattle.fill_text.specs.declared.keys.NumberKey.TheVariants as number
+use Rattle.fill_text.specs.declared.keys.TextKey.{TextKey}
+use Rattle.fill_text.specs.declared.keys.TextKey.TheVariants as text
+use Rattle.fill_text.specs.declared.rule_error.RuleError.{RuleError}
+use Rattle.fill_text.specs.declared.rule_error.RuleError.TheVariants.{BadRow, BadNumber, BadRule, BadRect, BadWindows}
+use Rattle.fill_text.specs.declared.entries.Entries.{Entries}
+
+-- an answer that begins with this list
+abbrev pub with_front : {A E : Type 0} → List A → Result (List A) E → Result (List A) E
+with_front front rest = rest >>= λ more. Ok (front ++ more)
+
+-- a number or a text for each key that has stood in a record
+pub record Found : Type 0 where
+  pub numbers : List (Option ℤ)
+  pub top : Option (List ℕ)
+  pub fill_lib : Option (List ℕ)
+  pub fill_cell : Option (List ℕ)
+  pub fill_top : Option (List ℕ)
+
+abbrev pub nothing_found : Found
+nothing_found = record { numbers = replicate 28 None; top = None; fill_lib = None; fill_cell = None; fill_top = None }
+
+abbrev pub text_found : Found → TextKey → Option (List ℕ)
+text_found found text.Top = found.top
+text_found found text.FillLib = found.fill_lib
+text_found found text.FillCell = found.fill_cell
+text_found found text.FillTop = found.fill_top
+
+abbrev pub with_text : Found → TextKey → List ℕ → Found
+with_text found text.Top word = record found { top = Some word }
+with_text found text.FillLib word = record found { fill_lib = Some word }
+with_text found text.FillCell word = record found { fill_cell = Some word }
+with_text found text.FillTop word = record found { fill_top = Some word }
+
+abbrev pub number_found : List (Option ℤ) → NumberKey → Option ℤ
+number_found numbers key = get_or numbers (number_rule key).index None
+
+-- each number that was found is in its key's range
+abbrev pub AreRanged : List (Option ℤ) → Type 0
+AreRanged numbers = (key : NumberKey) → IfSome (number_found numbers key) (λ n. ((number_rule key).low ≤ℤ n) × (n ≤ℤ (number_rule key).high))
+
+-- the key has stood in a record
+abbrev pub is_found : Found → Key → Bool
+is_found found (Number key) = is_some (number_found found.numbers key)
+is_found found (Text key) = is_some (text_found found key)
+
+-- the number that a word gives a key
+unfoldable pub ranged_number : ℕ → NumberKey → List ℕ → Result ℤ RuleError
+ranged_number line key word = do
+  n ← ok_or (number_of word) (BadNumber line)
+  if is_in_range key n then Ok n else Err (BadRule (Number key))
+
+unfoldable pub take_number : ℕ → NumberKey → List ℕ → Found → Result Found RuleError
+take_number line key word found = do
+  n ← ranged_number line key word
+  Ok (record found { numbers = slice_set found.numbers (number_rule key).index (Some n) })
+
+unfoldable pub take_text : TextKey → List ℕ → Found → Result Found RuleError
+take_text key word found = if is_text key word then Ok (with_text found key word) else Err (BadRule (Text key))
+
+abbrev pub take_value : ℕ → Key → List ℕ → Found → Result Found RuleError
+take_value line (Number key) word found = take_number line key word found
+take_value line (Text key) word found = take_text key word found
+
+-- the key that a record names, which has not stood before
+unfoldable pub new_key : ℕ → List ℕ → Found → Result Key RuleError
+new_key line word found = do
+  key ← ok_or (key_named word) (BadRow line)
+  if is_found found key then Err (BadRow line) else Ok key
+
+-- what a record adds: two fields, a key and its value
+unfoldable pub take_row : ℕ → List (List ℕ) → Found → Result Found RuleError
+take_row line fields found = if length fields == 2 then (do
+  key ← new_key line (get_or fields 0 []) found
+  take_value line key (get_or fields 1 []) found) else Err (BadRow line)
+
+-- the numbers of these keys, which none may miss
+unfoldable pub all_numbers : List NumberKey → List (Option ℤ) → Result (List ℤ) RuleError
+all_numbers [] numbers = Ok []
+all_numbers (key ∷ keys) [] = Err (BadRule (Number key))
+all_numbers (key ∷ keys) (n ∷ numbers) = ok_or n (BadRule (Number key)) >>= λ v. with_front (v ∷ []) (all_numbers keys numbers)
+
+-- the values, none of which may miss: the first missing key in table order is refused
+unfoldable pub all_values : Found → Result Values RuleError
+all_values found = do
+  numbers ← all_numbers all_number_keys found.numbers
+  top ← ok_or found.top (BadRule (Text text.Top))
+  fill_lib ← ok_or found.fill_lib (BadRule (Text text.FillLib))
+  fill_cell ← ok_or found.fill_cell (BadRule (Text text.FillCell))
+  fill_top ← ok_or found.fill_top (BadRule (Text text.FillTop))
+  Ok (record { numbers = numbers; top = top; fill_lib = fill_lib; fill_cell = fill_cell; fill_top = fill_top })
+
+-- what is asked of the values together, in this order
+unfoldable pub checked : Values → Result Values RuleError
+checked values =
+    if int_lt (value_of values number.Max) (value_of values number.Min) then Err (BadRule (Number number.Max))
+    else if bytes_eq values.fill_top values.fill_cell then Err (BadRule (Text text.FillTop))
+    else (do
+      frame ← ok_or (rect_with (frame_of values.numbers)) BadRect
+      windows ← ok_or (grid_with (windows_of values.numbers)) BadWindows
+      Ok values)
+
+-- the rules that were found
+abbrev pub rules_found : Found → Result Values RuleError
+rules_found found = all_values found >>= checked
+
+-- what the entries hold
+abbrev pub found_in : Entries → Found
+found_in s = record { numbers = s.numbers; top = option_map (λ v. v.items) s.top; fill_lib = option_map (λ v. v.items) s.fill_lib; fill_cell = option_map (λ v. v.items) s.fill_cell; fill_top = option_map (λ v. v.items) s.fill_top }
