@@ -22,19 +22,19 @@ one_more f a (suc n) =
 
 -- the measures of a window with this area of metal
 measures_at : (g : Grid) (totals : List ℤ) (k : ℕ) → k < length totals → All IsArea totals
-    → let m : Measures = record { drawn = read (get_or totals k (pos 0)); fill = pos 0; total = read (get_or totals k (pos 0)) } in m ≡ drawn_only g totals (k % g.columns) (k / g.columns)
+    → let m : Measures = record { drawn = read (get_or totals k (pos 0)); fill = pos 0; total = read (get_or totals k (pos 0)) } in m ≡ drawn_only g totals (k % g.across.count) (k / g.across.count)
 measures_at g totals k lt areas =
-    let place : k / g.columns * g.columns + k % g.columns ≡ k = let d = div-add-mod k g.columns in omega (arith, d) in
-    let is : read (get_or totals k (pos 0)) ≡ get_or totals (k / g.columns * g.columns + k % g.columns) (pos 0) = area_read _ (areas k (pos 0) lt) ∙ ap (λ i. get_or totals i (pos 0)) (sym place) in
+    let place : k / g.across.count * g.across.count + k % g.across.count ≡ k = let d = div-add-mod k g.across.count in omega (arith, d) in
+    let is : read (get_or totals k (pos 0)) ≡ get_or totals (k / g.across.count * g.across.count + k % g.across.count) (pos 0) = area_read _ (areas k (pos 0) lt) ∙ ap (λ i. get_or totals i (pos 0)) (sym place) in
     ap (λ (z : ℤ). let m : Measures = record { drawn = z; fill = pos 0; total = z } in m) is
 
 pub lines_more : (g : Grid) (least most : ℤ) (totals : List ℤ) (k : ℕ) (w new : Lines) → k < length totals → All IsArea totals
     → written w ≡ Some (first_lines g least most (drawn_only g totals) k)
-    → ((front : List ℕ) → written w ≡ Some front → written new ≡ Some (front ++ window_line g least most (record { drawn = read (get_or totals k (pos 0)); fill = pos 0; total = read (get_or totals k (pos 0)) }) (k % g.columns) (k / g.columns)))
+    → ((front : List ℕ) → written w ≡ Some front → written new ≡ Some (front ++ window_line g least most (record { drawn = read (get_or totals k (pos 0)); fill = pos 0; total = read (get_or totals k (pos 0)) }) (k % g.across.count) (k / g.across.count)))
     → written new ≡ Some (first_lines g least most (drawn_only g totals) (k + 1))
 lines_more g least most totals k w new lt areas so_far put =
     put (first_lines g least most (drawn_only g totals) k) so_far
-    ∙ ap (λ (t : List ℕ). Some t) (ap (λ m. first_lines g least most (drawn_only g totals) k ++ window_line g least most m (k % g.columns) (k / g.columns)) (measures_at g totals k lt areas)
+    ∙ ap (λ (t : List ℕ). Some t) (ap (λ m. first_lines g least most (drawn_only g totals) k ++ window_line g least most m (k % g.across.count) (k / g.across.count)) (measures_at g totals k lt areas)
     ∙ sym (one_more (line_at g least most (drawn_only g totals)) 0 k ∙ ap (λ i. first_lines g least most (drawn_only g totals) k ++ line_at g least most (drawn_only g totals) i) (from_zero k)))
   where
     from_zero : (k : ℕ) → 0 + k ≡ k
@@ -49,7 +49,7 @@ same_lines f h a (suc n) each = ap (λ t. t ++ flat_map f (range_with_len (a + 1
 -- a set with no square more has the same area, and no set none
 area_or_nothing : (p : ℤ → ℤ → Bool) (g : Grid) (a b : ℕ) → IsGrid g → window_area (λ x y. p x y || nothing x y) g a b ≡ window_area p g a b
 area_or_nothing p g a b grid = same_area (λ x y. p x y || nothing x y) p (window_left g a) (window_bottom g b) (window_right g a) (window_top g b)
-    (longer (window_left g a) g.width grid.across.length_is) (longer (window_bottom g b) g.height grid.up.length_is) (λ x y. or_false (p x y))
+    (longer (window_left g a) g.across.length grid.across.length_is) (longer (window_bottom g b) g.up.length grid.up.length_is) (λ x y. or_false (p x y))
   where
     or_false : (t : Bool) → t || false ≡ t
     or_false true = refl
@@ -57,12 +57,12 @@ area_or_nothing p g a b grid = same_area (λ x y. p x y || nothing x y) p (windo
 
 area_of_nothing : (g : Grid) (a b : ℕ) → IsGrid g → window_area nothing g a b ≡ 0
 area_of_nothing g a b grid = no_area (window_left g a) (window_bottom g b) (window_right g a) (window_top g b)
-    (longer (window_left g a) g.width grid.across.length_is) (longer (window_bottom g b) g.height grid.up.length_is)
+    (longer (window_left g a) g.across.length grid.across.length_is) (longer (window_bottom g b) g.up.length grid.up.length_is)
 
-same_measures : (p : ℤ → ℤ → Bool) (g : Grid) (totals : List ℤ) (a b : ℕ) → IsGrid g → get_or totals (b * g.columns + a) (pos 0) ≡ pos (window_area p g a b)
+same_measures : (p : ℤ → ℤ → Bool) (g : Grid) (totals : List ℤ) (a b : ℕ) → IsGrid g → get_or totals (b * g.across.count + a) (pos 0) ≡ pos (window_area p g a b)
     → drawn_only g totals a b ≡ measures_of p nothing g a b
 same_measures p g totals a b grid is =
-    parts (get_or totals (b * g.columns + a) (pos 0)) (pos (window_area p g a b)) (pos (window_area nothing g a b)) (pos (window_area (λ x y. p x y || nothing x y) g a b))
+    parts (get_or totals (b * g.across.count + a) (pos 0)) (pos (window_area p g a b)) (pos (window_area nothing g a b)) (pos (window_area (λ x y. p x y || nothing x y) g a b))
     is (ap pos (sym (area_of_nothing g a b grid))) (ap pos (sym (area_or_nothing p g a b grid)))
   where
     parts : (t d f u : ℤ) → t ≡ d → pos 0 ≡ f → d ≡ u
@@ -82,11 +82,11 @@ in_rows k (suc c) rows lt = let over : k < rows * suc c = omega (arith, lt) in (
 pub report_is : (p : ℤ → ℤ → Bool) (g : Grid) (least most : ℤ) (totals : List ℤ) → AreMeasured p g totals
     → windows_text g least most (drawn_only g totals) ≡ report_text p nothing g least most
 report_is p g least most totals measured =
-    same_lines (line_at g least most (drawn_only g totals)) (line_at g least most (measures_of p nothing g)) 0 (g.columns * g.rows) (λ k low high.
-    let a = k % g.columns in
-    let b = k / g.columns in
-    let lt : k < g.columns * g.rows = omega arith in
-    ap (λ m. window_line g least most m a b) (same_measures p g totals a b measured.grid (measured.each a b (in_columns k g.columns g.rows lt) (in_rows k g.columns g.rows lt))))
+    same_lines (line_at g least most (drawn_only g totals)) (line_at g least most (measures_of p nothing g)) 0 (g.across.count * g.up.count) (λ k low high.
+    let a = k % g.across.count in
+    let b = k / g.across.count in
+    let lt : k < g.across.count * g.up.count = omega arith in
+    ap (λ m. window_line g least most m a b) (same_measures p g totals a b measured.grid (measured.each a b (in_columns k g.across.count g.up.count lt) (in_rows k g.across.count g.up.count lt))))
 
 -- what the code reads back is the number itself
 pub read_at : (z t : ℤ) → FitsSigned w64 z → z ≡ t → read z ≡ t

@@ -10,7 +10,7 @@ use Rattle.fill_report.specs.declared.line.Density.TheVariants.{Low, High, Withi
 
 -- how many squares a window holds
 abbrev pub window_size : Grid → ℤ
-window_size g = g.width *ℤ g.height
+window_size g = g.across.length *ℤ g.up.length
 
 -- a share in parts of a million, rounded down
 abbrev pub share_of : ℤ → ℤ → ℤ
@@ -50,7 +50,7 @@ window_line g least most measures a b = line_text (line_numbers g a b measures) 
 
 -- the line at place `k` of the report
 abbrev pub line_at : Grid → ℤ → ℤ → (ℕ → ℕ → Measures) → ℕ → List ℕ
-line_at g least most measures k = window_line g least most (measures (k % g.columns) (k / g.columns)) (k % g.columns) (k / g.columns)
+line_at g least most measures k = window_line g least most (measures (k % g.across.count) (k / g.across.count)) (k % g.across.count) (k / g.across.count)
 
 -- the first `n` lines
 abbrev pub first_lines : Grid → ℤ → ℤ → (ℕ → ℕ → Measures) → ℕ → List ℕ
@@ -58,11 +58,11 @@ first_lines g least most measures n = flat_map (line_at g least most measures) (
 
 -- the lines of all windows
 abbrev pub windows_text : Grid → ℤ → ℤ → (ℕ → ℕ → Measures) → List ℕ
-windows_text g least most measures = first_lines g least most measures (g.columns * g.rows)
+windows_text g least most measures = first_lines g least most measures (g.across.count * g.up.count)
 
 -- areas of metal in a list, row by row, and no fill
 abbrev pub drawn_only : Grid → List ℤ → ℕ → ℕ → Measures
-drawn_only g totals a b = record { drawn = get_or totals (b * g.columns + a) (pos 0); fill = pos 0; total = get_or totals (b * g.columns + a) (pos 0) }
+drawn_only g totals a b = record { drawn = get_or totals (b * g.across.count + a) (pos 0); fill = pos 0; total = get_or totals (b * g.across.count + a) (pos 0) }
 
 -- the report of a set of metal and a set of fill
 abbrev pub report_text : (ℤ → ℤ → Bool) → (ℤ → ℤ → Bool) → Grid → ℤ → ℤ → List ℕ

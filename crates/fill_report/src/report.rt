@@ -61,7 +61,7 @@ fn drawn_lines(
     least: i64,
     most: i64,
 ) -> Result<Vec<u8>, OutOfMemory>
-    requires count { length totals.now ≡ windows.now.columns * windows.now.rows }
+    requires count { length totals.now ≡ windows.now.across.count * windows.now.up.count }
     requires areas { All IsArea totals.now }
     requires least { IsShare least }
     requires most { IsShare most }
@@ -92,15 +92,15 @@ fn put_window(
     most: i64,
 ) -> Result<(), OutOfMemory>
     requires ready { IsReady writer.old }
-    requires within { k < windows.now.columns * windows.now.rows }
+    requires within { k < windows.now.across.count * windows.now.up.count }
     requires total { IsArea measures.total }
     requires least { IsShare least }
     requires most { IsShare most }
     ensures ready { OnOk result (IsReady writer.new) }
     ensures text { (front : List ℕ) → written writer.old ≡ Some front
-        → OnOk result (written writer.new ≡ Some (front ++ window_line windows.now least most measures (k % windows.now.columns) (k / windows.now.columns))) }
+        → OnOk result (written writer.new ≡ Some (front ++ window_line windows.now least most measures (k % windows.now.across.count) (k / windows.now.across.count))) }
 {
-    let (a, b) = windows.place(k);
+    let (a, b) = windows.column_and_row(k);
     let window = windows.rect(a, b);
     let size = windows.window_size();
     let numbers = [

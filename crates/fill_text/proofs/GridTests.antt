@@ -7,12 +7,14 @@ use Rattle.std.proofs.lemmas.Bool.{cases_Bool}
 use Rattle.std.proofs.lemmas.Bool.Decides.{nat_tests}
 use Rattle.std.proofs.lemmas.Int.{ints}
 use Rattle.fill_base.specs.Coordinates.{highest}
-use Rattle.fill_area.specs.Grid.{Grid, IsAxis, IsCount, IsGrid, IsLength}
+use Rattle.fill_area.specs.Axes.{IsAxis, IsCount, IsLength, axis_end}
+use Rattle.fill_area.specs.Grid.{Grid, IsGrid}
+use Rattle.fill_area.specs.declared.axis.Axis.{Axis}
 use Rattle.fill_text.specs.Grids.{grid_with, is_axis, is_count, is_grid, is_length}
 use Rattle.fill_text.proofs.Rectangles.{both, is_coordinate_facts, is_coordinate_true}
 
 abbrev pub grid_of_numbers : ℤ → ℤ → ℤ → ℤ → ℤ → ℤ → ℕ → ℕ → Grid
-grid_of_numbers x y w h s t m n = record { x = x; y = y; width = w; height = h; step_x = s; step_y = t; columns = m; rows = n }
+grid_of_numbers x y w h s t m n = record { across = record { first = x; length = w; step = s; count = m }; up = record { first = y; length = h; step = t; count = n } }
 
 int_le_true : (a b : ℤ) → a ≤ℤ b → int_le a b ≡ true
 int_le_true a b order = grind (arith, ints)
@@ -42,43 +44,38 @@ is_count_facts n test =
     let (least, most) = both _ _ test in
     record { least = nat_le_facts 1 n least; most = nat_le_facts n 1048576 most }
 
-is_axis_true : (first length step : ℤ) (count : ℕ) → IsAxis first length step count → is_axis first length step count ≡ true
-is_axis_true first length step count h =
+is_axis_true : (axis : Axis) → IsAxis axis → is_axis axis ≡ true
+is_axis_true axis h =
     rw (
-      is_length_true length h.length_is,
-      is_length_true step h.step_is,
-      is_count_true count h.count_is,
-      is_coordinate_true first h.first_is,
-      int_le_true ((first +ℤ (pos (count - 1) *ℤ step)) +ℤ length) highest h.last,
+      is_length_true axis.length h.length_is,
+      is_length_true axis.step h.step_is,
+      is_count_true axis.count h.count_is,
+      is_coordinate_true axis.first h.first_is,
+      int_le_true (axis_end axis (axis.count - 1)) highest h.last,
     ) refl
 
-is_axis_facts : (first length step : ℤ) (count : ℕ) → is_axis first length step count ≡ true → IsAxis first length step count
-is_axis_facts first length step count test =
+is_axis_facts : (axis : Axis) → is_axis axis ≡ true → IsAxis axis
+is_axis_facts axis test =
     let (four, last) = both _ _ test in
     let (three, at) = both _ _ four in
     let (two, many) = both _ _ three in
     let (long, far) = both _ _ two in
     record {
-      length_is = is_length_facts length long;
-      step_is = is_length_facts step far;
-      count_is = is_count_facts count many;
-      first_is = is_coordinate_facts first at;
+      length_is = is_length_facts axis.length long;
+      step_is = is_length_facts axis.step far;
+      count_is = is_count_facts axis.count many;
+      first_is = is_coordinate_facts axis.first at;
       last = int_le_facts _ highest last;
     }
 
 is_grid_true : (g : Grid) → IsGrid g → is_grid g ≡ true
-is_grid_true g h =
-    rw (is_axis_true g.x g.width g.step_x g.columns h.across, is_axis_true g.y g.height g.step_y g.rows h.up, nat_le_true (g.columns * g.rows) 1048576 h.few) refl
+is_grid_true g h = rw (is_axis_true g.across h.across, is_axis_true g.up h.up, nat_le_true (g.across.count * g.up.count) 1048576 h.few) refl
 
 is_grid_facts : (g : Grid) → is_grid g ≡ true → IsGrid g
 is_grid_facts g test =
     let (axes, few) = both _ _ test in
     let (across, up) = both _ _ axes in
-    record {
-      across = is_axis_facts g.x g.width g.step_x g.columns across;
-      up = is_axis_facts g.y g.height g.step_y g.rows up;
-      few = nat_le_facts (g.columns * g.rows) 1048576 few;
-    }
+    record { across = is_axis_facts g.across across; up = is_axis_facts g.up up; few = nat_le_facts (g.across.count * g.up.count) 1048576 few }
 
 -- what `Windows::new` gives is the grid with these numbers, if there is one
 pub grid_kept : {E : Type 0} (g : Grid) (r : Result Grid E) → (IsOk r ↔ IsGrid g) → IfOk r (λ w. w ≡ g) → result_ok r ≡ grid_with g

@@ -42,14 +42,8 @@ frame_of numbers = record { x1 = number_in numbers number.FrameX1; y1 = number_i
 
 abbrev pub windows_of : List ℤ → Grid
 windows_of numbers = record {
-  x = number_in numbers number.WinX;
-  y = number_in numbers number.WinY;
-  width = number_in numbers number.WinW;
-  height = number_in numbers number.WinH;
-  step_x = number_in numbers number.WinStepX;
-  step_y = number_in numbers number.WinStepY;
-  columns = unsigned_abs (number_in numbers number.WinNx);
-  rows = unsigned_abs (number_in numbers number.WinNy);
+  across = record { first = number_in numbers number.WinX; length = number_in numbers number.WinW; step = number_in numbers number.WinStepX; count = unsigned_abs (number_in numbers number.WinNx) };
+  up = record { first = number_in numbers number.WinY; length = number_in numbers number.WinH; step = number_in numbers number.WinStepY; count = unsigned_abs (number_in numbers number.WinNy) };
 }
 
 -- the word that the records give a key: the second field of the first that begins with its name

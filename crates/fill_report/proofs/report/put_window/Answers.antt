@@ -9,8 +9,8 @@ pub returns-clause-text : goal.returns-clause-text
 returns-clause-text c front so_far =
     let g = c.args.windows.now in
     let m = c.args.measures in
-    let a = c.place-a.ensures.column in
-    let b = c.place-a.ensures.row in
+    let a = c.column_and_row-a.ensures.column in
+    let b = c.column_and_row-a.ensures.row in
     let drawn : FitsSigned w64 m.drawn = search rules in
     let fill : FitsSigned w64 m.fill = search rules in
     let total : FitsSigned w64 m.total = search rules in
@@ -21,12 +21,12 @@ returns-clause-text c front so_far =
     let share : read c.share.result ≡ share_of m.total (window_size g) = read_at _ _ (search rules) (c.share.ensures ∙ share_read) in
     let density = c.density.ensures ∙ density_read in
     rw (
-      read_at c.from.result (pos (c.args.k % g.columns)) (search rules) (c.from.ensures ∙ ap pos a),
-      read_at c.from-2.result (pos (c.args.k / g.columns)) (search rules) (c.from-2.ensures ∙ ap pos b),
-      read_at c.x1.result (window_left g (c.args.k % g.columns)) (search rules) (c.x1.ensures ∙ (c.rect-window.ensures.left ∙ ap (window_left g) a)),
-      read_at c.y1.result (window_bottom g (c.args.k / g.columns)) (search rules) (c.y1.ensures ∙ (c.rect-window.ensures.bottom ∙ ap (window_bottom g) b)),
-      read_at c.x2.result (window_right g (c.args.k % g.columns)) (search rules) (c.x2.ensures ∙ (c.rect-window.ensures.right ∙ ap (window_right g) a)),
-      read_at c.y2.result (window_top g (c.args.k / g.columns)) (search rules) (c.y2.ensures ∙ (c.rect-window.ensures.top ∙ ap (window_top g) b)),
+      read_at c.from.result (pos (c.args.k % g.across.count)) (search rules) (c.from.ensures ∙ ap pos a),
+      read_at c.from-2.result (pos (c.args.k / g.across.count)) (search rules) (c.from-2.ensures ∙ ap pos b),
+      read_at c.x1.result (window_left g (c.args.k % g.across.count)) (search rules) (c.x1.ensures ∙ (c.rect-window.ensures.left ∙ ap (window_left g) a)),
+      read_at c.y1.result (window_bottom g (c.args.k / g.across.count)) (search rules) (c.y1.ensures ∙ (c.rect-window.ensures.bottom ∙ ap (window_bottom g) b)),
+      read_at c.x2.result (window_right g (c.args.k % g.across.count)) (search rules) (c.x2.ensures ∙ (c.rect-window.ensures.right ∙ ap (window_right g) a)),
+      read_at c.y2.result (window_top g (c.args.k / g.across.count)) (search rules) (c.y2.ensures ∙ (c.rect-window.ensures.top ∙ ap (window_top g) b)),
       read_is m.drawn drawn,
       read_is m.fill fill,
       read_is m.total total,
