@@ -1,6 +1,7 @@
+//! What the program's functions tell of bad lines, missing files and want of memory.
 use crate::{ended, run_rects, status_of, without_words};
-use fill_device::Tap;
-use fill_engine::{Fault, Part, Refusal};
+use fill_device::{InputError, Tap};
+use fill_engine::{InputFault, Refusal, RunFault};
 use std::io::{self, ErrorKind};
 use std::process::ExitCode;
 
@@ -29,7 +30,7 @@ fn a_bad_line_is_status_1_with_its_text(rt: HostRuntime) {
     for (words, want) in cases {
         let mut written = Vec::new(rt.alloc());
         let mut told = Vec::new(rt.alloc());
-        let status = status_of(&rt, words, &mut Tap::new(&mut written), &mut told);
+        let status = status_of(&rt, words, &mut Tap::new(&mut written), &mut Tap::new(&mut told));
         assert_eq!(rt; status, ExitCode::from(1));
         assert!(rt;
             written.is_empty() && told.as_slice().starts_with(want.as_bytes()),
@@ -57,7 +58,7 @@ fn a_fault_has_its_line_and_its_status(rt: HostRuntime) {
             &rt,
             words.as_slice(),
             &mut Tap::new(&mut written),
-            &mut told,
+            &mut Tap::new(&mut told),
         );
         assert_eq!(rt; status, ExitCode::from(want));
         assert!(rt;
@@ -69,23 +70,24 @@ fn a_fault_has_its_line_and_its_status(rt: HostRuntime) {
 
 #[test]
 fn a_missing_file_is_a_device_fault_at_its_part(rt: HostRuntime) {
-    for (rules, script, part) in [
-        (NO_FILE, EMPTY, Part::Rules),
-        (EMPTY, NO_FILE, Part::Script),
-        (NO_FILE, NO_FILE, Part::Rules),
+    let rules_missing = Refusal::Rules(InputFault::Unread(InputError::Device));
+    let script_missing = Refusal::Script(InputFault::Unread(InputError::Device));
+    for (rules, script, want) in [
+        (NO_FILE, EMPTY, rules_missing),
+        (EMPTY, NO_FILE, script_missing),
+        (NO_FILE, NO_FILE, rules_missing),
     ] {
         let mut out = Tap::new(Vec::<u8>::new(rt.alloc()));
         let done = run_rects(&rt, rt.alloc(), rules, script, &mut out);
-        let fault = Fault::Device;
-        assert_eq!(rt; done, Err(Refusal { part, fault }));
+        assert_eq!(rt; done, Err(want));
     }
 }
 
 #[test]
 fn want_of_memory_is_status_3(rt: HostRuntime) {
     let mut told = Vec::new(rt.alloc());
-    let (part, fault) = (Part::Run, Fault::Memory);
-    let status = ended(rt.alloc(), &mut told, Err(Refusal { part, fault }));
+    let refusal = Refusal::Run(RunFault::Memory);
+    let status = ended(rt.alloc(), &mut Tap::new(&mut told), Err(refusal));
     assert_eq!(rt; status, ExitCode::from(3));
     assert!(rt; told.as_slice() == b"densfill: run: 31 Memory\n".as_slice());
 }
@@ -102,7 +104,7 @@ fn words_that_cannot_be_had_are_told(rt: HostRuntime) {
     ];
     for (kind, want, text) in cases {
         let mut told = Vec::new(rt.alloc());
-        let status = without_words(rt.alloc(), &mut told, &io::Error::from(kind));
+        let status = without_words(rt.alloc(), &mut Tap::new(&mut told), &io::Error::from(kind));
         assert_eq!(rt; status, ExitCode::from(want));
         assert!(rt; told.as_slice() == text);
     }

@@ -1,4 +1,4 @@
--- The table of faults, and the line that tells of one.
+-- The table of faults (this project's profile): for each its number, its name and what follows the name.
 use Rattle.std.specs.Prelude.{ℕ, ◌==◌, List, [], ◌++◌, codes, decimal, if◌then◌else◌}
 use Rattle.fill_text.specs.Keys.{key_name}
 use Rattle.fill_text.specs.declared.rule_error.RuleError.{RuleError}
@@ -9,16 +9,6 @@ use Rattle.fill_device.specs.declared.input.InputError.{InputError}
 use Rattle.fill_device.specs.declared.input.InputError.TheVariants as input
 use Rattle.fill_engine.specs.declared.fault.Fault.{Fault}
 use Rattle.fill_engine.specs.declared.fault.Fault.TheVariants.{BadRow, BadNumber, BadRule, TooManyLines, BadRect, BadWindows, TooLong, Device, Memory}
-use Rattle.fill_engine.specs.declared.fault.Part.{Part}
-use Rattle.fill_engine.specs.declared.fault.Part.TheVariants.{Rules, Design, Script, Run, Out, Report}
-
-abbrev pub part_name : Part → List ℕ
-part_name Rules = codes "rules"
-part_name Design = codes "design"
-part_name Script = codes "script"
-part_name Run = codes "run"
-part_name Out = codes "out"
-part_name Report = codes "report"
 
 abbrev pub fault_number : Fault → ℕ
 fault_number (BadRow line) = 21
@@ -58,10 +48,6 @@ fault_ending Memory = []
 abbrev pub fault_status : ℕ → ℕ
 fault_status number = if number == 30 then 4 else if number == 31 then 3 else 2
 
--- the line that tells of a fault
-abbrev pub fault_text : Part → Fault → List ℕ
-fault_text part fault = codes "densfill: " ++ part_name part ++ codes ": " ++ decimal (fault_number fault) ++ codes " " ++ fault_name fault ++ fault_ending fault ++ codes "\n"
-
 -- the fault of a refused rule file
 abbrev pub rule_fault : RuleError → Fault
 rule_fault (rule.BadRow line) = BadRow line
@@ -83,6 +69,3 @@ abbrev pub input_fault : InputError → Fault
 input_fault input.TooLong = TooLong
 input_fault input.Device = Device
 input_fault input.Memory = Memory
-
-abbrev pub device_fault : Fault
-device_fault = Device

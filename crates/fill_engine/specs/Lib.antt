@@ -1,4 +1,5 @@
--- The table of faults, and the metal that a script leaves.
+-- The table of faults, the line that tells of one, and what the program answers to its inputs.
 pub mod Faults
 pub mod Metal
 pub mod Rects
+pub mod Refusals

@@ -1,91 +1,38 @@
 //! The table of faults: for each its number, its name and what follows the name in the fault line.
 ghost use Rattle.std.specs.Prelude.{◌≡◌, IfOk, string_bytes};
-ghost use Rattle.fill_engine.specs.Faults.{fault_ending, fault_name, fault_number, fault_text, fault_status, part_name};
+ghost use Rattle.fill_engine.specs.Faults.{fault_ending, fault_name, fault_number, fault_status};
 ghost use Rattle.fill_engine.specs.Faults as spec;
 
-use fill_device::{DeviceError, InputError};
+use fill_device::InputError;
 use fill_text::{Key, RuleError, ScriptError};
 use std::alloc::{AllocError, Global};
-use thiserror::Error;
 
-/// The input, the run or the output at which a fault arose.
-#[derive(Clone, Copy, Debug, PartialEq, Eq)]
-pub enum Part {
-    /// The rule file.
-    Rules,
-    /// The GDSII library.
-    Design,
-    /// The script of edits.
-    Script,
-    /// The command line, and all that comes after the inputs are interpreted and before the outputs are written.
-    Run,
-    /// The library of fill.
-    Out,
-    /// The density report.
-    Report,
-}
-
-/// Why the program gave up. A line is the number of a record, counted from 1.
-#[derive(Clone, Copy, Debug, PartialEq, Eq, Error)]
-pub enum Fault {
+/// A row of the table of faults. A line is the number of a record, counted from 1.
+#[derive(Clone, Copy)]
+pub(crate) enum Fault {
     /// A record that is no rule or no edit.
-    #[error("record {line} is none of this file")]
     BadRow { line: u64 },
     /// A field that should be a number and isn't one.
-    #[error("record {line} has a bad number")]
     BadNumber { line: u64 },
     /// A rule that is missing, or whose value its key doesn't allow.
-    #[error("the rule {key} is missing or out of range")]
     BadRule { key: Key },
     /// A script of more than 100,000 records.
-    #[error("more than 100,000 records")]
     TooManyLines,
     /// A frame that holds no square.
-    #[error("the frame holds no square")]
     BadRect,
     /// Too many windows, or one that leaves the range of coordinates.
-    #[error("the windows are too many or out of range")]
     BadWindows,
     /// An input of more than 2^31 bytes.
-    #[error("the input has more bytes than allowed")]
     TooLong,
     /// A file could not be opened, read or written.
-    #[error("a file could not be opened, read or written")]
     Device,
     /// An allocation was refused.
-    #[error("out of memory")]
     Memory,
-}
-
-/// Why the program gave up, and where.
-#[derive(Clone, Copy, Debug, PartialEq, Eq, Error)]
-#[error("{}: {fault}", part.name())]
-pub struct Refusal {
-    /// Where it arose.
-    pub part: Part,
-    /// What it is.
-    pub fault: Fault,
-}
-
-impl Part {
-    /// The part as a fault line names it.
-    pub fn name(self) -> &'static str
-        ensures { result.now ≡ part_name self }
-    {
-        match self {
-            Part::Rules => "rules",
-            Part::Design => "design",
-            Part::Script => "script",
-            Part::Run => "run",
-            Part::Out => "out",
-            Part::Report => "report",
-        }
-    }
 }
 
 impl Fault {
     /// The fault's row of the table: its number and its name (this project's profile).
-    fn row(self) -> (u8, &'static str)
+    pub(crate) fn row(self) -> (u8, &'static str)
         ensures number { result.0 ≡ fault_number self }
         ensures name { result.1.now ≡ fault_name self }
     {
@@ -103,7 +50,7 @@ impl Fault {
     }
 
     /// The exit status of the program: 4 for a device fault, 3 for want of memory, and 2 for a refused input.
-    pub fn status(self) -> u8
+    pub(crate) fn status(self) -> u8
         ensures { result ≡ fault_status (fault_number self) }
     {
         match self.row().0 {
@@ -114,7 +61,7 @@ impl Fault {
     }
 
     /// What follows the name in the fault line.
-    fn ending(self, alloc: Global) -> Result<String, AllocError>
+    pub(crate) fn ending(self, alloc: Global) -> Result<String, AllocError>
         ensures { IfOk result (λ s. string_bytes s ≡ fault_ending self) }
     {
         match self {
@@ -123,16 +70,6 @@ impl Fault {
             _ => Ok(String::new(alloc)),
         }
     }
-}
-
-/// The line that tells of a fault, with its line feed: `densfill: PART: NUMBER NAME`, and then ` line N` for a bad
-/// record or number and ` key KEY` for a bad rule.
-pub fn fault_line(alloc: Global, part: Part, fault: Fault) -> Result<String, AllocError>
-    ensures { IfOk result (λ s. string_bytes s ≡ fault_text part fault) }
-{
-    let (number, name) = fault.row();
-    let ending = fault.ending(alloc)?;
-    format!(in alloc; "densfill: {}: {number} {name}{ending}\n", part.name())
 }
 
 impl From<RuleError> for Fault {
@@ -172,13 +109,5 @@ impl From<InputError> for Fault {
             InputError::Device => Fault::Device,
             InputError::Memory => Fault::Memory,
         }
-    }
-}
-
-impl From<DeviceError> for Fault {
-    ghost from_gives = { λ _ fault. fault ≡ spec.device_fault };
-
-    fn from(_error: DeviceError) -> Fault {
-        Fault::Device
     }
 }

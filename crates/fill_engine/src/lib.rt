@@ -3,10 +3,11 @@
 
 mod fault;
 mod metal;
+mod refusal;
 mod subcommands;
 
-pub use fault::{Fault, Part, Refusal, fault_line};
 pub use metal::metal_left;
+pub use refusal::{InputFault, Refusal, RunFault};
 pub use subcommands::rects;
 
 #[cfg(test)]

@@ -1,18 +1,18 @@
 //! The density report of the metal that a script leaves of nothing, from bytes to bytes.
-ghost use Rattle.std.specs.Prelude.{◌≡◌, ◌≢◌, ◌↔◌, ◌⊎◌, ℕ, true, false, take, IfOk, IfErr, IfSome, IsErrOf, IsOk, IsOkAnd, OnErr, OnOk, map};
+ghost use Rattle.std.specs.Prelude.{◌≡◌, ◌↔◌, ◌⊎◌, ℕ, true, false, take, IfOk, IfErr, IfSome, IsErrOf, IsOk, IsOkAnd, OnErr, OnOk, map};
 ghost use Rattle.std.specs.Io.KnownBytes.{Appends};
 ghost use Rattle.fill_device.specs.Taps.{has_failed, under};
 ghost use Rattle.fill_report.specs.RulesReport.{metal_report};
 ghost use Rattle.fill_text.specs.Script.{change_of};
 ghost use Rattle.fill_text.specs.ValuesOfRules.{values_of};
 ghost use Rattle.fill_engine.specs.Metal.{is_metal};
-ghost use Rattle.fill_engine.specs.Rects.{report_answer, rules_answer, script_answer, IsFaultOf, IsReason};
+ghost use Rattle.fill_engine.specs.Rects.{is_of_rules, report_answer, rules_answer, script_answer, IsFaultOf, IsReason};
 
-use crate::fault::{Fault, Part, Refusal};
 use crate::metal::metal_left;
-use fill_device::{Tap, read_input, write_text};
+use crate::refusal::{InputFault, Refusal};
+use fill_device::{InputError, Tap, read_input, write_text};
 use fill_report::{OutOfMemory, report_of};
-use fill_text::{Edit, Rules, read_rules, read_script};
+use fill_text::{Edit, RuleError, Rules, ScriptError, read_rules, read_script};
 use std::alloc::Global;
 use std::io::{Read, Write};
 use std::thread::Threads;
@@ -21,11 +21,11 @@ use std::thread::Threads;
 const MOST_BYTES: usize = 2_147_483_648;
 
 /// The rules that the reader behind the tap gives.
-fn take_rules<R: Read>(alloc: Global, tap: &mut Tap<R>) -> Result<Rules, Fault>
+fn take_rules<R: Read>(alloc: Global, tap: &mut Tap<R>) -> Result<Rules, InputFault<RuleError>>
     requires { has_failed tap.old ≡ false }
-    ensures device { IsErrOf result Fault.Device ↔ (has_failed tap.new ≡ true) }
+    ensures device { IsErrOf result (InputFault.Unread InputError.Device) ↔ (has_failed tap.new ≡ true) }
     ensures rules { IfOk result (λ r. IfSome (R.remaining (under tap.old)) (λ text. rules_answer text ≡ Ok (values_of r))) }
-    ensures refused { IfErr result (λ f. IfSome (R.remaining (under tap.old)) (λ text. IsFaultOf (rules_answer text) f)) }
+    ensures refused { IfErr result (λ f. IfSome (R.remaining (under tap.old)) (λ text. IsFaultOf RuleError.Memory (rules_answer text) f)) }
 {
     let text = read_input(alloc, tap, MOST_BYTES)?;
     let rules = read_rules(alloc, &text)?;
@@ -33,11 +33,11 @@ fn take_rules<R: Read>(alloc: Global, tap: &mut Tap<R>) -> Result<Rules, Fault>
 }
 
 /// The edits that the reader behind the tap gives.
-fn take_edits<S: Read>(alloc: Global, tap: &mut Tap<S>) -> Result<Vec<Edit>, Fault>
+fn take_edits<S: Read>(alloc: Global, tap: &mut Tap<S>) -> Result<Vec<Edit>, InputFault<ScriptError>>
     requires { has_failed tap.old ≡ false }
-    ensures device { IsErrOf result Fault.Device ↔ (has_failed tap.new ≡ true) }
+    ensures device { IsErrOf result (InputFault.Unread InputError.Device) ↔ (has_failed tap.new ≡ true) }
     ensures edits { IfOk result (λ v. IfSome (S.remaining (under tap.old)) (λ text. script_answer text ≡ Ok (map change_of v.items))) }
-    ensures refused { IfErr result (λ f. IfSome (S.remaining (under tap.old)) (λ text. IsFaultOf (script_answer text) f)) }
+    ensures refused { IfErr result (λ f. IfSome (S.remaining (under tap.old)) (λ text. IsFaultOf ScriptError.Memory (script_answer text) f)) }
 {
     let text = read_input(alloc, tap, MOST_BYTES)?;
     let edits = read_script(alloc, &text)?;
@@ -75,11 +75,9 @@ pub fn rects<R: Read, S: Read, W: Write>(
     requires out { has_failed out.old ≡ false }
 
     // A device fault is answered exactly where its tap has failed.
-    ensures rules_device { (result ≡ Err (record { part = Part.Rules; fault = Fault.Device })) ↔ (has_failed rules.new ≡ true) }
-    ensures script_device { (result ≡ Err (record { part = Part.Script; fault = Fault.Device })) ↔ (has_failed script.new ≡ true) }
-    ensures report_device { (result ≡ Err (record { part = Part.Report; fault = Fault.Device })) ↔ (has_failed out.new ≡ true) }
-    ensures device { IfErr result (λ e. e.fault ≡ Fault.Device → (has_failed rules.new ≡ true) ⊎ (has_failed script.new ≡ true) ⊎ (has_failed out.new ≡ true)) }
-    ensures memory { IfErr result (λ e. e.fault ≡ Fault.Memory → (e.part ≡ Part.Rules) ⊎ (e.part ≡ Part.Script) ⊎ (e.part ≡ Part.Run)) }
+    ensures rules_device { (result ≡ Err (Refusal.Rules (InputFault.Unread InputError.Device))) ↔ (has_failed rules.new ≡ true) }
+    ensures script_device { (result ≡ Err (Refusal.Script (InputFault.Unread InputError.Device))) ↔ (has_failed script.new ≡ true) }
+    ensures report_device { (result ≡ Err Refusal.Report) ↔ (has_failed out.new ≡ true) }
 
     // What is answered is what the bytes of the two inputs say.
     ensures written { OnOk result (IfSome (R.remaining (under rules.old)) (λ r. IfSome (S.remaining (under script.old)) (λ s.
@@ -87,42 +85,18 @@ pub fn rects<R: Read, S: Read, W: Write>(
     ensures refused { IfErr result (λ e. IfSome (R.remaining (under rules.old)) (λ r. IfSome (S.remaining (under script.old)) (λ s. IsReason r s e))) }
 
     // The script is not touched before the rules are interpreted and accepted.
-    ensures in_turn { IfErr result (λ e. e.part ≢ Part.Rules → IfSome (R.remaining (under rules.old)) (λ r. IsOk (rules_answer r))) }
-    ensures unread { IfErr result (λ e. e.part ≡ Part.Rules → script.new ≡ script.old) }
+    ensures in_turn { IfErr result (λ e. is_of_rules e ≡ false → IfSome (R.remaining (under rules.old)) (λ r. IsOk (rules_answer r))) }
+    ensures unread { IfErr result (λ e. is_of_rules e ≡ true → script.new ≡ script.old) }
 
     // Where writing failed, a prefix of the report is written, and after any other fault nothing.
-    ensures prefix { result ≡ Err (record { part = Part.Report; fault = Fault.Device })
+    ensures prefix { result ≡ Err Refusal.Report
         → IfSome (R.remaining (under rules.old)) (λ r. IfSome (S.remaining (under script.old)) (λ s. IsOkAnd (report_answer r s) (λ text.
         (k : ℕ) × Appends (W.contents (under out.old)) (W.contents (under out.new)) (take k text)))) }
-    ensures silent { IfErr result (λ e. e.part ≢ Part.Report → out.new ≡ out.old) }
-    ensures unwritten { OnErr result ((has_failed out.new ≡ true) ⊎ (out.new ≡ out.old)) }
+    ensures silent { OnErr result ((has_failed out.new ≡ true) ⊎ (out.new ≡ out.old)) }
 {
-    let values = match take_rules(alloc, rules) {
-        Ok(values) => values,
-        Err(fault) => return Err(Refusal {
-            part: Part::Rules,
-            fault,
-        }),
-    };
-    let edits = match take_edits(alloc, script) {
-        Ok(edits) => edits,
-        Err(fault) => return Err(Refusal {
-            part: Part::Script,
-            fault,
-        }),
-    };
-    let report = match report_after(rt, alloc, &values, &edits) {
-        Ok(report) => report,
-        Err(_) => return Err(Refusal {
-            part: Part::Run,
-            fault: Fault::Memory,
-        }),
-    };
-    match write_text(out, &report) {
-        Ok(()) => Ok(()),
-        Err(_) => Err(Refusal {
-            part: Part::Report,
-            fault: Fault::Device,
-        }),
-    }
+    let values = take_rules(alloc, rules)?;
+    let edits = take_edits(alloc, script)?;
+    let report = report_after(rt, alloc, &values, &edits)?;
+    write_text(out, &report)?;
+    Ok(())
 }

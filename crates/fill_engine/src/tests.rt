@@ -1,5 +1,6 @@
-use crate::{Fault, Part, Refusal, fault_line, rects};
-use fill_device::{DeviceError, InputError, Tap};
+//! Fault lines, and runs of `rects` over readers and writers that tell their bytes or fail.
+use crate::{InputFault, Refusal, RunFault, rects};
+use fill_device::{InputError, Tap};
 use fill_text::{Key, NumberKey, RuleError, ScriptError, TextKey};
 use std::alloc::Global;
 use std::io;
@@ -7,75 +8,83 @@ use std::io::{ErrorKind, Read, Write};
 use std::test::Fail;
 use std::thread::Threads;
 
-#[test]
-fn fault_lines_tell_part_number_and_name(rt: HostRuntime) -> Result<(), Fail> {
-    for (part, fault, want) in [
-        (
-            Part::Script,
-            ScriptError::BadRow { line: 3 }.into(),
-            "densfill: script: 21 BadRow line 3\n",
-        ),
-        (
-            Part::Rules,
-            RuleError::BadNumber { line: 33 }.into(),
-            "densfill: rules: 22 BadNumber line 33\n",
-        ),
-        (
-            Part::Rules,
-            RuleError::BadRule {
-                key: Key::Number(NumberKey::Min),
-            }
-            .into(),
-            "densfill: rules: 23 BadRule key min\n",
-        ),
-        (
-            Part::Rules,
-            RuleError::BadRule {
-                key: Key::Text(TextKey::FillTop),
-            }
-            .into(),
-            "densfill: rules: 23 BadRule key fill_top\n",
-        ),
-        (
-            Part::Script,
-            ScriptError::TooManyLines.into(),
-            "densfill: script: 24 TooManyLines\n",
-        ),
-        (
-            Part::Rules,
-            RuleError::BadRect.into(),
-            "densfill: rules: 25 BadRect\n",
-        ),
-        (
-            Part::Rules,
-            RuleError::BadWindows.into(),
-            "densfill: rules: 26 BadWindows\n",
-        ),
-        (
-            Part::Design,
-            InputError::TooLong.into(),
-            "densfill: design: 29 TooLong\n",
-        ),
-        (
-            Part::Report,
-            DeviceError.into(),
-            "densfill: report: 30 Device\n",
-        ),
-        (Part::Out, DeviceError.into(), "densfill: out: 30 Device\n"),
-        (Part::Run, Fault::Memory, "densfill: run: 31 Memory\n"),
-    ] {
-        let line = fault_line(rt.alloc(), part, fault)?;
-        assert_eq!(rt; line.as_str(), want);
-    }
-    Ok(())
+/// The refusal of a rule file.
+fn of_rules(error: RuleError) -> Refusal {
+    Refusal::Rules(InputFault::Refused(error))
+}
+
+/// The refusal of a script.
+fn of_script(error: ScriptError) -> Refusal {
+    Refusal::Script(InputFault::Refused(error))
 }
 
 #[test]
-fn statuses_tell_refusals_memory_and_devices_apart(rt: HostRuntime) {
-    assert_eq!(rt; Fault::BadRow { line: 1 }.status(), 2);
-    assert_eq!(rt; Fault::TooLong.status(), 2);
-    assert_eq!(rt; Fault::Memory.status(), 3);
-    assert_eq!(rt; Fault::Device.status(), 4);
+fn a_line_tells_part_number_and_name(rt: HostRuntime) -> Result<(), Fail> {
+    let min = Key::Number(NumberKey::Min);
+    let fill_top = Key::Text(TextKey::FillTop);
+    for (refusal, want, status) in [
+        (
+            of_script(ScriptError::BadRow { line: 3 }),
+            "densfill: script: 21 BadRow line 3\n",
+            2,
+        ),
+        (
+            of_rules(RuleError::BadNumber { line: 33 }),
+            "densfill: rules: 22 BadNumber line 33\n",
+            2,
+        ),
+        (
+            of_rules(RuleError::BadRule { key: min }),
+            "densfill: rules: 23 BadRule key min\n",
+            2,
+        ),
+        (
+            of_rules(RuleError::BadRule { key: fill_top }),
+            "densfill: rules: 23 BadRule key fill_top\n",
+            2,
+        ),
+        (
+            of_script(ScriptError::TooManyLines),
+            "densfill: script: 24 TooManyLines\n",
+            2,
+        ),
+        (
+            of_rules(RuleError::BadRect),
+            "densfill: rules: 25 BadRect\n",
+            2,
+        ),
+        (
+            of_rules(RuleError::BadWindows),
+            "densfill: rules: 26 BadWindows\n",
+            2,
+        ),
+        (
+            Refusal::Rules(InputFault::Unread(InputError::TooLong)),
+            "densfill: rules: 29 TooLong\n",
+            2,
+        ),
+        (
+            Refusal::Script(InputFault::Unread(InputError::Device)),
+            "densfill: script: 30 Device\n",
+            4,
+        ),
+        (Refusal::Report, "densfill: report: 30 Device\n", 4),
+        (
+            Refusal::Script(InputFault::Unread(InputError::Memory)),
+            "densfill: script: 31 Memory\n",
+            3,
+        ),
+        (
+            Refusal::Run(RunFault::Memory),
+            "densfill: run: 31 Memory\n",
+            3,
+        ),
+    ] {
+        let line = refusal.line(rt.alloc())?;
+        assert_eq!(rt; line.as_str(), want);
+        assert_eq!(rt; refusal.status(), status);
+    }
+    Ok(())
 }
 
 const RULES: &[u8] = b"frame_x1,0
@@ -185,45 +194,17 @@ fn refusal<R: Read + Drop, S: Read + Drop>(
 fn the_first_fault_is_answered_with_its_part(rt: HostRuntime) {
     let alloc = rt.alloc();
     let script = b"cut,0,0,x,9".as_slice();
-    let missing = Fault::BadRule {
+    let missing = of_rules(RuleError::BadRule {
         key: Key::Number(NumberKey::FrameX1),
-    };
-    let bad_number = Fault::BadNumber { line: 1 };
-    assert_eq!(rt;
-        refusal(&rt, alloc, b"".as_slice(), script),
-        Some(Refusal {
-            part: Part::Rules,
-            fault: missing
-        })
-    );
-    assert_eq!(rt;
-        refusal(&rt, alloc, RULES, script),
-        Some(Refusal {
-            part: Part::Script,
-            fault: bad_number
-        })
-    );
-    assert_eq!(rt;
-        refusal(&rt, alloc, Broken, script),
-        Some(Refusal {
-            part: Part::Rules,
-            fault: Fault::Device
-        })
-    );
-    assert_eq!(rt;
-        refusal(&rt, alloc, RULES, Broken),
-        Some(Refusal {
-            part: Part::Script,
-            fault: Fault::Device
-        })
-    );
-    assert_eq!(rt;
-        refusal(&rt, alloc, b"".as_slice(), Broken),
-        Some(Refusal {
-            part: Part::Rules,
-            fault: missing
-        })
-    );
+    });
+    let bad_number = of_script(ScriptError::BadNumber { line: 1 });
+    let unread = InputFault::Unread(InputError::Device);
+    assert_eq!(rt; refusal(&rt, alloc, b"".as_slice(), script), Some(missing));
+    assert_eq!(rt; refusal(&rt, alloc, RULES, script), Some(bad_number));
+    assert_eq!(rt; refusal(&rt, alloc, Broken, script), Some(Refusal::Rules(unread)));
+    let unread = InputFault::Unread(InputError::Device);
+    assert_eq!(rt; refusal(&rt, alloc, RULES, Broken), Some(Refusal::Script(unread)));
+    assert_eq!(rt; refusal(&rt, alloc, b"".as_slice(), Broken), Some(missing));
 }
 
 /// A writer that takes so many bytes, one at a time, and then fails.
@@ -268,13 +249,7 @@ fn a_writer_that_fails_keeps_a_prefix(rt: HostRuntime) -> Result<(), Fail> {
             &mut Tap::new(b"".as_slice()),
             &mut out,
         );
-        assert_eq!(rt;
-            done,
-            Err(Refusal {
-                part: Part::Report,
-                fault: Fault::Device
-            })
-        );
+        assert_eq!(rt; done, Err(Refusal::Report));
         assert!(rt;
             want.as_bytes().starts_with(short.taken.as_slice()) && short.taken.len() == room
         );

@@ -1,0 +1,2 @@
+-- What a run of the program leaves behind.
+pub mod Outcomes

@@ -1,0 +1,41 @@
+-- What a run of the program leaves on standard output and on standard error, and its exit status.
+use Rattle.std.specs.Prelude.{◌≡◌, ◌⊎◌, ℕ, Bool, false, List, Option, IfSome, IsOkAnd, take}
+use Rattle.std.specs.Io.KnownBytes.{Appends}
+use Rattle.fill_device.specs.declared.input.InputError.TheVariants.{Device, Memory}
+use Rattle.fill_engine.specs.Rects.{report_answer, IsReason}
+use Rattle.fill_engine.specs.Refusals.{refusal_status, refusal_text}
+use Rattle.fill_engine.specs.declared.refusal.InputFault.TheVariants.{Unread, Refused}
+use Rattle.fill_engine.specs.declared.refusal.RunFault.TheVariants as run
+use Rattle.fill_engine.specs.declared.refusal.Refusal.{Refusal}
+use Rattle.fill_engine.specs.declared.refusal.Refusal.TheVariants.{Rules, Script, Run, Report}
+
+-- the exit status is the refusal's, and what is written is its line: whole, or a prefix where the writer failed
+pub record IsTold (before after : Option (List ℕ)) (failed : Bool) (status : ℕ) (refusal : Refusal) : Type 0 where
+  pub status_is : status ≡ refusal_status refusal
+  pub prefix : (k : ℕ) × Appends before after (take k (refusal_text refusal))
+  pub whole : failed ≡ false → Appends before after (refusal_text refusal)
+
+-- the refusal is told, or want of memory where there was none for its line
+abbrev pub IsToldOf : Option (List ℕ) → Option (List ℕ) → Bool → ℕ → Refusal → Type 0
+IsToldOf before after failed status refusal = IsTold before after failed status refusal ⊎ IsTold before after failed status (Run run.Memory)
+
+-- an input could not be opened
+abbrev pub IsUnopened : Refusal → Type 0
+IsUnopened (Rules (Unread error)) = (error ≡ Device) ⊎ (error ≡ Memory)
+IsUnopened (Rules (Refused error)) = ⊥
+IsUnopened (Script (Unread error)) = (error ≡ Device) ⊎ (error ≡ Memory)
+IsUnopened (Script (Refused error)) = ⊥
+IsUnopened (Run fault) = ⊥
+IsUnopened Report = ⊥
+
+-- an input could not be opened, or of two opened files, whose bytes `remaining` tells, this is why there is no report
+abbrev pub IsCause : {F : Type 0} → (F → Option (List ℕ)) → Refusal → Type 0
+IsCause {F} remaining refusal = IsUnopened refusal ⊎ ((rules edits : F) × IfSome (remaining rules) (λ r. IfSome (remaining edits) (λ s. IsReason r s refusal)))
+
+-- what is written is the report of two opened files
+abbrev pub IsReport : {F : Type 0} → (F → Option (List ℕ)) → Option (List ℕ) → Option (List ℕ) → Type 0
+IsReport {F} remaining before after = (rules edits : F) × IfSome (remaining rules) (λ r. IfSome (remaining edits) (λ s. IsOkAnd (report_answer r s) (Appends before after)))
+
+-- the run gave up for a cause, and told it; want of memory of the command line is told as that of the run
+abbrev pub GaveUp : {F : Type 0} → (F → Option (List ℕ)) → Option (List ℕ) → Option (List ℕ) → Bool → ℕ → Type 0
+GaveUp remaining before after failed status = (refusal : Refusal) × (IsCause remaining refusal ⊎ (refusal ≡ Run run.Memory)) × IsToldOf before after failed status refusal

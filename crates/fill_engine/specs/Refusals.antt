@@ -1,0 +1,34 @@
+-- Where the program gave up and why, and the line and the exit status that tell of it.
+use Rattle.std.specs.Prelude.{ℕ, List, ◌++◌, codes, decimal}
+use Rattle.fill_engine.specs.Faults.{fault_ending, fault_name, fault_number, fault_status, input_fault, rule_fault, script_fault}
+use Rattle.fill_engine.specs.declared.fault.Fault.{Fault}
+use Rattle.fill_engine.specs.declared.fault.Fault.TheVariants.{Device, Memory}
+use Rattle.fill_engine.specs.declared.refusal.InputFault.TheVariants.{Unread, Refused}
+use Rattle.fill_engine.specs.declared.refusal.RunFault.TheVariants as run
+use Rattle.fill_engine.specs.declared.refusal.Refusal.{Refusal}
+use Rattle.fill_engine.specs.declared.refusal.Refusal.TheVariants.{Rules, Script, Run, Report}
+
+-- the part as the line names it
+abbrev pub part_name : Refusal → List ℕ
+part_name (Rules fault) = codes "rules"
+part_name (Script fault) = codes "script"
+part_name (Run fault) = codes "run"
+part_name Report = codes "report"
+
+-- what is the matter, as a row of the table of faults
+abbrev pub fault_of : Refusal → Fault
+fault_of (Rules (Unread error)) = input_fault error
+fault_of (Rules (Refused error)) = rule_fault error
+fault_of (Script (Unread error)) = input_fault error
+fault_of (Script (Refused error)) = script_fault error
+fault_of (Run run.Memory) = Memory
+fault_of Report = Device
+
+abbrev pub refusal_status : Refusal → ℕ
+refusal_status refusal = fault_status (fault_number (fault_of refusal))
+
+-- the line that tells of the refusal
+abbrev pub refusal_text : Refusal → List ℕ
+refusal_text refusal =
+    let fault = fault_of refusal in
+    codes "densfill: " ++ part_name refusal ++ codes ": " ++ decimal (fault_number fault) ++ codes " " ++ fault_name fault ++ fault_ending fault ++ codes "\n"

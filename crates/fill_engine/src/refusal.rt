@@ -1,0 +1,169 @@
+//! Why the program gave up, by the input, the run or the output at which it did, and the line that tells of it.
+ghost use Rattle.std.specs.Prelude.{◌≡◌, IfOk, string_bytes};
+ghost use Rattle.fill_engine.specs.Refusals.{fault_of, part_name, refusal_status, refusal_text};
+
+use crate::fault::Fault;
+use fill_device::{DeviceError, InputError};
+use fill_report::OutOfMemory;
+use fill_text::{RuleError, ScriptError};
+use std::alloc::{AllocError, Global};
+use std::fmt::Display;
+use thiserror::Error;
+
+/// Why an input gave nothing.
+#[derive(Clone, Copy, Debug, PartialEq, Eq, Error)]
+#[error_bound(E: Display)]
+pub enum InputFault<E> {
+    /// It could not be opened or read to its end, or is too long.
+    #[error("{0}")]
+    Unread(InputError),
+    /// Its bytes are refused.
+    #[error("{0}")]
+    Refused(E),
+}
+
+/// Why there is no outcome of inputs that are all taken.
+#[derive(Clone, Copy, Debug, PartialEq, Eq, Error)]
+pub enum RunFault {
+    /// An allocation was refused.
+    #[error("out of memory")]
+    Memory,
+}
+
+/// Why the program gave up: at which input or output, or in the run between them, and what is the matter there.
+#[derive(Clone, Copy, Debug, PartialEq, Eq, Error)]
+pub enum Refusal {
+    /// The rule file gave no rules.
+    #[error("rules: {0}")]
+    Rules(InputFault<RuleError>),
+    /// The script gave no edits.
+    #[error("script: {0}")]
+    Script(InputFault<ScriptError>),
+    /// The command line, or what comes after the inputs are interpreted and before an output is written.
+    #[error("run: {0}")]
+    Run(RunFault),
+    /// The report could not be written whole.
+    #[error("report: a write failed")]
+    Report,
+}
+
+impl<E> From<InputError> for InputFault<E> {
+    ghost use Rattle.fill_engine.specs.declared.refusal.InputFault.TheVariants.{Unread};
+
+    ghost from_gives = { λ error fault. fault ≡ Unread error };
+
+    fn from(error: InputError) -> InputFault<E> {
+        InputFault::Unread(error)
+    }
+}
+
+impl From<RuleError> for InputFault<RuleError> {
+    ghost use Rattle.fill_engine.specs.declared.refusal.InputFault.TheVariants.{Refused};
+
+    ghost from_gives = { λ error fault. fault ≡ Refused error };
+
+    fn from(error: RuleError) -> InputFault<RuleError> {
+        InputFault::Refused(error)
+    }
+}
+
+impl From<ScriptError> for InputFault<ScriptError> {
+    ghost use Rattle.fill_engine.specs.declared.refusal.InputFault.TheVariants.{Refused};
+
+    ghost from_gives = { λ error fault. fault ≡ Refused error };
+
+    fn from(error: ScriptError) -> InputFault<ScriptError> {
+        InputFault::Refused(error)
+    }
+}
+
+impl From<InputFault<RuleError>> for Refusal {
+    ghost use Rattle.fill_engine.specs.declared.refusal.Refusal.TheVariants.{Rules};
+
+    ghost from_gives = { λ fault refusal. refusal ≡ Rules fault };
+
+    fn from(fault: InputFault<RuleError>) -> Refusal {
+        Refusal::Rules(fault)
+    }
+}
+
+impl From<InputFault<ScriptError>> for Refusal {
+    ghost use Rattle.fill_engine.specs.declared.refusal.Refusal.TheVariants.{Script};
+
+    ghost from_gives = { λ fault refusal. refusal ≡ Script fault };
+
+    fn from(fault: InputFault<ScriptError>) -> Refusal {
+        Refusal::Script(fault)
+    }
+}
+
+impl From<OutOfMemory> for Refusal {
+    ghost use Rattle.fill_engine.specs.declared.refusal.RunFault.TheVariants.{Memory};
+    ghost use Rattle.fill_engine.specs.declared.refusal.Refusal.TheVariants.{Run};
+
+    ghost from_gives = { λ _ refusal. refusal ≡ Run Memory };
+
+    fn from(_error: OutOfMemory) -> Refusal {
+        Refusal::Run(RunFault::Memory)
+    }
+}
+
+impl From<DeviceError> for Refusal {
+    ghost use Rattle.fill_engine.specs.declared.refusal.Refusal.TheVariants.{Report};
+
+    ghost from_gives = { λ _ refusal. refusal ≡ Report };
+
+    fn from(_error: DeviceError) -> Refusal {
+        Refusal::Report
+    }
+}
+
+impl Refusal {
+    /// The part as a fault line names it.
+    fn part_name(self) -> &'static str
+        ensures { result.now ≡ part_name self }
+    {
+        match self {
+            Refusal::Rules(_) => "rules",
+            Refusal::Script(_) => "script",
+            Refusal::Run(_) => "run",
+            Refusal::Report => "report",
+        }
+    }
+
+    /// The row of the table of faults that is the matter.
+    fn fault(self) -> Fault
+        ensures { result ≡ fault_of self }
+    {
+        match self {
+            Refusal::Rules(InputFault::Unread(error)) => error.into(),
+            Refusal::Rules(InputFault::Refused(error)) => error.into(),
+            Refusal::Script(InputFault::Unread(error)) => error.into(),
+            Refusal::Script(InputFault::Refused(error)) => error.into(),
+            Refusal::Run(RunFault::Memory) => Fault::Memory,
+            Refusal::Report => Fault::Device,
+        }
+    }
+
+    /// The exit status of the program: 4 where a file could not be opened, read or written, 3 where memory ran out, and
+    /// 2 for a refused input.
+    pub fn status(self) -> u8
+        ensures { result ≡ refusal_status self }
+    {
+        self.fault().status()
+    }
+
+    /// The line that tells of the refusal, with its line feed: `densfill: PART: NUMBER NAME`, and then ` line N` for a
+    /// bad record or number and ` key KEY` for a bad rule.
+    ///
+    /// # Errors
+    /// `AllocError` where there is no memory for the line.
+    pub fn line(self, alloc: Global) -> Result<String, AllocError>
+        ensures { IfOk result (λ s. string_bytes s ≡ refusal_text self) }
+    {
+        let fault = self.fault();
+        let (number, name) = fault.row();
+        let ending = fault.ending(alloc)?;
+        format!(in alloc; "densfill: {}: {number} {name}{ending}\n", self.part_name())
+    }
+}
