@@ -3,7 +3,7 @@ use Rattle.std.proofs.Common.{◌≡◌, ◌∙◌, ℕ, ℤ, Bool, true, false,
 use Rattle.std.specs.Prelude.{bytes_eq, int_lt, is_some, ok_or, option_and_then, pos, unwrap_or, if◌then◌else◌}
 use Rattle.std.proofs.lemmas.List.FromFn.{fill_by_all}
 use Rattle.fill_base.specs.Sequence.{◌>>=◌}
-use Rattle.fill_text.specs.Corners.{is_rect, rect_with}
+use Rattle.fill_text.specs.RectTests.{is_rect, rect_with}
 use Rattle.fill_text.specs.Grids.{grid_with, is_grid}
 use Rattle.fill_text.specs.Keys.{all_keys, all_number_keys, all_text_keys}
 use Rattle.fill_text.specs.Numbers.{number_of}

@@ -2,7 +2,7 @@
 use Rattle.std.specs.Prelude.{ℕ, ◌-◌, ◌*◌, ℤ, pos, ◌+ℤ◌, ◌*ℤ◌, ◌&&◌, Bool, Option, Some, None, int_le, nat_le, if◌then◌else◌}
 use Rattle.fill_area.specs.Grid.{Grid}
 use Rattle.fill_base.specs.Coordinates.{highest}
-use Rattle.fill_text.specs.Corners.{is_coordinate}
+use Rattle.fill_text.specs.RectTests.{is_coordinate}
 
 -- from 1 to 2^20
 abbrev pub is_length : ℤ → Bool

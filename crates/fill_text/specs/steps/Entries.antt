@@ -2,7 +2,7 @@
 -- functions; what a rule file says is `rules_of`.
 use Rattle.std.specs.Prelude.{◌≤ℤ◌, IfSome, ℕ, ℤ, ◌==◌, Bool, List, [], ◌∷◌, ◌++◌, length, get_or, map, replicate, slice_set, Option, Some, None, option_map, ok_or, is_some, Result, Ok, Err, bytes_eq, int_lt, if◌then◌else◌}
 use Rattle.fill_base.specs.Sequence.{◌>>=◌}
-use Rattle.fill_text.specs.Corners.{rect_with}
+use Rattle.fill_text.specs.RectTests.{rect_with}
 use Rattle.fill_text.specs.Grids.{grid_with}
 use Rattle.fill_text.specs.Keys.{all_number_keys, key_named, number_rule}
 use Rattle.fill_text.specs.Numbers.{number_of}
