@@ -1,4 +1,5 @@
 pub mod Counts
 pub mod Coordinates
+pub mod Sides
 pub mod Squares
 pub mod Sequence

@@ -2,15 +2,15 @@
 use Rattle.std.specs.Prelude.{◌≡◌, ℤ, ◌&&◌, Bool, true, false, List, [], ◌∷◌, Option, Some, None, if◌then◌else◌}
 use Rattle.fill_base.specs.declared.rect.Rect.{Rect}
 use Rattle.fill_base.specs.Counts.{is_between}
+use Rattle.fill_base.specs.Sides.{Sides}
 use Rattle.fill_region.specs.Squares.{covered}
-use Rattle.fill_text.specs.Corners.{Corners}
 use Rattle.fill_text.specs.Script.{Change}
 use Rattle.fill_text.specs.declared.script.Kind.{Kind}
 use Rattle.fill_text.specs.declared.script.Kind.TheVariants.{Add, Cut}
 
 -- the square is in the rectangle
-abbrev pub is_within : Corners → ℤ → ℤ → Bool
-is_within c x y = is_between c.x1 c.x2 x && is_between c.y1 c.y2 y
+abbrev pub is_within : Sides → ℤ → ℤ → Bool
+is_within c x y = is_between c.left c.right x && is_between c.bottom c.top y
 
 -- the later of two changes, if there is one, and else the earlier
 abbrev pub later : Option Kind → Option Kind → Option Kind

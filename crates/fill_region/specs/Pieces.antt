@@ -1,20 +1,7 @@
 -- A region as a list of rectangles: by bands upwards, and in a band from left to right.
 use Rattle.std.specs.Prelude.{◌≡◌, ℤ, ◌≤ℤ◌, ◌<ℤ◌, ◌⊎◌, List, [], ◌∷◌, ◌++◌}
-use Rattle.fill_base.specs.declared.rect.Rect.{Rect}
+pub use Rattle.fill_base.specs.Sides.{Sides, sides, sides_of}
 use Rattle.fill_region.specs.Bands.{Band}
-
--- the four edges of a rectangle
-pub record Sides : Type 0 where
-  pub left : ℤ
-  pub bottom : ℤ
-  pub right : ℤ
-  pub top : ℤ
-
-abbrev pub sides : ℤ → ℤ → ℤ → ℤ → Sides
-sides left bottom right top = record { left = left; bottom = bottom; right = right; top = top }
-
-abbrev pub sides_of : Rect → Sides
-sides_of r = sides r.x1 r.y1 r.x2 r.y2
 
 -- the intervals of one row, from `bottom` to `top`
 abbrev pub row_pieces : ℤ → ℤ → List ℤ → List Sides

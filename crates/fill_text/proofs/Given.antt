@@ -3,7 +3,7 @@ use Rattle.std.proofs.Common.{◌≡◌, ◌∙◌, ℕ, ℤ, Bool, true, false,
 use Rattle.std.specs.Prelude.{bytes_eq, int_lt, is_some, ok_or, option_and_then, pos, unwrap_or, if◌then◌else◌}
 use Rattle.std.proofs.lemmas.List.FromFn.{fill_by_all}
 use Rattle.fill_base.specs.Sequence.{◌>>=◌}
-use Rattle.fill_text.specs.Corners.{is_rect, rect_with}
+use Rattle.fill_text.specs.RectTests.{is_rect, rect_with}
 use Rattle.fill_text.specs.Grids.{grid_with, is_grid}
 use Rattle.fill_text.specs.Keys.{all_keys, all_number_keys, all_text_keys}
 use Rattle.fill_text.specs.Numbers.{number_of}
@@ -62,19 +62,25 @@ texts_given numbers (Some w) (Some x) (Some y) (Some z) = refl
 listed : (numbers : List (Option ℤ)) → length numbers ≡ 28 → numbers ≡ map (number_found numbers) all_number_keys
 listed numbers many = fill_by_all (λ i. get_or numbers i None) numbers 28 None many (λ i below. refl)
 
+same_word : {X : Type 0} (a b : Option X) → option_map Some a ≡ option_map Some b → a ≡ b
+same_word None None e = refl
+same_word (Some x) (Some y) e = cc e
+same_word None (Some y) e = cc e
+same_word (Some x) None e = cc e
+
 values_given : (rows : List (List (List ℕ))) (found : Found) → Holds found rows
     → all_values found ≡ refused_or (first_some (map (missing rows) all_keys)) (values_for rows)
 unfolding all_values
 values_given rows found held = by (first_some (map (missing rows) (map Number all_number_keys))) refl
   where
     numbers : all_numbers all_number_keys found.numbers ≡ refused_or (first_some (map (missing rows) (map Number all_number_keys))) (map (number_for rows) all_number_keys)
-    numbers = ap (all_numbers all_number_keys) (listed found.numbers held.many) ∙ numbers_given rows (number_found found.numbers) all_number_keys held.number
+    numbers = ap (all_numbers all_number_keys) (listed found.numbers held.many) ∙ numbers_given rows (number_found found.numbers) all_number_keys held.numbers
 
     by : (o : Option RuleError) → first_some (map (missing rows) (map Number all_number_keys)) ≡ o
         → all_values found ≡ refused_or (first_some (map (missing rows) all_keys)) (values_for rows)
     by (Some e) first = rw (numbers, first, first_stays (map (missing rows) (map Number all_number_keys)) (map (missing rows) (map Text all_text_keys)) e first) refl
     by None first =
-        rw (numbers, first, later_first (map (missing rows) (map Number all_number_keys)) (map (missing rows) (map Text all_text_keys)) first, ← held.words text.Top, ← held.words text.FillLib, ← held.words text.FillCell, ← held.words text.FillTop)
+        rw (numbers, first, later_first (map (missing rows) (map Number all_number_keys)) (map (missing rows) (map Text all_text_keys)) first, ← same_word _ _ (held.texts text.Top), ← same_word _ _ (held.texts text.FillLib), ← same_word _ _ (held.texts text.FillCell), ← same_word _ _ (held.texts text.FillTop))
         (texts_given (map (number_for rows) all_number_keys) (word_for (Text text.Top) rows) (word_for (Text text.FillLib) rows) (word_for (Text text.FillCell) rows) (word_for (Text text.FillTop) rows))
 
 checked_given : (values : Values) → checked values ≡ refused_or (first_some (joint_faults values)) values

@@ -1,11 +1,11 @@
 -- The entries hold what the records that were read give each key, and a record adds its own.
-use Rattle.std.proofs.Common.{◌≡◌, ◌∙◌, ◌<◌, ◌+◌, ◌==◌, ℕ, ℤ, Bool, true, false, List, [], ◌∷◌, ◌++◌, length, get_or, set, cond, Option, Some, None, option_map, Result, Ok, Err, ap, sym, subst, refl}
+use Rattle.std.proofs.Common.{◌≡◌, ◌∙◌, ◌<◌, ◌+◌, ◌==◌, ℕ, ℤ, Bool, true, false, List, [], ◌∷◌, ◌++◌, length, get_or, set, cond, Option, Some, None, option_map, Result, Ok, Err, ap, sym, subst, refl, lit<}
 use Rattle.std.specs.Prelude.{bytes_eq, find, is_some, ok_or, if◌then◌else◌}
 use Rattle.std.specs.Option.{option_or}
 use Rattle.std.proofs.lemmas.List.{get_or-set_same, get_or-set_other, length-set}
 use Rattle.std.proofs.lemmas.List.Folds.{find-append}
 use Rattle.fill_base.specs.Sequence.{◌>>=◌}
-use Rattle.fill_text.specs.Keys.{key_name, key_named, number_rule, text_name}
+use Rattle.fill_text.specs.Keys.{all_text_keys, key_name, key_named, number_rule}
 use Rattle.fill_text.specs.Numbers.{number_of}
 use Rattle.fill_text.specs.Refusals.{fault_unless}
 use Rattle.fill_text.specs.Rules.{is_in_range, is_text, keyed_fault, number_fault, record_fault, value_fault, word_for}
@@ -16,25 +16,32 @@ use Rattle.fill_text.specs.declared.keys.TextKey.{TextKey}
 use Rattle.fill_text.specs.declared.keys.TextKey.TheVariants as text
 use Rattle.fill_text.specs.declared.rule_error.RuleError.{RuleError}
 use Rattle.fill_text.specs.declared.rule_error.RuleError.TheVariants.{BadNumber, BadRow, BadRule}
-use Rattle.fill_text.specs.steps.Entries.{AreRanged, Found, is_found, new_key, nothing_found, number_found, ranged_number, take_number, take_row, take_text, take_value, text_found, with_text}
+use Rattle.fill_text.specs.steps.Entries.{AreRanged, Found, is_found, new_key, nothing_found, number_found, ranged_number, take_number, take_row, take_text, take_value, text_found, text_index}
 use Rattle.fill_text.proofs.Names.{another_name, its_name, same_key}
-use Rattle.fill_text.proofs.Ranges.{in_range_facts, nothing_here, index_below, same_index, set_ranged}
+use Rattle.fill_text.proofs.KeyNames.{index_below, same_index}
+use Rattle.fill_text.proofs.Ranges.{in_range_facts, nothing_here, set_ranged}
+
+-- the slots of some keys hold what the records before give these keys
+abbrev pub Hold : {K V : Type 0} → (K → Key) → (K → ℕ) → (List ℕ → Option V) → List (Option V) → List (List (List ℕ)) → Type 0
+Hold {K = K} key_of index read slots before = (k : K) → option_map read (word_for (key_of k) before) ≡ option_map Some (get_or slots (index k) None)
 
 pub record Holds (found : Found) (before : List (List (List ℕ))) : Type 0 where
   pub many : length found.numbers ≡ 28
-  pub number : (key : NumberKey) → option_map number_of (word_for (Number key) before) ≡ option_map Some (number_found found.numbers key)
-  pub words : (key : TextKey) → word_for (Text key) before ≡ text_found found key
+  pub four : length found.texts ≡ 4
+  pub numbers : Hold Number (λ key. (number_rule key).index) number_of found.numbers before
+  pub texts : Hold Text text_index Some found.texts before
   pub ranged : AreRanged found.numbers
 
 pub nothing_held : Holds nothing_found []
 nothing_held = record {
   many = refl;
-  number = λ key. let none = nothing_here key in rw none refl;
-  words = λ key. nothing key;
+  four = refl;
+  numbers = λ key. let none = nothing_here key in rw none refl;
+  texts = λ key. nothing key;
   ranged = λ key. let none = nothing_here key in rw none tt;
 }
   where
-    nothing : (key : TextKey) → None ≡ text_found nothing_found key
+    nothing : (key : TextKey) → option_map Some (word_for (Text key) []) ≡ option_map Some (text_found nothing_found.texts key)
     nothing text.Top = refl
     nothing text.FillLib = refl
     nothing text.FillCell = refl
@@ -42,14 +49,17 @@ nothing_held = record {
 
 -- a key has stood in a record where its slot is filled
 stood : (found : Found) (before : List (List (List ℕ))) → Holds found before → (key : Key) → is_some (word_for key before) ≡ is_found found key
-stood found before held (Number key) = both (word_for (Number key) before) (number_found found.numbers key) (held.number key)
+stood found before held key = by key
   where
-    both : (word : Option (List ℕ)) (n : Option ℤ) → option_map number_of word ≡ option_map Some n → is_some word ≡ is_some n
-    both None None e = refl
-    both (Some w) (Some n) e = refl
-    both None (Some n) e = cc e
-    both (Some w) None e = cc e
-stood found before held (Text key) = ap is_some (held.words key)
+    both : {V : Type 0} (read : List ℕ → Option V) (word : Option (List ℕ)) (slot : Option V) → option_map read word ≡ option_map Some slot → is_some word ≡ is_some slot
+    both read None None e = refl
+    both read (Some w) (Some v) e = refl
+    both read None (Some v) e = cc e
+    both read (Some w) None e = cc e
+
+    by : (key : Key) → is_some (word_for key before) ≡ is_found found key
+    by (Number key) = both number_of (word_for (Number key) before) (number_found found.numbers key) (held.numbers key)
+    by (Text key) = both Some (word_for (Text key) before) (text_found found.texts key) (held.texts key)
 
 -- the word for a key, with one record more
 word_after : (before : List (List (List ℕ))) (fields : List (List ℕ)) (key : Key)
@@ -76,41 +86,27 @@ pub word_added : (before : List (List (List ℕ))) (fields : List (List ℕ)) (k
     → word_for key (before ++ fields ∷ []) ≡ Some (get_or fields 1 [])
 word_added before fields key test fresh = word_after before fields key ∙ rw (test, fresh) refl
 
-text_kept : (found : Found) (numbers : List (Option ℤ)) (key : TextKey) → text_found (record found { numbers = numbers }) key ≡ text_found found key
-text_kept found numbers text.Top = refl
-text_kept found numbers text.FillLib = refl
-text_kept found numbers text.FillCell = refl
-text_kept found numbers text.FillTop = refl
+-- a record of another kind of key changes none of these slots
+still_hold : {K V : Type 0} (key_of : K → Key) (index : K → ℕ) (read : List ℕ → Option V) (slots : List (Option V)) (before : List (List (List ℕ))) (fields : List (List ℕ)) (key : Key)
+    → Hold key_of index read slots before → key_named (get_or fields 0 []) ≡ Some key → ((k : K) → key_of k ≡ key → ⊥) → Hold key_of index read slots (before ++ fields ∷ [])
+still_hold key_of index read slots before fields key held named differs k =
+    ap (option_map read) (word_kept before fields (key_of k) (another_name (get_or fields 0 []) key (key_of k) named (differs k))) ∙ held k
 
-numbers_kept : (found : Found) (key : TextKey) (word : List ℕ) → (with_text found key word).numbers ≡ found.numbers
-numbers_kept found text.Top word = refl
-numbers_kept found text.FillLib word = refl
-numbers_kept found text.FillCell word = refl
-numbers_kept found text.FillTop word = refl
-
-text_added : (found : Found) (key : TextKey) (word : List ℕ) → text_found (with_text found key word) key ≡ Some word
-text_added found text.Top word = refl
-text_added found text.FillLib word = refl
-text_added found text.FillCell word = refl
-text_added found text.FillTop word = refl
-
-other_text : (found : Found) (key other : TextKey) (word : List ℕ) → (Text other ≡ Text key → ⊥) → text_found (with_text found key word) other ≡ text_found found other
-other_text found text.Top text.Top word differs = absurd (differs refl)
-other_text found text.Top text.FillLib word differs = refl
-other_text found text.Top text.FillCell word differs = refl
-other_text found text.Top text.FillTop word differs = refl
-other_text found text.FillLib text.Top word differs = refl
-other_text found text.FillLib text.FillLib word differs = absurd (differs refl)
-other_text found text.FillLib text.FillCell word differs = refl
-other_text found text.FillLib text.FillTop word differs = refl
-other_text found text.FillCell text.Top word differs = refl
-other_text found text.FillCell text.FillLib word differs = refl
-other_text found text.FillCell text.FillCell word differs = absurd (differs refl)
-other_text found text.FillCell text.FillTop word differs = refl
-other_text found text.FillTop text.Top word differs = refl
-other_text found text.FillTop text.FillLib word differs = refl
-other_text found text.FillTop text.FillCell word differs = refl
-other_text found text.FillTop text.FillTop word differs = absurd (differs refl)
+-- a record of one of these keys fills its slot
+one_more_held : {K V : Type 0} (key_of : K → Key) (index : K → ℕ) (read : List ℕ → Option V) (slots : List (Option V)) (before : List (List (List ℕ))) (fields : List (List ℕ)) (k : K) (v : V)
+    → Hold key_of index read slots before → key_named (get_or fields 0 []) ≡ Some (key_of k) → word_for (key_of k) before ≡ None → read (get_or fields 1 []) ≡ Some v
+    → index k < length slots → ((a b : K) → key_of a ≡ key_of b → a ≡ b) → ((a b : K) → index a ≡ index b → a ≡ b)
+    → Hold key_of index read (set slots (index k) (Some v)) (before ++ fields ∷ [])
+one_more_held {K = K} key_of index read slots before fields k v held named fresh written inside one apart other = by (bytes_eq (get_or fields 0 []) (key_name (key_of other))) refl
+  where
+    by : (b : Bool) → bytes_eq (get_or fields 0 []) (key_name (key_of other)) ≡ b
+        → option_map read (word_for (key_of other) (before ++ fields ∷ [])) ≡ option_map Some (get_or (set slots (index k) (Some v)) (index other) None)
+    by true test =
+        let same : other ≡ k = one other k (same_key (get_or fields 0 []) (key_of k) (key_of other) named test) in
+        rw (same, word_added before fields (key_of k) (its_name (get_or fields 0 []) (key_of k) named) fresh, written, get_or-set_same slots (index k) (Some v) None inside) refl
+    by false test =
+        let differ : index other ≡ index k → ⊥ = λ e. let h : true ≡ false = sym (its_name (get_or fields 0 []) (key_of k) named) ∙ ap (λ (x : K). bytes_eq (get_or fields 0 []) (key_name (key_of x))) (sym (apart other k e)) ∙ test in cc h in
+        ap (option_map read) (word_kept before fields (key_of other) test) ∙ held other ∙ ap (option_map Some) (sym (get_or-set_other slots (index k) (index other) (Some v) None differ))
 
 number_held : (found : Found) (before : List (List (List ℕ))) (fields : List (List ℕ)) (key : NumberKey) (n : ℤ)
     → Holds found before → key_named (get_or fields 0 []) ≡ Some (Number key) → word_for (Number key) before ≡ None
@@ -118,47 +114,40 @@ number_held : (found : Found) (before : List (List (List ℕ))) (fields : List (
     → Holds (record found { numbers = set found.numbers (number_rule key).index (Some n) }) (before ++ fields ∷ [])
 number_held found before fields key n held named fresh written within = record {
   many = length-set found.numbers (number_rule key).index (Some n) ∙ held.many;
-  number = λ other. by other (bytes_eq (get_or fields 0 []) (number_rule other).name) refl;
-  words = λ other.
-      word_kept before fields (Text other) (another_name (get_or fields 0 []) (Number key) (Text other) named (λ e. cc e))
-      ∙ held.words other ∙ sym (text_kept found (set found.numbers (number_rule key).index (Some n)) other);
+  four = held.four;
+  numbers = one_more_held Number (λ key. (number_rule key).index) number_of found.numbers before fields key n held.numbers named fresh written
+      (subst (λ count. (number_rule key).index < count) (sym held.many) (index_below key)) (λ a b e. cc e) same_index;
+  texts = still_hold Text text_index Some found.texts before fields (Number key) held.texts named (λ k e. cc e);
   ranged = set_ranged found.numbers key n held.ranged (in_range_facts key n within);
 }
-  where
-    by : (other : NumberKey) (b : Bool) → bytes_eq (get_or fields 0 []) (number_rule other).name ≡ b
-        → option_map number_of (word_for (Number other) (before ++ fields ∷ [])) ≡ option_map Some (number_found (set found.numbers (number_rule key).index (Some n)) other)
-    by other true test =
-        let same : Number other ≡ Number key = same_key (get_or fields 0 []) (Number key) (Number other) named test in
-        let it : other ≡ key = cc same in
-        let inside : (number_rule key).index < length found.numbers = subst (λ count. (number_rule key).index < count) (sym held.many) (index_below key) in
-        rw (it, word_added before fields (Number key) (its_name (get_or fields 0 []) (Number key) named) fresh, written, get_or-set_same found.numbers (number_rule key).index (Some n) None inside) refl
-    by other false test =
-        let apart : (number_rule other).index ≡ (number_rule key).index → ⊥ = λ e. let it : other ≡ key = same_index other key e in let h : true ≡ false = sym (its_name (get_or fields 0 []) (Number key) named) ∙ ap (λ (k : NumberKey). bytes_eq (get_or fields 0 []) (number_rule k).name) (sym it) ∙ test in cc h in
-        ap (option_map number_of) (word_kept before fields (Number other) test) ∙ held.number other
-        ∙ ap (option_map Some) (sym (get_or-set_other found.numbers (number_rule key).index (number_rule other).index (Some n) None apart))
+
+text_at : ℕ → TextKey
+text_at i = get_or all_text_keys i text.Top
 
 text_held : (found : Found) (before : List (List (List ℕ))) (fields : List (List ℕ)) (key : TextKey)
     → Holds found before → key_named (get_or fields 0 []) ≡ Some (Text key) → word_for (Text key) before ≡ None
-    → Holds (with_text found key (get_or fields 1 [])) (before ++ fields ∷ [])
+    → Holds (record found { texts = set found.texts (text_index key) (Some (get_or fields 1 [])) }) (before ++ fields ∷ [])
+unfolding text_at
 text_held found before fields key held named fresh = record {
-  many = ap length (numbers_kept found key (get_or fields 1 [])) ∙ held.many;
-  number = λ other.
-      ap (option_map number_of) (word_kept before fields (Number other) (another_name (get_or fields 0 []) (Text key) (Number other) named (λ e. cc e)))
-      ∙ held.number other ∙ ap (λ numbers. option_map Some (number_found numbers other)) (sym (numbers_kept found key (get_or fields 1 [])));
-  words = λ other. by other (bytes_eq (get_or fields 0 []) (text_name other)) refl;
-  ranged = rw (numbers_kept found key (get_or fields 1 [])) held.ranged;
+  many = held.many;
+  four = length-set found.texts (text_index key) (Some (get_or fields 1 [])) ∙ held.four;
+  numbers = still_hold Number (λ key. (number_rule key).index) number_of found.numbers before fields (Text key) held.numbers named (λ k e. cc e);
+  texts = one_more_held Text text_index Some found.texts before fields key (get_or fields 1 []) held.texts named fresh refl
+      (subst (λ count. text_index key < count) (sym held.four) (below key)) (λ a b e. cc e) (λ a b e. sym (at a) ∙ ap text_at e ∙ at b);
+  ranged = held.ranged;
 }
   where
-    by : (other : TextKey) (b : Bool) → bytes_eq (get_or fields 0 []) (text_name other) ≡ b
-        → word_for (Text other) (before ++ fields ∷ []) ≡ text_found (with_text found key (get_or fields 1 [])) other
-    by other true test =
-        let same : Text other ≡ Text key = same_key (get_or fields 0 []) (Text key) (Text other) named test in
-        let it : other ≡ key = cc same in
-        word_added before fields (Text other) test (ap (λ (k : TextKey). word_for (Text k) before) it ∙ fresh)
-        ∙ rw it (sym (text_added found key (get_or fields 1 [])))
-    by other false test =
-        let apart : Text other ≡ Text key → ⊥ = λ e. let h : true ≡ false = sym (its_name (get_or fields 0 []) (Text key) named) ∙ ap (λ (k : Key). bytes_eq (get_or fields 0 []) (key_name k)) (sym e) ∙ test in cc h in
-        word_kept before fields (Text other) test ∙ held.words other ∙ sym (other_text found key other (get_or fields 1 []) apart)
+    at : (key : TextKey) → text_at (text_index key) ≡ key
+    at text.Top = refl
+    at text.FillLib = refl
+    at text.FillCell = refl
+    at text.FillTop = refl
+
+    below : (key : TextKey) → text_index key < 4
+    below text.Top = lit< tt
+    below text.FillLib = lit< tt
+    below text.FillCell = lit< tt
+    below text.FillTop = lit< tt
 
 -- a step that is refused with this fault, or takes the records so far
 abbrev pub Takes : Option RuleError → Result Found RuleError → List (List (List ℕ)) → Type 0
@@ -189,8 +178,8 @@ value_taken found before fields line (Number key) held named fresh = by (number_
 value_taken found before fields line (Text key) held named fresh = by (is_text key (get_or fields 1 [])) refl
   where
     by : (b : Bool) → is_text key (get_or fields 1 []) ≡ b
-        → Takes (fault_unless b (BadRule (Text key))) (if b then Ok (with_text found key (get_or fields 1 [])) else Err (BadRule (Text key))) (before ++ fields ∷ [])
-    by true allowed = (with_text found key (get_or fields 1 []), refl, text_held found before fields key held named fresh)
+        → Takes (fault_unless b (BadRule (Text key))) (if b then Ok (record found { texts = set found.texts (text_index key) (Some (get_or fields 1 [])) }) else Err (BadRule (Text key))) (before ++ fields ∷ [])
+    by true allowed = (record found { texts = set found.texts (text_index key) (Some (get_or fields 1 [])) }, refl, text_held found before fields key held named fresh)
     by false allowed = refl
 
 -- what taking a record does: it is refused with its fault, or adds its word

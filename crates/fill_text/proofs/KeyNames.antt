@@ -1,39 +1,56 @@
--- The name of each key names that key.
-use Rattle.std.proofs.Common.{refl}
+-- Each number's key stands at its index in the table, and the name of each key names that key.
+use Rattle.std.proofs.Common.{◌≡◌, ◌∙◌, ◌<◌, Some, get_or, ap, lit<, refl, sym}
+use Rattle.fill_text.specs.Keys.{all_number_keys, key_named, number_rule}
 use Rattle.fill_text.specs.Laws.{EachNameIsOfOneKey}
 use Rattle.fill_text.specs.declared.keys.Key.TheVariants.{Number, Text}
+use Rattle.fill_text.specs.declared.keys.NumberKey.{NumberKey}
 use Rattle.fill_text.specs.declared.keys.NumberKey.TheVariants.{FrameX1, FrameY1, FrameX2, FrameY2, BoxW, BoxH, StepX, StepY, OriginX, OriginY, Spacing, FillSpacing, WinW, WinH, WinStepX, WinStepY, WinX, WinY, WinNx, WinNy, Min, Max, TileNx, TileNy, Layer, Datatype, FillLayer, FillDatatype}
 use Rattle.fill_text.specs.declared.keys.TextKey.TheVariants as text
 
+abbrev IsRow : NumberKey → Type 0
+IsRow key = (get_or all_number_keys (number_rule key).index FrameX1 ≡ key) × ((number_rule key).index < 28) × (key_named (number_rule key).name ≡ Some (Number key))
+
+is_row : (key : NumberKey) → IsRow key
+is_row FrameX1 = (refl, lit< tt, refl)
+is_row FrameY1 = (refl, lit< tt, refl)
+is_row FrameX2 = (refl, lit< tt, refl)
+is_row FrameY2 = (refl, lit< tt, refl)
+is_row BoxW = (refl, lit< tt, refl)
+is_row BoxH = (refl, lit< tt, refl)
+is_row StepX = (refl, lit< tt, refl)
+is_row StepY = (refl, lit< tt, refl)
+is_row OriginX = (refl, lit< tt, refl)
+is_row OriginY = (refl, lit< tt, refl)
+is_row Spacing = (refl, lit< tt, refl)
+is_row FillSpacing = (refl, lit< tt, refl)
+is_row WinW = (refl, lit< tt, refl)
+is_row WinH = (refl, lit< tt, refl)
+is_row WinStepX = (refl, lit< tt, refl)
+is_row WinStepY = (refl, lit< tt, refl)
+is_row WinX = (refl, lit< tt, refl)
+is_row WinY = (refl, lit< tt, refl)
+is_row WinNx = (refl, lit< tt, refl)
+is_row WinNy = (refl, lit< tt, refl)
+is_row Min = (refl, lit< tt, refl)
+is_row Max = (refl, lit< tt, refl)
+is_row TileNx = (refl, lit< tt, refl)
+is_row TileNy = (refl, lit< tt, refl)
+is_row Layer = (refl, lit< tt, refl)
+is_row Datatype = (refl, lit< tt, refl)
+is_row FillLayer = (refl, lit< tt, refl)
+is_row FillDatatype = (refl, lit< tt, refl)
+
+pub key_at : (key : NumberKey) → get_or all_number_keys (number_rule key).index FrameX1 ≡ key
+key_at key = (is_row key).0
+
+pub index_below : (key : NumberKey) → (number_rule key).index < 28
+index_below key = (is_row key).1
+
+pub same_index : (a b : NumberKey) → (number_rule a).index ≡ (number_rule b).index → a ≡ b
+same_index a b e = sym (key_at a) ∙ ap (λ i. get_or all_number_keys i FrameX1) e ∙ key_at b
+
 pub each_named : EachNameIsOfOneKey
-each_named (Number FrameX1) = refl
-each_named (Number FrameY1) = refl
-each_named (Number FrameX2) = refl
-each_named (Number FrameY2) = refl
-each_named (Number BoxW) = refl
-each_named (Number BoxH) = refl
-each_named (Number StepX) = refl
-each_named (Number StepY) = refl
-each_named (Number OriginX) = refl
-each_named (Number OriginY) = refl
-each_named (Number Spacing) = refl
-each_named (Number FillSpacing) = refl
-each_named (Number WinW) = refl
-each_named (Number WinH) = refl
-each_named (Number WinStepX) = refl
-each_named (Number WinStepY) = refl
-each_named (Number WinX) = refl
-each_named (Number WinY) = refl
-each_named (Number WinNx) = refl
-each_named (Number WinNy) = refl
-each_named (Number Min) = refl
-each_named (Number Max) = refl
-each_named (Number TileNx) = refl
-each_named (Number TileNy) = refl
-each_named (Number Layer) = refl
-each_named (Number Datatype) = refl
-each_named (Number FillLayer) = refl
-each_named (Number FillDatatype) = refl
+each_named (Number key) = (is_row key).2
 each_named (Text text.Top) = refl
 each_named (Text text.FillLib) = refl
 each_named (Text text.FillCell) = refl

@@ -18,7 +18,7 @@ use Rattle.fill_text.specs.declared.keys.TextKey.TheVariants as text
 use Rattle.fill_text.proofs.FirstFaults.{first_none}
 use Rattle.fill_text.proofs.Holding.{word_added, word_kept}
 use Rattle.fill_text.proofs.Names.{its_name, named_by, same_key}
-use Rattle.fill_text.proofs.Ranges.{key_at, index_below}
+use Rattle.fill_text.proofs.KeyNames.{index_below, key_at}
 use Rattle.fill_text.proofs.Standing.{accepted, sound_record}
 
 -- one more in a part behind is one more in the whole

@@ -1,5 +1,5 @@
 -- Each number that a rule file gives is in its key's range.
-use Rattle.std.proofs.Common.{◌≡◌, ◌∙◌, ◌⊎◌, ◌<◌, ◌≤ℤ◌, ℕ, zero, suc, ℤ, pos, true, ◌&&◌, List, [], ◌∷◌, length, get_or, set, Option, Some, None, Result, Ok, Err, ap, refl, sym, inl, inr, arith, lit<}
+use Rattle.std.proofs.Common.{◌≡◌, ◌⊎◌, ◌<◌, ◌≤ℤ◌, ℕ, zero, suc, ℤ, pos, true, ◌&&◌, List, [], ◌∷◌, length, get_or, set, Option, Some, None, Result, Ok, Err, ap, refl, inl, inr, arith}
 use Rattle.std.proofs.lemmas.List.{get_or-replicate}
 use Rattle.std.specs.Prelude.{int_le}
 use Rattle.std.proofs.lemmas.Int.{ints}
@@ -7,72 +7,8 @@ use Rattle.fill_text.specs.Keys.{all_number_keys, number_rule}
 use Rattle.fill_text.specs.Rules.{is_in_range, number_in}
 use Rattle.fill_text.specs.steps.Entries.{AreRanged, all_numbers, nothing_found, number_found, with_front}
 use Rattle.fill_text.specs.declared.keys.NumberKey.{NumberKey}
-use Rattle.fill_text.specs.declared.keys.NumberKey.TheVariants.{FrameX1, FrameY1, FrameX2, FrameY2, BoxW, BoxH, StepX, StepY, OriginX, OriginY, Spacing, FillSpacing, WinW, WinH, WinStepX, WinStepY, WinX, WinY, WinNx, WinNy, Min, Max, TileNx, TileNy, Layer, Datatype, FillLayer, FillDatatype}
 use Rattle.fill_text.specs.declared.rule_error.RuleError.{RuleError}
-
--- each key stands at its index
-pub key_at : (key : NumberKey) → get_or all_number_keys (number_rule key).index FrameX1 ≡ key
-key_at FrameX1 = refl
-key_at FrameY1 = refl
-key_at FrameX2 = refl
-key_at FrameY2 = refl
-key_at BoxW = refl
-key_at BoxH = refl
-key_at StepX = refl
-key_at StepY = refl
-key_at OriginX = refl
-key_at OriginY = refl
-key_at Spacing = refl
-key_at FillSpacing = refl
-key_at WinW = refl
-key_at WinH = refl
-key_at WinStepX = refl
-key_at WinStepY = refl
-key_at WinX = refl
-key_at WinY = refl
-key_at WinNx = refl
-key_at WinNy = refl
-key_at Min = refl
-key_at Max = refl
-key_at TileNx = refl
-key_at TileNy = refl
-key_at Layer = refl
-key_at Datatype = refl
-key_at FillLayer = refl
-key_at FillDatatype = refl
-
-pub same_index : (a b : NumberKey) → (number_rule a).index ≡ (number_rule b).index → a ≡ b
-same_index a b e = sym (key_at a) ∙ ap (λ i. get_or all_number_keys i FrameX1) e ∙ key_at b
-
-pub index_below : (key : NumberKey) → (number_rule key).index < 28
-index_below FrameX1 = lit< tt
-index_below FrameY1 = lit< tt
-index_below FrameX2 = lit< tt
-index_below FrameY2 = lit< tt
-index_below BoxW = lit< tt
-index_below BoxH = lit< tt
-index_below StepX = lit< tt
-index_below StepY = lit< tt
-index_below OriginX = lit< tt
-index_below OriginY = lit< tt
-index_below Spacing = lit< tt
-index_below FillSpacing = lit< tt
-index_below WinW = lit< tt
-index_below WinH = lit< tt
-index_below WinStepX = lit< tt
-index_below WinStepY = lit< tt
-index_below WinX = lit< tt
-index_below WinY = lit< tt
-index_below WinNx = lit< tt
-index_below WinNy = lit< tt
-index_below Min = lit< tt
-index_below Max = lit< tt
-index_below TileNx = lit< tt
-index_below TileNy = lit< tt
-index_below Layer = lit< tt
-index_below Datatype = lit< tt
-index_below FillLayer = lit< tt
-index_below FillDatatype = lit< tt
+use Rattle.fill_text.proofs.KeyNames.{index_below, same_index}
 
 pub in_range_facts : (key : NumberKey) (n : ℤ) → is_in_range key n ≡ true → ((number_rule key).low ≤ℤ n) × (n ≤ℤ (number_rule key).high)
 in_range_facts key n test = between (number_rule key).low (number_rule key).high test

@@ -7,7 +7,8 @@ use Rattle.std.specs.Result.{result_ok}
 use Rattle.fill_base.specs.declared.rect.Rect.{Rect}
 use Rattle.fill_base.specs.declared.rect.RectError.{RectError}
 use Rattle.fill_base.specs.Coordinates.{AreCoordinates, IsCoordinate}
-use Rattle.fill_text.specs.Corners.{Corners, corners_of, is_coordinate, is_rect, rect_with}
+use Rattle.fill_base.specs.Sides.{Sides, sides_of}
+use Rattle.fill_text.specs.RectTests.{is_coordinate, is_rect, rect_with}
 
 pub both : (a b : Bool) → a && b ≡ true → (a ≡ true) × (b ≡ true)
 both true b e = (refl, e)
@@ -25,18 +26,18 @@ int_lt_true a b less = grind (arith, ints)
 int_lt_facts : (a b : ℤ) → int_lt a b ≡ true → a <ℤ b
 int_lt_facts a b test = grind (arith, ints)
 
-pub is_rect_true : (c : Corners) → AreCoordinates c.x1 c.y1 c.x2 c.y2 → c.x1 <ℤ c.x2 → c.y1 <ℤ c.y2 → is_rect c ≡ true
+pub is_rect_true : (c : Sides) → AreCoordinates c.left c.bottom c.right c.top → c.left <ℤ c.right → c.bottom <ℤ c.top → is_rect c ≡ true
 is_rect_true c within wide tall =
     rw (
-      is_coordinate_true c.x1 within.left_is,
-      is_coordinate_true c.y1 within.bottom_is,
-      is_coordinate_true c.x2 within.right_is,
-      is_coordinate_true c.y2 within.top_is,
-      int_lt_true c.x1 c.x2 wide,
-      int_lt_true c.y1 c.y2 tall,
+      is_coordinate_true c.left within.left_is,
+      is_coordinate_true c.bottom within.bottom_is,
+      is_coordinate_true c.right within.right_is,
+      is_coordinate_true c.top within.top_is,
+      int_lt_true c.left c.right wide,
+      int_lt_true c.bottom c.top tall,
     ) refl
 
-pub is_rect_facts : (c : Corners) → is_rect c ≡ true → AreCoordinates c.x1 c.y1 c.x2 c.y2 × (c.x1 <ℤ c.x2) × (c.y1 <ℤ c.y2)
+pub is_rect_facts : (c : Sides) → is_rect c ≡ true → AreCoordinates c.left c.bottom c.right c.top × (c.left <ℤ c.right) × (c.bottom <ℤ c.top)
 is_rect_facts c test =
     let (five, tall) = both _ _ test in
     let (four, wide) = both _ _ five in
@@ -44,18 +45,18 @@ is_rect_facts c test =
     let (two, right) = both _ _ three in
     let (left, bottom) = both _ _ two in (
       record {
-        left_is = is_coordinate_facts c.x1 left;
-        bottom_is = is_coordinate_facts c.y1 bottom;
-        right_is = is_coordinate_facts c.x2 right;
-        top_is = is_coordinate_facts c.y2 top;
+        left_is = is_coordinate_facts c.left left;
+        bottom_is = is_coordinate_facts c.bottom bottom;
+        right_is = is_coordinate_facts c.right right;
+        top_is = is_coordinate_facts c.top top;
       },
-      int_lt_facts c.x1 c.x2 wide,
-      int_lt_facts c.y1 c.y2 tall,
+      int_lt_facts c.left c.right wide,
+      int_lt_facts c.bottom c.top tall,
     )
 
 -- what `Rect::new` gives is the rectangle with these corners, if there is one
-pub rect_kept : (c : Corners) (r : Result Rect RectError) → (IsOk r ↔ (AreCoordinates c.x1 c.y1 c.x2 c.y2 × (c.x1 <ℤ c.x2) × (c.y1 <ℤ c.y2)))
-    → IfOk r (λ q. (q.x1 ≡ c.x1) × (q.y1 ≡ c.y1) × (q.x2 ≡ c.x2) × (q.y2 ≡ c.y2)) → option_map corners_of (result_ok r) ≡ rect_with c
+pub rect_kept : (c : Sides) (r : Result Rect RectError) → (IsOk r ↔ (AreCoordinates c.left c.bottom c.right c.top × (c.left <ℤ c.right) × (c.bottom <ℤ c.top)))
+    → IfOk r (λ q. (q.x1 ≡ c.left) × (q.y1 ≡ c.bottom) × (q.x2 ≡ c.right) × (q.y2 ≡ c.top)) → option_map sides_of (result_ok r) ≡ rect_with c
 unfolding rect_with
 rect_kept c (Ok q) whole corners =
     let (within, wide, tall) = whole.0 refl in
@@ -67,7 +68,7 @@ rect_kept c (Err e) whole corners = elim (cases_Bool (is_rect c)) [
 ]
 
 -- the rectangle of four corners has these corners
-pub rect_with_same : (c q : Corners) → Some q ≡ rect_with c → q ≡ c
+pub rect_with_same : (c q : Sides) → Some q ≡ rect_with c → q ≡ c
 unfolding rect_with
 rect_with_same c q e = by (is_rect c) e
   where

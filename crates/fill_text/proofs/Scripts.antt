@@ -3,7 +3,8 @@ use Rattle.std.proofs.Common.{◌≡◌, ◌∙◌, ℕ, ℤ, ◌+◌, ◌==◌,
 use Rattle.std.specs.Prelude.{is_some, nat_lt, ok_or, pos, unwrap_or, if◌then◌else◌}
 use Rattle.std.proofs.lemmas.Bool.Decides.{nat_tests}
 use Rattle.fill_base.specs.Sequence.{◌>>=◌}
-use Rattle.fill_text.specs.Corners.{Corners, is_rect, rect_with}
+use Rattle.fill_base.specs.Sides.{Sides, sides}
+use Rattle.fill_text.specs.RectTests.{is_rect, rect_with}
 use Rattle.fill_text.specs.Refusals.{each_fault, fault_unless, first_some, refused_or}
 use Rattle.fill_text.specs.Rows.{rows_of}
 use Rattle.fill_text.specs.Script.{Change, change_fault, change_faults, change_in, edits_of, kind_of, number_at}
@@ -18,7 +19,7 @@ change_given : (line : ℕ) (fields : List (List ℕ)) → change_at line fields
 unfolding change_at rect_with
 change_given line fields = by (length fields == 5) (kind_of (get_or fields 0 [])) (number_at fields 1) (number_at fields 2) (number_at fields 3) (number_at fields 4)
   where
-    rect : (k : Kind) (c : Corners) (b : Bool)
+    rect : (k : Kind) (c : Sides) (b : Bool)
         → ((ok_or (if b then Some c else None) (BadRow line)) >>= λ c. let change : Result Change ScriptError = Ok (record { kind = k; rect = c }) in change)
         ≡ refused_or (first_some (fault_unless b (BadRow line) ∷ [])) (record { kind = k; rect = c })
     rect k c true = refl
@@ -26,8 +27,8 @@ change_given line fields = by (length fields == 5) (kind_of (get_or fields 0 [])
 
     by : (five : Bool) (k : Option Kind) (x1 y1 x2 y2 : Option ℤ)
         → (if five then (ok_or k (BadRow line) >>= λ k. ok_or x1 (BadNumber line) >>= λ x1. ok_or y1 (BadNumber line) >>= λ y1. ok_or x2 (BadNumber line) >>= λ x2. ok_or y2 (BadNumber line) >>= λ y2.
-        let c : Corners = record { x1 = x1; y1 = y1; x2 = x2; y2 = y2 } in ok_or (if is_rect c then Some c else None) (BadRow line) >>= λ c. let change : Result Change ScriptError = Ok (record { kind = k; rect = c }) in change) else Err (BadRow line))
-        ≡ (let c : Corners = record { x1 = unwrap_or x1 (pos 0); y1 = unwrap_or y1 (pos 0); x2 = unwrap_or x2 (pos 0); y2 = unwrap_or y2 (pos 0) } in
+        let c : Sides = sides x1 y1 x2 y2 in ok_or (if is_rect c then Some c else None) (BadRow line) >>= λ c. let change : Result Change ScriptError = Ok (record { kind = k; rect = c }) in change) else Err (BadRow line))
+        ≡ (let c : Sides = sides (unwrap_or x1 (pos 0)) (unwrap_or y1 (pos 0)) (unwrap_or x2 (pos 0)) (unwrap_or y2 (pos 0)) in
         refused_or (first_some (fault_unless five (BadRow line) ∷ fault_unless (is_some k) (BadRow line) ∷ fault_unless (is_some x1) (BadNumber line) ∷ fault_unless (is_some y1) (BadNumber line) ∷ fault_unless (is_some x2) (BadNumber line) ∷ fault_unless (is_some y2) (BadNumber line) ∷ fault_unless (is_rect c) (BadRow line) ∷ []))
         (record { kind = unwrap_or k kind.Add; rect = c }))
     by false k x1 y1 x2 y2 = refl
@@ -36,7 +37,7 @@ change_given line fields = by (length fields == 5) (kind_of (get_or fields 0 [])
     by true (Some k) (Some a) None x2 y2 = refl
     by true (Some k) (Some a) (Some b) None y2 = refl
     by true (Some k) (Some a) (Some b) (Some c) None = refl
-    by true (Some k) (Some a) (Some b) (Some c) (Some d) = let r : Corners = record { x1 = a; y1 = b; x2 = c; y2 = d } in rect k r (is_rect r)
+    by true (Some k) (Some a) (Some b) (Some c) (Some d) = let r : Sides = sides a b c d in rect k r (is_rect r)
 
 early : (before : List (List (List ℕ))) (line : ℕ) → length before ≡ line → line < 100000 → nat_lt (length before) 100000 ≡ true
 early before line count few = grind (arith, nat_tests)

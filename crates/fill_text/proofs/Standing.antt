@@ -17,9 +17,8 @@ use Rattle.fill_text.specs.declared.rule_error.RuleError.{RuleError}
 use Rattle.fill_text.specs.declared.rule_error.RuleError.TheVariants.{BadRow}
 use Rattle.fill_text.proofs.FirstFaults.{found_sound, none_at, none_in_both, not_refused, unless_holds}
 use Rattle.fill_text.proofs.Holding.{none_there}
-use Rattle.fill_text.proofs.KeyNames.{each_named}
+use Rattle.fill_text.proofs.KeyNames.{each_named, index_below, key_at}
 use Rattle.fill_text.proofs.Names.{found_passes}
-use Rattle.fill_text.proofs.Ranges.{key_at, index_below}
 
 length_is : (n m : ℕ) → (n == m) ≡ true → n ≡ m
 length_is n m test = grind (arith, nat_tests)

@@ -4,7 +4,7 @@ use Rattle.fill_area.specs.Axes.{axis_end}
 use Rattle.fill_area.specs.Grid.{Grid}
 use Rattle.fill_area.specs.declared.axis.Axis.{Axis}
 use Rattle.fill_base.specs.Coordinates.{highest}
-use Rattle.fill_text.specs.Corners.{is_coordinate}
+use Rattle.fill_text.specs.RectTests.{is_coordinate}
 
 -- from 1 to 2^20
 abbrev pub is_length : ℤ → Bool

@@ -58,7 +58,7 @@ kind_word kind.Cut = codes "cut"
 -- a record of five fields: the word of the change's kind, and four words that write its rectangle's numbers
 abbrev pub WritesChange : List (List ℕ) → Change → Type 0
 WritesChange fields change = (x1 y1 x2 y2 : List ℕ) × (fields ≡ kind_word change.kind ∷ x1 ∷ y1 ∷ x2 ∷ y2 ∷ [])
-    × (number_of x1 ≡ Some change.rect.x1) × (number_of y1 ≡ Some change.rect.y1) × (number_of x2 ≡ Some change.rect.x2) × (number_of y2 ≡ Some change.rect.y2)
+    × (number_of x1 ≡ Some change.rect.left) × (number_of y1 ≡ Some change.rect.bottom) × (number_of x2 ≡ Some change.rect.right) × (number_of y2 ≡ Some change.rect.top)
 
 -- where a script is accepted, its changes are those that its records write, one each and in their order
 abbrev pub EachRecordIsAChange : Type 0

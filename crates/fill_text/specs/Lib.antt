@@ -1,5 +1,5 @@
 -- What the two texts say.
-pub mod Corners
+pub mod RectTests
 pub mod Grids
 pub mod Keys
 pub mod Laws

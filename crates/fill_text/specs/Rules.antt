@@ -2,7 +2,8 @@
 use Rattle.std.specs.Prelude.{unsigned_abs, ℕ, ℤ, pos, ◌+◌, ◌==◌, ◌&&◌, ◌||◌, ◌++◌, Bool, List, [], ◌∷◌, length, get_or, map, find, Option, Some, None, option_map, option_and_then, unwrap_or, is_some, Result, bytes_eq, int_le, int_lt, nat_lt, nat_le, if◌then◌else◌}
 use Rattle.std.specs.List.{list_all}
 use Rattle.fill_area.specs.Grid.{Grid}
-use Rattle.fill_text.specs.Corners.{Corners, is_rect}
+use Rattle.fill_base.specs.Sides.{Sides, sides}
+use Rattle.fill_text.specs.RectTests.{is_rect}
 use Rattle.fill_text.specs.Grids.{is_grid}
 use Rattle.fill_text.specs.Keys.{all_keys, all_number_keys, key_name, key_named, number_rule}
 use Rattle.fill_text.specs.Numbers.{number_of}
@@ -37,8 +38,8 @@ text_of values text.FillLib = values.fill_lib
 text_of values text.FillCell = values.fill_cell
 text_of values text.FillTop = values.fill_top
 
-abbrev pub frame_of : List ℤ → Corners
-frame_of numbers = record { x1 = number_in numbers number.FrameX1; y1 = number_in numbers number.FrameY1; x2 = number_in numbers number.FrameX2; y2 = number_in numbers number.FrameY2 }
+abbrev pub frame_of : List ℤ → Sides
+frame_of numbers = sides (number_in numbers number.FrameX1) (number_in numbers number.FrameY1) (number_in numbers number.FrameX2) (number_in numbers number.FrameY2)
 
 abbrev pub windows_of : List ℤ → Grid
 windows_of numbers = record {

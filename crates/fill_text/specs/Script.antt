@@ -1,6 +1,7 @@
 -- What a script says: the changes that its records ask for, in turn, or the first rule that it breaks.
 use Rattle.std.specs.Prelude.{ℕ, ℤ, pos, ◌+◌, ◌==◌, List, [], ◌∷◌, length, get_or, map, Option, Some, None, is_some, unwrap_or, Result, bytes_eq, codes, nat_lt, if◌then◌else◌}
-use Rattle.fill_text.specs.Corners.{Corners, corners_of, is_rect}
+use Rattle.fill_base.specs.Sides.{Sides, sides_of, sides}
+use Rattle.fill_text.specs.RectTests.{is_rect}
 use Rattle.fill_text.specs.Numbers.{number_of}
 use Rattle.fill_text.specs.Refusals.{each_fault, fault_unless, first_some, refused_or}
 use Rattle.fill_text.specs.Rows.{rows_of}
@@ -14,11 +15,11 @@ use Rattle.fill_text.specs.declared.script.ScriptError.TheVariants.{BadRow, BadN
 -- a change of the metal: a kind and a rectangle
 pub record Change : Type 0 where
   pub kind : Kind
-  pub rect : Corners
+  pub rect : Sides
 
 abbrev pub change_of : Edit → Change
-change_of (edit.Add r) = record { kind = kind.Add; rect = corners_of r }
-change_of (edit.Cut r) = record { kind = kind.Cut; rect = corners_of r }
+change_of (edit.Add r) = record { kind = kind.Add; rect = sides_of r }
+change_of (edit.Cut r) = record { kind = kind.Cut; rect = sides_of r }
 
 -- the kind that a record's first field names
 abbrev pub kind_of : List ℕ → Option Kind
@@ -32,11 +33,11 @@ abbrev pub corner : List (List ℕ) → ℕ → ℤ
 corner fields i = unwrap_or (number_at fields i) (pos 0)
 
 -- the rectangle of a record, and its change
-abbrev pub corners_in : List (List ℕ) → Corners
-corners_in fields = record { x1 = corner fields 1; y1 = corner fields 2; x2 = corner fields 3; y2 = corner fields 4 }
+abbrev pub sides_in : List (List ℕ) → Sides
+sides_in fields = sides (corner fields 1) (corner fields 2) (corner fields 3) (corner fields 4)
 
 abbrev pub change_in : List (List ℕ) → Change
-change_in fields = record { kind = unwrap_or (kind_of (get_or fields 0 [])) kind.Add; rect = corners_in fields }
+change_in fields = record { kind = unwrap_or (kind_of (get_or fields 0 [])) kind.Add; rect = sides_in fields }
 
 -- what is asked of a record of this number, in this order: five fields, of which the first is `add` or `cut` and the others
 -- are numbers, which make a rectangle
@@ -48,7 +49,7 @@ change_faults line fields =
     ∷ fault_unless (is_some (number_at fields 2)) (BadNumber line)
     ∷ fault_unless (is_some (number_at fields 3)) (BadNumber line)
     ∷ fault_unless (is_some (number_at fields 4)) (BadNumber line)
-    ∷ fault_unless (is_rect (corners_in fields)) (BadRow line)
+    ∷ fault_unless (is_rect (sides_in fields)) (BadRow line)
     ∷ []
 
 -- the first rule that a record breaks, behind the records before; behind 100,000 it breaks one whatever it holds

@@ -1,6 +1,6 @@
 //! The value of each rule. Lengths, gaps and coordinates are in database units.
 ghost use Rattle.std.specs.Prelude.{◌≡◌};
-ghost use Rattle.fill_text.specs.Corners.{corners_of};
+ghost use Rattle.fill_base.specs.Sides.{sides_of};
 ghost use Rattle.fill_text.specs.Keys.{IsWithin};
 ghost use Rattle.fill_text.specs.Rules as spec;
 ghost use Rattle.fill_text.specs.Rules.{value_of};
@@ -14,7 +14,7 @@ use fill_base::Rect;
 impl Rules {
     /// The frame, in which every fill box lies.
     pub fn frame(&self) -> Rect
-        ensures { corners_of result ≡ spec.frame_of (values_of self.now).numbers }
+        ensures { sides_of result ≡ spec.frame_of (values_of self.now).numbers }
     {
         self.frame
     }

@@ -8,7 +8,6 @@
 #![tactic(auto)]
 
 mod accessors;
-mod corners;
 mod entries;
 mod keys;
 pub mod laws;
@@ -18,6 +17,7 @@ mod rule_error;
 mod rule_file;
 mod rules;
 mod script;
+mod sides;
 
 pub use keys::{Key, NumberKey, TextKey};
 pub use rule_error::RuleError;

@@ -1,26 +1,27 @@
 //! The reader of a rule file.
 ghost use Rattle.std.specs.Prelude.{◌≡◌, option_map};
 ghost use Rattle.fill_text.specs.Refusals.{seen, Gives};
-ghost use Rattle.fill_text.specs.Corners.{corners_of, rect_with};
+ghost use Rattle.fill_base.specs.Sides.{sides_of};
+ghost use Rattle.fill_text.specs.RectTests.{rect_with};
 ghost use Rattle.fill_text.specs.Grids.{grid_with};
 ghost use Rattle.fill_text.specs.Rules as spec;
 ghost use Rattle.fill_text.specs.steps.Entries as step;
 ghost use Rattle.fill_text.specs.steps.Entries.{found_in};
 ghost use Rattle.fill_text.specs.ValuesOfRules.{values_from, values_of};
 
-use crate::corners::rect_from;
 use crate::entries::Entries;
 use crate::keys::{Key, NumberKey, TextKey};
 use crate::rows::rows;
 use crate::rule_error::RuleError;
 use crate::rules::{Numbers, Rules, Texts};
+use crate::sides::rect_from;
 use fill_area::Windows;
 use fill_base::{Point, Rect};
 use std::alloc::Global;
 
 /// The frame that the numbers make, if it holds a square.
 fn frame_in(numbers: &Numbers) -> Option<Rect>
-    ensures { option_map corners_of result ≡ rect_with (spec.frame_of numbers.now.values) }
+    ensures { option_map sides_of result ≡ rect_with (spec.frame_of numbers.now.values) }
 {
     rect_from(
         numbers.value(NumberKey::FrameX1),

@@ -1,6 +1,6 @@
 //! The rules that a rule file gives: a number or a text for each key.
 ghost use Rattle.std.specs.Prelude.{◌≡◌, ◌≤ℤ◌, ◌↔◌, IfOk, IsTrue, unsigned_abs};
-ghost use Rattle.fill_text.specs.Corners.{corners_of};
+ghost use Rattle.fill_base.specs.Sides.{sides_of};
 ghost use Rattle.fill_text.specs.Keys.{number_rule};
 ghost use Rattle.fill_text.specs.Rules as spec;
 ghost use Rattle.fill_text.specs.declared.keys.NumberKey.{NumberKey};
@@ -76,7 +76,7 @@ pub struct Rules {
     #[derive_where(skip(EqHashOrd))]
     pub(crate) windows: Windows,
     pub ghost windowed: { windows ≡ spec.windows_of numbers.values },
-    pub ghost framed: { corners_of frame ≡ spec.frame_of numbers.values },
+    pub ghost framed: { sides_of frame ≡ spec.frame_of numbers.values },
 }
 
 impl Texts {

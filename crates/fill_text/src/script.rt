@@ -6,9 +6,9 @@ ghost use Rattle.fill_text.specs.Script.{kind_of, change_of, edits_of};
 ghost use Rattle.fill_text.specs.declared.script.ScriptError.TheVariants.{Memory};
 ghost use Rattle.fill_text.specs.steps.Changes as step;
 
-use crate::corners::rect_from;
 use crate::numbers::number;
 use crate::rows::{field, rows};
+use crate::sides::rect_from;
 use csv::ByteRecord;
 use fill_base::Rect;
 use std::alloc::{AllocFailed, Global};

@@ -482,3 +482,15 @@ fn a_script_has_at_most_100_000_records(rt: HostRuntime) -> Result<(), Fail> {
     );
     Ok(())
 }
+
+#[test]
+fn edits_of_one_kind_and_one_rectangle_are_equal(rt: HostRuntime) -> Result<(), Fail> {
+    let rect = Rect::new(0, 0, 10, 10)?;
+    let wider = Rect::new(0, 0, 11, 10)?;
+    assert_eq!(rt; Edit::Add(rect), Edit::Add(rect));
+    assert_eq!(rt; Edit::Cut(rect), Edit::Cut(rect));
+    assert_ne!(rt; Edit::Add(rect), Edit::Cut(rect));
+    assert_ne!(rt; Edit::Add(rect), Edit::Add(wider));
+    assert_ne!(rt; Edit::Cut(rect), Edit::Cut(wider));
+    Ok(())
+}

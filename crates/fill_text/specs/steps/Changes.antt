@@ -1,7 +1,8 @@
 -- How a record of a script is read, field by field. This serves the private functions; what a script says is `edits_of`.
 use Rattle.std.specs.Prelude.{ℕ, ℤ, ◌==◌, List, [], length, get_or, ok_or, Result, Ok, Err, if◌then◌else◌}
 use Rattle.fill_base.specs.Sequence.{◌>>=◌}
-use Rattle.fill_text.specs.Corners.{rect_with}
+use Rattle.fill_base.specs.Sides.{sides}
+use Rattle.fill_text.specs.RectTests.{rect_with}
 use Rattle.fill_text.specs.Script.{Change, kind_of, number_at}
 use Rattle.fill_text.specs.declared.script.ScriptError.{ScriptError}
 use Rattle.fill_text.specs.declared.script.ScriptError.TheVariants.{BadRow, BadNumber}
@@ -18,5 +19,5 @@ change_at line fields = if length fields == 5 then (do
   y1 ← number_in line fields 2
   x2 ← number_in line fields 3
   y2 ← number_in line fields 4
-  rect ← ok_or (rect_with (record { x1 = x1; y1 = y1; x2 = x2; y2 = y2 })) (BadRow line)
+  rect ← ok_or (rect_with (sides x1 y1 x2 y2)) (BadRow line)
   Ok (record { kind = kind; rect = rect })) else Err (BadRow line)

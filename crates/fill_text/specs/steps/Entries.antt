@@ -1,8 +1,8 @@
 -- How a rule file is read: what each record adds to the entries, and what the entries then give. This serves the private
 -- functions; what a rule file says is `rules_of`.
-use Rattle.std.specs.Prelude.{◌≤ℤ◌, IfSome, ℕ, ℤ, ◌==◌, Bool, List, [], ◌∷◌, ◌++◌, length, get_or, replicate, slice_set, Option, Some, None, option_map, ok_or, is_some, Result, Ok, Err, bytes_eq, int_lt, if◌then◌else◌}
+use Rattle.std.specs.Prelude.{◌≤ℤ◌, IfSome, ℕ, ℤ, ◌==◌, Bool, List, [], ◌∷◌, ◌++◌, length, get_or, map, replicate, slice_set, Option, Some, None, option_map, ok_or, is_some, Result, Ok, Err, bytes_eq, int_lt, if◌then◌else◌}
 use Rattle.fill_base.specs.Sequence.{◌>>=◌}
-use Rattle.fill_text.specs.Corners.{rect_with}
+use Rattle.fill_text.specs.RectTests.{rect_with}
 use Rattle.fill_text.specs.Grids.{grid_with}
 use Rattle.fill_text.specs.Keys.{all_number_keys, key_named, number_rule}
 use Rattle.fill_text.specs.Numbers.{number_of}
@@ -21,28 +21,22 @@ use Rattle.fill_text.specs.declared.entries.Entries.{Entries}
 abbrev pub with_front : {A E : Type 0} → List A → Result (List A) E → Result (List A) E
 with_front front rest = rest >>= λ more. Ok (front ++ more)
 
--- a number or a text for each key that has stood in a record
+-- a number or a text for each key that has stood in a record, in table order
 pub record Found : Type 0 where
   pub numbers : List (Option ℤ)
-  pub top : Option (List ℕ)
-  pub fill_lib : Option (List ℕ)
-  pub fill_cell : Option (List ℕ)
-  pub fill_top : Option (List ℕ)
+  pub texts : List (Option (List ℕ))
 
 abbrev pub nothing_found : Found
-nothing_found = record { numbers = replicate 28 None; top = None; fill_lib = None; fill_cell = None; fill_top = None }
+nothing_found = record { numbers = replicate 28 None; texts = replicate 4 None }
 
-abbrev pub text_found : Found → TextKey → Option (List ℕ)
-text_found found text.Top = found.top
-text_found found text.FillLib = found.fill_lib
-text_found found text.FillCell = found.fill_cell
-text_found found text.FillTop = found.fill_top
+abbrev pub text_index : TextKey → ℕ
+text_index text.Top = 0
+text_index text.FillLib = 1
+text_index text.FillCell = 2
+text_index text.FillTop = 3
 
-abbrev pub with_text : Found → TextKey → List ℕ → Found
-with_text found text.Top word = record found { top = Some word }
-with_text found text.FillLib word = record found { fill_lib = Some word }
-with_text found text.FillCell word = record found { fill_cell = Some word }
-with_text found text.FillTop word = record found { fill_top = Some word }
+abbrev pub text_found : List (Option (List ℕ)) → TextKey → Option (List ℕ)
+text_found texts key = get_or texts (text_index key) None
 
 abbrev pub number_found : List (Option ℤ) → NumberKey → Option ℤ
 number_found numbers key = get_or numbers (number_rule key).index None
@@ -54,7 +48,7 @@ AreRanged numbers = (key : NumberKey) → IfSome (number_found numbers key) (λ 
 -- the key has stood in a record
 abbrev pub is_found : Found → Key → Bool
 is_found found (Number key) = is_some (number_found found.numbers key)
-is_found found (Text key) = is_some (text_found found key)
+is_found found (Text key) = is_some (text_found found.texts key)
 
 -- the number that a word gives a key
 unfoldable pub ranged_number : ℕ → NumberKey → List ℕ → Result ℤ RuleError
@@ -68,7 +62,7 @@ take_number line key word found = do
   Ok (record found { numbers = slice_set found.numbers (number_rule key).index (Some n) })
 
 unfoldable pub take_text : TextKey → List ℕ → Found → Result Found RuleError
-take_text key word found = if is_text key word then Ok (with_text found key word) else Err (BadRule (Text key))
+take_text key word found = if is_text key word then Ok (record found { texts = slice_set found.texts (text_index key) (Some word) }) else Err (BadRule (Text key))
 
 abbrev pub take_value : ℕ → Key → List ℕ → Found → Result Found RuleError
 take_value line (Number key) word found = take_number line key word found
@@ -96,10 +90,10 @@ all_numbers (key ∷ keys) (n ∷ numbers) = ok_or n (BadRule (Number key)) >>= 
 unfoldable pub all_values : Found → Result Values RuleError
 all_values found = do
   numbers ← all_numbers all_number_keys found.numbers
-  top ← ok_or found.top (BadRule (Text text.Top))
-  fill_lib ← ok_or found.fill_lib (BadRule (Text text.FillLib))
-  fill_cell ← ok_or found.fill_cell (BadRule (Text text.FillCell))
-  fill_top ← ok_or found.fill_top (BadRule (Text text.FillTop))
+  top ← ok_or (text_found found.texts text.Top) (BadRule (Text text.Top))
+  fill_lib ← ok_or (text_found found.texts text.FillLib) (BadRule (Text text.FillLib))
+  fill_cell ← ok_or (text_found found.texts text.FillCell) (BadRule (Text text.FillCell))
+  fill_top ← ok_or (text_found found.texts text.FillTop) (BadRule (Text text.FillTop))
   Ok (record { numbers = numbers; top = top; fill_lib = fill_lib; fill_cell = fill_cell; fill_top = fill_top })
 
 -- what is asked of the values together, in this order
@@ -118,4 +112,4 @@ rules_found found = all_values found >>= checked
 
 -- what the entries hold
 abbrev pub found_in : Entries → Found
-found_in s = record { numbers = s.numbers; top = option_map (λ v. v.items) s.top; fill_lib = option_map (λ v. v.items) s.fill_lib; fill_cell = option_map (λ v. v.items) s.fill_cell; fill_top = option_map (λ v. v.items) s.fill_top }
+found_in s = record { numbers = s.numbers; texts = map (option_map (λ v. v.items)) (s.top ∷ s.fill_lib ∷ s.fill_cell ∷ s.fill_top ∷ []) }

@@ -1,8 +1,8 @@
 use Rattle.std.proofs.Common.{◌∙◌, ap, rules, FitsSigned, w64, option_map}
 use Rattle.fill_base.proofs.Signed.{read_is}
-use Rattle.fill_text.specs.Corners.{corners_of}
+use Rattle.fill_base.specs.Sides.{sides_of}
 use Rattle.fill_text.proofs.Rectangles.{rect_kept}
-use Rattle.fill_text.proofs.corners.rect_from.Goals as goal
+use Rattle.fill_text.proofs.sides.rect_from.Goals as goal
 
 pub returns : goal.returns
 returns c =
@@ -12,4 +12,4 @@ returns c =
     let f4 : FitsSigned w64 c.args.y2 = search rules in
     let whole = rw (read_is c.args.x1 f1, read_is c.args.y1 f2, read_is c.args.x2 f3, read_is c.args.y2 f4) at c.new.ensures.ok in
     let corners = rw (read_is c.args.x1 f1, read_is c.args.y1 f2, read_is c.args.x2 f3, read_is c.args.y2 f4) at c.new.ensures.corners in
-    ap (option_map corners_of) c.ok.ensures.value ∙ rect_kept _ c.new.result whole corners
+    ap (option_map sides_of) c.ok.ensures.value ∙ rect_kept _ c.new.result whole corners
