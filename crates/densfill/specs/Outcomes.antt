@@ -1,5 +1,5 @@
 -- What a run of the program leaves on standard output and on standard error, and its exit status.
-use Rattle.std.specs.Prelude.{◌≡◌, ◌⊎◌, ℕ, Bool, false, List, Option, IfSome, IsOkAnd, take}
+use Rattle.std.specs.Prelude.{◌≡◌, ◌⊎◌, ℕ, Bool, false, List, Option, IfSome, IsOkAnd, codes, take}
 use Rattle.std.specs.Io.KnownBytes.{Appends}
 use Rattle.fill_device.specs.declared.input.InputError.TheVariants.{Device, Memory}
 use Rattle.fill_engine.specs.Rects.{report_answer, IsReason}
@@ -9,15 +9,16 @@ use Rattle.fill_engine.specs.declared.refusal.RunFault.TheVariants as run
 use Rattle.fill_engine.specs.declared.refusal.Refusal.{Refusal}
 use Rattle.fill_engine.specs.declared.refusal.Refusal.TheVariants.{Rules, Script, Run, Report}
 
--- the exit status is the refusal's, and what is written is its line: whole, or a prefix where the writer failed
-pub record IsTold (before after : Option (List ℕ)) (failed : Bool) (status : ℕ) (refusal : Refusal) : Type 0 where
-  pub status_is : status ≡ refusal_status refusal
-  pub prefix : (k : ℕ) × Appends before after (take k (refusal_text refusal))
-  pub whole : failed ≡ false → Appends before after (refusal_text refusal)
+-- what is written is the line: whole, or a prefix of it where the writer failed
+pub record IsTold (before after : Option (List ℕ)) (failed : Bool) (line : List ℕ) : Type 0 where
+  pub prefix : (k : ℕ) × Appends before after (take k line)
+  pub whole : failed ≡ false → Appends before after line
 
--- the refusal is told, or want of memory where there was none for its line
+-- the refusal is told by its line and its exit status, or want of memory where there was none for the line
 abbrev pub IsToldOf : Option (List ℕ) → Option (List ℕ) → Bool → ℕ → Refusal → Type 0
-IsToldOf before after failed status refusal = IsTold before after failed status refusal ⊎ IsTold before after failed status (Run run.Memory)
+IsToldOf before after failed status refusal =
+    ((status ≡ refusal_status refusal) × IsTold before after failed (refusal_text refusal))
+    ⊎ ((status ≡ 3) × IsTold before after failed (codes "densfill: run: 31 Memory\n"))
 
 -- an input could not be opened
 abbrev pub IsUnopened : Refusal → Type 0

@@ -5,8 +5,9 @@ ghost use Rattle.std.specs.Prelude.{◌≡◌, ◌⊎◌, ◌↔◌, ◌<◌, fa
 ghost use Rattle.std.specs.IoError.{error_kind};
 ghost use Rattle.std.specs.Process.{exit_status};
 ghost use Rattle.fill_device.specs.Taps.{has_failed, under};
+ghost use Rattle.fill_engine.specs.Refusals.{refusal_status};
 ghost use Rattle.fill_line.specs.Grammar.{said_in, IsFaultless, IsTaken};
-ghost use Rattle.densfill.specs.Outcomes.{GaveUp, IsCause, IsReport, IsToldOf};
+ghost use Rattle.densfill.specs.Outcomes.{GaveUp, IsCause, IsReport, IsTold, IsToldOf};
 
 use fill_device::{InputError, Tap, write_text};
 use fill_engine::{InputFault, Refusal, RunFault, rects};
@@ -73,6 +74,17 @@ fn run_rects<R: Files + Threads + Sync, W: Write + Drop>(
     rects(rt, alloc, &mut rules, &mut script, out)
 }
 
+/// Writes a line, and gives the exit status of a refusal.
+fn written<E: Write>(err: &mut Tap<E>, line: &[u8], refusal: Refusal) -> ExitCode
+    requires { has_failed err.old ≡ false }
+    ensures told { IsTold (E.contents (under err.old)) (E.contents (under err.new)) (has_failed err.new) line.now }
+    ensures is { exit_status result ≡ refusal_status refusal }
+    ensures status { 1 < exit_status result }
+{
+    let _ = write_text(err, line);
+    ExitCode::from(refusal.status())
+}
+
 /// Writes the line of a refusal, and gives its exit status; those of want of memory where the line could not be made.
 fn told<E: Write>(alloc: Global, err: &mut Tap<E>, refusal: Refusal) -> ExitCode
     requires { has_failed err.old ≡ false }
@@ -80,14 +92,8 @@ fn told<E: Write>(alloc: Global, err: &mut Tap<E>, refusal: Refusal) -> ExitCode
     ensures status { 1 < exit_status result }
 {
     match refusal.line(alloc) {
-        Ok(line) => {
-            let _ = write_text(err, line.as_bytes());
-            ExitCode::from(refusal.status())
-        }
-        Err(_) => {
-            let _ = write_text(err, b"densfill: run: 31 Memory\n");
-            ExitCode::from(OUT_OF_MEMORY.status())
-        }
+        Ok(line) => written(err, line.as_bytes(), refusal),
+        Err(_) => written(err, b"densfill: run: 31 Memory\n", OUT_OF_MEMORY),
     }
 }
 
