@@ -16,7 +16,8 @@ use gds_record::{kind, name};
 use indexmap::IndexMap;
 use std::alloc::{AllocError, Global};
 
-/// A library: its cells, which the manual calls structures, by their names in the order of the file.
+/// A library: its cells, which the manual calls structures, by their names in the order of the
+/// file.
 #[derive(Debug, Drop)]
 pub struct Library {
     /// The data of BGNLIB: twelve words, the dates of the last change and access.
@@ -142,8 +143,10 @@ pub fn read_library(alloc: Global, bytes: &[u8]) -> Result<Library, LibraryError
     ensures ok { IfOk result (λ library. Spells bytes.now (contents_of library)) }
     // What is spelled so is read, unless memory runs out.
     ensures only { (value : Contents) → Spells bytes.now value
-        → MatchResult result (λ library. contents_of library ≡ value) (λ e. e ≡ LibraryError.Memory) }
-    // An error tells of a fault that is there, and a fault that is there is told of, unless memory runs out.
+        → MatchResult result (λ library. contents_of library ≡ value)
+        (λ e. e ≡ LibraryError.Memory) }
+    // An error tells of a fault that is there, and a fault that is there is told of, unless memory
+    // runs out.
     ensures refused { IfErr result (λ e. IsRefused bytes.now e) }
     ensures exact { (e : LibraryError) → IsFault bytes.now e
         → MatchResult result (λ _. ⊥) (λ told. (told ≡ LibraryError.Memory) ⊎ (told ≡ e)) }

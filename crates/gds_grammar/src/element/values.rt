@@ -7,7 +7,7 @@ ghost use Rattle.gds_record.specs.declared.kind.TheConstants as kinds;
 ghost use Rattle.gds_record.specs.Records.{view};
 ghost use Rattle.gds_record.specs.Numbers.{word_of, number_of};
 ghost use Rattle.gds_grammar.specs.Forms.{among, kinds_of_2, kinds_of_4, kinds_of_8, IsWell};
-ghost use Rattle.gds_grammar.specs.Values.{shape_of, boundary, path, reference, array};
+ghost use Rattle.gds_grammar.specs.Values.{boundary, path, reference, array};
 ghost use Rattle.gds_grammar.specs.Elements.{kinds_in, body_of, value_if, word_in, name_in, columns_in, rows_in, transform_in, points_of, shapes_in};
 ghost use Rattle.gds_grammar.specs.steps.Reading.{IsBody, shapes_of};
 
