@@ -6,3 +6,5 @@ pub mod Along
 pub mod Closed
 pub mod Walk
 pub mod Sweep
+pub mod Carried
+pub mod Corners

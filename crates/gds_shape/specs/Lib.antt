@@ -1,3 +1,4 @@
 pub mod Winding
 pub mod Moves
+pub mod Boxes
 pub mod steps

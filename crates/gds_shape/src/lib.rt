@@ -3,10 +3,15 @@
 //! squares of its segments' rectangles, and each refusal comes exactly where its cause stands.
 #![tactic(auto)]
 
+pub mod boundary;
 mod edge;
 mod edges;
 mod error;
 mod lines;
 mod strip;
 
+pub use boundary::boundary_region;
 pub use error::ShapeError;
+
+#[cfg(test)]
+mod tests;

@@ -12,7 +12,7 @@ use fill_base::rect::LOWEST;
 use std::alloc::AllocError;
 
 /// Appends the rectangle between two neighbouring edges, where it lies inside and holds a square.
-fn put_gap(
+pub fn put_gap(
     out: &mut Vec<Rect>,
     left: i64,
     right: i64,
