@@ -1,6 +1,7 @@
 //! The elements of a cell: those that carry metal or refer to some cell, and the kinds of all.
 
-ghost use Rattle.std.specs.Prelude.{◌≡◌, ◌-◌, ◌<◌, length, slice_get};
+ghost use Rattle.std.specs.Prelude.{◌≡◌, ◌-◌, ◌<◌, length, slice_get, All};
+ghost use Rattle.gds_record.specs.Numbers.{IsStored};
 
 use fill_base::Point;
 
@@ -32,6 +33,7 @@ pub struct Boundary {
     pub ghost filled: { 0 < length points.items },
     pub ghost closed: { slice_get points.items 0
         ≡ slice_get points.items (length points.items - 1) },
+    pub ghost stored: { All IsStored points.items },
 }
 
 /// A wire along a chain of points.
@@ -51,6 +53,7 @@ pub struct Path {
     pub end_extension: Option<i32>,
     /// Its points in database units, in the order of the file; at least one.
     pub points: Vec<Point>,
+    pub ghost stored: { All IsStored points.items },
 }
 
 /// A reference to a cell.
@@ -62,6 +65,7 @@ pub struct Ref {
     pub transform: Transform,
     /// Where its origin goes, in database units.
     pub origin: Point,
+    pub ghost stored: { IsStored origin },
 }
 
 /// An array of references to a cell.
@@ -78,6 +82,7 @@ pub struct Array {
     /// Three points in database units: the origin, the origin moved by all columns, the origin
     /// moved by all rows.
     pub points: [Point; 3],
+    pub ghost stored: { All IsStored points },
 }
 
 /// An element that carries metal or refers to some.

@@ -1,11 +1,11 @@
 //! Makes elements of their records.
 
-ghost use Rattle.std.specs.Prelude.{◌≡◌, ◌%◌, ◌∷◌, [], true, length, map, Some, IfOk};
+ghost use Rattle.std.specs.Prelude.{◌≡◌, ◌%◌, ◌∷◌, [], true, length, map, Some, All, IfOk};
 ghost use Rattle.std.specs.List.{AllByRecursion};
 ghost use Rattle.std.specs.Option.{option_copied};
 ghost use Rattle.gds_record.specs.declared.kind.TheConstants as kinds;
 ghost use Rattle.gds_record.specs.Records.{view};
-ghost use Rattle.gds_record.specs.Numbers.{word_of, number_of};
+ghost use Rattle.gds_record.specs.Numbers.{word_of, number_of, IsStored};
 ghost use Rattle.gds_grammar.specs.Forms.{among, kinds_of_2, kinds_of_4, kinds_of_8, IsWell};
 ghost use Rattle.gds_grammar.specs.Values.{boundary, path, reference, array};
 ghost use Rattle.gds_grammar.specs.Elements.{kinds_in, body_of, value_if, word_in, name_in, columns_in, rows_in, transform_in, points_of, shapes_in};
@@ -93,7 +93,8 @@ fn transform_of(before: &[Record<'_>]) -> Transform
 
 fn points_of(alloc: Global, xy: &[u8]) -> Result<Vec<Point>, AllocError>
     requires { length xy.now % 8 ≡ 0 }
-    ensures { IfOk result (λ v. v.items ≡ points_of xy.now) }
+    ensures value { IfOk result (λ v. v.items ≡ points_of xy.now) }
+    ensures stored { IfOk result (λ v. All IsStored v.items) }
 {
     let mut points = Vec::with_capacity(alloc, xy.len() / 8)?;
     let mut rest = xy;
@@ -165,7 +166,8 @@ fn ref_of(alloc: Global, before: &[Record<'_>], xy: &[u8]) -> Result<Ref, AllocE
 /// The three points of an array.
 fn three_points(xy: &[u8]) -> [Point; 3]
     requires { length xy.now ≡ 24 }
-    ensures { result ≡ points_of xy.now }
+    ensures value { result ≡ points_of xy.now }
+    ensures stored { All IsStored result }
 {
     let (first, rest) = xy.split_at(8);
     let (second, third) = rest.split_at(8);
