@@ -7,4 +7,8 @@ pub mod Closed
 pub mod Walk
 pub mod Sweep
 pub mod Carried
-pub mod Corners
+pub mod BoxCorners
+pub mod Segmented
+pub mod Cornered
+pub mod Faults
+pub mod Spread

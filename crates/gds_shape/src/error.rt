@@ -12,6 +12,18 @@ pub enum ShapeError {
     /// Two neighbouring points differ in both coordinates.
     #[error("a shape has a slanted edge")]
     NotManhattan,
+    /// PATHTYPE is none of 0, 2 and 4.
+    #[error("a path has round ends")]
+    RoundEnd,
+    /// The absolute value of WIDTH is odd.
+    #[error("a path has an odd width")]
+    OddWidth,
+    /// Two neighbouring segments lie on one line in opposite directions.
+    #[error("a path doubles back")]
+    DoublesBack,
+    /// PATHTYPE is 4, and BGNEXTN or ENDEXTN is negative.
+    #[error("a path has a negative extension")]
+    BadExtension,
     /// The shape passes the coordinates from -2^30 to 2^30.
     #[error("a shape passes the range of coordinates")]
     OutOfRange,

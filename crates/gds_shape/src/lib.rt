@@ -4,14 +4,20 @@
 #![tactic(auto)]
 
 pub mod boundary;
+mod bounds;
+mod corners;
 mod edge;
 mod edges;
 mod error;
 mod lines;
+pub mod path;
+mod segments;
 mod strip;
 
 pub use boundary::boundary_region;
+pub use bounds::Bounds;
 pub use error::ShapeError;
+pub use path::path_region;
 
 #[cfg(test)]
 mod tests;

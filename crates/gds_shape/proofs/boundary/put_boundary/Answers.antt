@@ -1,7 +1,7 @@
 use Rattle.std.proofs.Common.{◌∙◌, ap, sym, ◌||◌, ◌-ℤ◌, refl}
 use Rattle.fill_region.specs.Squares.{covered}
 use Rattle.gds_shape.proofs.Carried.{manhattan_moved, closed_moved, covers_moved}
-use Rattle.gds_shape.proofs.Corners.{box_carried}
+use Rattle.gds_shape.proofs.BoxCorners.{box_carried}
 use Rattle.gds_shape.proofs.boundary.put_boundary.Goals as goal
 
 pub put_swept-requires-clause-manhattan : goal.put_swept-requires-clause-manhattan

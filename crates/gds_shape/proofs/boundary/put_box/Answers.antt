@@ -1,6 +1,6 @@
 use Rattle.std.proofs.Common.{◌∙◌}
 use Rattle.fill_region.specs.Squares.{covered}
-use Rattle.gds_shape.proofs.Corners.{box_none, box_put}
+use Rattle.gds_shape.proofs.BoxCorners.{box_none, box_put}
 use Rattle.gds_shape.proofs.boundary.put_box.Goals as goal
 
 pub returns-then-bottom-top : goal.returns-then-bottom-top
