@@ -7,8 +7,8 @@ use Rattle.std.proofs.lemmas.List.{append-nil, map_push}
 use Rattle.gds_record.specs.declared.kind.TheConstants as kinds
 use Rattle.gds_record.specs.Records.{Rec}
 use Rattle.gds_record.specs.Numbers.{trimmed}
-use Rattle.gds_grammar.specs.declared.element_kind.ElementKind.{ElementKind}
-use Rattle.gds_grammar.specs.declared.element_kind.ElementKind.TheVariants.{Boundary, Path, Reference, Array, Text, Node, Box}
+use Rattle.gds_grammar.specs.declared.element.ElementKind.{ElementKind}
+use Rattle.gds_grammar.specs.declared.element.ElementKind.TheVariants.{Boundary, Path, Reference, Array, Text, Node, Box}
 use Rattle.gds_grammar.specs.Forms.{among}
 use Rattle.gds_grammar.specs.Values.{Shape, Contents}
 use Rattle.gds_grammar.specs.Elements.{opening, may_stand, kinds_in, is_whole, has_string, shapes_in}
@@ -142,7 +142,7 @@ module _ (ρ : Rules) where
       leads_append ρ (Within l n sh) (Within l n (sh ++ element_shapes e)) _ (element_records e) (flat_map element_records es) (element_leads l n sh e h.0) (elements_lead l n (sh ++ element_shapes e) es h.1)
       ∙ ap (λ x. fine (Within l n x)) (append_assoc sh (element_shapes e) (flat_map element_shapes es))
 
-  -- ---- a structure
+  -- ---- a cell
 
   skips_no_class : (l : Contents) (n : List ℕ) (u : State) (r : Rec) (rs : List Rec) → eqb r.kind kinds.STRCLASS ≡ false → moves ρ (Within l n []) (r ∷ rs) ≡ fine u → moves ρ (Named l n) (r ∷ rs) ≡ fine u
   unfolding moves

@@ -9,8 +9,8 @@ use Rattle.std.proofs.lemmas.List.{append-nil, map_push}
 use Rattle.gds_record.specs.declared.kind.TheConstants as kinds
 use Rattle.gds_record.specs.Records.{Rec, IsRecord}
 use Rattle.gds_record.specs.Numbers.{trimmed}
-use Rattle.gds_grammar.specs.declared.element_kind.ElementKind.{ElementKind}
-use Rattle.gds_grammar.specs.declared.refusal.Refusal.TheVariants.{Unexpected, BadXY, NotClosed, DuplicateCell}
+use Rattle.gds_grammar.specs.declared.element.ElementKind.{ElementKind}
+use Rattle.gds_grammar.specs.declared.error.Refusal.TheVariants.{Unexpected, BadXY, NotClosed, DuplicateCell}
 use Rattle.gds_grammar.specs.Forms.{among}
 use Rattle.gds_grammar.specs.Values.{Shape, Contents}
 use Rattle.gds_grammar.specs.Elements.{opening, may_stand, kinds_in, is_whole, has_string, shapes_in}

@@ -14,8 +14,8 @@ use Rattle.gds_record.specs.Records.{Rec, view}
 use Rattle.gds_record.specs.Numbers.{point_of}
 use Rattle.gds_grammar.specs.Forms.{among, has_size, kinds_of_2, kinds_of_4, kinds_of_8, IsWell}
 use Rattle.gds_grammar.specs.Elements.{kinds_in, points_of, last_of, is_same_point, is_ring, has_count, are_points, body_of}
-use Rattle.gds_grammar.specs.declared.element_kind.ElementKind.{ElementKind}
-use Rattle.gds_grammar.specs.declared.element_kind.ElementKind.TheVariants.{Boundary}
+use Rattle.gds_grammar.specs.declared.element.ElementKind.{ElementKind}
+use Rattle.gds_grammar.specs.declared.element.ElementKind.TheVariants.{Boundary}
 use Rattle.std.proofs.lemmas.Bool.{eqb-true, ltb-true}
 use Rattle.gds_grammar.proofs.Paths.{well_size}
 

@@ -5,7 +5,7 @@ use Rattle.std.specs.Global.{Vec}
 use Rattle.std.specs.Map.{lookup}
 use Rattle.std.specs.Str.{bytes_eq}
 use Rattle.indexmap.specs.IndexMap.{insert_entry}
-use Rattle.gds_grammar.specs.declared.elements.Element.{Element}
+use Rattle.gds_grammar.specs.declared.element.Element.{Element}
 use Rattle.gds_grammar.specs.Values.{cell_of}
 use Rattle.gds_grammar.specs.Grammar.{has_name}
 

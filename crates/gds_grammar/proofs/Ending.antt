@@ -13,8 +13,8 @@ use Rattle.gds_record.specs.declared.kind.TheConstants as kinds
 use Rattle.gds_record.specs.Records.{Rec, IsRecord}
 use Rattle.gds_record.specs.Numbers.{trimmed}
 use Rattle.gds_record.proofs.Trimming.{stays}
-use Rattle.gds_grammar.specs.declared.element_kind.ElementKind.{ElementKind}
-use Rattle.gds_grammar.specs.declared.element_kind.ElementKind.TheVariants.{Boundary, Path, Reference, Array, Text, Node, Box}
+use Rattle.gds_grammar.specs.declared.element.ElementKind.{ElementKind}
+use Rattle.gds_grammar.specs.declared.element.ElementKind.TheVariants.{Boundary, Path, Reference, Array, Text, Node, Box}
 use Rattle.gds_grammar.specs.Forms.{among, has_form, has_size, has_name_if_asked, IsWell}
 use Rattle.gds_grammar.specs.Values.{Shape, Cell, Contents}
 use Rattle.gds_grammar.specs.Elements.{opening, may_stand, kinds_in, is_whole, required, has_string, shapes_in, are_points, is_closed}
@@ -148,7 +148,7 @@ pub record FreshName (ρ : Rules) (cells : List Cell) : Type 0 where
   pub blank : IsBlank name kinds.STRNAME
   pub free : ρ.taken cells (trimmed name.body) ≡ false
 
--- rules that blank points keep, and under which there is a new name where the structures are few
+-- rules that blank points keep, and under which there is a new name where the cells are few
 pub record TakesBlank (ρ : Rules) (AreFew : List Cell → Type 0) : Type 0 where
   pub points : (o : ElementKind) → ρ.points o (blank_points o) ≡ true
   pub closed : (o : ElementKind) → ρ.closed o (blank_points o) ≡ true
@@ -228,7 +228,7 @@ blank_all = record { points = good_points; closed = good_ring; names = new_name 
 
 -- ---- from state to state
 
--- the structures that stand already
+-- the cells that stand already
 abbrev pub cells_before : State → List Cell
 cells_before Start = []
 cells_before Headed = []

@@ -5,20 +5,20 @@ use Rattle.std.specs.List.{flat_map, AllByRecursion}
 use Rattle.gds_record.specs.Records.{Rec, IsRecord, spelling, IsTruncated, IsBadLength}
 use Rattle.gds_record.specs.Reading.{record_at}
 use Rattle.gds_record.proofs.Spellings.{one_front, at_again, at_bad, at_short}
-use Rattle.gds_grammar.specs.declared.refusal.Refusal.{Refusal}
-use Rattle.gds_grammar.specs.declared.refusal.Refusal.TheVariants as refusals
-use Rattle.gds_grammar.specs.declared.stop.Cause.{Cause}
-use Rattle.gds_grammar.specs.declared.stop.Cause.TheVariants as causes
-use Rattle.gds_grammar.specs.declared.stop.Stop.{Stop}
-use Rattle.gds_grammar.specs.declared.stop.Stop.TheVariants as stops
-use Rattle.gds_grammar.specs.declared.library_error.LibraryError.{LibraryError}
-use Rattle.gds_grammar.specs.declared.library_error.LibraryError.TheVariants as errors
+use Rattle.gds_grammar.specs.declared.error.Refusal.{Refusal}
+use Rattle.gds_grammar.specs.declared.error.Refusal.TheVariants as refusals
+use Rattle.gds_grammar.specs.declared.error.Cause.{Cause}
+use Rattle.gds_grammar.specs.declared.error.Cause.TheVariants as causes
+use Rattle.gds_grammar.specs.declared.error.Stop.{Stop}
+use Rattle.gds_grammar.specs.declared.error.Stop.TheVariants as stops
+use Rattle.gds_grammar.specs.declared.error.LibraryError.{LibraryError}
+use Rattle.gds_grammar.specs.declared.error.LibraryError.TheVariants as errors
 use Rattle.gds_grammar.specs.Values.{Contents}
 use Rattle.gds_grammar.specs.Grammar.{Rules, no_rules, points_alone, points_and_closing, all_rules, IsLibrary, IsViable}
 use Rattle.gds_grammar.specs.Machine.{State, Start, Done, fine, refuse, step, run}
 use Rattle.gds_grammar.specs.Laws.{IsWhy}
-use Rattle.gds_grammar.specs.Reading.{IsOpen, IsRefusedAt, FailsAt, FailsLater, Fails}
-use Rattle.gds_grammar.specs.Outcomes.{Spells, SoFar, LacksRecord, RefusesRecord, IsFault, error_of}
+use Rattle.gds_grammar.specs.steps.Reading.{IsOpen, IsRefusedAt, FailsAt, FailsLater, Fails, error_of}
+use Rattle.gds_grammar.specs.Outcomes.{Spells, SoFar, LacksRecord, RefusesRecord, IsFault}
 use Rattle.gds_grammar.proofs.Runs.{fine_is, bind_ok, run_append}
 use Rattle.gds_grammar.proofs.Back.{run_is_library, library_runs}
 use Rattle.gds_grammar.proofs.Why.{all_append, IsLooser, run_looser, run_more, refused_at_the_first_lem, none_of_alone, alone_of_closing}

@@ -5,22 +5,22 @@ use Rattle.std.specs.List.{flat_map}
 use Rattle.std.proofs.lemmas.List.{append-nil}
 use Rattle.std.proofs.lemmas.Grind.{flat_map-append}
 use Rattle.gds_record.specs.Records.{Rec, IsRecord, spelling}
-use Rattle.gds_grammar.specs.declared.refusal.Refusal.{Refusal}
-use Rattle.gds_grammar.specs.declared.refusal.Refusal.TheVariants.{Unexpected, DuplicateCell}
+use Rattle.gds_grammar.specs.declared.error.Refusal.{Refusal}
+use Rattle.gds_grammar.specs.declared.error.Refusal.TheVariants.{Unexpected, DuplicateCell}
 use Rattle.gds_grammar.specs.Forms.{is_well, IsWell, has_form, has_size, has_name_if_asked}
-use Rattle.gds_grammar.specs.declared.stop.Cause.{Cause}
-use Rattle.gds_grammar.specs.declared.stop.Cause.TheVariants as causes
-use Rattle.gds_grammar.specs.declared.stop.Stop.{Stop}
-use Rattle.gds_grammar.specs.declared.stop.Stop.TheVariants as stops
+use Rattle.gds_grammar.specs.declared.error.Cause.{Cause}
+use Rattle.gds_grammar.specs.declared.error.Cause.TheVariants as causes
+use Rattle.gds_grammar.specs.declared.error.Stop.{Stop}
+use Rattle.gds_grammar.specs.declared.error.Stop.TheVariants as stops
 use Rattle.gds_grammar.specs.Grammar.{all_rules, has_name}
 use Rattle.gds_record.specs.Numbers.{trimmed}
 use Rattle.gds_grammar.specs.Machine.{State, Start, Headed, Dated, Between, Opened, Named, Body, Unlettered, Tail, Paired, fine, refuse, expect, behind_xy, next_state, step, run}
-use Rattle.gds_grammar.specs.declared.element_kind.ElementKind.{ElementKind}
+use Rattle.gds_grammar.specs.declared.element.ElementKind.{ElementKind}
 use Rattle.gds_grammar.specs.Values.{Shape, Contents}
 use Rattle.gds_record.specs.declared.kind.TheConstants as kinds
 use Rattle.std.specs.Prelude.{◌&&◌}
 use Rattle.std.proofs.lemmas.Bool.{eqb-true, eq-eqb}
-use Rattle.gds_grammar.specs.Reading.{Reaches, IsNext, IsNextOf, IsOpen, OnlyTakes, FailsAt, FailsLater, Fails, parts_state, cell_state}
+use Rattle.gds_grammar.specs.steps.Reading.{Reaches, IsNext, IsNextOf, IsOpen, OnlyTakes, FailsAt, FailsLater, Fails, parts_state, cell_state}
 use Rattle.gds_grammar.proofs.Runs.{apart, expected, run_append, run_one}
 use Rattle.gds_grammar.proofs.Why.{all_append}
 
@@ -184,7 +184,7 @@ string_read b bytes body rest l n sh e h = subst (λ c. Reaches bytes (behind_xy
 pub string_fails : (b : Bool) (bytes : List ℕ) (l : Contents) (n : List ℕ) (sh : List Shape) (stop : Stop) → b ≡ true → Fails bytes (Unlettered l n sh) stop → Fails bytes (behind_xy b l n sh) stop
 string_fails b bytes l n sh stop e h = subst (λ c. Fails bytes (behind_xy c l n sh) stop) (sym e) h
 
--- ---- structures
+-- ---- cells
 
 reads_name : (l : Contents) (r : Rec) → r.kind ≡ kinds.STRNAME → has_name l.cells (trimmed r.body) ≡ false → next_state all_rules (Opened l) r ≡ fine (Named l (trimmed r.body))
 unfolding next_state

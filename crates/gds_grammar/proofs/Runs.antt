@@ -4,8 +4,8 @@ use Rattle.std.specs.Prelude.{◌⊎◌}
 use Rattle.std.specs.List.{AllByRecursion}
 use Rattle.std.proofs.lemmas.Bool.{eqb-true, eq-eqb}
 use Rattle.gds_record.specs.Records.{Rec}
-use Rattle.gds_grammar.specs.declared.refusal.Refusal.{Refusal}
-use Rattle.gds_grammar.specs.declared.refusal.Refusal.TheVariants.{Unexpected}
+use Rattle.gds_grammar.specs.declared.error.Refusal.{Refusal}
+use Rattle.gds_grammar.specs.declared.error.Refusal.TheVariants.{Unexpected}
 use Rattle.gds_grammar.specs.Forms.{is_well, IsWell}
 use Rattle.gds_grammar.specs.Grammar.{Rules}
 use Rattle.fill_base.specs.Sequence.{◌>>=◌}

@@ -5,19 +5,19 @@ use Rattle.std.specs.List.{flat_map, AllByRecursion}
 use Rattle.gds_record.specs.Records.{Rec, IsRecord, spelling, IsTruncated, IsBadLength}
 use Rattle.gds_record.specs.Reading.{record_at}
 use Rattle.gds_record.proofs.Spellings.{one_front, at_again, at_bad, at_short}
-use Rattle.gds_grammar.specs.declared.refusal.Refusal.{Refusal}
-use Rattle.gds_grammar.specs.declared.refusal.Refusal.TheVariants as refusals
-use Rattle.gds_grammar.specs.declared.stop.Cause.{Cause}
-use Rattle.gds_grammar.specs.declared.stop.Cause.TheVariants as causes
-use Rattle.gds_grammar.specs.declared.stop.Stop.{Stop}
-use Rattle.gds_grammar.specs.declared.stop.Stop.TheVariants as stops
-use Rattle.gds_grammar.specs.declared.library_error.LibraryError.TheVariants as errors
+use Rattle.gds_grammar.specs.declared.error.Refusal.{Refusal}
+use Rattle.gds_grammar.specs.declared.error.Refusal.TheVariants as refusals
+use Rattle.gds_grammar.specs.declared.error.Cause.{Cause}
+use Rattle.gds_grammar.specs.declared.error.Cause.TheVariants as causes
+use Rattle.gds_grammar.specs.declared.error.Stop.{Stop}
+use Rattle.gds_grammar.specs.declared.error.Stop.TheVariants as stops
+use Rattle.gds_grammar.specs.declared.error.LibraryError.TheVariants as errors
 use Rattle.gds_grammar.specs.Forms.{is_well}
 use Rattle.gds_grammar.specs.Values.{Contents}
 use Rattle.gds_grammar.specs.Grammar.{all_rules}
 use Rattle.gds_grammar.specs.Machine.{State, Start, Done, fine, next_state, step, run}
-use Rattle.gds_grammar.specs.Reading.{Reaches, IsOpen, FailsAt, FailsLater, Fails}
-use Rattle.gds_grammar.specs.Outcomes.{Spells, SoFar, LacksRecord, RefusesRecord, IsRefused, left_of, error_of}
+use Rattle.gds_grammar.specs.steps.Reading.{Reaches, IsOpen, FailsAt, FailsLater, Fails, left_of, error_of}
+use Rattle.gds_grammar.specs.Outcomes.{Spells, SoFar, LacksRecord, RefusesRecord, IsRefused}
 use Rattle.gds_grammar.proofs.Runs.{fine_is, not_fine, only_true, bind_ok, run_append}
 use Rattle.gds_grammar.proofs.Back.{run_is_library, library_runs}
 use Rattle.gds_grammar.proofs.Why.{refused_at_the_first_lem}

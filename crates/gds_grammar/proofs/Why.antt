@@ -5,9 +5,9 @@ use Rattle.std.specs.List.{AllByRecursion}
 use Rattle.gds_record.specs.declared.kind.TheConstants as kinds
 use Rattle.gds_record.specs.Records.{Rec, IsRecord}
 use Rattle.gds_record.specs.Numbers.{trimmed}
-use Rattle.gds_grammar.specs.declared.element_kind.ElementKind.{ElementKind}
-use Rattle.gds_grammar.specs.declared.refusal.Refusal.{Refusal}
-use Rattle.gds_grammar.specs.declared.refusal.Refusal.TheVariants.{Unexpected, BadXY, NotClosed, DuplicateCell}
+use Rattle.gds_grammar.specs.declared.element.ElementKind.{ElementKind}
+use Rattle.gds_grammar.specs.declared.error.Refusal.{Refusal}
+use Rattle.gds_grammar.specs.declared.error.Refusal.TheVariants.{Unexpected, BadXY, NotClosed, DuplicateCell}
 use Rattle.gds_grammar.specs.Forms.{among, is_well}
 use Rattle.gds_grammar.specs.Values.{Shape, Cell, Contents}
 use Rattle.gds_grammar.specs.Elements.{opening, may_stand, kinds_in, is_whole, are_points, is_closed, has_string, shapes_in}
@@ -22,7 +22,7 @@ pub all_append : {A : Type 0} (P : A → Type 0) (xs ys : List A) → AllByRecur
 all_append P [] ys h k = k
 all_append P (x ∷ xs) ys h k = (h.0, all_append P xs ys h.1 k)
 
--- ---- each record brings at most one structure
+-- ---- each record brings at most one cell
 
 abbrev few : State → ℕ
 few s = length (cells_before s)

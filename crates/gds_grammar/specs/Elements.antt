@@ -6,9 +6,9 @@ use Rattle.fill_base.specs.declared.place.Point.{Point}
 use Rattle.gds_record.specs.declared.kind.TheConstants as kinds
 use Rattle.gds_record.specs.Records.{Rec}
 use Rattle.gds_record.specs.Numbers.{word_of, number_of, point_of, trimmed}
-use Rattle.gds_grammar.specs.declared.element_kind.ElementKind.{ElementKind}
-use Rattle.gds_grammar.specs.declared.element_kind.ElementKind.TheVariants.{Boundary, Path, Reference, Array, Text, Node, Box}
-use Rattle.gds_grammar.specs.declared.elements.Transform.{Transform}
+use Rattle.gds_grammar.specs.declared.element.ElementKind.{ElementKind}
+use Rattle.gds_grammar.specs.declared.element.ElementKind.TheVariants.{Boundary, Path, Reference, Array, Text, Node, Box}
+use Rattle.gds_grammar.specs.declared.element.Transform.{Transform}
 use Rattle.gds_grammar.specs.Forms.{among}
 use Rattle.gds_grammar.specs.Values.{Shape, boundary, path, reference, array}
 

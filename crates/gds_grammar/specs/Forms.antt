@@ -1,58 +1,21 @@
 -- Which data type and how much data a record of each kind has.
-use Rattle.std.specs.Prelude.{◌≡◌, ℕ, Bool, true, false, List, [], ◌∷◌, length, ◌==◌, ◌&&◌, not, if◌then◌else◌}
+use Rattle.std.specs.Prelude.{◌≡◌, ℕ, Bool, true, false, List, [], ◌∷◌, length, ◌==◌, ◌&&◌, ◌||◌, not, if◌then◌else◌}
 use Rattle.std.specs.List.{list_any}
-use Rattle.gds_record.specs.declared.form.TheConstants.{NONE, BITS, WORDS, NUMBERS, REALS, TEXT}
-use Rattle.gds_record.specs.declared.kind.TheConstants.{HEADER, BGNLIB, LIBNAME, UNITS, ENDLIB, BGNSTR, STRNAME, ENDSTR, BOUNDARY, PATH, SREF, AREF, LAYER, DATATYPE, WIDTH, XY, ENDEL, SNAME, COLROW, NODE, TEXTTYPE, PRESENTATION, STRING, STRANS, MAG, ANGLE, REFLIBS, FONTS, PATHTYPE, GENERATIONS, ATTRTABLE, ELFLAGS, NODETYPE, PROPATTR, PROPVALUE, BOX, BOXTYPE, PLEX, BGNEXTN, ENDEXTN, STRCLASS, FORMAT, MASK, ENDMASKS, LIBDIRSIZE, SRFNAME, LIBSECUR}
-use Rattle.gds_record.specs.declared.kind.TheConstants as kinds
+use Rattle.gds_record.specs.declared.kind.TheConstants.{BGNLIB, UNITS, BGNSTR, STRNAME, LAYER, DATATYPE, WIDTH, SNAME, COLROW, STRANS, MAG, ANGLE, PATHTYPE, BGNEXTN, ENDEXTN}
 use Rattle.gds_record.specs.Records.{Rec}
 use Rattle.gds_record.specs.Numbers.{trimmed}
+use Rattle.gds_record.specs.Table.{manual, of_any_form}
 
 abbrev pub among : List ℕ → ℕ → Bool
 among kinds kind = list_any (λ k. k == kind) kinds
 
--- no data
-abbrev pub bare_kinds : List ℕ
-bare_kinds =
-    ENDLIB ∷ ENDSTR ∷ BOUNDARY ∷ PATH ∷ SREF ∷ AREF ∷ kinds.TEXT ∷ ENDEL ∷ NODE ∷ BOX ∷ ENDMASKS ∷ []
-
--- an array of bits
-abbrev pub bit_kinds : List ℕ
-bit_kinds = PRESENTATION ∷ STRANS ∷ ELFLAGS ∷ []
-
--- two-byte numbers
-abbrev pub word_kinds : List ℕ
-word_kinds =
-    HEADER ∷ BGNLIB ∷ BGNSTR ∷ LAYER ∷ DATATYPE ∷ COLROW ∷ TEXTTYPE ∷ PATHTYPE ∷ GENERATIONS
-    ∷ NODETYPE ∷ PROPATTR ∷ BOXTYPE ∷ FORMAT ∷ []
-
--- four-byte numbers
-abbrev pub number_kinds : List ℕ
-number_kinds = WIDTH ∷ XY ∷ PLEX ∷ BGNEXTN ∷ ENDEXTN ∷ []
-
--- eight-byte reals
-abbrev pub real_kinds : List ℕ
-real_kinds = UNITS ∷ MAG ∷ ANGLE ∷ []
-
--- text
-abbrev pub text_kinds : List ℕ
-text_kinds =
-    LIBNAME ∷ STRNAME ∷ SNAME ∷ STRING ∷ REFLIBS ∷ FONTS ∷ ATTRTABLE ∷ PROPVALUE ∷ MASK ∷ []
-
--- skipped in their places, whatever their data type
-abbrev pub loose_kinds : List ℕ
-loose_kinds = LIBDIRSIZE ∷ SRFNAME ∷ LIBSECUR ∷ STRCLASS ∷ []
+-- some row of the manual's table has this kind and this data type
+abbrev pub has_row : ℕ → ℕ → Bool
+has_row kind form = list_any (λ row. row.1 == form && row.0 == kind) manual
 
 -- whether a record of the kind has that data type
 unfoldable pub has_form : ℕ → ℕ → Bool
-has_form kind form =
-    if among loose_kinds kind then true
-    else if form == NONE then among bare_kinds kind
-    else if form == BITS then among bit_kinds kind
-    else if form == WORDS then among word_kinds kind
-    else if form == NUMBERS then among number_kinds kind
-    else if form == REALS then among real_kinds kind
-    else if form == TEXT then among text_kinds kind
-    else false
+has_form kind form = among of_any_form kind || has_row kind form
 
 -- kinds whose data has this many bytes; the data of others has any number
 abbrev pub kinds_of_24 : List ℕ
@@ -79,7 +42,7 @@ has_size kind size =
     else if among kinds_of_2 kind then size == 2
     else true
 
--- the names of structures are not empty once the zero bytes at their end are taken off
+-- the names of cells are not empty once the zero bytes at their end are taken off
 abbrev pub naming_kinds : List ℕ
 naming_kinds = STRNAME ∷ SNAME ∷ []
 

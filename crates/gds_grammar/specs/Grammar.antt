@@ -6,13 +6,13 @@ use Rattle.std.specs.Str.{bytes_eq}
 use Rattle.gds_record.specs.declared.kind.TheConstants as kinds
 use Rattle.gds_record.specs.Records.{Rec, IsRecord}
 use Rattle.gds_record.specs.Numbers.{trimmed}
-use Rattle.gds_grammar.specs.declared.element_kind.ElementKind.{ElementKind}
+use Rattle.gds_grammar.specs.declared.element.ElementKind.{ElementKind}
 use Rattle.gds_grammar.specs.Forms.{among, IsWell}
 use Rattle.gds_grammar.specs.Values.{Shape, Cell, Contents}
 use Rattle.gds_grammar.specs.Elements.{opening, may_stand, kinds_in, is_whole, are_points, is_closed, has_string, shapes_in}
 
 -- The three rules that a list of records keeps beside its order: what points an element has, that a
--- boundary is closed, and that no two structures have one name. They are parameters, so that it can
+-- boundary is closed, and that no two cells have one name. They are parameters, so that it can
 -- be said which of them is broken.
 pub record Rules : Type 0 where
   pub points : ElementKind → List ℕ → Bool
@@ -89,7 +89,7 @@ pub record IsElement (ρ : Rules) (e : ElementPart) : Type 0 where
 abbrev pub element_shapes : ElementPart → List Shape
 element_shapes e = shapes_in e.element e.before e.xy.body
 
--- ---- structures
+-- ---- cells
 
 pub record CellPart : Type 0 where
   pub start : Rec
@@ -117,7 +117,7 @@ pub record IsCell (ρ : Rules) (c : CellPart) : Type 0 where
 abbrev pub cell_value : CellPart → Cell
 cell_value c = record { name = trimmed c.name.body; shapes = flat_map element_shapes c.elements }
 
--- structures behind others, none with a name that is taken
+-- cells behind others, none with a name that is taken
 abbrev pub AreCells : Rules → List Cell → List CellPart → Type 0
 AreCells ρ cells [] = Unit {0}
 AreCells ρ cells (c ∷ cs) =

@@ -2,8 +2,8 @@
 use Rattle.std.specs.Prelude.{◌≡◌, ◌↔◌, ◌<◌, ◌^◌, List, [], ◌∷◌, ◌++◌, length}
 use Rattle.std.specs.List.{AllByRecursion}
 use Rattle.gds_record.specs.Records.{Rec, IsRecord}
-use Rattle.gds_grammar.specs.declared.refusal.Refusal.{Refusal}
-use Rattle.gds_grammar.specs.declared.refusal.Refusal.TheVariants.{Unexpected, BadXY, NotClosed, DuplicateCell}
+use Rattle.gds_grammar.specs.declared.error.Refusal.{Refusal}
+use Rattle.gds_grammar.specs.declared.error.Refusal.TheVariants.{Unexpected, BadXY, NotClosed, DuplicateCell}
 use Rattle.gds_grammar.specs.Values.{Contents}
 use Rattle.gds_grammar.specs.Grammar.{no_rules, points_alone, points_and_closing, all_rules, IsLibrary, IsViable}
 use Rattle.gds_grammar.specs.Machine.{State, Start, Done, fine, refuse, run, step}

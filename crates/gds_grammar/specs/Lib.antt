@@ -4,5 +4,5 @@ pub mod Elements
 pub mod Grammar
 pub mod Machine
 pub mod Laws
-pub mod Reading
+pub mod steps
 pub mod Outcomes

@@ -4,9 +4,9 @@ use Rattle.fill_base.specs.Sequence.{◌>>=◌}
 use Rattle.gds_record.specs.declared.kind.TheConstants as kinds
 use Rattle.gds_record.specs.Records.{Rec}
 use Rattle.gds_record.specs.Numbers.{trimmed}
-use Rattle.gds_grammar.specs.declared.element_kind.ElementKind.{ElementKind}
-use Rattle.gds_grammar.specs.declared.refusal.Refusal.{Refusal}
-use Rattle.gds_grammar.specs.declared.refusal.Refusal.TheVariants.{Unexpected, BadXY, NotClosed, DuplicateCell}
+use Rattle.gds_grammar.specs.declared.element.ElementKind.{ElementKind}
+use Rattle.gds_grammar.specs.declared.error.Refusal.{Refusal}
+use Rattle.gds_grammar.specs.declared.error.Refusal.TheVariants.{Unexpected, BadXY, NotClosed, DuplicateCell}
 use Rattle.gds_grammar.specs.Forms.{among, is_well}
 use Rattle.gds_grammar.specs.Values.{Shape, Contents}
 use Rattle.gds_grammar.specs.Elements.{opening, may_stand, kinds_in, is_whole, has_string, shapes_in}
@@ -19,7 +19,7 @@ pub data State : Type 0 where
   -- behind BGNLIB, without and with a LIBNAME
   Dated : (dates : List ℕ) → State
   Titled : (dates : List ℕ) → State
-  -- between structures
+  -- between cells
   Between : (l : Contents) → State
   -- behind BGNSTR, and behind its STRNAME
   Opened : (l : Contents) → State
@@ -61,7 +61,7 @@ abbrev pub opened : Contents → List ℕ → List Shape → Rec → Option Elem
 opened l name shapes r (Some element) = fine (Body l name shapes element [])
 opened l name shapes r None = expect kinds.ENDSTR r (Between (with_cell l name shapes))
 
--- between elements an element opens, or the structure ends
+-- between elements an element opens, or the cell ends
 abbrev pub within : Contents → List ℕ → List Shape → Rec → Result State Refusal
 within l name shapes r = opened l name shapes r (opening r.kind)
 

@@ -1,14 +1,11 @@
 -- What the reader of a library may answer.
-use Rattle.std.specs.Prelude.{◌≡◌, ℕ, ◌-◌, List, [], ◌∷◌, ◌++◌, length}
+use Rattle.std.specs.Prelude.{◌≡◌, ℕ, List, [], ◌∷◌, ◌++◌, length}
 use Rattle.std.specs.List.{flat_map}
 use Rattle.gds_record.specs.Records.{Rec, IsRecord, spelling, IsBadLength, IsTruncated}
-use Rattle.gds_grammar.specs.declared.refusal.Refusal.{Refusal}
-use Rattle.gds_grammar.specs.declared.refusal.Refusal.TheVariants as refusals
-use Rattle.gds_grammar.specs.declared.stop.Cause.TheVariants as causes
-use Rattle.gds_grammar.specs.declared.stop.Stop.{Stop}
-use Rattle.gds_grammar.specs.declared.stop.Stop.TheVariants as stops
-use Rattle.gds_grammar.specs.declared.library_error.LibraryError.{LibraryError}
-use Rattle.gds_grammar.specs.declared.library_error.LibraryError.TheVariants as errors
+use Rattle.gds_grammar.specs.declared.error.Refusal.{Refusal}
+use Rattle.gds_grammar.specs.declared.error.Refusal.TheVariants as refusals
+use Rattle.gds_grammar.specs.declared.error.LibraryError.{LibraryError}
+use Rattle.gds_grammar.specs.declared.error.LibraryError.TheVariants as errors
 use Rattle.gds_grammar.specs.Values.{Contents}
 use Rattle.gds_grammar.specs.Grammar.{all_rules, IsLibrary, IsViable}
 use Rattle.gds_grammar.specs.Laws.{IsWhy}
@@ -58,17 +55,3 @@ IsFault bytes errors.DuplicateCell = (at : ℕ) × RefusesRecord bytes refusals.
 abbrev pub IsRefused : List ℕ → LibraryError → Type 0
 IsRefused bytes errors.Memory = Unit {0}
 IsRefused bytes e = IsFault bytes e
-
--- how the place of a fault is told, for so many bytes in all
-abbrev pub left_of : Stop → ℕ
-left_of stops.Memory = 0
-left_of (stops.Fault cause left) = left
-
-abbrev pub error_of : Stop → ℕ → LibraryError
-error_of stops.Memory total = errors.Memory
-error_of (stops.Fault causes.Truncated left) total = errors.Truncated
-error_of (stops.Fault causes.BadLength left) total = errors.BadLength
-error_of (stops.Fault (causes.Refused refusals.Unexpected) left) total = errors.Unexpected (total - left)
-error_of (stops.Fault (causes.Refused refusals.BadXY) left) total = errors.BadXY
-error_of (stops.Fault (causes.Refused refusals.NotClosed) left) total = errors.NotClosed
-error_of (stops.Fault (causes.Refused refusals.DuplicateCell) left) total = errors.DuplicateCell

@@ -2,10 +2,10 @@
 use Rattle.std.specs.Prelude.{ℕ, ℤ, List, map, Option}
 use Rattle.std.specs.Global.{Vec}
 use Rattle.fill_base.specs.declared.place.Point.{Point}
-use Rattle.gds_grammar.specs.declared.elements.Transform.{Transform}
-use Rattle.gds_grammar.specs.declared.elements.Element.{Element}
-use Rattle.gds_grammar.specs.declared.elements.Element.TheVariants as elements
-use Rattle.gds_grammar.specs.declared.libraries.Library as libraries
+use Rattle.gds_grammar.specs.declared.element.Transform.{Transform}
+use Rattle.gds_grammar.specs.declared.element.Element.{Element}
+use Rattle.gds_grammar.specs.declared.element.Element.TheVariants as elements
+use Rattle.gds_grammar.specs.declared.library.Library as libraries
 
 pub data Shape : Type 0 where
   boundary : (layer data_type : ℕ) (points : List Point) → Shape

@@ -4,32 +4,18 @@
 //! that record breaks. Structures stand in the order of the file.
 #![tactic(auto)]
 
-mod arrays;
-mod body_reading;
-mod cell_reading;
-mod cell_step;
-mod element_body;
-mod element_kind;
-mod element_reading;
-mod element_tables;
-mod element_values;
-mod elements;
+mod cell;
+mod element;
+mod error;
 mod head;
-mod head_reading;
 pub mod laws;
-mod libraries;
-mod library_cells;
-mod library_error;
-mod library_reading;
+mod library;
 mod next;
-mod refusal;
-mod stop;
 mod well_formed;
 
-pub use elements::{Array, Boundary, Element, Path, Ref, Transform};
-pub use libraries::Library;
-pub use library_error::LibraryError;
-pub use library_reading::read_library;
+pub use element::{Array, Boundary, Element, Path, Ref, Transform};
+pub use error::LibraryError;
+pub use library::{Library, read_library};
 
 #[cfg(test)]
 mod tests;

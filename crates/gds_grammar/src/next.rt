@@ -1,14 +1,21 @@
-//! One record, well-formed, from the front of the bytes.
+//! One record, well-formed, from the front of the bytes, and its data as an array.
 
-ghost use Rattle.std.specs.Prelude.{◌≡◌, IfOk, IfErr};
+ghost use Rattle.std.specs.Prelude.{◌≡◌, length, IfOk, IfErr};
 ghost use Rattle.gds_record.specs.Records.{view};
 ghost use Rattle.gds_grammar.specs.Machine.{State};
-ghost use Rattle.gds_grammar.specs.Reading.{IsNext, IsNextOf, IsOpen, OnlyTakes, Fails};
+ghost use Rattle.gds_grammar.specs.steps.Reading.{IsNext, IsNextOf, IsOpen, OnlyTakes, Fails};
 
-use crate::refusal::Refusal;
-use crate::stop::{Cause, Stop};
+use crate::error::{Cause, Refusal, Stop};
 use crate::well_formed::is_well;
 use gds_record::{Record, RecordError, next_record};
+
+/// The bytes as an array.
+pub fn array_of<const N: usize>(bytes: &[u8]) -> [u8; N]
+    requires { length bytes.now ≡ N }
+    ensures { result ≡ bytes.now }
+{
+    *bytes.split_first_chunk::<N>().unwrap().0
+}
 
 /// The well-formed record that the bytes begin with, and the bytes after it.
 #[inline(always)]

@@ -522,6 +522,96 @@ fn paths(rt: HostRuntime) -> Result<(), Fail> {
     Ok(())
 }
 
+/// One record of each kind that a library may hold, in an order that it may have.
+const EVERY_KIND: [&[u8]; 62] = [
+    HEADER,
+    BGNLIB,
+    &[0, 6, 0x39, 2, 0, 1],
+    &[0, 6, 0x3a, 6, 0x41, 0],
+    &[0, 6, 0x3b, 2, 0, 1],
+    LIBNAME,
+    &[0, 6, 0x1f, 6, 0x41, 0],
+    &[0, 6, 0x20, 6, 0x41, 0],
+    &[0, 6, 0x23, 6, 0x41, 0],
+    &[0, 6, 0x22, 2, 0, 3],
+    &[0, 6, 0x36, 2, 0, 1],
+    &[0, 6, 0x37, 6, 0x31, 0],
+    &[0, 4, 0x38, 0],
+    UNITS,
+    BGNSTR,
+    TOP,
+    &[0, 6, 0x34, 1, 0, 1],
+    BOUNDARY,
+    &[0, 6, 0x26, 1, 0, 0],
+    &[0, 8, 0x2f, 3, 0, 0, 0, 1],
+    LAYER,
+    DATATYPE,
+    XY,
+    &[0, 6, 0x2b, 2, 0, 1],
+    &[0, 6, 0x2c, 6, 0x61, 0x62],
+    ENDEL,
+    &[0, 4, 0x09, 0],
+    LAYER,
+    DATATYPE,
+    &[0, 6, 0x21, 2, 0, 4],
+    &[0, 8, 0x0f, 3, 0, 0, 0, 4],
+    &[0, 8, 0x30, 3, 0, 0, 0, 1],
+    &[0, 8, 0x31, 3, 0, 0, 0, 2],
+    ORIGIN,
+    ENDEL,
+    SREF,
+    BOX4,
+    STRANS,
+    &[0, 12, 0x1b, 5, 0x41, 0x10, 0, 0, 0, 0, 0, 0],
+    ANGLE,
+    ORIGIN,
+    ENDEL,
+    AREF,
+    BOX4,
+    &[0, 8, 0x13, 2, 0, 1, 0, 1],
+    &[
+        0, 28, 0x10, 3, 0, 0, 0, 0, 0, 0, 0, 0, 0, 0, 0, 1, 0, 0, 0, 0, 0, 0, 0, 0, 0, 0, 0, 1,
+    ],
+    ENDEL,
+    &[0, 4, 0x0c, 0],
+    LAYER,
+    &[0, 6, 0x16, 2, 0, 0],
+    &[0, 6, 0x17, 1, 0, 0],
+    ORIGIN,
+    &[0, 6, 0x19, 6, 0x68, 0x69],
+    ENDEL,
+    &[0, 4, 0x15, 0],
+    LAYER,
+    &[0, 6, 0x2a, 2, 0, 0],
+    ORIGIN,
+    ENDEL,
+    &[0, 4, 0x2d, 0],
+    LAYER,
+    &[0, 6, 0x2e, 2, 0, 0],
+];
+
+/// Each kind of record is read with its own data type, and with no other, but for the four whose
+/// data type is left open.
+#[test]
+fn every_kind_of_record(rt: HostRuntime) -> Result<(), Fail> {
+    let head = joined(rt.alloc(), &EVERY_KIND)?;
+    let bytes = joined(rt.alloc(), &[&head, ORIGIN, ENDEL, ENDSTR, ENDLIB])?;
+    let library = read_library(rt.alloc(), &bytes)?;
+    let elements = library.cells.get(b"TOP".as_slice()).ok_or("no cell TOP")?;
+    assert_eq!(rt; elements.len(), 4);
+    let mut at = 0usize;
+    for piece in EVERY_KIND {
+        let mut other = Vec::from_slice(rt.alloc(), &bytes)?;
+        let form = other.get_mut(at.wrapping_add(3)).ok_or("no data type")?;
+        *form = 4;
+        let is_open = matches!(piece, [_, _, 0x34 | 0x39 | 0x3a | 0x3b, ..]);
+        let want = (!is_open).then_some(LibraryError::Unexpected { at });
+        assert_eq!(rt; error_of(rt.alloc(), &other), want, "{piece:?}");
+        at = at.wrapping_add(piece.len());
+    }
+    Ok(())
+}
+
 #[test]
 fn laws_are_calls(rt: HostRuntime) {
     laws::machine_is_grammar();

@@ -3,13 +3,14 @@
 
 ghost use Rattle.std.specs.Prelude.{◌≡◌};
 ghost use Rattle.gds_record.specs.Records.{view};
-ghost use Rattle.gds_grammar.specs.Forms.{among, bare_kinds, bit_kinds, word_kinds, number_kinds, real_kinds, text_kinds, loose_kinds, has_form, has_size, has_name_if_asked, is_well};
+ghost use Rattle.gds_record.specs.Table.{of_any_form};
+ghost use Rattle.gds_grammar.specs.Forms.{among, has_row, has_form, has_size, has_name_if_asked, is_well};
 
 use gds_record::kind::*;
 use gds_record::{Record, form, name};
 
 fn is_bare(kind: u8) -> bool
-    ensures { result ≡ among bare_kinds kind }
+    ensures { result ≡ has_row kind 0x00 }
 {
     matches!(
         kind,
@@ -18,13 +19,13 @@ fn is_bare(kind: u8) -> bool
 }
 
 fn is_of_bits(kind: u8) -> bool
-    ensures { result ≡ among bit_kinds kind }
+    ensures { result ≡ has_row kind 0x01 }
 {
     matches!(kind, PRESENTATION | STRANS | ELFLAGS)
 }
 
 fn is_of_words(kind: u8) -> bool
-    ensures { result ≡ among word_kinds kind }
+    ensures { result ≡ has_row kind 0x02 }
 {
     matches!(
         kind,
@@ -45,19 +46,19 @@ fn is_of_words(kind: u8) -> bool
 }
 
 fn is_of_numbers(kind: u8) -> bool
-    ensures { result ≡ among number_kinds kind }
+    ensures { result ≡ has_row kind 0x03 }
 {
     matches!(kind, WIDTH | XY | PLEX | BGNEXTN | ENDEXTN)
 }
 
 fn is_of_reals(kind: u8) -> bool
-    ensures { result ≡ among real_kinds kind }
+    ensures { result ≡ has_row kind 0x05 }
 {
     matches!(kind, UNITS | MAG | ANGLE)
 }
 
 fn is_of_text(kind: u8) -> bool
-    ensures { result ≡ among text_kinds kind }
+    ensures { result ≡ has_row kind 0x06 }
 {
     matches!(
         kind,
@@ -65,21 +66,18 @@ fn is_of_text(kind: u8) -> bool
     )
 }
 
-/// Records of these kinds are skipped in their places, whatever their data type (this project's
+/// Records of these kinds are skipped where they may stand, whatever their data type (this project's
 /// profile).
-fn is_loose(kind: u8) -> bool
-    ensures { result ≡ among loose_kinds kind }
+fn is_of_any_form(kind: u8) -> bool
+    ensures { result ≡ among of_any_form kind }
 {
     matches!(kind, LIBDIRSIZE | SRFNAME | LIBSECUR | STRCLASS)
 }
 
-#[tactic(auto, unfolding(crate::specs::Forms::has_form))]
-fn has_form(kind: u8, form: u8) -> bool
-    ensures { result ≡ has_form kind form }
+/// Whether the manual gives the kind that data type.
+fn is_of_form(kind: u8, form: u8) -> bool
+    ensures { result ≡ has_row kind form }
 {
-    if is_loose(kind) {
-        return true;
-    }
     match form {
         form::NONE => is_bare(kind),
         form::BITS => is_of_bits(kind),
@@ -89,6 +87,13 @@ fn has_form(kind: u8, form: u8) -> bool
         form::TEXT => is_of_text(kind),
         _ => false,
     }
+}
+
+#[tactic(auto, unfolding(crate::specs::Forms::has_form))]
+fn has_form(kind: u8, form: u8) -> bool
+    ensures { result ≡ has_form kind form }
+{
+    is_of_any_form(kind) || is_of_form(kind, form)
 }
 
 #[tactic(auto, unfolding(crate::specs::Forms::has_size))]
@@ -105,7 +110,7 @@ fn has_size(kind: u8, size: usize) -> bool
     }
 }
 
-/// The names of structures are not empty.
+/// The names of cells are not empty.
 #[tactic(auto, unfolding(crate::specs::Forms::has_name_if_asked))]
 fn has_name_if_asked(kind: u8, body: &[u8]) -> bool
     ensures { result ≡ has_name_if_asked kind body.now }

@@ -6,6 +6,7 @@
 
 pub mod form;
 pub mod kind;
+pub mod laws;
 mod names;
 mod numbers;
 mod reals;

@@ -1,7 +1,7 @@
 //! Words, four-byte numbers and points, as records hold them: the most significant byte first.
 
 ghost use Rattle.std.specs.Prelude.{◌≡◌, length};
-ghost use Rattle.gds_record.specs.Numbers.{word_of, number_of, point_of};
+ghost use Rattle.gds_record.specs.Numbers.{word_of, number_of, point_of, IsStored};
 
 use fill_base::Point;
 
@@ -24,7 +24,8 @@ pub fn number(bytes: &[u8]) -> i32
 /// The point of eight bytes: four of x, then four of y, in database units.
 pub fn point(bytes: &[u8]) -> Point
     requires { length bytes.now ≡ 8 }
-    ensures { result ≡ point_of bytes.now }
+    ensures value { result ≡ point_of bytes.now }
+    ensures stored { IsStored result }
 {
     let (x, y) = bytes.split_at(4);
     Point {

@@ -50,6 +50,7 @@ fn written_as_the_format_says(rt: HostRuntime) -> Result<(), Fail> {
     let want = [0, 8, 2, 6, 0x4c, 0x49, 0x42, 0, 0, 4, 4, 0];
     assert_eq!(rt; out.as_slice(), want.as_slice());
     no_spelling_begins_another();
+    laws::constants_are_manual();
     Ok(())
 }
 

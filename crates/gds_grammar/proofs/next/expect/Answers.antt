@@ -1,6 +1,6 @@
 use Rattle.std.proofs.Common.{refl}
 use Rattle.gds_record.specs.Records.{view}
-use Rattle.gds_grammar.specs.declared.refusal.Refusal.TheVariants.{Unexpected}
+use Rattle.gds_grammar.specs.declared.error.Refusal.TheVariants.{Unexpected}
 use Rattle.gds_grammar.proofs.Paths.{refused_one}
 use Rattle.gds_grammar.proofs.next.expect.Goals as goal
 

@@ -3,7 +3,7 @@ use Rattle.std.specs.Borrow.{Bor}
 use Rattle.gds_record.specs.declared.records.Record.{Record}
 use Rattle.gds_record.specs.declared.records.RecordError.{RecordError}
 use Rattle.gds_record.specs.Records.{view}
-use Rattle.gds_grammar.specs.declared.stop.Cause.TheVariants as causes
+use Rattle.gds_grammar.specs.declared.error.Cause.TheVariants as causes
 use Rattle.gds_grammar.proofs.Paths.{fails_here, badly_formed}
 use Rattle.gds_grammar.proofs.next.next.Goals as goal
 

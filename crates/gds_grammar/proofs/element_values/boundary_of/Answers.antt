@@ -1,8 +1,0 @@
-use Rattle.gds_grammar.specs.Elements.{points_of}
-use Rattle.gds_grammar.proofs.Bodies.{ring}
-use Rattle.gds_grammar.proofs.element_values.boundary_of.Goals as goal
-
-pub invariant_of-result : goal.invariant_of-result
-invariant_of-result c =
-    let r = ring (points_of c.args.xy.now) c.requires.body.closed in
-    rw c.in_ok-points.ensures (record { filled = r.filled; closed = r.closed })

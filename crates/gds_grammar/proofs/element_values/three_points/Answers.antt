@@ -1,6 +1,0 @@
-use Rattle.std.proofs.Common.{sym}
-use Rattle.gds_grammar.proofs.Bodies.{all_points}
-use Rattle.gds_grammar.proofs.element_values.three_points.Goals as goal
-
-pub returns : goal.returns
-returns c = rw (c.point.ensures, c.point-2.ensures, c.point-3.ensures, c.split_at-2.ensures.front, c.split_at-2.ensures.back, c.split_at.ensures.front, c.split_at.ensures.back) (sym (all_points c.args.xy.now c.requires))

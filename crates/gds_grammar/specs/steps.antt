@@ -1,0 +1,2 @@
+-- What the contracts of private functions say: one step of the reader after the other.
+pub mod Reading

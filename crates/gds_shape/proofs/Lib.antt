@@ -1,0 +1,14 @@
+pub mod ReadBack
+pub mod Counting
+pub mod Ordered
+pub mod NextLines
+pub mod Along
+pub mod Closed
+pub mod Walk
+pub mod Sweep
+pub mod Carried
+pub mod BoxCorners
+pub mod Segmented
+pub mod Cornered
+pub mod Faults
+pub mod Spread

@@ -1,0 +1,5 @@
+pub mod Winding
+pub mod Moves
+pub mod Boxes
+pub mod Paths
+pub mod steps

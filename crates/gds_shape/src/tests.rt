@@ -1,0 +1,390 @@
+use super::*;
+use fill_base::Point;
+use fill_region::Region;
+use gds_grammar::{Element, Library, read_library};
+use std::alloc::Global;
+use std::process::Abort;
+use std::test::*;
+
+/// How many squares the region has.
+fn area_of(alloc: Global, region: &Region) -> Result<i64, Fail> {
+    let mut area = 0i64;
+    for piece in &region.pieces(alloc)? {
+        area = area.wrapping_add(piece.area());
+    }
+    Ok(area)
+}
+
+/// A point at these coordinates.
+fn at(x: i64, y: i64) -> Point {
+    Point { x, y }
+}
+
+/// What a boundary's region comes to: its squares, or why it is refused.
+fn boundary_area(
+    rt: &impl Abort,
+    alloc: Global,
+    points: &[Point],
+) -> Result<Result<i64, ShapeError>, Fail> {
+    let (Some(first), Some(last)) = (points.first(), points.last()) else {
+        return Err("no point".into());
+    };
+    assert!(rt; *first == *last, "the boundary is open");
+    match boundary_region(alloc, points) {
+        Ok(region) => Ok(Ok(area_of(alloc, &region)?)),
+        Err(refusal) => Ok(Err(refusal)),
+    }
+}
+
+#[test]
+fn boundaries_with_a_hole(rt: HostRuntime) -> Result<(), Fail> {
+    let hole = [
+        at(0, 0),
+        at(0, 3),
+        at(3, 3),
+        at(7, 3),
+        at(7, 7),
+        at(3, 7),
+        at(3, 3),
+        at(0, 3),
+        at(0, 10),
+        at(10, 10),
+        at(10, 0),
+        at(0, 0),
+    ];
+    assert_eq!(rt; boundary_area(&rt, rt.alloc(), &hole)?, Ok(84));
+    // The inner loop the other way: its squares have the winding number 2.
+    let twice = [
+        at(0, 0),
+        at(0, 3),
+        at(3, 3),
+        at(3, 7),
+        at(7, 7),
+        at(7, 3),
+        at(3, 3),
+        at(0, 3),
+        at(0, 10),
+        at(10, 10),
+        at(10, 0),
+        at(0, 0),
+    ];
+    assert_eq!(rt; boundary_area(&rt, rt.alloc(), &twice)?, Ok(100));
+    Ok(())
+}
+
+#[test]
+fn rectangles_in_both_directions(rt: HostRuntime) -> Result<(), Fail> {
+    let upright_first = [at(-1, 2), at(-1, 7), at(3, 7), at(3, 2), at(-1, 2)];
+    let level_first = [at(3, 7), at(-1, 7), at(-1, 2), at(3, 2), at(3, 7)];
+    let flat = [at(0, 4), at(9, 4), at(9, 4), at(0, 4), at(0, 4)];
+    assert_eq!(rt; boundary_area(&rt, rt.alloc(), &upright_first)?, Ok(20));
+    assert_eq!(rt; boundary_area(&rt, rt.alloc(), &level_first)?, Ok(20));
+    assert_eq!(rt; boundary_area(&rt, rt.alloc(), &flat)?, Ok(0));
+    Ok(())
+}
+
+#[test]
+fn refused_boundaries(rt: HostRuntime) -> Result<(), Fail> {
+    let slanted = [at(0, 0), at(4, 4), at(4, 0), at(0, 0)];
+    let far = [
+        at(0, 0),
+        at(0, 1_073_741_825),
+        at(1, 1_073_741_825),
+        at(0, 0),
+    ];
+    let wide = [at(0, 0), at(0, 1_073_741_825), at(0, 0), at(0, 0)];
+    let widest = [
+        at(-1_073_741_824, 0),
+        at(-1_073_741_824, 1),
+        at(1_073_741_824, 1),
+        at(1_073_741_824, 0),
+        at(-1_073_741_824, 0),
+    ];
+    assert_eq!(rt;
+        boundary_area(&rt, rt.alloc(), &slanted)?,
+        Err(ShapeError::NotManhattan)
+    );
+    assert_eq!(rt;
+        boundary_area(&rt, rt.alloc(), &far)?,
+        Err(ShapeError::NotManhattan)
+    );
+    assert_eq!(rt;
+        boundary_area(&rt, rt.alloc(), &wide)?,
+        Err(ShapeError::OutOfRange)
+    );
+    assert_eq!(rt; boundary_area(&rt, rt.alloc(), &widest)?, Ok(2_147_483_648));
+    Ok(())
+}
+
+/// What stands in a library before its first element.
+const HEAD: &[u8] = &[
+    0, 6, 0, 2, 2, 0x58, 0, 28, 1, 2, 0, 0, 0, 0, 0, 0, 0, 0, 0, 0, 0, 0, 0, 0, 0, 0, 0, 0, 0, 0,
+    0, 0, 0, 0, 0, 6, 2, 6, 0x4c, 0, 0, 20, 3, 5, 0x41, 0x10, 0, 0, 0, 0, 0, 0, 0x41, 0x10, 0, 0,
+    0, 0, 0, 0, 0, 28, 5, 2, 0, 0, 0, 0, 0, 0, 0, 0, 0, 0, 0, 0, 0, 0, 0, 0, 0, 0, 0, 0, 0, 0, 0,
+    0, 0, 6, 6, 6, 0x54, 0, 0, 4, 9, 0, 0, 6, 0x0d, 2, 0, 1, 0, 6, 0x0e, 2, 0, 0,
+];
+
+/// What stands behind its last element's points.
+const TAIL: &[u8] = &[0, 4, 0x11, 0, 0, 4, 7, 0, 0, 4, 4, 0];
+
+/// What the records of a path say.
+#[derive(Clone, Copy)]
+struct Wire<'a> {
+    path_type: u8,
+    width: i32,
+    begin: i32,
+    end: i32,
+    points: &'a [(i32, i32)],
+}
+
+/// A library of one path.
+fn library_of(alloc: Global, wire: Wire<'_>) -> Result<Library, Fail> {
+    let mut bytes = Vec::from_slice(alloc, HEAD)?;
+    bytes.extend_from_slice(&[0, 6, 0x21, 2, 0, wire.path_type])?;
+    for (kind, number) in [(0x0f, wire.width), (0x30, wire.begin), (0x31, wire.end)] {
+        bytes.extend_from_slice(&[0, 8, kind, 3])?;
+        bytes.extend_from_slice(&number.to_be_bytes())?;
+    }
+    let length = wire.points.len().wrapping_mul(8).wrapping_add(4);
+    let length = u16::try_from(length).or(Err("too many points"))?;
+    bytes.extend_from_slice(&length.to_be_bytes())?;
+    bytes.extend_from_slice(&[0x10, 3])?;
+    for (x, y) in wire.points {
+        bytes.extend_from_slice(&x.to_be_bytes())?;
+        bytes.extend_from_slice(&y.to_be_bytes())?;
+    }
+    bytes.extend_from_slice(TAIL)?;
+    Ok(read_library(alloc, &bytes)?)
+}
+
+/// What a path's region comes to: its squares, or why it is refused.
+fn path_area(alloc: Global, wire: Wire<'_>) -> Result<Result<i64, ShapeError>, Fail> {
+    let library = library_of(alloc, wire)?;
+    let elements = library.cells.get(b"T".as_slice()).ok_or("no cell")?;
+    for element in elements {
+        if let Element::Path(path) = element {
+            return match path_region(alloc, path) {
+                Ok(region) => Ok(Ok(area_of(alloc, &region)?)),
+                Err(refusal) => Ok(Err(refusal)),
+            };
+        }
+    }
+    Err("no path".into())
+}
+
+/// A corner: ten to the right, then ten upwards, of width four.
+const CORNER: Wire<'static> = Wire {
+    path_type: 0,
+    width: 4,
+    begin: 0,
+    end: 0,
+    points: &[(0, 0), (10, 0), (10, 10)],
+};
+
+#[test]
+fn paths_of_each_type(rt: HostRuntime) -> Result<(), Fail> {
+    let extended = Wire {
+        path_type: 4,
+        begin: 1,
+        end: 3,
+        ..CORNER
+    };
+    let extended_back = Wire {
+        points: &[(0, 0), (10, 0)],
+        begin: -2,
+        path_type: 2,
+        ..CORNER
+    };
+    let twisted: &[(i32, i32)] = &[
+        (0, 0),
+        (0, 0),
+        (4, 0),
+        (9, 0),
+        (10, 0),
+        (10, 5),
+        (10, 10),
+        (10, 10),
+    ];
+    let cases: [(Wire<'_>, i64); 8] = [
+        (CORNER, 80),
+        (
+            Wire {
+                path_type: 2,
+                ..CORNER
+            },
+            96,
+        ),
+        (extended, 96),
+        (extended_back, 56),
+        (
+            Wire {
+                width: -4,
+                ..CORNER
+            },
+            80,
+        ),
+        (
+            Wire {
+                points: twisted,
+                ..CORNER
+            },
+            80,
+        ),
+        (
+            Wire {
+                width: 0,
+                path_type: 1,
+                points: &[(0, 0), (1, 1)],
+                ..CORNER
+            },
+            0,
+        ),
+        (
+            Wire {
+                width: 3,
+                path_type: 1,
+                points: &[(5, 5), (5, 5)],
+                ..CORNER
+            },
+            0,
+        ),
+    ];
+    for (wire, area) in cases {
+        assert_eq!(rt; path_area(rt.alloc(), wire)?, Ok(area));
+    }
+    Ok(())
+}
+
+/// The first extension is that of the first corner, the second that of the last.
+#[test]
+fn extensions_at_their_ends(rt: HostRuntime) -> Result<(), Fail> {
+    let wire = Wire {
+        path_type: 4,
+        begin: 1,
+        end: 3,
+        ..CORNER
+    };
+    let library = library_of(rt.alloc(), wire)?;
+    for element in library.cells.get(b"T".as_slice()).ok_or("no cell")? {
+        if let Element::Path(path) = element {
+            let region = path_region(rt.alloc(), path)?;
+            let inside = [(-1, 0), (10, 12), (11, -2), (8, 12)];
+            let outside = [(-2, 0), (10, 13), (12, -2), (7, 12), (7, 2)];
+            for (x, y) in inside {
+                assert!(rt; region.has(x, y), "({x}, {y})");
+            }
+            for (x, y) in outside {
+                assert!(rt; !region.has(x, y), "({x}, {y})");
+            }
+        }
+    }
+    Ok(())
+}
+
+#[test]
+fn refused_paths(rt: HostRuntime) -> Result<(), Fail> {
+    let back: &[(i32, i32)] = &[(0, 0), (10, 0), (5, 0)];
+    let far: &[(i32, i32)] = &[(1_073_741_823, 0), (1_073_741_823, 10)];
+    let slanted: &[(i32, i32)] = &[(0, 0), (10, 0), (5, 5), (0, 5), (9, 5)];
+    let cases: [(Wire<'_>, ShapeError); 7] = [
+        (
+            Wire {
+                points: slanted,
+                path_type: 1,
+                width: 3,
+                ..CORNER
+            },
+            ShapeError::NotManhattan,
+        ),
+        (
+            Wire {
+                points: back,
+                path_type: 1,
+                width: 3,
+                ..CORNER
+            },
+            ShapeError::RoundEnd,
+        ),
+        (
+            Wire {
+                points: back,
+                path_type: 4,
+                width: 3,
+                begin: -1,
+                ..CORNER
+            },
+            ShapeError::OddWidth,
+        ),
+        (
+            Wire {
+                points: back,
+                path_type: 4,
+                begin: -1,
+                ..CORNER
+            },
+            ShapeError::DoublesBack,
+        ),
+        (
+            Wire {
+                points: far,
+                path_type: 4,
+                end: -1,
+                ..CORNER
+            },
+            ShapeError::BadExtension,
+        ),
+        (
+            Wire {
+                points: far,
+                ..CORNER
+            },
+            ShapeError::OutOfRange,
+        ),
+        (
+            Wire {
+                width: -2_147_483_648,
+                ..CORNER
+            },
+            ShapeError::OutOfRange,
+        ),
+    ];
+    for (wire, refusal) in cases {
+        assert_eq!(rt; path_area(rt.alloc(), wire)?, Err(refusal));
+    }
+    assert_eq!(rt;
+        path_area(
+            rt.alloc(),
+            Wire {
+                points: far,
+                width: 2,
+                ..CORNER
+            }
+        )?,
+        Ok(20)
+    );
+    Ok(())
+}
+
+/// A comb of 4,000 points, with teeth of growing height.
+#[test]
+fn large_boundary(rt: HostRuntime) -> Result<(), Fail> {
+    let mut points = Vec::new(rt.alloc());
+    points.push(at(0, 0))?;
+    let mut left = 0i64;
+    for height in 1..=1000u16 {
+        let top = i64::from(height);
+        points.push(at(left, top))?;
+        points.push(at(left.wrapping_add(1), top))?;
+        points.push(at(left.wrapping_add(1), 1))?;
+        left = left.wrapping_add(2);
+        points.push(at(left, 1))?;
+    }
+    points.push(at(2000, 0))?;
+    points.push(at(0, 0))?;
+    // The base of 2000 squares, and teeth of 0 to 999 squares.
+    assert_eq!(rt;
+        boundary_area(&rt, rt.alloc(), &points)?,
+        Ok(2000 + 999 * 500)
+    );
+    Ok(())
+}
