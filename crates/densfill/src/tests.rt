@@ -30,7 +30,12 @@ fn a_bad_line_is_status_1_with_its_text(rt: HostRuntime) {
     for (words, want) in cases {
         let mut written = Vec::new(rt.alloc());
         let mut told = Vec::new(rt.alloc());
-        let status = status_of(&rt, words, &mut Tap::new(&mut written), &mut Tap::new(&mut told));
+        let status = status_of(
+            &rt,
+            words,
+            &mut Tap::new(&mut written),
+            &mut Tap::new(&mut told),
+        );
         assert_eq!(rt; status, ExitCode::from(1));
         assert!(rt;
             written.is_empty() && told.as_slice().starts_with(want.as_bytes()),

@@ -33,7 +33,10 @@ fn take_rules<R: Read>(alloc: Global, tap: &mut Tap<R>) -> Result<Rules, InputFa
 }
 
 /// The edits that the reader behind the tap gives.
-fn take_edits<S: Read>(alloc: Global, tap: &mut Tap<S>) -> Result<Vec<Edit>, InputFault<ScriptError>>
+fn take_edits<S: Read>(
+    alloc: Global,
+    tap: &mut Tap<S>,
+) -> Result<Vec<Edit>, InputFault<ScriptError>>
     requires { has_failed tap.old ≡ false }
     ensures device { IsErrOf result (InputFault.Unread InputError.Device) ↔ (has_failed tap.new ≡ true) }
     ensures edits { IfOk result (λ v. IfSome (S.remaining (under tap.old)) (λ text. script_answer text ≡ Ok (map change_of v.items))) }

@@ -201,9 +201,15 @@ fn the_first_fault_is_answered_with_its_part(rt: HostRuntime) {
     let unread = InputFault::Unread(InputError::Device);
     assert_eq!(rt; refusal(&rt, alloc, b"".as_slice(), script), Some(missing));
     assert_eq!(rt; refusal(&rt, alloc, RULES, script), Some(bad_number));
-    assert_eq!(rt; refusal(&rt, alloc, Broken, script), Some(Refusal::Rules(unread)));
+    assert_eq!(rt;
+        refusal(&rt, alloc, Broken, script),
+        Some(Refusal::Rules(unread))
+    );
     let unread = InputFault::Unread(InputError::Device);
-    assert_eq!(rt; refusal(&rt, alloc, RULES, Broken), Some(Refusal::Script(unread)));
+    assert_eq!(rt;
+        refusal(&rt, alloc, RULES, Broken),
+        Some(Refusal::Script(unread))
+    );
     assert_eq!(rt; refusal(&rt, alloc, b"".as_slice(), Broken), Some(missing));
 }
 

@@ -1,16 +1,13 @@
-ghost use Rattle.std.specs.Prelude.{◌≡◌, ◌⊎◌, ◌↔◌, ◌&&◌, ◌||◌, not, false, ◌+◌, ◌≤◌, ◌<◌, ◌^◌, length, take, map, List, [], ◌∷◌, ◌++◌, ℤ, pos, ◌≤ℤ◌, ◌<ℤ◌, IsTrue, IfOk, IfSome, IfNone, OnOk};
+ghost use Rattle.std.specs.Prelude.{◌≡◌, ◌⊎◌, ◌↔◌, ◌&&◌, ◌||◌, not, false, ◌+◌, ◌≤◌, ◌<◌, ◌^◌, map, List, [], ◌∷◌, ◌++◌, ℤ, ◌≤ℤ◌, ◌<ℤ◌, IsTrue, IfOk};
 ghost use Rattle.std.specs.Ordering.{int_eq};
 ghost use Rattle.std.specs.Cmp.Lexicographic.{pointwise, lists_per};
 ghost use Rattle.fill_base.specs.Coordinates.{lowest, highest};
 ghost use Rattle.fill_base.specs.Squares.{squares};
 ghost use Rattle.fill_spans.specs.Operations.{applied};
-ghost use Rattle.fill_spans.specs.Spans.{inside, next_edge, IsCanonical};
-ghost use Rattle.fill_region.specs.Bands.{Band, holds, last_row, next_bottom, IsRegion};
-ghost use Rattle.fill_region.specs.steps.FirstAbove.{IsFirstAbove};
+ghost use Rattle.fill_region.specs.Bands.{holds, IsRegion};
 ghost use Rattle.fill_region.specs.Comparison.{bands_per};
 ghost use Rattle.fill_region.specs.Squares.{covered};
-ghost use Rattle.fill_region.specs.Pieces.{sides, sides_of, band_pieces, row_pieces, AreInOrder};
-ghost use Rattle.fill_region.specs.steps.Merging.{IsRowOf, RowPut};
+ghost use Rattle.fill_region.specs.Pieces.{sides_of, band_pieces, AreInOrder};
 
 use crate::bands::{first_above, merged, pair, put_row};
 use crate::lines::swept;

@@ -2,7 +2,7 @@
 ghost use Rattle.std.specs.Prelude.{◌≡◌, ◌++◌, ◌*◌, ◌/◌, ◌%◌, ◌<◌, length, ℕ, List, ℤ, pos, ◌≤ℤ◌, Some, IfOk, OnOk, All};
 ghost use Rattle.fill_region.specs.Bands.{holds};
 ghost use Rattle.fill_text.specs.ValuesOfRules.{values_of};
-ghost use Rattle.fill_area.specs.Density.{IsArea, IsShare, AreMeasured};
+ghost use Rattle.fill_area.specs.Density.{IsArea, IsShare};
 ghost use Rattle.fill_report.specs.Report.{density_of, share_of, window_line, windows_text, report_text, drawn_only, nothing};
 ghost use Rattle.fill_report.specs.RulesReport.{metal_report};
 ghost use Rattle.fill_report.specs.Writing.{IsReady, written};

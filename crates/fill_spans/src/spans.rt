@@ -1,4 +1,4 @@
-ghost use Rattle.std.specs.Prelude.{◌≡◌, ◌⊎◌, ◌↔◌, ◌&&◌, ◌||◌, not, false, ℕ, ◌+◌, ◌≤◌, ◌<◌, ◌^◌, length, get_or, List, [], ◌∷◌, ℤ, pos, ◌+ℤ◌, ◌*ℤ◌, ◌≤ℤ◌, ◌<ℤ◌, IsTrue, IfOk, IfSome, IfNone, OnOk};
+ghost use Rattle.std.specs.Prelude.{◌≡◌, ◌⊎◌, ◌↔◌, ◌&&◌, ◌||◌, not, false, ℕ, ◌+◌, ◌≤◌, ◌<◌, ◌^◌, length, get_or, List, [], ◌∷◌, ℤ, pos, ◌+ℤ◌, ◌*ℤ◌, ◌≤ℤ◌, ◌<ℤ◌, IsTrue, IfOk, OnOk};
 ghost use Rattle.std.specs.Int.{int_max};
 ghost use Rattle.std.specs.Ordering.{int_eq};
 ghost use Rattle.std.specs.Cmp.Lexicographic.{pointwise, lists_per, lists_equiv};
@@ -7,7 +7,7 @@ ghost use Rattle.fill_base.specs.Coordinates.{lowest, highest};
 ghost use Rattle.fill_base.specs.Counts.{is_between, count_between};
 ghost use Rattle.fill_spans.specs.Columns.{has_column, IsRisingBy};
 ghost use Rattle.fill_spans.specs.Comb.{column_left, column_right, AreSums};
-ghost use Rattle.fill_spans.specs.Spans.{inside, next_edge, IsCanonical};
+ghost use Rattle.fill_spans.specs.Spans.{inside, IsCanonical};
 ghost use Rattle.fill_spans.specs.Search.{HasMember};
 ghost use Rattle.fill_spans.specs.Operations.{applied};
 ghost use Rattle.fill_spans.specs.Sweep.{Turned};
