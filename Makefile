@@ -1,19 +1,25 @@
-# make demo    proves and builds the program, runs the main job on examples/, and prints its report
-# make test    the gate: every proof from nothing, the must-fail edits, the tests, the programs
-# make build   leaves the optimized program at bin/densfill
-# make bench   times the program on generated input and prints tables
-.PHONY: demo test build bench
+# make demo               runs the main job on examples/ and prints its report (by bin/densfill where it stands, else unproved, by rt try)
+# make build              proves the program and leaves it, optimized, at bin/densfill
+# make check CRATE=name   proves one crate over what earlier runs kept: for work on it
+# make test               the gate: every proof from nothing, the must-fail edits, the tests, the programs
+# make bench              times the program on generated input and prints tables
+.PHONY: demo build check test bench
 
-demo: build
-	bin/densfill rects examples/rules.csv examples/script.csv
-
-test:
-	rt ci
+demo:
+	@if [ -x bin/densfill ]; then bin/densfill rects examples/rules.csv examples/script.csv; \
+	else echo "bin/densfill is not built: this run is unproved (make build proves and builds it)" >&2; \
+	cd crates/densfill && rt try -- rects ../../examples/rules.csv ../../examples/script.csv; fi
 
 build:
 	mkdir -p bin
 	cd crates/densfill && rt run -- rects ../../examples/rules.csv ../../examples/script.csv > ../../bin/build.log
 	cp crates/densfill/out/densfill bin/densfill
+
+check:
+	cd crates/$(CRATE) && rt check
+
+test:
+	rt ci
 
 bench: build
 	bench/rects/run.sh
