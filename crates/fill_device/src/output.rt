@@ -1,3 +1,4 @@
+//! Texts, written whole.
 ghost use Rattle.std.specs.Prelude.{◌≡◌, ◌↔◌, ℕ, true, false, take, IsErr, OnOk};
 ghost use Rattle.std.specs.Io.KnownBytes.{Appends};
 ghost use Rattle.fill_device.specs.Taps.{has_failed, under};
@@ -6,7 +7,7 @@ use crate::taps::Tap;
 use std::io::Write;
 use thiserror::Error;
 
-/// A write failed or took no byte.
+/// A write failed, or took no byte out of some.
 #[derive(Clone, Copy, Debug, PartialEq, Eq, Error)]
 #[error("a write failed")]
 pub struct DeviceError;
@@ -14,7 +15,8 @@ pub struct DeviceError;
 /// Writes the whole text, by as many writes as it takes. Whatever comes of it, what was written is a prefix of the text.
 ///
 /// # Errors
-/// `DeviceError` exactly where a write fails or takes no byte; nothing is written after that.
+/// `DeviceError` exactly where a write fails or takes no byte; nothing is written after that. Each write takes a byte or
+/// more, so there are at most as many as the text has bytes.
 pub fn write_text<W: Write>(tap: &mut Tap<W>, text: &[u8]) -> Result<(), DeviceError>
     requires { has_failed tap.old ≡ false }
     ensures device { IsErr result ↔ (has_failed tap.new ≡ true) }

@@ -1,3 +1,4 @@
+//! Taps in front of readers and writers.
 ghost use Rattle.std.specs.Prelude.{◌≡◌, ◌||◌, false, is_err};
 ghost use Rattle.std.specs.Io.{ReadsAtMost, WritesAtMost};
 ghost use Rattle.std.specs.Io.KnownBytes.{Keeps, ReadConsumes, WriteAppends};
@@ -26,7 +27,7 @@ impl<T> Tap<T> {
         }
     }
 
-    /// Whether a call has failed, or a write has taken no byte.
+    /// Whether a call has failed, or a write has taken no byte out of some.
     pub fn failed(&self) -> bool
         ensures { result ≡ has_failed self.now }
     {
@@ -60,11 +61,11 @@ impl<W: Write> Write for Tap<W> {
     fn write(&mut self, buf: &[u8]) -> io::Result<usize>
         ensures bound { WritesAtMost result buf.now }
         ensures bytes { WriteAppends (W.contents (under self.old)) (W.contents (under self.new)) result buf.now }
-        ensures failed { has_failed self.new ≡ has_failed self.old || is_refused result }
+        ensures failed { has_failed self.new ≡ has_failed self.old || is_refused buf.now result }
     {
         let written = self.inner.write(buf);
         let refused = match written {
-            Ok(count) => count == 0,
+            Ok(count) => count == 0 && !buf.is_empty(),
             Err(_) => true,
         };
         self.failed = self.failed || refused;

@@ -1,3 +1,4 @@
+//! Taps, inputs and texts over devices in memory that move few bytes, and that fail for ever or once.
 use crate::{DeviceError, InputError, Tap, read_input, write_text};
 use std::io;
 use std::io::{ErrorKind, Read, Write};
@@ -153,4 +154,114 @@ fn a_writer_that_takes_no_byte_has_failed(rt: HostRuntime) {
     });
     assert_eq!(rt; write_text(&mut tap, b"text"), Err(DeviceError));
     assert!(rt; tap.failed());
+}
+
+/// What a device does at one of its calls; at all others it moves one byte.
+#[derive(Clone, Copy)]
+enum Trouble {
+    /// The call fails.
+    Fails,
+    /// The call is interrupted, which is a failure like any other.
+    IsInterrupted,
+    /// The call moves no byte.
+    MovesNothing,
+}
+
+/// A device in memory that has trouble once.
+#[derive(Drop)]
+struct Once<'a> {
+    rest: &'a [u8],
+    taken: Vec<u8>,
+    calls: usize,
+    at: usize,
+    trouble: Trouble,
+}
+
+impl Once<'_> {
+    /// How many bytes this call may move.
+    fn turn(&mut self) -> io::Result<usize> {
+        let call = self.calls;
+        self.calls = call.saturating_add(1);
+        if call != self.at {
+            return Ok(1);
+        }
+        match self.trouble {
+            Trouble::Fails => Err(io::Error::from(ErrorKind::ConnectionReset)),
+            Trouble::IsInterrupted => Err(io::Error::from(ErrorKind::Interrupted)),
+            Trouble::MovesNothing => Ok(0),
+        }
+    }
+}
+
+impl Read for Once<'_> {
+    fn read(&mut self, buf: &mut [u8]) -> io::Result<usize> {
+        let count = self.turn()?.min(buf.len()).min(self.rest.len());
+        buf[..count].copy_from_slice(&self.rest[..count]);
+        self.rest = &self.rest[count..];
+        Ok(count)
+    }
+}
+
+impl Write for Once<'_> {
+    fn write(&mut self, buf: &[u8]) -> io::Result<usize> {
+        let count = self.turn()?.min(buf.len());
+        self.taken.extend_from_slice(&buf[..count])?;
+        Ok(count)
+    }
+
+    fn flush(&mut self) -> io::Result<()> {
+        Ok(())
+    }
+}
+
+#[test]
+fn a_write_in_trouble_once_is_the_last(rt: HostRuntime) {
+    for trouble in [
+        Trouble::Fails,
+        Trouble::IsInterrupted,
+        Trouble::MovesNothing,
+    ] {
+        for at in 0..4 {
+            let mut once = Once {
+                rest: b"",
+                taken: Vec::new(rt.alloc()),
+                calls: 0,
+                at,
+                trouble,
+            };
+            let mut tap = Tap::new(&mut once);
+            assert_eq!(rt; write_text(&mut tap, b"text"), Err(DeviceError));
+            assert!(rt; tap.failed());
+            assert_eq!(rt; once.calls, at + 1);
+            assert!(rt; once.taken.as_slice() == b"text".get(..at).unwrap_or(b""));
+        }
+    }
+}
+
+#[test]
+fn a_read_that_fails_once_is_the_last(rt: HostRuntime) {
+    for trouble in [Trouble::Fails, Trouble::IsInterrupted] {
+        for at in 0..5 {
+            let mut once = Once {
+                rest: b"abcd",
+                taken: Vec::new(rt.alloc()),
+                calls: 0,
+                at,
+                trouble,
+            };
+            let mut tap = Tap::new(&mut once);
+            let input = read_input(rt.alloc(), &mut tap, 4);
+            assert!(rt; matches!(input, Err(InputError::Device)));
+            assert!(rt; tap.failed());
+            assert_eq!(rt; once.calls, at + 1);
+        }
+    }
+}
+
+#[test]
+fn a_write_of_nothing_is_not_refused(rt: HostRuntime) {
+    let mut tap = Tap::new(Vec::new(rt.alloc()));
+    assert!(rt; matches!(tap.write(b""), Ok(0)));
+    assert!(rt; !tap.failed());
+    assert_eq!(rt; write_text(&mut tap, b""), Ok(()));
 }
