@@ -1,5 +1,5 @@
 -- Which data type and how much data a record of each kind has.
-use Rattle.std.specs.Prelude.{◌≡◌, ℕ, Bool, true, false, List, [], ◌∷◌, length, ◌==◌, ◌&&◌, ◌||◌, not, if◌then◌else◌}
+use Rattle.std.specs.Prelude.{◌≡◌, ℕ, Bool, true, List, [], ◌∷◌, length, ◌==◌, ◌&&◌, ◌||◌, not, if◌then◌else◌}
 use Rattle.std.specs.List.{list_any}
 use Rattle.gds_record.specs.declared.kind.TheConstants.{BGNLIB, UNITS, BGNSTR, STRNAME, LAYER, DATATYPE, WIDTH, SNAME, COLROW, STRANS, MAG, ANGLE, PATHTYPE, BGNEXTN, ENDEXTN}
 use Rattle.gds_record.specs.Records.{Rec}

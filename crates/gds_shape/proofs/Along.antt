@@ -1,13 +1,13 @@
 -- The edges between neighbouring points, one after the other.
-use Rattle.std.proofs.Common.{◌≡◌, ℕ, zero, suc, ◌+◌, ◌-◌, ◌≤◌, ◌<◌, ℤ, ◌≤ℤ◌, ◌<ℤ◌, List, [], ◌∷◌, ◌++◌, length, get_or, drop, refl, arith, ap, ◌∙◌, sym, Bool, true, false, cond, not, ◌&&◌, ◌⊎◌, inl, inr, Option, Some, None, ◌+ℤ◌}
-use Rattle.std.specs.Prelude.{int_lt, int_le, All, count_by, option_to_list, map, IfSome, IfNone}
+use Rattle.std.proofs.Common.{◌≡◌, ℕ, suc, ◌+◌, ◌≤◌, ◌<◌, ℤ, ◌≤ℤ◌, ◌<ℤ◌, List, [], ◌∷◌, ◌++◌, length, get_or, drop, refl, arith, ap, ◌∙◌, sym, Bool, true, false, cond, ◌&&◌, inl, inr, Option, Some, None, ◌+ℤ◌}
+use Rattle.std.specs.Prelude.{int_lt, All, count_by, option_to_list, map, IfSome, IfNone}
 use Rattle.std.specs.Ordering.{int_eq}
 use Rattle.std.proofs.lemmas.Int.{ints}
 use Rattle.std.proofs.lemmas.List.Sums.{sum_by-append}
 use Rattle.fill_base.specs.declared.place.Point.{Point}
 use Rattle.fill_base.specs.Counts.{is_between}
 use Rattle.gds_shape.specs.declared.edge.Edge.{Edge}
-use Rattle.gds_shape.specs.Winding.{edges, edges_from, rises, IsAligned, IsManhattan, IsPoint}
+use Rattle.gds_shape.specs.Winding.{edges, IsAligned, IsManhattan, IsPoint}
 use Rattle.gds_shape.specs.Moves.{moved}
 use Rattle.gds_shape.specs.steps.Edges.{goes, spans, passes, passing, IsEdge}
 use Rattle.gds_shape.proofs.Counting.{count_cons}

@@ -1,6 +1,6 @@
 -- A boundary of four corners covers the rectangle between two opposite ones.
-use Rattle.std.proofs.Common.{◌≡◌, ℕ, suc, ◌+◌, ◌-◌, ◌≤◌, ◌<◌, ℤ, pos, ◌+ℤ◌, ◌-ℤ◌, ◌≤ℤ◌, ◌<ℤ◌, List, [], ◌∷◌, length, get_or, refl, arith, ap, ◌∙◌, sym, Bool, true, false, cond, not, ◌&&◌, ◌⊎◌, inl, inr, eqb, map, Some, ◌||◌}
-use Rattle.std.specs.Prelude.{int_lt, int_le, slice_get}
+use Rattle.std.proofs.Common.{◌≡◌, ◌+◌, ℤ, ◌+ℤ◌, ◌-ℤ◌, List, [], ◌∷◌, get_or, refl, arith, ap, ◌∙◌, sym, Bool, true, false, cond, not, ◌&&◌, inl, inr, eqb, ◌||◌}
+use Rattle.std.specs.Prelude.{int_lt, int_le}
 use Rattle.std.specs.Ordering.{int_eq}
 use Rattle.std.specs.Int.{int_min, int_max}
 use Rattle.std.proofs.lemmas.Int.{ints, clamps}
@@ -10,7 +10,7 @@ use Rattle.fill_base.specs.Coordinates.{IsCoordinate}
 use Rattle.fill_base.proofs.Signed.{read, read_is, coordinate_fits, fits_min, fits_max}
 use Rattle.gds_shape.specs.Winding.{covers, IsClosed, IsPoint}
 use Rattle.gds_shape.specs.Moves.{moved}
-use Rattle.gds_shape.specs.Boxes.{GoesRound, IsBox, is_in_box}
+use Rattle.gds_shape.specs.Boxes.{IsBox, is_in_box}
 
 abbrev at : ℤ → ℤ → Point
 at x y = record { x = x; y = y }

@@ -1,14 +1,13 @@
 -- A boundary that is moved covers the squares that it covered, moved.
-use Rattle.std.proofs.Common.{◌≡◌, ℕ, suc, ◌+◌, ◌-◌, ◌≤◌, ◌<◌, ℤ, pos, ◌+ℤ◌, ◌-ℤ◌, ◌≤ℤ◌, ◌<ℤ◌, List, [], ◌∷◌, length, refl, arith, ap, ◌∙◌, sym, Bool, true, false, cond, not, ◌&&◌, ◌⊎◌, inl, inr, eqb, map, Option, Some, None}
-use Rattle.std.specs.Prelude.{int_lt, int_le, All, count_by, slice_get}
+use Rattle.std.proofs.Common.{◌≡◌, ℕ, ◌-◌, ℤ, pos, ◌+ℤ◌, ◌-ℤ◌, List, [], ◌∷◌, length, refl, arith, ap, ◌∙◌, sym, Bool, true, false, not, inl, inr, eqb, map}
+use Rattle.std.specs.Prelude.{int_lt, int_le, count_by, slice_get}
 use Rattle.std.specs.Ordering.{int_eq}
 use Rattle.std.proofs.lemmas.Int.{ints}
 use Rattle.std.proofs.lemmas.Option.{slice_get-map}
 use Rattle.std.specs.Option.{option_map}
 use Rattle.std.proofs.lemmas.List.{length-map}
 use Rattle.fill_base.specs.declared.place.Point.{Point}
-use Rattle.fill_base.specs.Counts.{is_between}
-use Rattle.gds_shape.specs.Winding.{edges, edges_from, rises, covers, IsAligned, IsManhattan, IsClosed, IsPoint}
+use Rattle.gds_shape.specs.Winding.{edges, edges_from, rises, covers, IsAligned, IsManhattan, IsClosed}
 use Rattle.gds_shape.specs.Moves.{moved}
 use Rattle.gds_shape.specs.steps.Edges.{passes}
 use Rattle.gds_shape.proofs.Counting.{count_cons}

@@ -1,11 +1,10 @@
 -- A closed boundary goes up past each row as often as down.
-use Rattle.std.proofs.Common.{◌≡◌, ℕ, zero, suc, ◌+◌, ◌-◌, ◌≤◌, ◌<◌, ℤ, ◌≤ℤ◌, ◌<ℤ◌, List, [], ◌∷◌, length, refl, arith, ap, ◌∙◌, sym, Bool, true, false, cond, not, ◌&&◌, ◌⊎◌, inl, inr, Option, Some, None}
+use Rattle.std.proofs.Common.{◌≡◌, ℕ, suc, ◌+◌, ◌-◌, ℤ, ◌≤ℤ◌, ◌<ℤ◌, List, [], ◌∷◌, length, refl, arith, ap, ◌∙◌, sym, Bool, true, false, cond, not, ◌&&◌, inl, inr, Some}
 use Rattle.std.specs.Prelude.{int_lt, int_le, All, count_by, slice_get}
 use Rattle.std.specs.Ordering.{int_eq}
 use Rattle.std.proofs.lemmas.Int.{ints}
 use Rattle.fill_base.specs.declared.place.Point.{Point}
 use Rattle.fill_base.specs.Coordinates.{lowest}
-use Rattle.fill_base.specs.Counts.{is_between}
 use Rattle.gds_shape.specs.Winding.{edges, edges_from, IsAligned, IsManhattan, IsClosed, IsPoint}
 use Rattle.gds_shape.specs.steps.Edges.{passes}
 use Rattle.gds_shape.proofs.Counting.{count_cons}

@@ -1,10 +1,10 @@
 -- The corners of a path, one point after the other.
-use Rattle.std.proofs.Common.{◌≡◌, ℕ, zero, suc, ◌+◌, ◌-◌, ◌≤◌, ◌<◌, ℤ, ◌≤ℤ◌, ◌<ℤ◌, List, [], ◌∷◌, ◌++◌, length, get_or, drop, refl, arith, ap, ◌∙◌, sym, append_assoc, Bool, true, false, ◌||◌, ◌&&◌, cond, drop-cons, add-one, Some}
+use Rattle.std.proofs.Common.{◌≡◌, ℕ, zero, suc, ◌+◌, ◌≤◌, ◌<◌, ℤ, List, [], ◌∷◌, length, get_or, drop, refl, arith, ap, ◌∙◌, sym, Bool, true, false, cond, drop-cons, add-one, Some}
 use Rattle.std.specs.Prelude.{All, slice_get}
 use Rattle.std.proofs.lemmas.Int.{ints}
 use Rattle.std.specs.Ordering.{int_eq}
 use Rattle.fill_base.specs.declared.place.Point.{Point}
-use Rattle.gds_shape.specs.Paths.{is_same, is_inner, is_dropped, corners_from, corners, on_one_line, doubles_back}
+use Rattle.gds_shape.specs.Paths.{is_same, is_dropped, corners_from, corners, on_one_line, doubles_back}
 
 same_self : (p : Point) → is_same p p ≡ true
 same_self p = rw (eq p.x, eq p.y) refl

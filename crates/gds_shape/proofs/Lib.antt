@@ -12,3 +12,5 @@ pub mod Segmented
 pub mod Cornered
 pub mod Faults
 pub mod Spread
+pub mod Grown
+pub mod Cornering

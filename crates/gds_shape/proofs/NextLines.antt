@@ -1,5 +1,5 @@
 -- The lines at which a sweep upwards stops, and the edges that cross them.
-use Rattle.std.proofs.Common.{◌≡◌, ℕ, ◌+◌, ◌<◌, ℤ, ◌≤ℤ◌, ◌<ℤ◌, List, [], ◌∷◌, ◌++◌, length, get_or, take, refl, arith, ap, ◌∙◌, sym, Bool, true, false, cond, ◌&&◌, w64, FitsSigned, Some}
+use Rattle.std.proofs.Common.{◌≡◌, ℕ, ◌+◌, ◌<◌, ℤ, ◌≤ℤ◌, ◌<ℤ◌, List, [], ◌∷◌, ◌++◌, length, get_or, take, arith, ◌∙◌, sym, Bool, true, false, cond, ◌&&◌, w64, FitsSigned, Some}
 use Rattle.std.specs.Prelude.{int_lt, All, count_by}
 use Rattle.std.specs.Int.{int_min}
 use Rattle.std.specs.List.{filter, slice_get}
@@ -13,10 +13,10 @@ use Rattle.fill_base.specs.Coordinates.{highest}
 use Rattle.fill_base.specs.Counts.{is_between}
 use Rattle.fill_base.proofs.Signed.{read, read_is, fits_min, is_lt}
 use Rattle.gds_shape.specs.declared.edge.Edge.{Edge}
-use Rattle.gds_shape.specs.steps.Edges.{goes, spans, passing, AreRisingBy}
+use Rattle.gds_shape.specs.steps.Edges.{goes, spans, AreRisingBy}
 use Rattle.gds_shape.specs.steps.Lines.{Crosses, IsNextLine, IsCrossed}
 use Rattle.gds_shape.proofs.Counting.{count_kept}
-use Rattle.gds_shape.proofs.ReadBack.{read_bottom, read_top}
+use Rattle.gds_shape.proofs.ReadBack.{read_bottom}
 
 -- the first of the edges by their lower edges
 pub first_line : (edges : List Edge) (r : Edge) → Some r ≡ slice_get edges 0 → AreRisingBy (λ q. q.bottom) edges → IsNextLine edges [] (read r.bottom)

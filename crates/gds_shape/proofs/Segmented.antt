@@ -1,13 +1,12 @@
 -- The segments of a path, one after the other.
-use Rattle.std.proofs.Common.{◌≡◌, ℕ, suc, ◌+◌, ◌-◌, ◌≤◌, ◌<◌, ℤ, ◌+ℤ◌, ◌-ℤ◌, ◌≤ℤ◌, ◌<ℤ◌, List, [], ◌∷◌, ◌++◌, length, get_or, drop, refl, arith, ap, ◌∙◌, sym, append_assoc, true, false}
+use Rattle.std.proofs.Common.{◌≡◌, ℕ, suc, ◌≤◌, ◌<◌, ℤ, ◌+ℤ◌, ◌-ℤ◌, List, [], ◌∷◌, ◌++◌, length, get_or, drop, refl, arith, ◌∙◌, sym, append_assoc, true, false}
 use Rattle.std.specs.Prelude.{All}
-use Rattle.std.proofs.lemmas.Int.{ints}
 use Rattle.std.proofs.lemmas.List.{append-nil}
 use Rattle.fill_base.specs.declared.place.Point.{Point}
 use Rattle.gds_record.specs.Numbers.{IsStored}
 use Rattle.gds_shape.specs.declared.bounds.Bounds.{Bounds}
 use Rattle.std.specs.Ordering.{int_eq}
-use Rattle.gds_shape.specs.Paths.{low_end, high_end, segment, segments, segments_from, ending}
+use Rattle.gds_shape.specs.Paths.{low_end, high_end, segment, segments, ending}
 use Rattle.gds_shape.specs.steps.Ranges.{IsStretch}
 
 -- what is made so far, and the corners that are left

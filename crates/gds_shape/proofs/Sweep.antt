@@ -1,7 +1,7 @@
 -- The sweep upwards over the edges of a boundary: what it has written so far, each step, and its end.
-use Rattle.std.proofs.Common.{◌≡◌, ℕ, suc, ◌+◌, ◌-◌, ◌≤◌, ◌<◌, ℤ, ◌-ℤ◌, ◌≤ℤ◌, ◌<ℤ◌, negsuc, List, [], ◌∷◌, ◌++◌, length, get_or, take, drop, refl, arith, ap, ◌∙◌, sym, Bool, true, false, cond, not, ◌||◌, ◌&&◌, eqb, eq-eqb}
-use Rattle.std.specs.Prelude.{int_lt, int_le, All, count_by, unsigned_abs}
-use Rattle.std.specs.List.Sorted.{IsPermutation, IsPartitionPoint}
+use Rattle.std.proofs.Common.{◌≡◌, ℕ, ◌+◌, ◌-◌, ◌≤◌, ◌<◌, ℤ, ◌-ℤ◌, ◌≤ℤ◌, ◌<ℤ◌, negsuc, List, [], ◌++◌, length, get_or, take, drop, refl, arith, ap, ◌∙◌, sym, Bool, true, false, cond, not, ◌||◌, ◌&&◌, eqb, eq-eqb}
+use Rattle.std.specs.Prelude.{int_lt, All, count_by, unsigned_abs}
+use Rattle.std.specs.List.Sorted.{IsPartitionPoint}
 use Rattle.std.proofs.lemmas.Int.{ints, by_lt_z}
 use Rattle.std.proofs.lemmas.List.{get_or-take, get_or-drop, length-take-le, length-drop, take-append-drop}
 use Rattle.std.proofs.lemmas.List.Sums.{sum_by-append}
@@ -13,7 +13,7 @@ use Rattle.fill_base.proofs.Signed.{read, read_is, lt_le}
 use Rattle.fill_region.specs.Squares.{covered}
 use Rattle.gds_shape.specs.declared.edge.Edge.{Edge}
 use Rattle.gds_shape.specs.Winding.{edges, covers, IsManhattan, IsClosed, IsPoint}
-use Rattle.gds_shape.specs.steps.Edges.{goes, spans, passes, passing, left_of, going, AreRisingBy}
+use Rattle.gds_shape.specs.steps.Edges.{goes, spans, passes, passing, going, AreRisingBy}
 use Rattle.gds_shape.specs.steps.Lines.{Crosses, IsNextLine, IsCrossed}
 use Rattle.gds_shape.proofs.Counting.{same_counts, no_count, left_right}
 use Rattle.gds_shape.proofs.Closed.{closed_row}

@@ -1,6 +1,6 @@
 -- The walk over the edges that cross a strip, from left to right.
-use Rattle.std.proofs.Common.{◌≡◌, ℕ, zero, suc, ◌+◌, ◌-◌, ◌≤◌, ◌<◌, ℤ, ◌≤ℤ◌, ◌<ℤ◌, List, [], ◌∷◌, length, get_or, take, refl, arith, ap, ◌∙◌, sym, Bool, true, false, cond, not, ◌&&◌, ◌||◌, eqb, ◌++◌, ◌⊎◌, inl, inr}
-use Rattle.std.specs.Prelude.{int_lt, int_le, All, count_by}
+use Rattle.std.proofs.Common.{◌≡◌, ℕ, ◌+◌, ◌≤◌, ◌<◌, ℤ, ◌≤ℤ◌, ◌<ℤ◌, List, [], ◌∷◌, length, get_or, take, refl, arith, ap, ◌∙◌, sym, Bool, true, false, cond, not, ◌&&◌, ◌||◌, eqb, ◌++◌, ◌⊎◌, inl, inr}
+use Rattle.std.specs.Prelude.{int_lt, int_le, All}
 use Rattle.std.proofs.lemmas.Int.{ints, by_lt_z}
 use Rattle.std.proofs.lemmas.List.{get_or_default}
 use Rattle.std.proofs.lemmas.List.Folds.{list_any-append}

@@ -2,4 +2,5 @@ pub mod Winding
 pub mod Moves
 pub mod Boxes
 pub mod Paths
+pub mod Extents
 pub mod steps

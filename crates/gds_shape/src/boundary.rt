@@ -6,10 +6,14 @@ ghost use Rattle.fill_region.specs.Bands.{holds, IsRegion};
 ghost use Rattle.fill_region.specs.Squares.{covered};
 ghost use Rattle.gds_shape.specs.Winding.{covers, IsAligned, IsManhattan, IsClosed, IsPoint};
 ghost use Rattle.gds_shape.specs.Moves.{moved};
+ghost use Rattle.gds_record.specs.Numbers.{IsStored};
+ghost use Rattle.gds_shape.specs.Extents.{at_point, IsExtent, IsNarrow, corner_move};
 ghost use Rattle.gds_shape.specs.Boxes.{GoesRound, IsBox, is_in_box};
 
+use crate::bounds::Bounds;
 use crate::edges::moved;
 use crate::error::ShapeError;
+use crate::extent::{move_to_corner, points_extent};
 use crate::lines::put_swept;
 use crate::strip::put_gap;
 use fill_base::rect::is_coordinate;
@@ -113,6 +117,33 @@ pub fn put_boundary(
     }
     put_swept(alloc, out, points, by)?;
     Ok(())
+}
+
+/// Appends the squares that the boundary covers, moved so that its extent begins at the least
+/// coordinates, and answers the extent. Nothing is appended where it's wider or taller than all
+/// coordinates.
+pub fn put_boundary_at_corner(
+    alloc: Global,
+    out: &mut Vec<Rect>,
+    points: &[Point],
+) -> Result<Bounds, AllocError>
+    requires filled { 0 < length points.now }
+    requires manhattan { IsManhattan points.now }
+    requires closed { IsClosed points.now }
+    requires stored { All IsStored points.now }
+    ensures extent { IfOk result (λ b. IsExtent (map at_point points.now) b) }
+    ensures added { IfOk result (λ b. IsNarrow b → (x y : ℤ) → covered out.new.items x y
+        ≡ (covered out.old.items x y || covers points.now (x -ℤ (corner_move b).x) (y -ℤ (corner_move b).y))) }
+    ensures wide { IfOk result (λ b. (¬ IsNarrow b) → out.new.items ≡ out.old.items) }
+{
+    let extent = points_extent(points);
+    match move_to_corner(extent) {
+        Some(by) => {
+            put_boundary(alloc, out, points, by)?;
+            Ok(extent)
+        }
+        None => Ok(extent),
+    }
 }
 
 /// The squares that the boundary of these points covers, in database units.

@@ -3,21 +3,24 @@
 //! squares of its segments' rectangles, and each refusal comes exactly where its cause stands.
 #![tactic(auto)]
 
-pub mod boundary;
+mod boundary;
 mod bounds;
 mod corners;
 mod edge;
 mod edges;
 mod error;
+mod extent;
 mod lines;
-pub mod path;
+mod path;
 mod segments;
 mod strip;
 
-pub use boundary::boundary_region;
+pub use boundary::{boundary_region, is_manhattan, put_boundary, put_boundary_at_corner};
 pub use bounds::Bounds;
 pub use error::ShapeError;
-pub use path::path_region;
+pub use extent::{bounds_extent, move_to_corner, points_extent};
+pub use path::{path_region, path_segments};
+pub use segments::put_bounds;
 
 #[cfg(test)]
 mod tests;

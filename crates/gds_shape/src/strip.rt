@@ -1,6 +1,6 @@
 //! The rectangles of one strip of a boundary: between two lines, where the same edges cross each row.
 
-ghost use Rattle.std.specs.Prelude.{◌≡◌, ◌==◌, not, true, false, ℤ, ◌≤ℤ◌, ◌<ℤ◌, ◌&&◌, ◌||◌, OnOk, All};
+ghost use Rattle.std.specs.Prelude.{◌≡◌, ◌==◌, not, true, false, ℤ, ◌≤ℤ◌, ◌<ℤ◌, ◌&&◌, ◌||◌, OnOk};
 ghost use Rattle.fill_base.specs.Coordinates.{lowest, highest};
 ghost use Rattle.fill_base.specs.Counts.{is_between};
 ghost use Rattle.fill_region.specs.Squares.{covered};

@@ -388,3 +388,113 @@ fn large_boundary(rt: HostRuntime) -> Result<(), Fail> {
     );
     Ok(())
 }
+
+/// A library of one boundary.
+fn outline_of(alloc: Global, points: &[(i32, i32)]) -> Result<Library, Fail> {
+    let mut bytes = Vec::from_slice(alloc, HEAD)?;
+    let kind = bytes.len().wrapping_sub(14);
+    *bytes.get_mut(kind).ok_or("no kind")? = 0x08;
+    let length = points.len().wrapping_mul(8).wrapping_add(4);
+    let length = u16::try_from(length).or(Err("too many points"))?;
+    bytes.extend_from_slice(&length.to_be_bytes())?;
+    bytes.extend_from_slice(&[0x10, 3])?;
+    for (x, y) in points {
+        bytes.extend_from_slice(&x.to_be_bytes())?;
+        bytes.extend_from_slice(&y.to_be_bytes())?;
+    }
+    bytes.extend_from_slice(TAIL)?;
+    Ok(read_library(alloc, &bytes)?)
+}
+
+/// An outline far from the origin is moved to the corner of all coordinates, and one that is wider
+/// than they are is not appended.
+#[test]
+fn outlines_at_the_corner(rt: HostRuntime) -> Result<(), Fail> {
+    let far = 2_000_000_000;
+    let cases: [(&[(i32, i32)], Bounds, i64); 2] = [
+        (
+            &[
+                (far, 5),
+                (far, 9),
+                (far + 3, 9),
+                (far + 3, 7),
+                (far + 8, 7),
+                (far + 8, 5),
+                (far, 5),
+            ],
+            Bounds {
+                left: 2_000_000_000,
+                bottom: 5,
+                right: 2_000_000_008,
+                top: 9,
+            },
+            22,
+        ),
+        (
+            &[(-far, 5), (-far, 9), (far, 9), (far, 5), (-far, 5)],
+            Bounds {
+                left: -2_000_000_000,
+                bottom: 5,
+                right: 2_000_000_000,
+                top: 9,
+            },
+            0,
+        ),
+    ];
+    for (points, want, area) in cases {
+        let library = outline_of(rt.alloc(), points)?;
+        for element in library.cells.get(b"T".as_slice()).ok_or("no cell")? {
+            if let Element::Boundary(outline) = element {
+                if !is_manhattan(&outline.points) {
+                    return Err("slanted".into());
+                }
+                let mut rects = Vec::new(rt.alloc());
+                let extent = put_boundary_at_corner(rt.alloc(), &mut rects, &outline.points)?;
+                assert_eq!(rt; extent, want);
+                let mut sum = 0i64;
+                for rect in &rects {
+                    sum = sum.wrapping_add(rect.area());
+                    assert!(rt; rect.x1() < -1_073_741_815 && rect.y1() < -1_073_741_819);
+                }
+                assert_eq!(rt; sum, area);
+            }
+        }
+    }
+    Ok(())
+}
+
+#[test]
+fn segments_of_a_path(rt: HostRuntime) -> Result<(), Fail> {
+    let library = library_of(rt.alloc(), CORNER)?;
+    for element in library.cells.get(b"T".as_slice()).ok_or("no cell")? {
+        if let Element::Path(path) = element {
+            let segments = path_segments(rt.alloc(), path)?;
+            let want = [
+                Bounds {
+                    left: 0,
+                    bottom: -2,
+                    right: 12,
+                    top: 2,
+                },
+                Bounds {
+                    left: 8,
+                    bottom: -2,
+                    right: 12,
+                    top: 10,
+                },
+            ];
+            assert_eq!(rt; segments.as_slice(), want.as_slice());
+            if segments.is_empty() {
+                return Err("no segment".into());
+            }
+            let whole = Bounds {
+                left: 0,
+                bottom: -2,
+                right: 12,
+                top: 10,
+            };
+            assert_eq!(rt; bounds_extent(&segments), whole);
+        }
+    }
+    Ok(())
+}

@@ -1,5 +1,5 @@
 -- A sweep upwards over the lines at which an edge begins or ends.
-use Rattle.std.specs.Prelude.{◌≡◌, ℕ, ◌+◌, ℤ, ◌≤ℤ◌, ◌<ℤ◌, Bool, List, All}
+use Rattle.std.specs.Prelude.{◌≡◌, ◌+◌, ℤ, ◌≤ℤ◌, ◌<ℤ◌, Bool, List, All}
 use Rattle.fill_base.specs.Coordinates.{highest}
 use Rattle.gds_shape.specs.declared.edge.Edge.{Edge}
 use Rattle.gds_shape.specs.steps.Edges.{passing, AreRisingBy}

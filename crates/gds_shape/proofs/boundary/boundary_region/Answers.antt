@@ -1,4 +1,4 @@
-use Rattle.std.proofs.Common.{◌≡◌, ◌∙◌, ap, sym, ◌||◌, ◌-ℤ◌, refl, pos}
+use Rattle.std.proofs.Common.{◌≡◌, ◌∙◌, ap, ◌||◌, ◌-ℤ◌, pos}
 use Rattle.fill_region.specs.Squares.{covered}
 use Rattle.gds_shape.specs.Winding.{covers}
 use Rattle.gds_shape.proofs.Carried.{still, covers_still}

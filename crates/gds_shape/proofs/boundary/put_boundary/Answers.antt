@@ -1,4 +1,4 @@
-use Rattle.std.proofs.Common.{◌∙◌, ap, sym, ◌||◌, ◌-ℤ◌, refl}
+use Rattle.std.proofs.Common.{◌∙◌, ap, ◌||◌}
 use Rattle.fill_region.specs.Squares.{covered}
 use Rattle.gds_shape.proofs.Carried.{manhattan_moved, closed_moved, covers_moved}
 use Rattle.gds_shape.proofs.BoxCorners.{box_carried}

@@ -1,11 +1,11 @@
-use Rattle.std.proofs.Common.{◌≡◌, ℤ, pos, ◌<ℤ◌, ◌≤ℤ◌, arith, to_z, of_z, w64, map, [], List, true, false}
+use Rattle.std.proofs.Common.{◌≡◌, ℤ, ◌<ℤ◌, ◌≤ℤ◌, arith, to_z, w64, map, true, false}
 use Rattle.std.proofs.lemmas.Int.{ints}
 use Rattle.fill_base.specs.Coordinates.{lowest, highest}
 use Rattle.fill_base.proofs.Signed.{read, read_is, is_lt, not_lt}
 use Rattle.gds_shape.specs.Moves.{moved}
 use Rattle.gds_shape.specs.steps.Edges.{going}
 use Rattle.gds_shape.specs.steps.Lines.{IsNextLine}
-use Rattle.gds_shape.proofs.Sweep.{SweptTo, AtLine, swept_start, taken_in, balanced, swept_turn, swept_end, smaller, turn_read}
+use Rattle.gds_shape.proofs.Sweep.{AtLine, swept_start, taken_in, balanced, swept_turn, swept_end, smaller, turn_read}
 use Rattle.gds_shape.proofs.lines.put_swept.Goals as goal
 
 pub sweep-init : goal.sweep-init

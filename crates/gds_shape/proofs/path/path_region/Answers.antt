@@ -2,7 +2,7 @@ use Rattle.std.proofs.Common.{◌≡◌, ◌∙◌, ap, ◌||◌, pos, ◌-ℤ�
 use Rattle.std.specs.List.{list_any}
 use Rattle.std.proofs.lemmas.Result.{err_from_is_err_and}
 use Rattle.fill_region.specs.Squares.{covered}
-use Rattle.gds_shape.specs.Paths.{in_bounds, segments_of}
+use Rattle.gds_shape.specs.Paths.{in_bounds}
 use Rattle.gds_shape.proofs.Faults.{refusal_is}
 use Rattle.gds_shape.proofs.Spread.{still_all, still_squares}
 use Rattle.gds_shape.proofs.path.path_region.Goals as goal

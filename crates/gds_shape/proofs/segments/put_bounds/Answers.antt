@@ -1,7 +1,3 @@
-use Rattle.std.proofs.Common.{◌∙◌, ap, ◌||◌, ◌&&◌, get_or, pos}
-use Rattle.fill_base.specs.Counts.{is_between}
-use Rattle.fill_region.specs.Squares.{covered}
-use Rattle.gds_shape.specs.Paths.{in_bounds}
 use Rattle.gds_shape.proofs.Spread.{zero_bounds, range_at, bounds_next}
 use Rattle.gds_shape.proofs.segments.put_bounds.Goals as goal
 

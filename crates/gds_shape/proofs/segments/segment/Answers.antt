@@ -1,4 +1,4 @@
-use Rattle.std.proofs.Common.{◌≡◌, ◌∙◌, ℤ, arith, sym}
+use Rattle.std.proofs.Common.{◌≡◌, ◌∙◌, arith, sym}
 use Rattle.std.proofs.lemmas.Int.{ints}
 use Rattle.fill_base.proofs.Signed.{read}
 use Rattle.gds_shape.proofs.Segmented.{upright_is, level_is}

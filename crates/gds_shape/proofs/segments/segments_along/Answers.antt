@@ -1,4 +1,4 @@
-use Rattle.std.proofs.Common.{◌≡◌, ℤ, arith, to_z, w64}
+use Rattle.std.proofs.Common.{◌≡◌, arith, to_z, w64}
 use Rattle.std.proofs.lemmas.Int.{ints}
 use Rattle.fill_base.proofs.Signed.{read}
 use Rattle.gds_shape.proofs.Segmented.{segmented_step, segmented_end}

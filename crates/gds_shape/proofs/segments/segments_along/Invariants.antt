@@ -1,4 +1,4 @@
-use Rattle.std.proofs.Common.{◌≡◌, ◌++◌, length}
+use Rattle.std.proofs.Common.{length}
 use Rattle.gds_shape.proofs.Segmented.{Segmented}
 use Rattle.gds_shape.proofs.segments.segments_along.Given as goal
 

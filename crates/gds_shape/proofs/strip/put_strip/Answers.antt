@@ -1,4 +1,4 @@
-use Rattle.std.proofs.Common.{arith, ℤ, ◌+◌, to_z, w64, FitsSigned, ◌≡◌, length, ap, ◌∙◌, Bool, true, false, not, cond, refl}
+use Rattle.std.proofs.Common.{arith, ◌+◌, to_z, w64, ◌≡◌, ap, ◌∙◌, Bool, true, false, not, cond, refl}
 use mir.Val.{bool_byte}
 use Rattle.std.proofs.lemmas.Int.{ints}
 use Rattle.fill_base.proofs.Signed.{read, read_is}
