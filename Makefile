@@ -8,11 +8,11 @@
 demo:
 	@if [ -x bin/densfill ]; then bin/densfill rects examples/rules.csv examples/script.csv; \
 	else echo "bin/densfill is not built: this run is unproved (make build proves and builds it)" >&2; \
-	cd crates/densfill && rt try -- rects ../../examples/rules.csv ../../examples/script.csv; fi
+	cd crates/densfill && rt try -- rects $(CURDIR)/examples/rules.csv $(CURDIR)/examples/script.csv; fi
 
 build:
 	mkdir -p bin
-	cd crates/densfill && rt run -- rects ../../examples/rules.csv ../../examples/script.csv > ../../bin/build.log
+	cd crates/densfill && rt run -- rects $(CURDIR)/examples/rules.csv $(CURDIR)/examples/script.csv > ../../bin/build.log
 	cp crates/densfill/out/densfill bin/densfill
 
 check:
