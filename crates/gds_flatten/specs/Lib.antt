@@ -1,0 +1,3 @@
+pub mod Placements
+pub mod Shapes
+pub mod References

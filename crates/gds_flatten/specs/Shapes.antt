@@ -1,0 +1,60 @@
+-- The shapes of a layer: what each covers, how far it goes, and why it's refused.
+use Rattle.std.specs.Prelude.{◌≡◌, ℕ, ℤ, Bool, false, ◌&&◌, not, ◌==◌, List, [], ◌∷◌, map, cond, Option, Some, None, All}
+use Rattle.std.specs.List.{list_any}
+use Rattle.gds_grammar.specs.declared.element.Element.{Element}
+use Rattle.gds_grammar.specs.declared.element.Element.TheVariants.{Boundary, Path, Ref, Array}
+use Rattle.gds_shape.specs.declared.bounds.Bounds.{Bounds}
+use Rattle.gds_shape.specs.declared.error.ShapeError.{ShapeError}
+use Rattle.gds_shape.specs.declared.error.ShapeError.TheVariants as shapes
+use Rattle.gds_shape.specs.Winding.{covers, edges}
+use Rattle.gds_shape.specs.Paths.{is_slanted, path_covers, path_fault, segments_of, AreInRange}
+use Rattle.gds_shape.specs.Extents.{at_point}
+use Rattle.gds_flatten.specs.declared.error.FlattenError.{FlattenError}
+use Rattle.gds_flatten.specs.declared.error.FlattenError.TheVariants.{NotManhattan, RoundEnd, OddWidth, DoublesBack, BadExtension, OutOfRange, Memory}
+use Rattle.gds_flatten.specs.declared.placement.Placement.{Placement}
+use Rattle.gds_flatten.specs.Placements.{carried_bounds}
+
+-- a boundary or path of the layer and data type
+abbrev pub is_shape : ℕ → ℕ → Element → Bool
+is_shape layer data_type (Boundary b) = b.layer == layer && b.data_type == data_type
+is_shape layer data_type (Path p) = p.layer == layer && p.data_type == data_type
+is_shape layer data_type (Ref r) = false
+is_shape layer data_type (Array a) = false
+
+-- the squares that it covers
+abbrev pub covers_of : Element → ℤ → ℤ → Bool
+covers_of (Boundary b) x y = covers b.points.items x y
+covers_of (Path p) x y = path_covers p x y
+covers_of (Ref r) x y = false
+covers_of (Array a) x y = false
+
+-- the points of a boundary, the rectangles of a path's segments
+abbrev pub parts_of : Element → List Bounds
+parts_of (Boundary b) = map at_point b.points.items
+parts_of (Path p) = segments_of p
+parts_of (Ref r) = []
+parts_of (Array a) = []
+
+-- carried so, it stays within the coordinates, also where it covers nothing
+abbrev pub StaysInRange : Placement → Element → Type 0
+StaysInRange p element = All (λ b. AreInRange (carried_bounds p b)) (parts_of element)
+
+abbrev pub refusal_of : ShapeError → FlattenError
+refusal_of shapes.NotManhattan = NotManhattan
+refusal_of shapes.RoundEnd = RoundEnd
+refusal_of shapes.OddWidth = OddWidth
+refusal_of shapes.DoublesBack = DoublesBack
+refusal_of shapes.BadExtension = BadExtension
+refusal_of shapes.OutOfRange = OutOfRange
+refusal_of shapes.Memory = Memory
+
+abbrev pub refusal_if : Option ShapeError → Option FlattenError
+refusal_if (Some e) = Some (refusal_of e)
+refusal_if None = None
+
+-- why a shape is refused
+abbrev pub shape_fault : Element → Option FlattenError
+shape_fault (Boundary b) = cond (list_any is_slanted (edges b.points.items)) (Some NotManhattan) None
+shape_fault (Path p) = refusal_if (path_fault p)
+shape_fault (Ref r) = None
+shape_fault (Array a) = None
