@@ -1,0 +1,5 @@
+pub mod Chains
+pub mod Items
+pub mod Searching
+pub mod Searched
+pub mod Turns

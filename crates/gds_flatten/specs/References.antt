@@ -90,7 +90,7 @@ abbrev pub is_bad_array : ℕ → ℕ → List Point → Bool
 is_bad_array columns rows points =
     not (is_count columns && is_count rows)
     || not (has_steps (point_at points 0) (point_at points 1) columns
-        && has_steps (point_at points 0) (point_at points 2) rows)
+    && has_steps (point_at points 0) (point_at points 2) rows)
 
 -- ---- the single references that an element stands for: an array's row by row
 

@@ -5,6 +5,7 @@
 
 mod error;
 mod placement;
+mod search;
 
 pub use error::FlattenError;
 pub use placement::Placement;

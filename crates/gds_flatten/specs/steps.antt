@@ -1,0 +1,3 @@
+-- What the contracts of private functions say.
+pub mod Searches
+pub mod Rows
