@@ -3,3 +3,4 @@ pub mod Items
 pub mod Searching
 pub mod Searched
 pub mod Turns
+pub mod HeightsInOrder

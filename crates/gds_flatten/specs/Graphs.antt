@@ -33,6 +33,12 @@ pub record IsCyclic (g : Graph) (top : ℕ) : Type 0 where
 abbrev pub IsDeep : Graph → ℕ → ℕ → Type 0
 IsDeep g n c = (d : ℕ) × IsChain g n c d
 
+-- a chain of 256 references or more begins at the cell: 257 cells or more
+pub record IsTooDeep (g : Graph) (c : ℕ) : Type 0 where
+  pub references : ℕ
+  pub chain : IsDeep g references c
+  pub many : 256 ≤ references
+
 -- each reference is to one of the cells, or to the index behind the last for a missing one
 abbrev pub IsWhole : Graph → Type 0
 IsWhole g = (c k : ℕ) → k < length (next g c) → item (next g c) k ≤ length g

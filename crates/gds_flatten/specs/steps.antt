@@ -1,3 +1,4 @@
 -- What the contracts of private functions say.
 pub mod Searches
 pub mod Rows
+pub mod Heights

@@ -4,6 +4,7 @@
 #![tactic(auto)]
 
 mod error;
+mod heights;
 mod placement;
 mod search;
 
