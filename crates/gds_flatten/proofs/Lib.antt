@@ -2,5 +2,5 @@ pub mod Chains
 pub mod Items
 pub mod Searching
 pub mod Searched
-pub mod Turns
+pub mod SearchTurns
 pub mod HeightsInOrder

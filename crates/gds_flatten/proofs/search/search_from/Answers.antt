@@ -2,7 +2,7 @@ use Rattle.std.proofs.Common.{rules, arith, length}
 use Rattle.std.proofs.lemmas.Grind.{common_steps}
 use Rattle.gds_flatten.specs.steps.Rows.{rows, state_of}
 use Rattle.gds_flatten.proofs.Searched.{begins}
-use Rattle.gds_flatten.proofs.Turns.{less_left}
+use Rattle.gds_flatten.proofs.SearchTurns.{less_left}
 use Rattle.gds_flatten.proofs.search.search_from.Goals as goal
 
 pub cells-init : goal.cells-init

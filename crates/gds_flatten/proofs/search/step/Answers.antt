@@ -1,6 +1,6 @@
 use Rattle.std.proofs.Common.{rules}
 use Rattle.gds_flatten.specs.steps.Rows.{rows, state_of}
-use Rattle.gds_flatten.proofs.Turns.{closes, opens, opens_one, passes}
+use Rattle.gds_flatten.proofs.SearchTurns.{closes, opens, opens_one, passes}
 use Rattle.gds_flatten.proofs.search.step.Goals as goal
 
 pub returns-then-passed-row-clause-searched : goal.returns-then-passed-row-clause-searched
