@@ -1,0 +1,4 @@
+pub mod Pointing
+pub mod Within
+pub mod Composing
+pub mod Centres

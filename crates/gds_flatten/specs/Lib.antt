@@ -1,3 +1,5 @@
 pub mod Placements
 pub mod Shapes
 pub mod References
+pub mod Laws
+pub mod steps

@@ -4,6 +4,7 @@
 #![tactic(auto)]
 
 mod error;
+pub mod laws;
 mod placement;
 
 pub use error::FlattenError;

@@ -1,0 +1,2 @@
+-- What the contracts of private functions say.
+pub mod Ranges
