@@ -5,7 +5,11 @@
 
 mod error;
 pub mod laws;
+mod link;
 mod placement;
+mod reference;
 
 pub use error::FlattenError;
+pub use link::Link;
 pub use placement::Placement;
+pub use reference::{array_link, reference_link};
