@@ -4,3 +4,11 @@ pub mod Searching
 pub mod Searched
 pub mod SearchTurns
 pub mod HeightsInOrder
+pub mod Pointing
+pub mod Within
+pub mod Composing
+pub mod Centres
+pub mod Stepping
+pub mod Turns
+pub mod Arrays
+pub mod Wholes

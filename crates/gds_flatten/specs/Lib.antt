@@ -2,4 +2,6 @@ pub mod Placements
 pub mod Shapes
 pub mod References
 pub mod Graphs
+pub mod Links
+pub mod Laws
 pub mod steps

@@ -1,6 +1,6 @@
 -- Placements, and where they carry sets of squares and rectangles. A carried set is told by the
 -- square that each square comes from.
-use Rattle.std.specs.Prelude.{◌≡◌, ℕ, zero, suc, ◌<◌, ◌*◌, ℤ, pos, negsuc, ◌+ℤ◌, ◌-ℤ◌, ◌*ℤ◌, Bool, true, false, cond, not}
+use Rattle.std.specs.Prelude.{ℕ, zero, suc, ℤ, pos, negsuc, ◌+ℤ◌, ◌-ℤ◌, Bool, true, false, cond, not}
 use Rattle.std.specs.Int.{int_min, int_max}
 use Rattle.gds_shape.specs.declared.bounds.Bounds.{Bounds}
 use Rattle.gds_flatten.specs.declared.placement.Placement.{Placement}

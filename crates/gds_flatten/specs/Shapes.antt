@@ -1,5 +1,5 @@
 -- The shapes of a layer: what each covers, how far it goes, and why it's refused.
-use Rattle.std.specs.Prelude.{◌≡◌, ℕ, ℤ, Bool, false, ◌&&◌, not, ◌==◌, List, [], ◌∷◌, map, cond, Option, Some, None, All}
+use Rattle.std.specs.Prelude.{ℕ, ℤ, Bool, false, ◌&&◌, ◌==◌, List, [], map, cond, Option, Some, None, All}
 use Rattle.std.specs.List.{list_any}
 use Rattle.gds_grammar.specs.declared.element.Element.{Element}
 use Rattle.gds_grammar.specs.declared.element.Element.TheVariants.{Boundary, Path, Ref, Array}

@@ -2,3 +2,4 @@
 pub mod Searches
 pub mod Rows
 pub mod Heights
+pub mod Ranges

@@ -7,6 +7,12 @@ mod error;
 mod heights;
 mod placement;
 mod search;
+pub mod laws;
+mod link;
+mod placement;
+mod reference;
 
 pub use error::FlattenError;
+pub use link::Link;
 pub use placement::Placement;
+pub use reference::{array_link, reference_link};
