@@ -17,10 +17,13 @@ pub above_more : (row heights : List ℕ) (i c h over_c new : ℕ) → i < lengt
 above_more row heights i c h over_c new within is few before above now = record { most = most; over = over; under = under } where
   all : take (i + 1) row ≡ take i row ++ item row i ∷ []
   all = take_more row i 0 within
+
   len : length (take i row) ≡ i
   len = length-take-le i row (omega (arith, within))
+
   most : new ≤ 256
   most = let bound = before.most in let bound_c = above.most in let one = now.either in omega (arith, one, bound, bound_c)
+
   over : (n : ℕ) → n < new → (k : ℕ) × (k < length (take (i + 1) row)) × (n ≤ item heights (item (take (i + 1) row) k))
   over n small = cases (cases_lt n h) where
     cases : ((n < h) ⊎ (h ≤ n)) → (k : ℕ) × (k < length (take (i + 1) row)) × (n ≤ item heights (item (take (i + 1) row) k))
@@ -35,18 +38,22 @@ above_more row heights i c h over_c new within is few before above now = record 
         let most_c = above.least in let one = now.either in
         let least : n ≤ item heights c = omega (arith, one, most_c, small, most_h) in
         (i, longer, rw there least)
+
   under : (k : ℕ) → k < length (take (i + 1) row) → (item heights (item (take (i + 1) row) k) < new) ⊎ (new ≡ 256)
   under k in_row = cases (cases_eq k i) where
     short : k < i + 1
     short = grind (arith, common_steps, in_row)
+
     there : item (take (i + 1) row) k ≡ item row k
     there = get_or-take (i + 1) row k 0 short
+
     last : item heights c < new ⊎ (new ≡ 256)
     last = from (cases_lt (item heights c) new)
       where
         from : ((item heights c < new) ⊎ (new ≤ item heights c)) → (item heights c < new) ⊎ (new ≡ 256)
         from (inl less) = inl less
         from (inr more) = let bound = few c in let up = above.more in let reach = now.second in inr (omega (arith, up, reach, more, bound, most))
+
     cases : ((k ≡ i) ⊎ (k ≡ i → ⊥)) → (item heights (item (take (i + 1) row) k) < new) ⊎ (new ≡ 256)
     cases (inl e) = rw (there, ap (item row) e, sym is) last
     cases (inr apart) =
@@ -68,6 +75,7 @@ height_right g heights c h above below = record { most = above.most; deep = deep
       let (k, in_row, least) = above.over n (omega (arith, small)) in
       let (d, chain) = (below k in_row).deep n least in
       (d, (k, in_row, chain))
+
   flat : (n : ℕ) → IsDeep g n c → (n ≤ h) ⊎ (h ≡ 256)
   flat zero (d, chain) = inl (omega arith)
   flat (suc n) (d, (k, in_row, chain)) = cases (above.under k in_row) ((below k in_row).flat n (d, chain)) where
@@ -94,6 +102,7 @@ heights_more g order i heights h ordered within small so_far above = record {
 } where
   at : (c : ℕ) → Changed heights (item order i) h c
   at c = let long = so_far.long in changed heights (item order i) h c (omega (arith, small, long))
+
   below : (k : ℕ) → k < length (next g (item order i)) → IsHeight g (item (next g (item order i)) k) (item heights (item (next g (item order i)) k))
   below k in_row =
       let (p, under, is) = ordered i k within in_row in
@@ -101,13 +110,16 @@ heights_more g order i heights h ordered within small so_far above = record {
       let before : p < i = omega (arith, under, len) in
       let there : item order p ≡ item (next g (item order i)) k = sym (get_or-take i order p 0 before) ∙ is in
       subst (λ y. IsHeight g y (item heights y)) there (so_far.right p before)
+
   here : IsHeight g (item order i) h
   here = height_right g heights (item order i) h above below
+
   most : (c : ℕ) → item (slice_set heights (item order i) h) c ≤ 256
   most c = cases (at c) where
     cases : Changed heights (item order i) h c → item (slice_set heights (item order i) h) c ≤ 256
     cases (inl (e, now)) = let bound = above.most in omega (arith, now, bound)
     cases (inr (other, now)) = let bound = so_far.most c in omega (arith, now, bound)
+
   right : (q : ℕ) → q < i + 1 → IsHeight g (item order q) (item (slice_set heights (item order i) h) (item order q))
   right q before = cases (at (item order q)) where
     cases : Changed heights (item order i) h (item order q) → IsHeight g (item order q) (item (slice_set heights (item order i) h) (item order q))
@@ -125,6 +137,7 @@ pub too_deep : (g : Graph) (c h : ℕ) → IsHeight g c h → (256 ≤ h → IsT
 too_deep g c h is = (there, here) where
   there : 256 ≤ h → IsTooDeep g c
   there many = record { references = h; chain = is.deep h (omega arith); many = many }
+
   here : IsTooDeep g c → 256 ≤ h
   here deep = cases (is.flat deep.references deep.chain) where
     cases : ((deep.references ≤ h) ⊎ (h ≡ 256)) → 256 ≤ h
@@ -135,5 +148,5 @@ pub deep_told : (g : Graph) (c h told : ℕ) → IsHeight g c h → told ≡ h �
 deep_told g c h told is same =
     let (there, here) = too_deep g c h is in
     ((λ yes_it. there (by yes_it)), (λ deep. let many = here deep in grind (arith, common_steps, same, many))) where
-  by : IsTrue (nat_le 256 told) → 256 ≤ h
-  by t = grind (arith, common_steps, same, t)
+      by : IsTrue (nat_le 256 told) → 256 ≤ h
+      by t = grind (arith, common_steps, same, t)

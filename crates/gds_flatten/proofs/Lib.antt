@@ -12,3 +12,4 @@ pub mod Stepping
 pub mod Turns
 pub mod Arrays
 pub mod Wholes
+pub mod Drawing

@@ -3,3 +3,4 @@ pub mod Searches
 pub mod Rows
 pub mod Heights
 pub mod Ranges
+pub mod Walks

@@ -24,7 +24,11 @@ fn height_over(height: usize) -> usize
     requires { height ≤ 256 }
     ensures { IsOver height result }
 {
-    if height < TOO_MANY { height + 1 } else { TOO_MANY }
+    if height < TOO_MANY {
+        height + 1
+    } else {
+        TOO_MANY
+    }
 }
 
 /// One more than the greatest height of the cells of the row, at most `TOO_MANY`.

@@ -3,14 +3,18 @@
 //! references say, and each refusal comes exactly where its cause is the first.
 #![tactic(auto)]
 
+mod cell;
+mod counts;
 mod error;
 mod heights;
-mod placement;
-mod search;
 pub mod laws;
 mod link;
 mod placement;
 mod reference;
+mod search;
+mod shape;
+mod shapes;
+mod walk;
 
 pub use error::FlattenError;
 pub use link::Link;
