@@ -13,3 +13,5 @@ pub mod Turns
 pub mod Arrays
 pub mod Wholes
 pub mod Drawing
+pub mod Capping
+pub mod CountsInOrder

@@ -4,3 +4,4 @@ pub mod Rows
 pub mod Heights
 pub mod Ranges
 pub mod Walks
+pub mod Counting
