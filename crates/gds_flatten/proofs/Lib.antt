@@ -15,3 +15,5 @@ pub mod Wholes
 pub mod Drawing
 pub mod Capping
 pub mod CountsInOrder
+pub mod Naming
+pub mod Building

@@ -4,5 +4,7 @@ pub mod References
 pub mod Graphs
 pub mod Links
 pub mod Copies
+pub mod Designs
+pub mod Flattening
 pub mod Laws
 pub mod steps

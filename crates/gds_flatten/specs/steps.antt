@@ -5,3 +5,4 @@ pub mod Heights
 pub mod Ranges
 pub mod Walks
 pub mod Counting
+pub mod Built

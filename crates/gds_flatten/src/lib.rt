@@ -4,8 +4,10 @@
 #![tactic(auto)]
 
 mod cell;
+mod cells;
 mod counts;
 mod error;
+mod graph;
 mod heights;
 pub mod laws;
 mod link;
