@@ -6,3 +6,4 @@ pub mod Stepping
 pub mod Turns
 pub mod Arrays
 pub mod Wholes
+pub mod Filling

@@ -8,6 +8,8 @@ pub mod laws;
 mod link;
 mod placement;
 mod reference;
+mod shape;
+mod shapes;
 
 pub use error::FlattenError;
 pub use link::Link;
