@@ -7,3 +7,5 @@ pub mod Turns
 pub mod Arrays
 pub mod Wholes
 pub mod Filling
+pub mod Carrying
+pub mod Placing

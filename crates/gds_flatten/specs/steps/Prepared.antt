@@ -1,15 +1,22 @@
 -- Shapes that are filled at the corner of all coordinates.
 use Rattle.std.specs.Prelude.{◌≡◌, ℤ, ◌-ℤ◌, ◌≤ℤ◌, false, List, length, Option, Some, None, All}
+use Rattle.fill_base.specs.Coordinates.{lowest}
 use Rattle.fill_base.specs.declared.rect.Rect.{Rect}
 use Rattle.fill_region.specs.Squares.{covered}
 use Rattle.gds_grammar.specs.declared.element.Element.{Element}
 use Rattle.gds_shape.specs.declared.bounds.Bounds.{Bounds}
 use Rattle.gds_shape.specs.Extents.{IsExtent, IsNarrow, IsNear, LiesWithin, corner_move}
+use Rattle.gds_flatten.specs.declared.placement.Placement.{Placement}
+use Rattle.gds_flatten.specs.Placements.{shift}
 use Rattle.gds_flatten.specs.Shapes.{covers_of, parts_of}
 
 -- a rectangle of squares by its edges
 abbrev pub edges_of : Rect → Bounds
 edges_of r = record { left = r.x1; bottom = r.y1; right = r.x2; top = r.y2 }
+
+-- from the corner to where the extent lies
+abbrev pub way_back : Bounds → Placement
+way_back b = shift (b.left -ℤ lowest) (b.bottom -ℤ lowest)
 
 pub record IsOrdered (b : Bounds) : Type 0 where
   pub wide : b.left ≤ℤ b.right
