@@ -69,7 +69,7 @@ signed_either true false v w z = omega (arith, ints)
 signed_either false true v w z = omega (arith, ints)
 signed_either false false v w z = omega (arith, ints)
 
-point_together_x : (p q : Placement) (x y : ℤ) → point_x p (point_x q x y) (point_y q x y) ≡ point_x (composed p q) x y
+pub point_together_x : (p q : Placement) (x y : ℤ) → point_x p (point_x q x y) (point_y q x y) ≡ point_x (composed p q) x y
 point_together_x p q x y = cases p.swapped q.swapped
   where
     cases : (a b : Bool)
@@ -80,7 +80,7 @@ point_together_x p q x y = cases p.swapped q.swapped
     cases false true = signed_either p.flip_x q.flip_x y q.x p.x
     cases false false = signed_either p.flip_x q.flip_x x q.x p.x
 
-point_together_y : (p q : Placement) (x y : ℤ) → point_y p (point_x q x y) (point_y q x y) ≡ point_y (composed p q) x y
+pub point_together_y : (p q : Placement) (x y : ℤ) → point_y p (point_x q x y) (point_y q x y) ≡ point_y (composed p q) x y
 point_together_y p q x y = cases p.swapped q.swapped
   where
     cases : (a b : Bool)

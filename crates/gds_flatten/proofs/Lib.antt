@@ -17,3 +17,6 @@ pub mod Capping
 pub mod CountsInOrder
 pub mod Naming
 pub mod Building
+pub mod Filling
+pub mod Carrying
+pub mod Placing

@@ -6,15 +6,15 @@ use Rattle.gds_flatten.specs.declared.placement.Placement.{Placement}
 use Rattle.gds_flatten.specs.Placements.{signed, composed}
 use Rattle.gds_flatten.specs.steps.Ranges.{IsWithin}
 
-signed_size : (b : Bool) (v : ℤ) → unsigned_abs (signed b v) ≡ unsigned_abs v
+pub signed_size : (b : Bool) (v : ℤ) → unsigned_abs (signed b v) ≡ unsigned_abs v
 signed_size true v = omega (arith, ints)
 signed_size false v = omega (arith, ints)
 
-either_size : (b : Bool) (v w : ℤ) (m : ℕ) → unsigned_abs v ≤ m → unsigned_abs w ≤ m → unsigned_abs (cond b v w) ≤ m
+pub either_size : (b : Bool) (v w : ℤ) (m : ℕ) → unsigned_abs v ≤ m → unsigned_abs w ≤ m → unsigned_abs (cond b v w) ≤ m
 either_size true v w m h k = h
 either_size false v w m h k = k
 
-sum_size : (v w : ℤ) (m n : ℕ) → unsigned_abs v ≤ m → unsigned_abs w ≤ n → unsigned_abs (v +ℤ w) ≤ n + m
+pub sum_size : (v w : ℤ) (m n : ℕ) → unsigned_abs v ≤ m → unsigned_abs w ≤ n → unsigned_abs (v +ℤ w) ≤ n + m
 sum_size v w m n h k = omega (arith, ints)
 
 one_more : (b c : Bool) (v w z : ℤ) (n : ℕ) → unsigned_abs v ≤ 1 * 68719476736 → unsigned_abs w ≤ 1 * 68719476736

@@ -6,3 +6,4 @@ pub mod Ranges
 pub mod Walks
 pub mod Counting
 pub mod Built
+pub mod Prepared

@@ -73,7 +73,7 @@ impl Placement {
 
     /// The abscissa to which a point goes.
     pub fn point_x(&self, x: i64, y: i64) -> i64
-        requires within { IsWithin 257 self.now }
+        requires within { IsWithin 258 self.now }
         requires x { IsClose x }
         requires y { IsClose y }
         ensures { result ≡ point_x self.now x y }
@@ -84,7 +84,7 @@ impl Placement {
 
     /// The ordinate to which a point goes.
     pub fn point_y(&self, x: i64, y: i64) -> i64
-        requires within { IsWithin 257 self.now }
+        requires within { IsWithin 258 self.now }
         requires x { IsClose x }
         requires y { IsClose y }
         ensures { result ≡ point_y self.now x y }

@@ -1,5 +1,5 @@
 -- A closed boundary goes up past each row as often as down.
-use Rattle.std.proofs.Common.{◌≡◌, ℕ, suc, ◌+◌, ◌-◌, ℤ, ◌≤ℤ◌, ◌<ℤ◌, List, [], ◌∷◌, length, refl, arith, ap, ◌∙◌, sym, Bool, true, false, cond, not, ◌&&◌, inl, inr, Some}
+use Rattle.std.proofs.Common.{◌≡◌, ℕ, suc, ◌+◌, ◌-◌, ℤ, ◌≤ℤ◌, ◌<ℤ◌, List, [], ◌∷◌, length, get_or, refl, arith, ap, ◌∙◌, sym, Bool, true, false, cond, not, ◌&&◌, inl, inr, Some}
 use Rattle.std.specs.Prelude.{int_lt, int_le, All, count_by, slice_get}
 use Rattle.std.specs.Ordering.{int_eq}
 use Rattle.std.proofs.lemmas.Int.{ints}
@@ -79,23 +79,28 @@ last_is p [] = refl
 last_is p (q ∷ points) = last_is q points
 
 -- left of all points, at each row
-pub closed_row : (points : List Point) (x y : ℤ) → IsManhattan points → IsClosed points → All IsPoint points → x <ℤ lowest
+pub closed_left : (points : List Point) (x y : ℤ) → IsManhattan points → IsClosed points → All (λ q. x <ℤ q.x) points
     → count_by (passes true x y) (edges points) ≡ count_by (passes false x y) (edges points)
-closed_row [] x y manhattan closed within left = refl
-closed_row (p ∷ points) x y manhattan closed within left =
-    let far = edges_over p points x y manhattan (right_of p (within 0 p (omega arith))) (λ k d lt. right_of _ (within (suc k) d (omega arith))) in
+closed_left [] x y manhattan closed left = refl
+closed_left (p ∷ points) x y manhattan closed left =
+    let far = edges_over p points x y manhattan (left 0 p (omega arith)) (λ k d lt. left (suc k) d (omega arith)) in
     let end : Some p ≡ Some (last_from p points) = closed ∙ (ap (λ n. slice_get (p ∷ points) n) (less (length points)) ∙ last_is p points) in
     let same : last_from p points ≡ p = cc in
     cancel _ _ (over y p) (far ∙ ap (λ q. count_by (passes false x y) (edges_from p points) + over y q) same)
+  where
+    less : (n : ℕ) → suc n - 1 ≡ n
+    less n = omega arith
+
+    cancel : (a b c : ℕ) → a + c ≡ b + c → a ≡ b
+    cancel a b c h = omega arith
+
+-- so too left of all coordinates
+pub closed_row : (points : List Point) (x y : ℤ) → IsManhattan points → IsClosed points → All IsPoint points → x <ℤ lowest
+    → count_by (passes true x y) (edges points) ≡ count_by (passes false x y) (edges points)
+closed_row points x y manhattan closed within left = closed_left points x y manhattan closed (λ k d lt. right_of (get_or points k d) (within k d lt))
   where
     right_of : (q : Point) → IsPoint q → x <ℤ q.x
     right_of q is = past q.x is.x.least
       where
         past : (a : ℤ) → lowest ≤ℤ a → x <ℤ a
         past a h = omega (arith, ints)
-
-    less : (n : ℕ) → suc n - 1 ≡ n
-    less n = omega arith
-
-    cancel : (a b c : ℕ) → a + c ≡ b + c → a ≡ b
-    cancel a b c h = omega arith

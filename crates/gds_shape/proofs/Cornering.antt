@@ -15,11 +15,11 @@ use Rattle.gds_shape.specs.Extents.{at_point, IsExtent, IsNarrow, IsNear, corner
 abbrev at : ℤ → ℤ → Point
 at x y = record { x = x; y = y }
 
-le_self : (a : ℤ) → a ≤ℤ a
+pub le_self : (a : ℤ) → a ≤ℤ a
 le_self a = omega (arith, ints)
 
 -- what holds of the mapped list at an index, at the point itself
-at_index : (P : Bounds → Type 0) (points : List Point) (k : ℕ) (d : Point) → k < length points → All P (map at_point points) → P (at_point (get_or points k d))
+pub at_index : (P : Bounds → Type 0) (points : List Point) (k : ℕ) (d : Point) → k < length points → All P (map at_point points) → P (at_point (get_or points k d))
 at_index P points k d lt all =
     let same : get_or (map at_point points) k (at_point d) ≡ at_point (get_or points k d) = get_or-map at_point points k d in
     rw same at (all k (at_point d) (rw length-map lt))

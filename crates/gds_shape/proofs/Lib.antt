@@ -14,3 +14,5 @@ pub mod Faults
 pub mod Spread
 pub mod Grown
 pub mod Cornering
+pub mod Inside
+pub mod Near

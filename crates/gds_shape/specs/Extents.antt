@@ -1,9 +1,10 @@
 -- The least rectangle around points or rectangles: how far they go to each side.
-use Rattle.std.specs.Prelude.{ℤ, pos, negsuc, ◌-ℤ◌, ◌≤ℤ◌, ◌↔◌, List, All}
+use Rattle.std.specs.Prelude.{◌≡◌, Bool, true, ℤ, pos, negsuc, ◌-ℤ◌, ◌≤ℤ◌, ◌↔◌, List, All}
 use Rattle.std.specs.Int.{int_min, int_max}
 use Rattle.fill_base.specs.declared.place.Point.{Point}
 use Rattle.fill_base.specs.Coordinates.{lowest}
 use Rattle.gds_shape.specs.declared.bounds.Bounds.{Bounds}
+use Rattle.gds_shape.specs.Paths.{in_bounds}
 
 -- a point as a rectangle of no extent
 abbrev pub at_point : Point → Bounds
@@ -41,3 +42,7 @@ pub record IsNear (b : Bounds) : Type 0 where
   pub top : b.top ≤ℤ pos 8589934592
   pub wide : b.left ≤ℤ b.right
   pub tall : b.bottom ≤ℤ b.top
+
+-- the squares of a set lie within the rectangle
+abbrev pub LiesWithin : (ℤ → ℤ → Bool) → Bounds → Type 0
+LiesWithin s b = (x y : ℤ) → s x y ≡ true → in_bounds b x y ≡ true

@@ -7,7 +7,7 @@ ghost use Rattle.fill_region.specs.Squares.{covered};
 ghost use Rattle.gds_shape.specs.Winding.{covers, IsAligned, IsManhattan, IsClosed, IsPoint};
 ghost use Rattle.gds_shape.specs.Moves.{moved};
 ghost use Rattle.gds_record.specs.Numbers.{IsStored};
-ghost use Rattle.gds_shape.specs.Extents.{at_point, IsExtent, IsNarrow, corner_move};
+ghost use Rattle.gds_shape.specs.Extents.{at_point, IsExtent, IsNarrow, IsNear, LiesWithin, corner_move};
 ghost use Rattle.gds_shape.specs.Boxes.{GoesRound, IsBox, is_in_box};
 
 use crate::bounds::Bounds;
@@ -132,6 +132,8 @@ pub fn put_boundary_at_corner(
     requires closed { IsClosed points.now }
     requires stored { All IsStored points.now }
     ensures extent { IfOk result (λ b. IsExtent (map at_point points.now) b) }
+    ensures near { IfOk result IsNear }
+    ensures inside { IfOk result (LiesWithin (covers points.now)) }
     ensures added { IfOk result (λ b. IsNarrow b → (x y : ℤ) → covered out.new.items x y
         ≡ (covered out.old.items x y || covers points.now (x -ℤ (corner_move b).x) (y -ℤ (corner_move b).y))) }
     ensures wide { IfOk result (λ b. (¬ IsNarrow b) → out.new.items ≡ out.old.items) }

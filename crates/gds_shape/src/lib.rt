@@ -19,8 +19,8 @@ pub use boundary::{boundary_region, is_manhattan, put_boundary, put_boundary_at_
 pub use bounds::Bounds;
 pub use error::ShapeError;
 pub use extent::{bounds_extent, move_to_corner, points_extent};
-pub use path::{path_region, path_segments};
-pub use segments::put_bounds;
+pub use path::{path_region, path_segments, put_path_at_corner};
+pub use segments::{is_in_range, put_bounds};
 
 #[cfg(test)]
 mod tests;

@@ -1,10 +1,12 @@
 //! Paths: wires of even width along an axis. A path covers the rectangles of the segments between
 //! its corners; a path without a width, or with one corner, covers nothing and isn't checked.
 
-ghost use Rattle.std.specs.Prelude.{◌≡◌, ◌⊎◌, not, pos, ℤ, None, Some, All, MatchResult, IfOk, IfErr};
+ghost use Rattle.std.specs.Prelude.{◌≡◌, ◌⊎◌, ◌||◌, ◌-ℤ◌, [], not, pos, ℤ, None, Some, All, MatchResult, IfOk, IfErr, IfSome, IfNone};
 ghost use Rattle.std.specs.List.{list_any};
 ghost use Rattle.std.specs.Ordering.{int_eq};
 ghost use Rattle.fill_region.specs.Bands.{holds, IsRegion};
+ghost use Rattle.fill_region.specs.Squares.{covered};
+ghost use Rattle.gds_shape.specs.Extents.{IsExtent, IsNarrow, IsNear, LiesWithin, corner_move};
 ghost use Rattle.gds_shape.specs.Winding.{edges};
 ghost use Rattle.gds_shape.specs.steps.Ranges.{IsStretch};
 ghost use Rattle.gds_shape.specs.Paths.{is_slanted, width_of, type_of, half_of, extension, begin_of, end_of, has_round_end, has_odd_width, has_bad_extension, fault_among, path_fault, segments_of, path_covers, AreInRange, IsPathRefusal};
@@ -13,8 +15,9 @@ use crate::boundary::is_manhattan;
 use crate::bounds::Bounds;
 use crate::corners::{corners_of, doubles_back};
 use crate::error::ShapeError;
+use crate::extent::{bounds_extent, move_to_corner};
 use crate::segments::{are_in_range, put_bounds, segments_along};
-use fill_base::Point;
+use fill_base::{Point, Rect};
 use fill_region::Region;
 use gds_grammar::Path;
 use std::alloc::{AllocError, Global};
@@ -131,9 +134,10 @@ fn has_width(path: &Path) -> bool
 /// `NotManhattan` where a segment lies along no axis, else `RoundEnd`, `OddWidth`, `DoublesBack` or
 /// `BadExtension`, the first in this order, or `Memory` where memory is refused.
 pub fn path_segments(alloc: Global, path: &Path) -> Result<Vec<Bounds>, ShapeError>
-    ensures { MatchResult result
+    ensures is { MatchResult result
         (λ v. (path_fault path.now ≡ None) × (v.items ≡ segments_of path.now))
         (λ e. (e ≡ ShapeError.Memory) ⊎ (path_fault path.now ≡ Some e)) }
+    ensures near { IfOk result (λ v. All IsNear v.items) }
 {
     if !has_width(path) {
         return Ok(Vec::new(alloc));
@@ -148,6 +152,41 @@ pub fn path_segments(alloc: Global, path: &Path) -> Result<Vec<Bounds>, ShapeErr
     let half = half_of(path);
     let segments = segments_along(alloc, &corners, half, begin_of(path), end_of(path))?;
     Ok(segments)
+}
+
+/// Appends the squares that the path covers, moved so that the extent of its segments begins at the
+/// least coordinates, and answers the extent; `None` where the path covers nothing. Nothing is
+/// appended where it's wider or taller than all coordinates.
+///
+/// # Errors
+/// Those of `path_segments`, or `Memory` where memory is refused.
+pub fn put_path_at_corner(
+    alloc: Global,
+    out: &mut Vec<Rect>,
+    path: &Path,
+) -> Result<Option<Bounds>, ShapeError>
+    ensures fine { IfOk result (λ o. path_fault path.now ≡ None) }
+    ensures none { IfOk result (λ o. IfNone o ((segments_of path.now ≡ []) × (out.new.items ≡ out.old.items))) }
+    ensures segments { IfOk result (λ o. All IsNear (segments_of path.now)) }
+    ensures extent { IfOk result (λ o. IfSome o (λ b. IsExtent (segments_of path.now) b × IsNear b
+        × LiesWithin (path_covers path.now) b)) }
+    ensures added { IfOk result (λ o. IfSome o (λ b. IsNarrow b → (x y : ℤ) → covered out.new.items x y
+        ≡ (covered out.old.items x y || path_covers path.now (x -ℤ (corner_move b).x) (y -ℤ (corner_move b).y)))) }
+    ensures wide { IfOk result (λ o. IfSome o (λ b. (¬ IsNarrow b) → out.new.items ≡ out.old.items)) }
+    ensures refused { IfErr result (λ e. (e ≡ ShapeError.Memory) ⊎ (path_fault path.now ≡ Some e)) }
+{
+    let segments = path_segments(alloc, path)?;
+    if segments.is_empty() {
+        return Ok(None);
+    }
+    let extent = bounds_extent(&segments);
+    match move_to_corner(extent) {
+        Some(by) => {
+            put_bounds(out, &segments, by)?;
+            Ok(Some(extent))
+        }
+        None => Ok(Some(extent)),
+    }
 }
 
 /// The squares that the path covers, in database units.

@@ -112,7 +112,7 @@ fn are_coordinates(x: i64, y: i64) -> bool
 }
 
 /// Whether the four edges are coordinates.
-fn is_in_range(bounds: &Bounds) -> bool
+pub fn is_in_range(bounds: &Bounds) -> bool
     ensures { IsTrue result ↔ AreInRange bounds.now }
 {
     are_coordinates(bounds.left, bounds.bottom) && are_coordinates(bounds.right, bounds.top)

@@ -498,3 +498,56 @@ fn segments_of_a_path(rt: HostRuntime) -> Result<(), Fail> {
     }
     Ok(())
 }
+
+/// A path far from the origin is moved to the corner of all coordinates, one that is wider than they
+/// are is not appended, and one without a width has no extent.
+#[test]
+fn paths_at_the_corner(rt: HostRuntime) -> Result<(), Fail> {
+    let far: &[(i32, i32)] = &[(2_000_000_000, 5), (2_000_000_010, 5), (2_000_000_010, 15)];
+    let wide: &[(i32, i32)] = &[(-2_000_000_000, 0), (2_000_000_000, 0)];
+    let cases: [(Wire<'_>, Option<Bounds>, i64); 3] = [
+        (
+            Wire {
+                points: far,
+                ..CORNER
+            },
+            Some(Bounds {
+                left: 2_000_000_000,
+                bottom: 3,
+                right: 2_000_000_012,
+                top: 15,
+            }),
+            80,
+        ),
+        (
+            Wire {
+                points: wide,
+                ..CORNER
+            },
+            Some(Bounds {
+                left: -2_000_000_000,
+                bottom: -2,
+                right: 2_000_000_000,
+                top: 2,
+            }),
+            0,
+        ),
+        (Wire { width: 0, ..CORNER }, None, 0),
+    ];
+    for (wire, want, area) in cases {
+        let library = library_of(rt.alloc(), wire)?;
+        for element in library.cells.get(b"T".as_slice()).ok_or("no cell")? {
+            if let Element::Path(path) = element {
+                let mut rects = Vec::new(rt.alloc());
+                let extent = put_path_at_corner(rt.alloc(), &mut rects, path)?;
+                assert_eq!(rt; extent, want);
+                for rect in &rects {
+                    assert!(rt; rect.x2() <= -1_073_741_812 && rect.y2() <= -1_073_741_812);
+                }
+                let region = Region::from_rects(rt.alloc(), &rects)?;
+                assert_eq!(rt; area_of(rt.alloc(), &region)?, area);
+            }
+        }
+    }
+    Ok(())
+}
