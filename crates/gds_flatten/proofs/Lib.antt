@@ -20,3 +20,5 @@ pub mod Building
 pub mod Filling
 pub mod Carrying
 pub mod Placing
+pub mod Surveying
+pub mod Agreeing

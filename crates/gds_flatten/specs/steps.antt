@@ -2,6 +2,7 @@
 pub mod Searches
 pub mod Rows
 pub mod Heights
+pub mod Surveys
 pub mod Ranges
 pub mod Walks
 pub mod Counting
