@@ -31,11 +31,11 @@ next_is all (e ∷ es) (suc c) = next_is all es c
 
 small_targets : (all : List Entry) (es : List Element) (k : ℕ) → k < length (targets all es) → item (targets all es) k ≤ length all
 small_targets all [] k within = absurd (grind (arith, common_steps, within))
-small_targets all (e ∷ es) k within = cases (name_of e) k within where
-  cases : (o : Option (List ℕ)) (j : ℕ) → j < length (target_if all o ++ targets all es) → item (target_if all o ++ targets all es) j ≤ length all
-  cases (Some name) zero inside = no_more (λ (x : Entry). bytes_eq name x.0.items) all
-  cases (Some name) (suc j) inside = small_targets all es j (grind (arith, common_steps, inside))
-  cases None j inside = small_targets all es j inside
+small_targets all (e ∷ es) k within = cases (small_targets all es) (name_of e) k within where
+  cases : ((j : ℕ) → j < length (targets all es) → item (targets all es) j ≤ length all) → (o : Option (List ℕ)) (j : ℕ) → j < length (target_if all o ++ targets all es) → item (target_if all o ++ targets all es) j ≤ length all
+  cases rest (Some name) zero inside = no_more (λ (x : Entry). bytes_eq name x.0.items) all
+  cases rest (Some name) (suc j) inside = rest j (grind (arith, common_steps, inside))
+  cases rest None j inside = rest j inside
 
 pub whole : (all : List Entry) → IsWhole (graph_of all)
 whole all c k within =
@@ -64,14 +64,15 @@ each_target : (all : List Entry) (P : ℕ → Type 0) (es : List Element) → ((
     → Each (λ (s : ℕ × Placement). P s.0) (singles_among all es)
 unfolding Each
 each_target all P [] h = tt
-each_target all P (e ∷ es) h = cases (name_of e) h where
-  cases : (o : Option (List ℕ)) → ((k : ℕ) → k < length (target_if all o ++ targets all es) → P (item (target_if all o ++ targets all es) k))
+each_target all P (e ∷ es) h = cases (each_target all P es) (name_of e) h where
+  cases : (((k : ℕ) → k < length (targets all es) → P (item (targets all es) k)) → Each (λ (s : ℕ × Placement). P s.0) (singles_among all es))
+      → (o : Option (List ℕ)) → ((k : ℕ) → k < length (target_if all o ++ targets all es) → P (item (target_if all o ++ targets all es) k))
       → Each (λ (s : ℕ × Placement). P s.0) (singles_to all o (placements_of e) ++ singles_among all es)
-  cases (Some name) each =
+  cases rest (Some name) each =
       each_joins (λ (s : ℕ × Placement). P s.0) (singles_to all (Some name) (placements_of e)) (singles_among all es)
       (each_single P (index_of all name) (each 0 (grind (arith, common_steps))) (placements_of e))
-      (each_target all P es (λ k within. each (suc k) (grind (arith, common_steps, within))))
-  cases None each = each_target all P es each
+      (rest (λ k within. each (suc k) (grind (arith, common_steps, within))))
+  cases rest None each = rest each
 
 same_flat : (P : ℕ → Type 0) (f g : ℕ → List Copy) → ((c : ℕ) → P c → f c ≡ g c) → (ss : List (ℕ × Placement)) → Each (λ (s : ℕ × Placement). P s.0) ss
     → flat_map (λ (s : ℕ × Placement). map (carry_copy s.1) (f s.0)) ss ≡ flat_map (λ (s : ℕ × Placement). map (carry_copy s.1) (g s.0)) ss
@@ -104,18 +105,19 @@ module _ (entries : List Entry) (layer data_type t : ℕ) (s : State) (surveyed 
       let own : own_in (slice_get cells c) ≡ (hierarchy_of entries layer data_type).own c = ap own_in cell.stands ∙ cell.is.own in
       let singles : singles_in (slice_get cells c) ≡ (hierarchy_of entries layer data_type).singles c = ap singles_in cell.stands ∙ cell.is.singles in
       let each = each_target entries (IsReached (graph_of entries) t) (elements_at entries c) (λ k within.
-          subst (λ xs. IsReached (graph_of entries) t (item xs k)) (next_is entries entries c)
-          (reached_next (graph_of entries) t c k reached (subst (λ xs. k < length xs) (sym (next_is entries entries c)) within))) in
+      subst (λ xs. IsReached (graph_of entries) t (item xs k)) (next_is entries entries c)
+      (reached_next (graph_of entries) t c k reached (subst (λ xs. k < length xs) (sym (next_is entries entries c)) within))) in
       rw (own, singles) (ap (λ cs. map own_copy ((hierarchy_of entries layer data_type).own c) ++ cs)
-          (same_flat (IsReached (graph_of entries) t) (copies (hierarchy cells) n) (copies (hierarchy_of entries layer data_type) n) (agree n)
-              (singles_among entries (elements_at entries c)) each))
+      (same_flat (IsReached (graph_of entries) t) (copies (hierarchy cells) n) (copies (hierarchy_of entries layer data_type) n) (agree n)
+      (singles_among entries (elements_at entries c)) each))
 
   pub tied : (q : ℕ) → q < length s.order → IsTied (graph_of entries) cells (item s.order q)
   tied q within =
       let reached = surveyed.order q within in
-      let cell = cell_at (item s.order q) reached in
-      (subst (λ n. item s.order q < n) (sym built.long) (inside (item s.order q) reached),
-      ap (λ o. map (λ l. l.cell) (links_in o)) cell.stands ∙ cell.is.links ∙ sym (next_is entries entries (item s.order q)))
+      let cell = cell_at (item s.order q) reached in (
+        subst (λ n. item s.order q < n) (sym built.long) (inside (item s.order q) reached),
+        ap (λ o. map (λ l. l.cell) (links_in o)) cell.stands ∙ cell.is.links ∙ sym (next_is entries entries (item s.order q)),
+      )
 
   -- no chain of 256 references begins at a reached cell
   shallow : (c : ℕ) → IsReached (graph_of entries) t c → IsDeep (graph_of entries) 256 c → ⊥
@@ -177,10 +179,11 @@ pub counted : (entries : List Entry) (layer data_type t : ℕ) (s : State) → I
 counted entries layer data_type t s surveyed cells built counts right c n few none = cases (cases_eq (item s.steps c) 0) where
   nothing : (xs : List Copy) → IsCapped (length xs) 0 → xs ≡ []
   nothing [] h = refl
-  nothing (x ∷ xs) h = absurd (exact h.exact) where
-    exact : ((0 ≡ length (x ∷ xs)) ⊎ ((0 ≡ 4000001) × (4000001 ≤ length (x ∷ xs)))) → ⊥
-    exact (inl e) = grind (arith, common_steps, e)
-    exact (inr (e, large)) = omega (arith, e)
+  nothing (x ∷ xs) h = absurd (exact 0 refl h.exact) where
+    exact : (z : ℕ) → z ≡ 0 → ((z ≡ length (x ∷ xs)) ⊎ ((z ≡ 4000001) × (4000001 ≤ length (x ∷ xs)))) → ⊥
+    exact z zero_it (inl e) = grind (arith, common_steps, e, zero_it)
+    exact z zero_it (inr (e, large)) = omega (arith, e, zero_it)
+
   cases : ((item s.steps c ≡ 0) ⊎ (item s.steps c ≡ 0 → ⊥)) → copies (hierarchy cells) n c ≡ []
   cases (inl fresh) = no_step entries layer data_type t s surveyed cells built c fresh n
   cases (inr marked) =

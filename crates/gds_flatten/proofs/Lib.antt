@@ -22,3 +22,4 @@ pub mod Carrying
 pub mod Placing
 pub mod Surveying
 pub mod Agreeing
+pub mod Flattened

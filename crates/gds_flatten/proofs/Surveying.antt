@@ -43,6 +43,7 @@ module _ (g : Graph) (t : ℕ) (s : State) (h : IsSearch g t s) (ended : s.trail
     within q below = cases (cases_order (item s.order q) (length g)) where
       most : item s.order q ≤ length g
       most = in_order q below
+
       cases : ((item s.order q ≡ length g) ⊎ ((item s.order q < length g) ⊎ (length g < item s.order q))) → item s.order q < length g
       cases (inl e) = absurd (complete none (subst (λ c. IsReached g t c) e (order_reached g t s h ended q below)))
       cases (inr (inl less)) = less

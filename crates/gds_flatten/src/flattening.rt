@@ -69,7 +69,14 @@ pub fn flatten_rects(
         return Err(FlattenError::TooManyShapes);
     }
     let mut rects = Vec::new(alloc);
-    carry_cell(&built, &counts, DEEPEST, top, &Placement::shift(0, 0), &mut rects)?;
+    carry_cell(
+        &built,
+        &counts,
+        DEEPEST,
+        top,
+        &Placement::shift(0, 0),
+        &mut rects,
+    )?;
     Ok(rects)
 }
 
