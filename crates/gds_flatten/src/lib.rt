@@ -15,3 +15,6 @@ pub use error::FlattenError;
 pub use link::Link;
 pub use placement::Placement;
 pub use reference::{array_link, reference_link};
+
+#[cfg(test)]
+mod tests;
