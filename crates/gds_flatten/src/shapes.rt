@@ -1,6 +1,6 @@
 //! The shapes of a layer: each is filled once, and then carried to each of its copies.
 
-ghost use Rattle.std.specs.Prelude.{◌≡◌, ◌⊎◌, ◌||◌, ◌↔◌, true, false, ℤ, None, Some, All, IsTrue, IfOk, IfErr, IfSome, IfNone, OnOk};
+ghost use Rattle.std.specs.Prelude.{◌≡◌, ◌⊎◌, ◌||◌, ◌↔◌, true, false, ℤ, None, Some, All, IfOk, IfErr, IfSome, IfNone, OnOk};
 ghost use Rattle.fill_base.specs.Squares.{squares};
 ghost use Rattle.fill_region.specs.Squares.{covered};
 ghost use Rattle.gds_shape.specs.Paths.{AreInRange};
