@@ -1,0 +1,4 @@
+pub mod Floors
+pub mod Ranges
+pub mod Groups
+pub mod Reading

@@ -1,0 +1,154 @@
+//! Rasters: the places where a fill box may stand, and the tiles that they are grouped into.
+ghost use Rattle.std.specs.Prelude.{◌≡◌, ◌↔◌, ◌≤ℤ◌, ◌&&◌, ◌<◌, ℤ, pos, true, IsTrue, IsOk, IfOk, ◌-ℤ◌, ◌+ℤ◌};
+ghost use Rattle.std.specs.Int.{int_max, int_min};
+ghost use Rattle.fill_base.specs.Coordinates.{lowest, highest, IsCoordinate, IsInRange};
+ghost use Rattle.fill_base.specs.Counts.{is_between};
+ghost use Rattle.fill_base.specs.Limits.{IsLength, IsSpacing};
+ghost use Rattle.fill_base.specs.Squares.{squares};
+ghost use Rattle.fill_raster.specs.Axes.{IsAxis, IsGroup, box_begin, box_end};
+ghost use Rattle.fill_raster.specs.Lattice as spec;
+ghost use Rattle.fill_raster.specs.Lattice.{Lattice, IsLattice, KeepsPitch, HasFewPlaces, lattice_of, in_raster, in_tile, in_halo, box_squares, tile_left, tile_bottom, tile_right, tile_top};
+
+use crate::axis::Axis;
+use fill_base::{Place, Point, Rect};
+use std::marker::Model;
+use std::ops::Range;
+use thiserror::Error;
+
+/// Why numbers make no raster.
+#[derive(Clone, Copy, Debug, PartialEq, Eq, Error)]
+pub enum RasterError {
+    /// A step is below the box's side and the fill spacing together, so boxes would stand too near.
+    #[error("a step is below the side of a box and the fill spacing")]
+    BadPitch,
+    /// There are more than 2^24 places.
+    #[error("the raster has more than 16777216 places")]
+    TooManyPlaces,
+}
+
+/// The largest number of places of a raster.
+const MOST_PLACES: u64 = 16_777_216;
+
+/// The places `(i, j)`, for any whole numbers, whose box lies wholly in a frame: its lower left corner is `i` steps to the right
+/// of the origin and `j` steps above it (KLayout's `fill` with a fixed origin). Places are grouped into tiles from the least
+/// `i` and the least `j` on; the last tile of a row or column may be cut. Tiles are numbered from 0 by rows, lower rows first.
+#[derive(Clone, Copy, Debug, PartialEq, Eq)]
+pub struct Raster {
+    across: Axis,
+    up: Axis,
+}
+
+impl Model for Raster {
+    ghost Value = { Lattice };
+
+    ghost view = { λ r. record { across = r.across; up = r.up } };
+
+    ghost invariant = { λ r. IsLattice (record { across = r.across; up = r.up }) };
+
+    ghost inverse = { λ l. record { across = l.across; up = l.up } };
+}
+
+/// Whether so many columns and rows have at most 2^24 places.
+fn are_few(across: Axis, up: Axis) -> bool
+    requires across { IsAxis across }
+    requires up { IsAxis up }
+    ensures { IsTrue result ↔ HasFewPlaces (record { across = across; up = up }) }
+{
+    across.extent() * up.extent() <= MOST_PLACES
+}
+
+impl Raster {
+    /// The raster of a frame, with the size of a box (width, height), the steps to the right and upwards, the lower left
+    /// corner of the box of place (0, 0), and the places of a tile across and upwards, all in database units but the last.
+    ///
+    /// # Errors
+    /// `BadPitch` where a step is below the box's side and the fill spacing, else `TooManyPlaces` where there are more
+    /// than 2^24 places. A raster without places is none of these.
+    pub fn new(
+        frame: Rect,
+        size: (i64, i64),
+        step: (i64, i64),
+        origin: Point,
+        fill_spacing: i64,
+        tile: (u32, u32),
+    ) -> Result<Raster, RasterError>
+        requires width { IsLength size.0 }
+        requires height { IsLength size.1 }
+        requires step_right { IsLength step.0 }
+        requires step_up { IsLength step.1 }
+        requires origin_x { IsCoordinate origin.x }
+        requires origin_y { IsCoordinate origin.y }
+        requires fill_spacing { IsSpacing fill_spacing }
+        requires columns { IsGroup tile.0 }
+        requires rows { IsGroup tile.1 }
+        ensures ok { IsOk result ↔ (KeepsPitch (lattice_of frame size step origin tile) fill_spacing × HasFewPlaces (lattice_of frame size step origin tile)) }
+        ensures bad_pitch { (result ≡ Err RasterError.BadPitch) ↔ ¬ KeepsPitch (lattice_of frame size step origin tile) fill_spacing }
+        ensures too_many { (result ≡ Err RasterError.TooManyPlaces) ↔ (KeepsPitch (lattice_of frame size step origin tile) fill_spacing × ¬ HasFewPlaces (lattice_of frame size step origin tile)) }
+        ensures raster { IfOk result (λ r. r ≡ lattice_of frame size step origin tile) }
+    {
+        let across = Axis {
+            low: frame.x1(),
+            high: frame.x2(),
+            length: size.0,
+            step: step.0,
+            origin: origin.x,
+            group: tile.0,
+        };
+        let up = Axis {
+            low: frame.y1(),
+            high: frame.y2(),
+            length: size.1,
+            step: step.1,
+            origin: origin.y,
+            group: tile.1,
+        };
+        if !(across.keeps_pitch(fill_spacing) & up.keeps_pitch(fill_spacing)) {
+            return Err(RasterError::BadPitch);
+        }
+        if !are_few(across, up) {
+            return Err(RasterError::TooManyPlaces);
+        }
+        Ok(Raster { across, up })
+    }
+
+    /// Whether a place is on the raster.
+    pub fn has(&self, place: Place) -> bool
+        ensures { result ≡ in_raster self.now place.i place.j }
+    {
+        self.across.has(place.i) & self.up.has(place.j)
+    }
+
+    /// The box of a place.
+    pub fn box_of(&self, place: Place) -> Rect
+        requires { in_raster self.now place.i place.j ≡ true }
+        ensures squares { (x y : ℤ) → squares result x y ≡ box_squares self.now place.i place.j x y }
+        ensures left { result.x1 ≡ box_begin self.now.across place.i }
+        ensures bottom { result.y1 ≡ box_begin self.now.up place.j }
+        ensures right { result.x2 ≡ box_end self.now.across place.i }
+        ensures top { result.y2 ≡ box_end self.now.up place.j }
+    {
+        let (across, up) = (self.across, self.up);
+        Rect::from_edges(
+            across.box_begin(place.i),
+            up.box_begin(place.j),
+            across.box_end(place.i),
+            up.box_end(place.j),
+        )
+    }
+
+    /// How many tiles there are: none where the raster has no place.
+    pub fn tiles(&self) -> u32
+        ensures { result ≡ spec.tiles self.now }
+    {
+        self.up.groups() * self.across.groups()
+    }
+
+    /// The tile of a place.
+    pub fn tile_of(&self, place: Place) -> u32
+        requires { in_raster self.now place.i place.j ≡ true }
+        ensures tile { result ≡ spec.tile_of self.now place.i place.j }
+        ensures index { result < spec.tiles self.now }
+    {
+        self.up.group_of(place.j) * self.across.groups() + self.across.group_of(place.i)
+    }
+}
