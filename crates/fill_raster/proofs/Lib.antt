@@ -2,3 +2,4 @@ pub mod Floors
 pub mod Ranges
 pub mod Groups
 pub mod Reading
+pub mod Tiling

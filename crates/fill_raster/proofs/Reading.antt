@@ -4,7 +4,7 @@ use Rattle.std.specs.Prelude.{int_le, int_lt, IsTrue}
 use Rattle.std.specs.Int.{int_max, int_min, int_div_euclid, div_ceil}
 use Rattle.std.proofs.lemmas.Int.{ints, clamps}
 use Rattle.std.proofs.Math.Nat.{div-le_self}
-use Rattle.fill_base.specs.Coordinates.{lowest, highest}
+use Rattle.fill_base.specs.Coordinates.{lowest, highest, IsCoordinate}
 use Rattle.fill_base.specs.Counts.{is_between, span_len}
 use Rattle.fill_base.specs.Limits.{IsLength, IsSpacing}
 use Rattle.fill_base.proofs.Signed.{read, read_is, pos_fits, lt_le, le_trans, coordinate_fits}
@@ -21,6 +21,18 @@ length_fits z is = let low : pos 1 ≤ℤ z = is.least in let high : z ≤ℤ po
 place_fits : (z : ℤ) → IsPlaceNumber z → FitsSigned w64 z
 place_fits z is = let low : negsuc 2147483647 ≤ℤ z = is.least in let high : z ≤ℤ pos 2147483648 = is.most in omega (arith, ints)
 
+spacing_fits : (s : ℤ) → IsSpacing s → FitsSigned w64 s
+spacing_fits s is = let low : pos 0 ≤ℤ s = is.least in let high : s ≤ℤ pos 1048576 = is.most in omega (arith, ints)
+
+pub length_read : (z : ℤ) → IsLength z → read z ≡ z
+length_read z is = read_is z (length_fits z is)
+
+pub spacing_read : (s : ℤ) → IsSpacing s → read s ≡ s
+spacing_read s is = read_is s (spacing_fits s is)
+
+pub coordinate_read : (z : ℤ) → IsCoordinate z → read z ≡ z
+coordinate_read z is = read_is z (coordinate_fits z is.least is.most)
+
 -- the numbers of an axis, read back
 pub record AxisRead (a : Axis) : Type 0 where
   pub low_is : read a.low ≡ a.low
@@ -33,9 +45,9 @@ pub axis_read : (a : Axis) → IsAxis a → AxisRead a
 axis_read a is = record {
   low_is = read_is a.low (coordinate_fits a.low is.least (le_trans a.low a.high _ (lt_le a.low a.high is.ordered) is.most));
   high_is = read_is a.high (coordinate_fits a.high (le_trans _ a.low a.high is.least (lt_le a.low a.high is.ordered)) is.most);
-  length_is = read_is a.length (length_fits a.length is.length_is);
-  step_is = read_is a.step (length_fits a.step is.step_is);
-  origin_is = read_is a.origin (coordinate_fits a.origin is.origin_is.least is.origin_is.most);
+  length_is = length_read a.length is.length_is;
+  step_is = length_read a.step is.step_is;
+  origin_is = coordinate_read a.origin is.origin_is;
 }
 
 pub first_read : (a : Axis) → IsAxis a → read (first a) ≡ first a
@@ -49,13 +61,10 @@ past_read a is = read_is (past a) (place_fits (past a) (past_bounded a is))
 pub pitch_test : (a : Axis) (s : ℤ) → IsAxis a → IsSpacing s → IsTrue (int_le (read (read a.length +ℤ read s)) (read a.step)) ↔ IsPitch a s
 pitch_test a s is spacing =
     let r = axis_read a is in
-    let s_is = read_is s (spacing_fits s spacing) in
+    let s_is = spacing_read s spacing in
     let sum : read (a.length +ℤ s) ≡ a.length +ℤ s = read_is (a.length +ℤ s) (sum_fits a.length s is.length_is spacing) in
     rw (r.length_is, r.step_is, s_is, sum) ((λ h. true_le _ _ h), (λ h. le_true _ _ h))
   where
-    spacing_fits : (s : ℤ) → IsSpacing s → FitsSigned w64 s
-    spacing_fits s is = let low : pos 0 ≤ℤ s = is.least in let high : s ≤ℤ pos 1048576 = is.most in omega (arith, ints)
-
     sum_fits : (l s : ℤ) → IsLength l → IsSpacing s → FitsSigned w64 (l +ℤ s)
     sum_fits l s il is =
         let a : pos 1 ≤ℤ l = il.least in let b : l ≤ℤ pos 1048576 = il.most in
@@ -262,3 +271,29 @@ end_read a g z e is lt z_is e_is =
     let on : is_on a (group_past a g -ℤ pos 1) ≡ true = rw l.1 at l.2 in
     let b = box_fits a (group_past a g -ℤ pos 1) is (on_within a _ on) in
     rw (e_is, l.1) (read_is (group_end a g) b.ends)
+
+-- ---- boxes as rectangles
+
+pub box_begin_read : (a : Axis) (i z : ℤ) → IsAxis a → is_on a i ≡ true → z ≡ box_begin a (read i) → read z ≡ box_begin a i
+box_begin_read a i z is on z_is =
+    let w = on_within a i on in
+    rw (z_is, place_read a i is (on_in a i is.step_is.least w)) (read_is (box_begin a i) (box_fits a i is w).begins)
+
+pub box_end_read : (a : Axis) (i z : ℤ) → IsAxis a → is_on a i ≡ true → z ≡ box_end a (read i) → read z ≡ box_end a i
+box_end_read a i z is on z_is =
+    let w = on_within a i on in
+    rw (z_is, place_read a i is (on_in a i is.step_is.least w)) (read_is (box_end a i) (box_fits a i is w).ends)
+
+-- a box is a range within the coordinates
+pub record BoxRange (a : Axis) (i : ℤ) : Type 0 where
+  pub some : box_begin a i <ℤ box_end a i
+  pub least : lowest ≤ℤ box_begin a i
+  pub most : box_end a i ≤ℤ highest
+
+pub box_range : (a : Axis) (i : ℤ) → IsAxis a → is_on a i ≡ true → BoxRange a i
+box_range a i is on =
+    let w = on_within a i on in
+    record { some = longer (box_begin a i) a.length is.length_is.least; least = le_trans _ a.low _ is.least w.begins; most = le_trans _ a.high _ w.ends is.most }
+  where
+    longer : (z length : ℤ) → pos 1 ≤ℤ length → z <ℤ (z +ℤ length)
+    longer z length one = omega (arith, ints)

@@ -48,6 +48,16 @@ impl Model for Raster {
     ghost inverse = { λ l. record { across = l.across; up = l.up } };
 }
 
+/// Whether both steps are at least the side of a box and the fill spacing.
+fn keep_pitch(across: Axis, up: Axis, fill_spacing: i64) -> bool
+    requires across { IsAxis across }
+    requires up { IsAxis up }
+    requires fill_spacing { IsSpacing fill_spacing }
+    ensures { IsTrue result ↔ KeepsPitch (record { across = across; up = up }) fill_spacing }
+{
+    across.keeps_pitch(fill_spacing) & up.keeps_pitch(fill_spacing)
+}
+
 /// Whether so many columns and rows have at most 2^24 places.
 fn are_few(across: Axis, up: Axis) -> bool
     requires across { IsAxis across }
@@ -102,7 +112,20 @@ impl Raster {
             origin: origin.y,
             group: tile.1,
         };
-        if !(across.keeps_pitch(fill_spacing) & up.keeps_pitch(fill_spacing)) {
+        Raster::checked(across, up, fill_spacing)
+    }
+
+    /// The raster of these columns and rows.
+    fn checked(across: Axis, up: Axis, fill_spacing: i64) -> Result<Raster, RasterError>
+        requires across { IsAxis across }
+        requires up { IsAxis up }
+        requires fill_spacing { IsSpacing fill_spacing }
+        ensures ok { IsOk result ↔ (KeepsPitch (record { across = across; up = up }) fill_spacing × HasFewPlaces (record { across = across; up = up })) }
+        ensures bad_pitch { (result ≡ Err RasterError.BadPitch) ↔ ¬ KeepsPitch (record { across = across; up = up }) fill_spacing }
+        ensures too_many { (result ≡ Err RasterError.TooManyPlaces) ↔ (KeepsPitch (record { across = across; up = up }) fill_spacing × ¬ HasFewPlaces (record { across = across; up = up })) }
+        ensures raster { IfOk result (λ r. r ≡ record { across = across; up = up }) }
+    {
+        if !keep_pitch(across, up, fill_spacing) {
             return Err(RasterError::BadPitch);
         }
         if !are_few(across, up) {
