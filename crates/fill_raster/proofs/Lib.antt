@@ -3,3 +3,5 @@ pub mod Ranges
 pub mod Groups
 pub mod Reading
 pub mod Tiling
+pub mod Halos
+pub mod Blocks

@@ -70,7 +70,7 @@ in_on a i step is = record {
     under : (i f q : ℤ) → f ≤ℤ i → i <ℤ int_max f (q +ℤ pos 1) → i ≤ℤ q
     under i f q h k = omega (arith, ints, clamps)
 
-both : (a b : Bool) → (a ≡ true → b ≡ true) → (b ≡ true → a ≡ true) → a ≡ b
+pub both : (a b : Bool) → (a ≡ true → b ≡ true) → (b ≡ true → a ≡ true) → a ≡ b
 both true b f g = sym (f refl)
 both false true f g = g refl
 both false false f g = refl

@@ -220,7 +220,18 @@ group_first_reckoned a g f m n is lt f_is m_is n_is =
     group_fits : (g : ℕ) → g ≤ 4096 → FitsSigned w64 (pos g)
     group_fits g h = omega (arith, ints)
 
+pub first_place_read : (a : Axis) (g : ℕ) → IsAxis a → g < groups a → read (group_first a g) ≡ group_first a g
+first_place_read a g is lt = place_read a (group_first a g) is (first_in a g is.group_is.least lt)
+
 -- the place past the last of a group
+pub past_place_read : (a : Axis) (g : ℕ) → IsAxis a → g < groups a → read (group_past a g) ≡ group_past a g
+past_place_read a g is lt =
+    let last = in_number a (group_past a g -ℤ pos 1) is (last_in a g is.group_is.least lt) in
+    read_is (group_past a g) (next_fits (group_past a g) last)
+  where
+    next_fits : (z : ℤ) → IsPlaceNumber (z -ℤ pos 1) → FitsSigned w64 z
+    next_fits z is = let low : negsuc 2147483647 ≤ℤ (z -ℤ pos 1) = is.least in let high : (z -ℤ pos 1) ≤ℤ pos 2147483648 = is.most in omega (arith, ints)
+
 pub group_past_reckoned : (a : Axis) (g : ℕ) (z n p m : ℤ) → IsAxis a → g < groups a → z ≡ group_first a g → n ≡ pos a.group → p ≡ past a
     → FitsSigned w64 (read z +ℤ read n) × (m ≡ int_min (read (read z +ℤ read n)) (read p) → read m ≡ group_past a g)
 group_past_reckoned a g z n p m is lt z_is n_is p_is =

@@ -51,6 +51,13 @@ group_begin a g = box_begin a (group_first a g)
 abbrev pub group_end : Axis → ℕ → ℤ
 group_end a g = box_end a (group_past a g -ℤ pos 1)
 
+-- the same edges with a spacing beyond each, within the coordinates
+abbrev pub halo_begin : Axis → ℕ → ℤ → ℤ
+halo_begin a g spacing = int_max (group_begin a g -ℤ spacing) lowest
+
+abbrev pub halo_end : Axis → ℕ → ℤ → ℤ
+halo_end a g spacing = int_min (group_end a g +ℤ spacing) highest
+
 -- from 1 to 4,096 places of a tile
 pub record IsGroup (n : ℕ) : Type 0 where
   pub least : 1 ≤ n

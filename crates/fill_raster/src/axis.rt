@@ -4,6 +4,8 @@ ghost use Rattle.fill_base.specs.Limits.{IsSpacing};
 ghost use Rattle.fill_raster.specs.Axes.{IsAxis, IsPitch, is_on};
 ghost use Rattle.fill_raster.specs.Axes as spec;
 
+use fill_base::rect::{HIGHEST, LOWEST};
+
 /// Boxes of one length along a line, in database units: that of place `i`, any whole number, begins `i` steps after the
 /// origin. The raster's places are those whose box lies between the frame's edges, in groups from the least place on.
 #[derive(Clone, Copy, Debug, PartialEq, Eq)]
@@ -134,5 +136,25 @@ impl Axis {
         ensures { result ≡ spec.group_end self g }
     {
         self.box_end(self.group_past(g) - 1)
+    }
+
+    /// Where the halo of a group begins: a spacing before its first box, but within the coordinates.
+    pub(crate) fn halo_begin(self, g: u32, spacing: i64) -> i64
+        requires axis { IsAxis self }
+        requires index { g < spec.groups self }
+        requires spacing { IsSpacing spacing }
+        ensures { result ≡ spec.halo_begin self g spacing }
+    {
+        (self.group_begin(g) - spacing).max(LOWEST)
+    }
+
+    /// Where the halo of a group ends: a spacing after its last box, but within the coordinates.
+    pub(crate) fn halo_end(self, g: u32, spacing: i64) -> i64
+        requires axis { IsAxis self }
+        requires index { g < spec.groups self }
+        requires spacing { IsSpacing spacing }
+        ensures { result ≡ spec.halo_end self g spacing }
+    {
+        (self.group_end(g) + spacing).min(HIGHEST)
     }
 }

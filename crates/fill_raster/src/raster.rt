@@ -1,11 +1,11 @@
 //! Rasters: the places where a fill box may stand, and the tiles that they are grouped into.
-ghost use Rattle.std.specs.Prelude.{◌≡◌, ◌↔◌, ◌≤ℤ◌, ◌&&◌, ◌<◌, ℤ, pos, true, IsTrue, IsOk, IfOk, ◌-ℤ◌, ◌+ℤ◌};
+ghost use Rattle.std.specs.Prelude.{◌≡◌, ◌↔◌, ◌≤ℤ◌, ◌&&◌, ◌<◌, ◌%◌, ◌/◌, ◌<ℤ◌, ℤ, pos, true, IsTrue, IsOk, IfOk, ◌-ℤ◌, ◌+ℤ◌};
 ghost use Rattle.std.specs.Int.{int_max, int_min};
 ghost use Rattle.fill_base.specs.Coordinates.{lowest, highest, IsCoordinate, IsInRange};
 ghost use Rattle.fill_base.specs.Counts.{is_between};
 ghost use Rattle.fill_base.specs.Limits.{IsLength, IsSpacing};
 ghost use Rattle.fill_base.specs.Squares.{squares};
-ghost use Rattle.fill_raster.specs.Axes.{IsAxis, IsGroup, box_begin, box_end};
+ghost use Rattle.fill_raster.specs.Axes.{IsAxis, IsGroup, box_begin, box_end, groups};
 ghost use Rattle.fill_raster.specs.Lattice as spec;
 ghost use Rattle.fill_raster.specs.Lattice.{Lattice, IsLattice, KeepsPitch, HasFewPlaces, lattice_of, in_raster, in_tile, in_halo, box_squares, tile_left, tile_bottom, tile_right, tile_top};
 
@@ -173,5 +173,58 @@ impl Raster {
         ensures index { result < spec.tiles self.now }
     {
         self.up.group_of(place.j) * self.across.groups() + self.across.group_of(place.i)
+    }
+
+    /// The columns and the rows of a tile: its places are exactly those with their `i` in the first range and their `j` in
+    /// the second.
+    pub fn places(&self, tile: u32) -> (Range<i64>, Range<i64>)
+        requires { tile < spec.tiles self.now }
+        ensures columns { result.0.start <ℤ result.0.end }
+        ensures rows { result.1.start <ℤ result.1.end }
+        ensures places { (i j : ℤ) → (is_between result.0.start result.0.end i && is_between result.1.start result.1.end j) ≡ in_tile self.now tile i j }
+    {
+        let (column, row) = (self.tile_column(tile), self.tile_row(tile));
+        let columns = self.across.group_first(column)..self.across.group_past(column);
+        let rows = self.up.group_first(row)..self.up.group_past(row);
+        (columns, rows)
+    }
+
+    /// The halo of a tile: the bounding rectangle of its boxes, grown by the spacing on all sides, as far as there are
+    /// coordinates. The spacing is 0 to 2^20 database units.
+    pub fn halo(&self, tile: u32, spacing: i64) -> Rect
+        requires tile { tile < spec.tiles self.now }
+        requires spacing { IsSpacing spacing }
+        ensures left { result.x1 ≡ int_max (tile_left self.now tile -ℤ spacing) lowest }
+        ensures bottom { result.y1 ≡ int_max (tile_bottom self.now tile -ℤ spacing) lowest }
+        ensures right { result.x2 ≡ int_min (tile_right self.now tile +ℤ spacing) highest }
+        ensures top { result.y2 ≡ int_min (tile_top self.now tile +ℤ spacing) highest }
+        ensures squares { (x y : ℤ) → IsInRange x y → squares result x y ≡ in_halo self.now tile spacing x y }
+    {
+        let (across, column) = (self.across, self.tile_column(tile));
+        let (up, row) = (self.up, self.tile_row(tile));
+        Rect::from_edges(
+            across.halo_begin(column, spacing),
+            up.halo_begin(row, spacing),
+            across.halo_end(column, spacing),
+            up.halo_end(row, spacing),
+        )
+    }
+
+    /// The column of a tile, among the columns of tiles.
+    fn tile_column(&self, tile: u32) -> u32
+        requires { tile < spec.tiles self.now }
+        ensures column { result ≡ tile % groups self.now.across }
+        ensures index { result < groups self.now.across }
+    {
+        tile % self.across.groups()
+    }
+
+    /// The row of a tile, among the rows of tiles.
+    fn tile_row(&self, tile: u32) -> u32
+        requires { tile < spec.tiles self.now }
+        ensures row { result ≡ tile / groups self.now.across }
+        ensures index { result < groups self.now.up }
+    {
+        tile / self.across.groups()
     }
 }
