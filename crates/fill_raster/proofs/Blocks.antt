@@ -1,19 +1,23 @@
 -- The places of a tile are a block: a range of columns by a range of rows.
-use Rattle.std.proofs.Common.{◌≡◌, ℕ, zero, suc, ◌+◌, ◌*◌, ◌/◌, ◌%◌, ◌≤◌, ◌<◌, ℤ, pos, ◌+ℤ◌, ◌-ℤ◌, ◌≤ℤ◌, ◌<ℤ◌, arith, ap, ◌∙◌, sym, refl, Bool, true, false, ◌&&◌, ◌==◌}
+use Rattle.std.proofs.Common.{◌≡◌, ℕ, zero, suc, ◌+◌, ◌*◌, ◌/◌, ◌%◌, ◌≤◌, ◌<◌, ℤ, pos, negsuc, ◌+ℤ◌, ◌-ℤ◌, ◌≤ℤ◌, ◌<ℤ◌, arith, ap, ◌∙◌, sym, refl, Bool, true, false, ◌&&◌, ◌==◌}
 use Rattle.std.proofs.lemmas.Bool.{and_from, and_parts, eq-eqb, eqb-true}
 use Rattle.std.proofs.lemmas.Nat.{div-add-mod', div-mul-add, mod-mul-add, mod_below, div_below}
 use Rattle.std.specs.Int.{int_max, int_min}
+use Rattle.std.proofs.Math.Nat.{mul-le-mul, mul_comm}
+use Rattle.std.proofs.lemmas.Int.{ints, clamps}
 use Rattle.fill_base.specs.Coordinates.{lowest, highest, IsInRange}
-use Rattle.fill_base.specs.Counts.{is_between}
+use Rattle.fill_base.specs.Counts.{is_between, span_len}
 use Rattle.fill_base.specs.Limits.{IsSpacing}
 use Rattle.fill_base.proofs.Signed.{read}
 use Rattle.fill_base.proofs.Between.{is_between_true, is_between_bounds}
-use Rattle.fill_raster.specs.Axes.{is_on, groups, halo_begin, halo_end, group_of, group_first, group_past, IsAxis}
+use Rattle.fill_raster.specs.Axes.{is_on, groups, halo_begin, halo_end, extent, first, past, group_of, group_first, group_past, IsAxis}
 use Rattle.fill_raster.specs.Lattice.{Lattice, IsLattice, in_raster, in_tile, in_halo, tiles, tile_of, tile_left, tile_right, tile_bottom, tile_top}
 use Rattle.fill_raster.specs.declared.axis.Axis.{Axis}
-use Rattle.fill_raster.proofs.Groups.{IsInGroup, of_group, group_in, group_of_in, group_below, first_before_last}
+use Rattle.fill_raster.specs.Marks.{IsBlock, in_block}
+use Rattle.fill_raster.specs.declared.block.Block.{Block}
+use Rattle.fill_raster.proofs.Groups.{first_in, IsInGroup, of_group, group_in, group_of_in, group_below, first_before_last}
 use Rattle.fill_raster.proofs.Halos.{HaloRange, halo_range, halo_between, halo_begin_read, halo_end_read}
-use Rattle.fill_raster.proofs.Ranges.{IsIn, both, in_on, on_in, on_within, within_on}
+use Rattle.fill_raster.proofs.Ranges.{IsIn, both, in_on, on_in, on_within, within_on, first_bounded, past_bounded}
 use Rattle.fill_raster.proofs.Reading.{first_place_read, past_place_read, spacing_read}
 
 -- a tile is a column and a row of tiles
@@ -65,24 +69,56 @@ tile_is_block r t i j is lt = both _ _ (block_tile r t i j is lt) (tile_block r 
 
 -- ---- as the code reckons them
 
-pub record PlacesReckoned (r : Lattice) (t : ℕ) (left right bottom top : ℤ) : Type 0 where
-  pub columns : left <ℤ right
-  pub rows : bottom <ℤ top
-  pub places : (i j : ℤ) → (is_between left right i && is_between bottom top j) ≡ in_tile r t i j
+pub record BlockReckoned (r : Lattice) (t : ℕ) (b : Block) : Type 0 where
+  pub block : IsBlock b
+  pub places_are : (i j : ℤ) → in_block b i j ≡ in_tile r t i j
 
-pub places_reckoned : (r : Lattice) (t column row : ℕ) (left right bottom top : ℤ) → IsLattice r → t < tiles r → column ≡ t % groups r.across → row ≡ t / groups r.across
-    → left ≡ group_first r.across column → right ≡ group_past r.across column → bottom ≡ group_first r.up row → top ≡ group_past r.up row → PlacesReckoned r t (read left) (read right) (read bottom) (read top)
-places_reckoned r t column row left right bottom top is lt column_is row_is left_is right_is bottom_is top_is =
+-- a group's places are some of the axis, a raster's numbers
+record GroupPlaces (a : Axis) (g : ℕ) : Type 0 where
+  least : negsuc 2147483647 ≤ℤ group_first a g
+  order : group_first a g <ℤ group_past a g
+  most : group_past a g ≤ℤ pos 2147483648
+  few : span_len (group_first a g) (group_past a g) ≤ extent a
+
+group_places : (a : Axis) (g : ℕ) → IsAxis a → g < groups a → GroupPlaces a g
+group_places a g is lt =
+    let f = first_bounded a is in let p = past_bounded a is in
+    let order = first_before_last a g is.group_is.least lt in
+    let start = (first_in a g is.group_is.least lt).low in
+    let stop = stops (group_first a g +ℤ pos a.group) (past a) in
+    record { least = from (first a) (group_first a g) f.least start; order = order; most = to (group_past a g) (past a) stop p.most; few = within (first a) (group_first a g) (group_past a g) (past a) start order stop }
+  where
+    stops : (z p : ℤ) → int_min z p ≤ℤ p
+    stops z p = omega (arith, ints, clamps)
+
+    from : (f z : ℤ) → negsuc 2147483647 ≤ℤ f → f ≤ℤ z → negsuc 2147483647 ≤ℤ z
+    from f z h k = omega (arith, ints)
+
+    to : (z p : ℤ) → z ≤ℤ p → p ≤ℤ pos 2147483648 → z ≤ℤ pos 2147483648
+    to z p h k = omega (arith, ints)
+
+    within : (f z y p : ℤ) → f ≤ℤ z → z <ℤ y → y ≤ℤ p → span_len z y ≤ span_len f p
+    within f z y p a b c = omega (arith, ints)
+
+pub block_reckoned : (r : Lattice) (t column row : ℕ) (left bottom right top : ℤ) → IsLattice r → t < tiles r → column ≡ t % groups r.across → row ≡ t / groups r.across
+    → left ≡ group_first r.across column → bottom ≡ group_first r.up row → right ≡ group_past r.across column → top ≡ group_past r.up row
+    → BlockReckoned r t (record { left = read left; bottom = read bottom; right = read right; top = read top })
+block_reckoned r t column row left bottom right top is lt column_is row_is left_is bottom_is right_is top_is =
     let parts = tile_parts r t lt in
+    let x = group_places r.across (t % groups r.across) is.across parts.column_below in
+    let y = group_places r.up (t / groups r.across) is.up parts.row_below in
     let l : read left ≡ group_first r.across (t % groups r.across) = rw (left_is, column_is) (first_place_read r.across _ is.across parts.column_below) in
     let p : read right ≡ group_past r.across (t % groups r.across) = rw (right_is, column_is) (past_place_read r.across _ is.across parts.column_below) in
     let b : read bottom ≡ group_first r.up (t / groups r.across) = rw (bottom_is, row_is) (first_place_read r.up _ is.up parts.row_below) in
     let q : read top ≡ group_past r.up (t / groups r.across) = rw (top_is, row_is) (past_place_read r.up _ is.up parts.row_below) in
-    rw (l, p, b, q) (record {
-      columns = first_before_last r.across _ is.across.group_is.least parts.column_below;
-      rows = first_before_last r.up _ is.up.group_is.least parts.row_below;
-      places = λ i j. tile_is_block r t i j is lt;
-    })
+    let few = product (span_len (group_first r.up (t / groups r.across)) (group_past r.up (t / groups r.across))) (span_len (group_first r.across (t % groups r.across)) (group_past r.across (t % groups r.across))) (extent r.up) (extent r.across) y.few x.few is.few in
+    record {
+      block = rw (l, p, b, q) (record { least_column = x.least; columns = x.order; most_column = x.most; least_row = y.least; rows = y.order; most_row = y.most; few = few });
+      places_are = λ i j. rw (l, p, b, q) (tile_is_block r t i j is lt);
+    }
+  where
+    product : (m n h w : ℕ) → m ≤ h → n ≤ w → w * h ≤ 16777216 → m * n ≤ 16777216
+    product m n h w a b few = let p : m * n ≤ h * w = mul-le-mul a b in let turned = mul_comm h w in omega (arith, p, turned, few)
 
 -- the edges of a halo, in order and in range
 pub record HaloReckoned (r : Lattice) (t : ℕ) (s left right bottom top : ℤ) : Type 0 where

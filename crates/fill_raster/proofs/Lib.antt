@@ -5,3 +5,6 @@ pub mod Reading
 pub mod Tiling
 pub mod Halos
 pub mod Blocks
+pub mod Setting
+pub mod Points
+pub mod Marking

@@ -1,2 +1,4 @@
 pub mod Axes
 pub mod Lattice
+pub mod Bits
+pub mod Marks

@@ -4,8 +4,13 @@
 #![tactic(auto)]
 
 mod axis;
+mod bits;
+mod block;
+mod marks;
 mod raster;
 
 pub use axis::Axis;
+pub use block::Block;
 pub use fill_base::Place;
+pub use marks::Marks;
 pub use raster::{Raster, RasterError};

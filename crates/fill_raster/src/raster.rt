@@ -7,9 +7,11 @@ ghost use Rattle.fill_base.specs.Limits.{IsLength, IsSpacing};
 ghost use Rattle.fill_base.specs.Squares.{squares};
 ghost use Rattle.fill_raster.specs.Axes.{IsAxis, IsGroup, box_begin, box_end, groups};
 ghost use Rattle.fill_raster.specs.Lattice as spec;
+ghost use Rattle.fill_raster.specs.Marks.{IsBlock, in_block};
 ghost use Rattle.fill_raster.specs.Lattice.{Lattice, IsLattice, KeepsPitch, HasFewPlaces, lattice_of, in_raster, in_tile, in_halo, box_squares, tile_left, tile_bottom, tile_right, tile_top};
 
 use crate::axis::Axis;
+use crate::block::Block;
 use fill_base::{Place, Point, Rect};
 use std::marker::Model;
 use std::ops::Range;
@@ -183,10 +185,23 @@ impl Raster {
         ensures rows { result.1.start <ℤ result.1.end }
         ensures places { (i j : ℤ) → (is_between result.0.start result.0.end i && is_between result.1.start result.1.end j) ≡ in_tile self.now tile i j }
     {
+        let block = self.block(tile);
+        (block.left..block.right, block.bottom..block.top)
+    }
+
+    /// The places of a tile.
+    pub(crate) fn block(&self, tile: u32) -> Block
+        requires { tile < spec.tiles self.now }
+        ensures block { IsBlock result }
+        ensures places { (i j : ℤ) → in_block result i j ≡ in_tile self.now tile i j }
+    {
         let (column, row) = (self.tile_column(tile), self.tile_row(tile));
-        let columns = self.across.group_first(column)..self.across.group_past(column);
-        let rows = self.up.group_first(row)..self.up.group_past(row);
-        (columns, rows)
+        Block {
+            left: self.across.group_first(column),
+            bottom: self.up.group_first(row),
+            right: self.across.group_past(column),
+            top: self.up.group_past(row),
+        }
     }
 
     /// The halo of a tile: the bounding rectangle of its boxes, grown by the spacing on all sides, as far as there are
