@@ -8,3 +8,4 @@ pub mod Blocks
 pub mod Setting
 pub mod Points
 pub mod Marking
+pub mod RasterLaws

@@ -2,3 +2,4 @@ pub mod Axes
 pub mod Lattice
 pub mod Bits
 pub mod Marks
+pub mod Laws

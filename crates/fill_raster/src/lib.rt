@@ -6,6 +6,7 @@
 mod axis;
 mod bits;
 mod block;
+pub mod laws;
 mod marks;
 mod raster;
 
