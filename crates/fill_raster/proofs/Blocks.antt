@@ -1,5 +1,5 @@
 -- The places of a tile are a block: a range of columns by a range of rows.
-use Rattle.std.proofs.Common.{◌≡◌, ℕ, zero, suc, ◌+◌, ◌*◌, ◌/◌, ◌%◌, ◌≤◌, ◌<◌, ℤ, pos, negsuc, ◌+ℤ◌, ◌-ℤ◌, ◌≤ℤ◌, ◌<ℤ◌, arith, ap, ◌∙◌, sym, refl, Bool, true, false, ◌&&◌, ◌==◌}
+use Rattle.std.proofs.Common.{◌≡◌, ℕ, zero, suc, ◌*◌, ◌/◌, ◌%◌, ◌≤◌, ◌<◌, ℤ, pos, negsuc, ◌+ℤ◌, ◌-ℤ◌, ◌≤ℤ◌, ◌<ℤ◌, arith, ap, ◌∙◌, sym, refl, true, ◌&&◌}
 use Rattle.std.proofs.lemmas.Bool.{and_from, and_parts, eq-eqb, eqb-true}
 use Rattle.std.proofs.lemmas.Nat.{div-add-mod', div-mul-add, mod-mul-add, mod_below, div_below}
 use Rattle.std.specs.Int.{int_max, int_min}
@@ -10,14 +10,14 @@ use Rattle.fill_base.specs.Counts.{is_between, span_len}
 use Rattle.fill_base.specs.Limits.{IsSpacing}
 use Rattle.fill_base.proofs.Signed.{read}
 use Rattle.fill_base.proofs.Between.{is_between_true, is_between_bounds}
-use Rattle.fill_raster.specs.Axes.{is_on, groups, halo_begin, halo_end, extent, first, past, group_of, group_first, group_past, IsAxis}
-use Rattle.fill_raster.specs.Lattice.{Lattice, IsLattice, in_raster, in_tile, in_halo, tiles, tile_of, tile_left, tile_right, tile_bottom, tile_top}
+use Rattle.fill_raster.specs.Axes.{groups, halo_begin, halo_end, extent, first, past, group_of, group_first, group_past, IsAxis}
+use Rattle.fill_raster.specs.Lattice.{Lattice, IsLattice, in_tile, in_halo, tiles, tile_of, tile_left, tile_right, tile_bottom, tile_top}
 use Rattle.fill_raster.specs.declared.axis.Axis.{Axis}
 use Rattle.fill_raster.specs.Marks.{IsBlock, in_block}
 use Rattle.fill_raster.specs.declared.block.Block.{Block}
 use Rattle.fill_raster.proofs.Groups.{first_in, IsInGroup, of_group, group_in, group_of_in, group_below, first_before_last}
 use Rattle.fill_raster.proofs.Halos.{HaloRange, halo_range, halo_between, halo_begin_read, halo_end_read}
-use Rattle.fill_raster.proofs.Ranges.{IsIn, both, in_on, on_in, on_within, within_on, first_bounded, past_bounded}
+use Rattle.fill_raster.proofs.Ranges.{both, in_on, on_in, on_within, within_on, first_bounded, past_bounded}
 use Rattle.fill_raster.proofs.Reading.{first_place_read, past_place_read, spacing_read}
 
 -- a tile is a column and a row of tiles

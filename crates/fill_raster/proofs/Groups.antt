@@ -1,16 +1,15 @@
 -- Places of one axis, group by group.
-use Rattle.std.proofs.Common.{◌≡◌, ℕ, suc, ◌+◌, ◌*◌, ◌/◌, ◌%◌, ◌≤◌, ◌<◌, min, inl, inr, ℤ, pos, ◌+ℤ◌, ◌-ℤ◌, ◌≤ℤ◌, ◌<ℤ◌, arith, rules, Bool, true, false, ◌&&◌, ◌==◌, ◌↔◌, ap, ◌∙◌, sym, refl}
+use Rattle.std.proofs.Common.{◌≡◌, ℕ, suc, ◌+◌, ◌*◌, ◌/◌, ◌≤◌, ◌<◌, inl, inr, ℤ, pos, ◌+ℤ◌, ◌-ℤ◌, ◌≤ℤ◌, ◌<ℤ◌, arith}
 use Rattle.std.specs.Int.{div_ceil, int_min}
-use Rattle.std.proofs.lemmas.Bool.{and_from, and_parts, cases_lt}
+use Rattle.std.proofs.lemmas.Bool.{cases_lt}
 use Rattle.std.proofs.lemmas.Grind.{div_ceil_times}
 use Rattle.std.proofs.lemmas.Int.{ints, clamps}
 use Rattle.std.proofs.lemmas.Nat.{le-div, div_below, row_fits}
 use Rattle.std.proofs.Math.Nat.{div-mul-le_self, lt-div-mul-add, mul-le-mul}
-use Rattle.fill_base.specs.Counts.{is_between, span_len}
-use Rattle.fill_base.proofs.Between.{is_between_true, is_between_bounds}
-use Rattle.fill_raster.specs.Axes.{is_on, first, past, extent, groups, group_of, group_first, group_past, IsAxis}
+use Rattle.fill_base.specs.Counts.{span_len}
+use Rattle.fill_raster.specs.Axes.{first, past, extent, groups, group_of, group_first, group_past}
 use Rattle.fill_raster.specs.declared.axis.Axis.{Axis}
-use Rattle.fill_raster.proofs.Ranges.{IsIn, on_in, in_on, on_within, within_on, first_past, on_range}
+use Rattle.fill_raster.proofs.Ranges.{IsIn, first_past}
 
 -- ---- numbers in groups of b, of which there are e
 

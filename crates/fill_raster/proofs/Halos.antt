@@ -1,17 +1,17 @@
 -- The bounding ranges of groups, and their halos.
-use Rattle.std.proofs.Common.{◌≡◌, ℕ, ◌≤◌, ◌<◌, ℤ, pos, ◌+ℤ◌, ◌-ℤ◌, ◌*ℤ◌, ◌≤ℤ◌, ◌<ℤ◌, arith, ap, ◌∙◌, refl, Bool, true, ◌&&◌, w64, FitsSigned}
+use Rattle.std.proofs.Common.{◌≡◌, ℕ, ◌<◌, ℤ, pos, ◌+ℤ◌, ◌-ℤ◌, ◌*ℤ◌, ◌≤ℤ◌, ◌<ℤ◌, arith, w64, FitsSigned}
 use Rattle.std.specs.Int.{int_max, int_min}
 use Rattle.std.proofs.lemmas.Int.{ints, clamps}
-use Rattle.fill_base.specs.Coordinates.{lowest, highest, IsInRange}
+use Rattle.fill_base.specs.Coordinates.{lowest, highest}
 use Rattle.fill_base.specs.Counts.{is_between}
 use Rattle.fill_base.specs.Limits.{IsSpacing}
 use Rattle.fill_base.proofs.Signed.{read, read_is, coordinate_fits, lt_le, le_trans}
-use Rattle.fill_raster.specs.Axes.{box_begin, box_end, groups, group_first, group_past, group_begin, group_end, halo_begin, halo_end, is_on, IsAxis}
+use Rattle.fill_raster.specs.Axes.{groups, group_first, group_past, group_begin, group_end, halo_begin, halo_end, IsAxis}
 use Rattle.fill_raster.specs.declared.axis.Axis.{Axis}
 use Rattle.fill_raster.proofs.Floors.{product_le}
 use Rattle.fill_raster.proofs.Groups.{first_in, last_in, first_before_last}
 use Rattle.fill_raster.proofs.Ranges.{in_on, within_on}
-use Rattle.fill_raster.proofs.Reading.{BoxRange, box_range, spacing_read}
+use Rattle.fill_raster.proofs.Reading.{box_range, spacing_read}
 
 -- a group's boxes span a range within the coordinates
 pub record GroupRange (a : Axis) (g : ℕ) : Type 0 where

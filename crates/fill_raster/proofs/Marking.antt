@@ -1,7 +1,7 @@
 -- Blocks and marks, as the code reckons them.
-use Rattle.std.proofs.Common.{◌≡◌, ℕ, zero, ◌+◌, ◌*◌, ◌/◌, ◌%◌, ◌≤◌, ◌<◌, ℤ, pos, negsuc, ◌≤ℤ◌, ◌<ℤ◌, arith, ap, ◌∙◌, sym, refl, inl, inr, Bool, true, false, ◌&&◌, ◌||◌, ◌==◌, List, length, get_or, replicate, take, drop, ◌++◌, Fits, w32, w64, FitsSigned}
+use Rattle.std.proofs.Common.{◌≡◌, ℕ, zero, ◌+◌, ◌*◌, ◌/◌, ◌%◌, ◌≤◌, ◌<◌, ℤ, pos, negsuc, ◌≤ℤ◌, ◌<ℤ◌, arith, ap, ◌∙◌, sym, refl, inl, inr, true, false, ◌&&◌, ◌||◌, ◌==◌, List, length, get_or, replicate, take, drop, ◌++◌, Fits, w32, w64, FitsSigned}
 use Rattle.std.specs.Int.{div_ceil}
-use Rattle.std.proofs.lemmas.Bool.{and_parts, and_from, cases_Bool, cases_lt, eq-eqb, eqb-true}
+use Rattle.std.proofs.lemmas.Bool.{and_parts, cases_Bool, cases_lt, eq-eqb, eqb-true}
 use Rattle.std.proofs.lemmas.Grind.{div_ceil_times}
 use Rattle.std.proofs.lemmas.Int.{ints}
 use Rattle.std.specs.Ordering.{int_eq}
@@ -11,10 +11,10 @@ use Rattle.std.proofs.lemmas.List.{length-replicate, get_or-replicate, get_or_pa
 use Rattle.std.proofs.lemmas.Nat.Bits.{bit_at-zero}
 use Rattle.std.proofs.lemmas.Nat.{mul-add-lt, same_from_place}
 use Rattle.std.proofs.Math.Nat.{mul_comm}
-use Rattle.fill_base.specs.Counts.{is_between, span_len}
+use Rattle.fill_base.specs.Counts.{span_len}
 use Rattle.fill_base.proofs.Between.{is_between_bounds}
 use Rattle.fill_base.proofs.Signed.{read, read_is, lt_le}
-use Rattle.fill_raster.specs.Marks.{IsBlock, in_block, block_len, index_in, Marked, is_marked, count_marked, AreMarks}
+use Rattle.fill_raster.specs.Marks.{IsBlock, in_block, block_len, index_in, is_marked, count_marked, AreMarks}
 use Rattle.fill_raster.proofs.Points.{area_none, area_few, area_more, and_no, or_no, int_eq_yes}
 use Rattle.fill_raster.proofs.Ranges.{both}
 use Rattle.fill_raster.specs.Bits.{has_bit}

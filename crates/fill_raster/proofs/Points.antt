@@ -6,7 +6,7 @@ use Rattle.std.proofs.lemmas.Bool.Decides.{Decides-int_eq}
 use Rattle.std.proofs.lemmas.Int.{ints}
 use Rattle.fill_base.specs.Counts.{sum_from, span_len, sum_between, count_between}
 use Rattle.fill_base.specs.Squares.{area_between}
-use Rattle.fill_base.proofs.Counting.{sum_from_same, sum_between_same, count_between_same, count_between_le, count_between_const, sum_between_const, sum_between_le}
+use Rattle.fill_base.proofs.Counting.{sum_from_same, count_between_same, count_between_le, count_between_const, sum_between_const, sum_between_le}
 
 -- a sum in which one term is one more
 sum_from_more : (f g : ℤ → ℕ) (lo : ℤ) (n k : ℕ) → k < n → ((m : ℕ) → m < n → (m ≡ k → ⊥) → f (lo +ℤ pos m) ≡ g (lo +ℤ pos m))

@@ -1,5 +1,5 @@
 -- The places of one axis are a range.
-use Rattle.std.proofs.Common.{◌≡◌, ℕ, ◌*◌, ◌≤◌, ℤ, pos, negsuc, neg_ℤ, ◌+ℤ◌, ◌-ℤ◌, ◌*ℤ◌, ◌≤ℤ◌, ◌<ℤ◌, arith, ap, ◌∙◌, sym, refl, Bool, true, false, ◌&&◌, w64, FitsSigned}
+use Rattle.std.proofs.Common.{◌≡◌, ℕ, ◌≤◌, ℤ, pos, negsuc, neg_ℤ, ◌+ℤ◌, ◌-ℤ◌, ◌*ℤ◌, ◌≤ℤ◌, ◌<ℤ◌, arith, sym, refl, Bool, true, false}
 use Rattle.std.specs.Prelude.{int_le}
 use Rattle.std.specs.Int.{int_max, int_div_euclid}
 use Rattle.std.proofs.lemmas.Bool.{and_from, and_parts}

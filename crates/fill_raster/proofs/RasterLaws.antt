@@ -1,21 +1,21 @@
 -- The laws of rasters.
-use Rattle.std.proofs.Common.{◌≡◌, ℕ, ◌*◌, ◌+◌, ◌%◌, ◌/◌, ◌≤◌, ◌<◌, ℤ, pos, ◌+ℤ◌, ◌-ℤ◌, ◌*ℤ◌, ◌≤ℤ◌, ◌<ℤ◌, arith, ap, ◌∙◌, sym, refl, inl, inr, Bool, true, false, cond, ◌&&◌}
+use Rattle.std.proofs.Common.{◌≡◌, ℕ, ◌*◌, ◌%◌, ◌/◌, ◌<◌, ℤ, pos, ◌+ℤ◌, ◌-ℤ◌, ◌*ℤ◌, ◌≤ℤ◌, ◌<ℤ◌, arith, ◌∙◌, sym, refl, inl, inr, true, false}
 use Rattle.std.specs.Ordering.{int_eq}
 use Rattle.std.proofs.lemmas.Bool.{cases_Bool, and_from, and_parts}
 use Rattle.std.proofs.lemmas.Bool.Decides.{Decides-int_eq}
 use Rattle.std.proofs.lemmas.Int.{ints, by_lt_z}
 use Rattle.std.proofs.Math.Nat.{mul_comm}
-use Rattle.fill_base.specs.Counts.{is_between, span_len, count_between, sum_between}
+use Rattle.fill_base.specs.Counts.{is_between, count_between}
 use Rattle.fill_base.specs.Squares.{area_between}
 use Rattle.fill_base.proofs.Between.{is_between_true, is_between_bounds}
 use Rattle.fill_base.proofs.Counting.{count_between_const, sum_between_const}
 use Rattle.fill_raster.specs.Axes.{box_begin, box_end, first, past, extent, groups, group_first, group_past, group_begin, group_end, IsAxis, IsPitch}
-use Rattle.fill_raster.specs.Lattice.{Lattice, IsLattice, KeepsPitch, in_raster, in_tile, places, tiles, tile_of}
-use Rattle.fill_raster.specs.Laws.{PlacesAreARange, PlacesAreCounted, EachPlaceHasATile, TilesAreBlocks, TileEdgesBoundItsBoxes, TileEdgesAreReached, IsBounded, AreReached, KeepsGap, BoxesKeepTheSpacing}
+use Rattle.fill_raster.specs.Lattice.{in_raster}
+use Rattle.fill_raster.specs.Laws.{PlacesAreARange, PlacesAreCounted, EachPlaceHasATile, TilesAreBlocks, TileEdgesBoundItsBoxes, TileEdgesAreReached, KeepsGap, BoxesKeepTheSpacing}
 use Rattle.fill_raster.specs.declared.axis.Axis.{Axis}
 use Rattle.fill_raster.proofs.Blocks.{tile_parts, tile_is_block}
 use Rattle.fill_raster.proofs.Floors.{product_le, product_lt}
-use Rattle.fill_raster.proofs.Groups.{IsInGroup, first_before_last}
+use Rattle.fill_raster.proofs.Groups.{first_before_last}
 use Rattle.fill_raster.proofs.Ranges.{on_range, first_past}
 use Rattle.fill_raster.proofs.Tiling.{tile_of_below}
 

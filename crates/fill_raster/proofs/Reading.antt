@@ -1,14 +1,14 @@
 -- Places of one axis as the code reckons them.
-use Rattle.std.proofs.Common.{◌≡◌, ℕ, ◌+◌, ◌*◌, ◌/◌, ◌^◌, ◌≤◌, ◌<◌, ℤ, pos, negsuc, neg_ℤ, ◌+ℤ◌, ◌-ℤ◌, ◌*ℤ◌, ◌≤ℤ◌, ◌<ℤ◌, arith, ap, ◌∙◌, sym, refl, Bool, true, ◌&&◌, w32, w64, Fits, FitsSigned, ◌↔◌}
+use Rattle.std.proofs.Common.{◌≡◌, ℕ, ◌*◌, ◌/◌, ◌^◌, ◌≤◌, ◌<◌, ℤ, pos, negsuc, neg_ℤ, ◌+ℤ◌, ◌-ℤ◌, ◌*ℤ◌, ◌≤ℤ◌, ◌<ℤ◌, arith, ap, ◌∙◌, sym, refl, true, ◌&&◌, w32, w64, Fits, FitsSigned, ◌↔◌}
 use Rattle.std.specs.Prelude.{int_le, int_lt, IsTrue}
 use Rattle.std.specs.Int.{int_max, int_min, int_div_euclid, div_ceil}
 use Rattle.std.proofs.lemmas.Int.{ints, clamps}
 use Rattle.std.proofs.Math.Nat.{div-le_self}
 use Rattle.fill_base.specs.Coordinates.{lowest, highest, IsCoordinate}
-use Rattle.fill_base.specs.Counts.{is_between, span_len}
+use Rattle.fill_base.specs.Counts.{span_len}
 use Rattle.fill_base.specs.Limits.{IsLength, IsSpacing}
 use Rattle.fill_base.proofs.Signed.{read, read_is, pos_fits, lt_le, le_trans, coordinate_fits}
-use Rattle.fill_raster.specs.Axes.{box_begin, box_end, is_on, first, past, extent, groups, group_of, group_first, group_past, group_begin, group_end, IsAxis, IsPitch}
+use Rattle.fill_raster.specs.Axes.{box_begin, box_end, is_on, first, past, extent, groups, group_of, group_first, group_past, group_end, IsAxis, IsPitch}
 use Rattle.fill_raster.specs.declared.axis.Axis.{Axis}
 use Rattle.fill_raster.proofs.Ranges.{IsIn, IsWithin, IsPlaceNumber, le_true, true_le, on_in, in_on, on_within, within_on, on_range, last, last_bounded, first_bounded, past_bounded, extent_bounded}
 use Rattle.fill_raster.proofs.Groups.{apart_below, first_in, last_in, groups_few, starts_below}

@@ -1,6 +1,5 @@
 -- One bit of a list of words, set.
-use Rattle.std.proofs.Common.{◌≡◌, ℕ, ◌+◌, ◌*◌, ◌/◌, ◌%◌, ◌^◌, ◌≤◌, ◌<◌, arith, ap, ◌∙◌, sym, refl, inl, inr, Bool, true, false, ◌||◌, ◌==◌, List, length, get_or, set, bit_or, w64}
-use Rattle.std.specs.Int.{bit_at}
+use Rattle.std.proofs.Common.{◌≡◌, ℕ, ◌*◌, ◌/◌, ◌%◌, ◌^◌, ◌<◌, arith, ◌∙◌, sym, refl, inl, inr, Bool, true, false, ◌||◌, ◌==◌, List, length, get_or, set, bit_or, w64}
 use Rattle.std.proofs.lemmas.Bool.{cases_eq, eq-eqb, ne_eqb}
 use Rattle.std.proofs.lemmas.List.{get_or-set_same, get_or-set_other}
 use Rattle.std.proofs.lemmas.Nat.{div_below, mod_below, div-add-mod'}

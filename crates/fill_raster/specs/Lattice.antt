@@ -1,9 +1,9 @@
 -- A raster: places in columns and rows, each with its box, and the tiles that they are grouped into.
-use Rattle.std.specs.Prelude.{◌≡◌, ℕ, ◌+◌, ◌*◌, ◌/◌, ◌%◌, ◌≤◌, ◌<◌, ℤ, ◌+ℤ◌, ◌-ℤ◌, Bool, ◌&&◌, ◌==◌, true}
+use Rattle.std.specs.Prelude.{ℕ, ◌+◌, ◌*◌, ◌/◌, ◌%◌, ◌≤◌, ℤ, ◌+ℤ◌, ◌-ℤ◌, Bool, ◌&&◌, ◌==◌}
 use Rattle.fill_base.specs.Counts.{is_between}
 use Rattle.fill_base.specs.declared.place.Point.{Point}
 use Rattle.fill_base.specs.declared.rect.Rect.{Rect}
-use Rattle.fill_raster.specs.Axes.{box_begin, box_end, is_on, extent, groups, group_of, group_first, group_past, group_begin, group_end, IsAxis, IsPitch}
+use Rattle.fill_raster.specs.Axes.{box_begin, box_end, is_on, extent, groups, group_of, group_begin, group_end, IsAxis, IsPitch}
 use Rattle.fill_raster.specs.declared.axis.Axis.{Axis}
 
 -- the columns of the places from left to right, and their rows upwards

@@ -1,5 +1,5 @@
 -- What holds of every raster.
-use Rattle.std.specs.Prelude.{◌≡◌, ◌⊎◌, ℕ, ◌%◌, ◌/◌, ◌<◌, ℤ, ◌+ℤ◌, ◌≤ℤ◌, Bool, true, ◌&&◌}
+use Rattle.std.specs.Prelude.{◌≡◌, ◌⊎◌, ℕ, ◌%◌, ◌/◌, ◌<◌, ℤ, ◌+ℤ◌, ◌≤ℤ◌, true, ◌&&◌}
 use Rattle.fill_base.specs.Counts.{is_between}
 use Rattle.fill_base.specs.Squares.{area_between}
 use Rattle.fill_raster.specs.Axes.{box_begin, box_end, first, past, groups, group_first, group_past}

@@ -1,9 +1,9 @@
 //! Marks for the places of one tile.
-ghost use Rattle.std.specs.Prelude.{◌≡◌, ◌&&◌, ◌||◌, ◌<◌, ◌*◌, ◌≤◌, ℤ, true, false, IfOk, length};
+ghost use Rattle.std.specs.Prelude.{◌≡◌, ◌&&◌, ◌||◌, ◌<◌, ◌*◌, ◌≤◌, ℤ, true, false, IfOk};
 ghost use Rattle.std.specs.Ordering.{int_eq};
 ghost use Rattle.fill_raster.specs.Lattice as lattice;
 ghost use Rattle.fill_raster.specs.Lattice.{in_tile};
-ghost use Rattle.fill_raster.specs.Marks.{Marked, AreMarks, IsBlock, block_len, in_block, is_marked, count_marked};
+ghost use Rattle.fill_raster.specs.Marks.{Marked, AreMarks, in_block, is_marked, count_marked};
 
 use crate::bits::{WORD, has_bit, set_bit};
 use crate::block::Block;
@@ -45,6 +45,13 @@ impl Marks {
             words,
             count: 0,
         })
+    }
+
+    /// Whether a place is of the tile, so that it may be marked.
+    pub fn has_place(&self, place: Place) -> bool
+        ensures { result ≡ in_block self.now.block place.i place.j }
+    {
+        self.block.has(place)
     }
 
     /// Marks a place of the tile.

@@ -1,6 +1,5 @@
 use Rattle.std.proofs.Common.{refl}
 use Rattle.fill_base.proofs.Signed.{read_is}
-use Rattle.fill_raster.specs.Lattice.{KeepsPitch, HasFewPlaces}
 use Rattle.fill_raster.proofs.Tiling.{not_held}
 use Rattle.fill_raster.proofs.raster.Raster.checked.Goals as goal
 
