@@ -1,5 +1,5 @@
 //! Rasters: the places where a fill box may stand, and the tiles that they are grouped into.
-ghost use Rattle.std.specs.Prelude.{◌≡◌, ◌↔◌, ◌≤ℤ◌, ◌&&◌, ◌<◌, ◌%◌, ◌/◌, ◌<ℤ◌, ℤ, pos, true, IsTrue, IsOk, IfOk, ◌-ℤ◌, ◌+ℤ◌};
+ghost use Rattle.std.specs.Prelude.{◌≡◌, ◌↔◌, ◌≤ℤ◌, ◌&&◌, ◌<◌, ◌%◌, ◌/◌, ◌<ℤ◌, ℤ, true, IsTrue, IsOk, IfOk, ◌-ℤ◌, ◌+ℤ◌};
 ghost use Rattle.std.specs.Int.{int_max, int_min};
 ghost use Rattle.fill_base.specs.Coordinates.{lowest, highest, IsCoordinate, IsInRange};
 ghost use Rattle.fill_base.specs.Counts.{is_between};
