@@ -7,7 +7,8 @@ use Rattle.std.proofs.lemmas.Bool.{cases_Bool}
 use Rattle.std.proofs.lemmas.Bool.Decides.{nat_tests}
 use Rattle.std.proofs.lemmas.Int.{ints}
 use Rattle.fill_base.specs.Coordinates.{highest}
-use Rattle.fill_area.specs.Axes.{IsAxis, IsCount, IsLength, axis_end}
+use Rattle.fill_base.specs.Limits.{IsLength}
+use Rattle.fill_area.specs.Axes.{IsAxis, IsCount, axis_end}
 use Rattle.fill_area.specs.Grid.{Grid, IsGrid}
 use Rattle.fill_area.specs.declared.axis.Axis.{Axis}
 use Rattle.fill_text.specs.Grids.{grid_with, is_axis, is_count, is_grid, is_length}
