@@ -92,8 +92,8 @@ fn run<R: Files + Threads + Sync, W: Write + Drop>(
     out: &mut Tap<W>,
 ) -> Result<(), Refusal>
     requires { has_failed out.old ≡ false }
-    ensures written { OnOk result (IsReport R.File.remaining (Some (text_of line)) (W.contents (under out.old)) (W.contents (under out.new))) }
-    ensures refused { IfErr result (IsCause R.File.remaining (Some (text_of line))) }
+    ensures written { OnOk result (IsReport R.File.remaining (Some (text_of line.entry)) (W.contents (under out.old)) (W.contents (under out.new))) }
+    ensures refused { IfErr result (IsCause R.File.remaining (Some (text_of line.entry))) }
     ensures silent { OnErr result ((has_failed out.new ≡ true) ⊎ (out.new ≡ out.old)) }
 {
     match line {
@@ -156,8 +156,8 @@ fn line_status<R: Files + Threads + Sync, W: Write + Drop, E: Write>(
 ) -> ExitCode
     requires out { has_failed out.old ≡ false }
     requires err { has_failed err.old ≡ false }
-    ensures done { exit_status result ≡ 0 → IsReport R.File.remaining (Some (text_of line)) (W.contents (under out.old)) (W.contents (under out.new)) }
-    ensures refused { (exit_status result ≡ 0) ⊎ GaveUp R.File.remaining (Some (text_of line)) (E.contents (under err.old)) (E.contents (under err.new)) (has_failed err.new) (exit_status result) }
+    ensures done { exit_status result ≡ 0 → IsReport R.File.remaining (Some (text_of line.entry)) (W.contents (under out.old)) (W.contents (under out.new)) }
+    ensures refused { (exit_status result ≡ 0) ⊎ GaveUp R.File.remaining (Some (text_of line.entry)) (E.contents (under err.old)) (E.contents (under err.new)) (has_failed err.new) (exit_status result) }
     ensures status { (exit_status result ≡ 0) ⊎ (1 < exit_status result) }
     ensures silent { (exit_status result ≡ 0) ⊎ (has_failed out.new ≡ true) ⊎ (out.new ≡ out.old) }
 {
