@@ -14,10 +14,10 @@ RULES = """frame_x1,0
 frame_y1,0
 frame_x2,%(side)d
 frame_y2,%(side)d
-box_w,400
-box_h,400
-step_x,1000
-step_y,1000
+box_w,2000
+box_h,2000
+step_x,5000
+step_y,5000
 origin_x,0
 origin_y,0
 spacing,100

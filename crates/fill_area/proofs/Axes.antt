@@ -5,7 +5,8 @@ use Rattle.std.proofs.Math.Nat.{mul-le-mul}
 use Rattle.fill_base.specs.Coordinates.{lowest, highest, IsCoordinate}
 use Rattle.fill_base.proofs.Signed.{read, read_is, coordinate_fits, lt_le, le_trans}
 use Rattle.fill_area.specs.Density.{IsArea}
-use Rattle.fill_area.specs.Axes.{IsLength, IsCount, IsAxis, IsExtent, axis_begin, axis_end}
+use Rattle.fill_base.specs.Limits.{IsLength}
+use Rattle.fill_area.specs.Axes.{IsCount, IsAxis, IsExtent, axis_begin, axis_end}
 use Rattle.fill_area.specs.declared.axis.Axis.{Axis}
 
 -- the axis with these numbers

@@ -7,7 +7,8 @@ use Rattle.std.specs.Prelude.{false, int_le, nat_abs}
 use Rattle.std.specs.Int.{div_ceil}
 use Rattle.fill_base.specs.Coordinates.{lowest, highest, IsCoordinate}
 use Rattle.fill_base.proofs.Signed.{read, read_is, coordinate_fits}
-use Rattle.fill_area.specs.Axes.{IsLength, IsAxis}
+use Rattle.fill_base.specs.Limits.{IsLength}
+use Rattle.fill_area.specs.Axes.{IsAxis}
 use Rattle.fill_area.specs.Axes.{IsIndex, IsTouching, IsContaining, IsRangeOf}
 use Rattle.fill_area.specs.steps.Begun.{IsBegun, IsLimit}
 use Rattle.fill_area.proofs.Axes.{axis_of, length_fits}

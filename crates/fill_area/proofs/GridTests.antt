@@ -7,7 +7,8 @@ use Rattle.std.proofs.lemmas.Int.{ints}
 use Rattle.fill_base.specs.Coordinates.{highest, IsCoordinate}
 use Rattle.fill_base.proofs.Signed.{read, read_is}
 use Rattle.fill_area.specs.Grid.{Grid, IsGrid}
-use Rattle.fill_area.specs.Axes.{IsLength, IsCount, IsAxis}
+use Rattle.fill_base.specs.Limits.{IsLength}
+use Rattle.fill_area.specs.Axes.{IsCount, IsAxis}
 use Rattle.fill_area.proofs.Axes.{axis_of, end_fits}
 
 pub grid_test : (g : Grid) (a b c : Bool) → (IsTrue a ↔ IsAxis g.across) → (IsTrue b ↔ IsAxis g.up)

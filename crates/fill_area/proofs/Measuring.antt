@@ -8,7 +8,7 @@ use Rattle.fill_base.specs.Counts.{span_len, count_between}
 use Rattle.fill_base.proofs.Counting.{sum_between_le, sum_between_same, sum_between_const, count_between_le, count_between_same, count_between_const}
 use Rattle.fill_base.specs.Squares.{area_between}
 use Rattle.fill_area.specs.Grid.{Grid, IsGrid, window_left, window_right, window_bottom, window_top}
-use Rattle.fill_area.specs.Axes.{IsLength}
+use Rattle.fill_base.specs.Limits.{IsLength}
 use Rattle.fill_area.specs.Density.{AreMeasured, IsArea, window_area}
 
 -- the area of the window at place `k` of the list

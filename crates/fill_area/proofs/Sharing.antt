@@ -10,7 +10,7 @@ use Rattle.fill_base.specs.Squares.{squares}
 use Rattle.fill_base.proofs.Signed.{read}
 use Rattle.fill_base.proofs.Between.{is_between_true, is_between_bounds}
 use Rattle.fill_area.specs.Grid.{Grid, window_left, window_right, window_bottom, window_top}
-use Rattle.fill_area.specs.Axes.{IsLength}
+use Rattle.fill_base.specs.Limits.{IsLength}
 use Rattle.fill_area.specs.Axes.{IsIndex, IsTouching, IsContaining, IsRangeOf}
 use Rattle.fill_area.specs.declared.axis.Axis.{Axis}
 use Rattle.fill_area.specs.Sharing.{IsWindow, ShareASquare, Holds, window_squares}

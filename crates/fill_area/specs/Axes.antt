@@ -1,6 +1,7 @@
 -- Spans of one length along a line, each a step after the one before.
 use Rattle.std.specs.Prelude.{◌≡◌, ◌↔◌, ℕ, ◌-◌, ◌<◌, ◌≤◌, ℤ, pos, ◌+ℤ◌, ◌*ℤ◌, ◌≤ℤ◌, ◌<ℤ◌}
 use Rattle.fill_base.specs.Coordinates.{lowest, highest, IsCoordinate}
+use Rattle.fill_base.specs.Limits.{IsLength}
 use Rattle.fill_area.specs.declared.axis.Axis.{Axis}
 
 -- where the span at index `a` begins, and where it ends
@@ -9,11 +10,6 @@ axis_begin axis a = axis.first +ℤ (pos a *ℤ axis.step)
 
 abbrev pub axis_end : Axis → ℕ → ℤ
 axis_end axis a = axis_begin axis a +ℤ axis.length
-
--- from 1 to 2^20
-pub record IsLength (z : ℤ) : Type 0 where
-  pub least : pos 1 ≤ℤ z
-  pub most : z ≤ℤ pos 1048576
 
 pub record IsCount (n : ℕ) : Type 0 where
   pub least : 1 ≤ n

@@ -2,7 +2,8 @@
 //! upwards.
 ghost use Rattle.std.specs.Prelude.{◌≡◌, ◌↔◌, ◌<◌, ◌-◌, IsTrue};
 ghost use Rattle.fill_base.specs.Coordinates.{IsCoordinate};
-ghost use Rattle.fill_area.specs.Axes.{IsLength, IsCount, IsAxis, IsExtent, IsTouching, IsContaining, IsRangeOf, axis_end};
+ghost use Rattle.fill_base.specs.Limits.{IsLength};
+ghost use Rattle.fill_area.specs.Axes.{IsCount, IsAxis, IsExtent, IsTouching, IsContaining, IsRangeOf, axis_end};
 ghost use Rattle.fill_area.specs.steps.Begun.{IsBegun, IsLimit};
 
 use fill_base::rect::{HIGHEST, is_coordinate};

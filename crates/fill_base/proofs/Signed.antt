@@ -45,6 +45,9 @@ pos_fits n small = omega (arith, ints)
 pub not_le : (a b : ℤ) → int_le b a ≡ false → a <ℤ b
 not_le a b above = grind (arith, ints)
 
+pub not_under : (a b : ℤ) → int_le b a ≡ true → a <ℤ b → ⊥
+not_under a b above under = grind (arith, ints)
+
 -- a width times a height, of sides of at most 2^31
 pub product_small : (m n : ℕ) → m ≤ 2 ^ 31 → n ≤ 2 ^ 31 → m * n ≤ 2 ^ 62
 product_small m n short low = let h : m * n ≤ 2 ^ 31 * 2 ^ 31 = mul-le-mul short low in omega (arith, h)

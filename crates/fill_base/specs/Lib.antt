@@ -1,5 +1,6 @@
 pub mod Counts
 pub mod Coordinates
+pub mod Limits
 pub mod Sides
 pub mod Squares
 pub mod Sequence

@@ -62,6 +62,7 @@ impl Rect {
     pub fn new(x1: i64, y1: i64, x2: i64, y2: i64) -> Result<Rect, RectError>
         ensures ok { IsOk result ↔ (AreCoordinates x1 y1 x2 y2 × (x1 <ℤ x2) × (y1 <ℤ y2)) }
         ensures out_of_range { (result ≡ Err RectError.OutOfRange) ↔ ¬ AreCoordinates x1 y1 x2 y2 }
+        ensures bad_rect { (result ≡ Err RectError.BadRect) ↔ (AreCoordinates x1 y1 x2 y2 × ¬ ((x1 <ℤ x2) × (y1 <ℤ y2))) }
         ensures corners { IfOk result (λ r. (r.x1 ≡ x1) × (r.y1 ≡ y1) × (r.x2 ≡ x2) × (r.y2 ≡ y2)) }
     {
         if !are_coordinates(x1, y1, x2, y2) {

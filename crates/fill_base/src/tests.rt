@@ -17,6 +17,27 @@ fn the_first_fault_of_four_numbers_is_refused(rt: HostRuntime) {
 }
 
 #[test]
+fn each_refusal_says_why(rt: HostRuntime) -> Result<(), Fail> {
+    let alloc = rt.alloc();
+    let range = format!(in alloc; "{}", RectError::OutOfRange)?;
+    assert_eq!(rt; range.as_str(), "a coordinate is out of range");
+    let none = format!(in alloc; "{}", RectError::BadRect)?;
+    assert_eq!(rt; none.as_str(), "the rectangle holds no square");
+    Ok(())
+}
+
+#[test]
+fn rectangles_are_equal_where_all_edges_are(rt: HostRuntime) -> Result<(), Fail> {
+    let wire = Rect::new(-3, 2, 4, 5)?;
+    assert!(rt; wire == Rect::new(-3, 2, 4, 5)?);
+    for corners in [[-2, 2, 4, 5], [-3, 1, 4, 5], [-3, 2, 5, 5], [-3, 2, 4, 6]] {
+        let [x1, y1, x2, y2] = corners;
+        assert!(rt; wire != Rect::new(x1, y1, x2, y2)?);
+    }
+    Ok(())
+}
+
+#[test]
 fn a_rectangle_may_fill_the_range(rt: HostRuntime) -> Result<(), Fail> {
     let all = Rect::new(LOWEST, LOWEST, HIGHEST, HIGHEST)?;
     assert_eq!(rt; all.area(), 1 << 62);

@@ -1,6 +1,7 @@
 -- What two inputs say together, once it is known what each says.
-use Rattle.std.proofs.Common.{◌≡◌, ℕ, List, Option, Some, None, Result, Ok, Err, IfSome, IsOk, IsOkAnd, refl, subst}
-use Rattle.fill_text.specs.Rules.{Values}
+use Rattle.std.proofs.Common.{◌≡◌, ◌≤◌, ◌^◌, ℕ, false, nat_lt, arith, length, List, Option, Some, None, Result, Ok, Err, IfSome, IsOk, IsOkAnd, refl, subst}
+use Rattle.std.proofs.lemmas.Bool.Decides.{nat_tests}
+use Rattle.fill_text.specs.Rules.{Values, rules_of}
 use Rattle.fill_text.specs.Script.{Change}
 use Rattle.fill_text.specs.declared.rule_error.RuleError.{RuleError}
 use Rattle.fill_text.specs.declared.rule_error.RuleError.TheVariants as rule
@@ -49,3 +50,17 @@ pub answered : (rules edits : Option (List ℕ)) (values : Values) (changes : Li
 answered None edits values changes read edited = tt
 answered (Some r) None values changes read edited = tt
 answered (Some r) (Some s) values changes read edited = is_ok_of _ _ (both_read r s values changes read edited)
+
+-- the rules were given
+pub rules_are : (rules : Option (List ℕ)) (values : Values) → IfSome rules (λ text. rules_answer text ≡ Ok values) → IfSome rules (λ r. IsOk (rules_answer r))
+rules_are None values read = tt
+rules_are (Some r) values read = is_ok_of _ values read
+
+-- the bytes that were taken are within the limit, and give the rules
+pub rules_taken : (remaining : Option (List ℕ)) (bytes : List ℕ) (values : Values) (n : ℕ) → IfSome remaining (λ xs. bytes ≡ xs) → n ≡ length bytes → n ≤ 2147483648 → rules_of bytes ≡ Ok values
+    → IfSome remaining (λ text. rules_answer text ≡ Ok values)
+rules_taken None bytes values n same len short given = tt
+rules_taken (Some xs) bytes values n same len short given = rw (← same, short_enough (length bytes) (rw len at short), given) refl
+  where
+    short_enough : (m : ℕ) → m ≤ 2147483648 → nat_lt (2 ^ 31) m ≡ false
+    short_enough m short = grind (arith, nat_tests)

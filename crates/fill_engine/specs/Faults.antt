@@ -8,7 +8,7 @@ use Rattle.fill_text.specs.declared.script.ScriptError.TheVariants as script
 use Rattle.fill_device.specs.declared.input.InputError.{InputError}
 use Rattle.fill_device.specs.declared.input.InputError.TheVariants as input
 use Rattle.fill_engine.specs.declared.fault.Fault.{Fault}
-use Rattle.fill_engine.specs.declared.fault.Fault.TheVariants.{BadRow, BadNumber, BadRule, TooManyLines, BadRect, BadWindows, TooLong, Device, Memory}
+use Rattle.fill_engine.specs.declared.fault.Fault.TheVariants.{BadRow, BadNumber, BadRule, TooManyLines, BadRect, BadWindows, BadPitch, TooManyPlaces, TooLong, Device, Memory}
 
 abbrev pub fault_number : Fault → ℕ
 fault_number (BadRow line) = 21
@@ -17,6 +17,8 @@ fault_number (BadRule key) = 23
 fault_number TooManyLines = 24
 fault_number BadRect = 25
 fault_number BadWindows = 26
+fault_number BadPitch = 27
+fault_number TooManyPlaces = 28
 fault_number TooLong = 29
 fault_number Device = 30
 fault_number Memory = 31
@@ -28,6 +30,8 @@ fault_name (BadRule key) = codes "BadRule"
 fault_name TooManyLines = codes "TooManyLines"
 fault_name BadRect = codes "BadRect"
 fault_name BadWindows = codes "BadWindows"
+fault_name BadPitch = codes "BadPitch"
+fault_name TooManyPlaces = codes "TooManyPlaces"
 fault_name TooLong = codes "TooLong"
 fault_name Device = codes "Device"
 fault_name Memory = codes "Memory"
@@ -40,6 +44,8 @@ fault_ending (BadRule key) = codes " key " ++ key_name key
 fault_ending TooManyLines = []
 fault_ending BadRect = []
 fault_ending BadWindows = []
+fault_ending BadPitch = []
+fault_ending TooManyPlaces = []
 fault_ending TooLong = []
 fault_ending Device = []
 fault_ending Memory = []
@@ -55,6 +61,8 @@ rule_fault (rule.BadNumber line) = BadNumber line
 rule_fault (rule.BadRule key) = BadRule key
 rule_fault rule.BadRect = BadRect
 rule_fault rule.BadWindows = BadWindows
+rule_fault rule.BadPitch = BadPitch
+rule_fault rule.TooManyPlaces = TooManyPlaces
 rule_fault rule.Memory = Memory
 
 -- the fault of a refused script

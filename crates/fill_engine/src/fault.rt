@@ -22,6 +22,10 @@ pub(crate) enum Fault {
     BadRect,
     /// Too many windows, or one that leaves the range of coordinates.
     BadWindows,
+    /// A step below the side of a box and the fill spacing.
+    BadPitch,
+    /// Too many places for a box.
+    TooManyPlaces,
     /// An input of more than 2^31 bytes.
     TooLong,
     /// A file could not be opened, read or written.
@@ -43,6 +47,8 @@ impl Fault {
             Fault::TooManyLines => (24, "TooManyLines"),
             Fault::BadRect => (25, "BadRect"),
             Fault::BadWindows => (26, "BadWindows"),
+            Fault::BadPitch => (27, "BadPitch"),
+            Fault::TooManyPlaces => (28, "TooManyPlaces"),
             Fault::TooLong => (29, "TooLong"),
             Fault::Device => (30, "Device"),
             Fault::Memory => (31, "Memory"),
@@ -82,6 +88,8 @@ impl From<RuleError> for Fault {
             RuleError::BadRule { key } => Fault::BadRule { key },
             RuleError::BadRect => Fault::BadRect,
             RuleError::BadWindows => Fault::BadWindows,
+            RuleError::BadPitch => Fault::BadPitch,
+            RuleError::TooManyPlaces => Fault::TooManyPlaces,
             RuleError::Memory => Fault::Memory,
         }
     }

@@ -59,6 +59,16 @@ fn a_line_tells_part_number_and_name(rt: HostRuntime) -> Result<(), Fail> {
             2,
         ),
         (
+            of_rules(RuleError::BadPitch),
+            "densfill: rules: 27 BadPitch\n",
+            2,
+        ),
+        (
+            of_rules(RuleError::TooManyPlaces),
+            "densfill: rules: 28 TooManyPlaces\n",
+            2,
+        ),
+        (
             Refusal::Rules(InputFault::Unread(InputError::TooLong)),
             "densfill: rules: 29 TooLong\n",
             2,

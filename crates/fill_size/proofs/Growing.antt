@@ -9,7 +9,8 @@ use Rattle.fill_base.specs.Squares.{squares}
 use Rattle.fill_base.proofs.Signed.{read}
 use Rattle.fill_region.specs.Bands.{Band, holds}
 use Rattle.fill_region.specs.Squares.{covered}
-use Rattle.fill_size.specs.Distance.{IsNear, Reaches, HasSquare, IsSpacing, IsSized, StaysInRange}
+use Rattle.fill_base.specs.Limits.{IsSpacing}
+use Rattle.fill_size.specs.Distance.{IsNear, Reaches, HasSquare, IsSized, StaysInRange}
 use Rattle.fill_size.specs.Growth.{FitsGrown, IsAdded}
 use Rattle.fill_size.proofs.Widening.{covered_more}
 use Rattle.fill_size.proofs.Ranges.{squares_inside, spacing_read, grown_read, shrunk_read, squares_true, nearest}

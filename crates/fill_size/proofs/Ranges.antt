@@ -12,7 +12,8 @@ use Rattle.fill_base.specs.Squares.{squares}
 use Rattle.fill_base.proofs.Signed.{read, read_is, is_lt, lt_le, le_trans}
 use Rattle.fill_base.proofs.Areas.{read_x1, read_x2, read_y1, read_y2}
 use Rattle.fill_base.proofs.Between.{is_between_true, is_between_bounds}
-use Rattle.fill_size.specs.Distance.{IsNear, InConflict, AreNear, HasSquare, IsSpacing}
+use Rattle.fill_base.specs.Limits.{IsSpacing}
+use Rattle.fill_size.specs.Distance.{IsNear, InConflict, AreNear, HasSquare}
 
 lt_is : (a b : ℤ) → a <ℤ b → int_lt a b ≡ true
 lt_is a b h = grind (arith, ints)

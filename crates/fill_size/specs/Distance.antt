@@ -40,11 +40,6 @@ pub record HasSquare (p : ℤ → ℤ → Bool) (left bottom right top : ℤ) : 
   pub from_bottom : bottom ≤ℤ y
   pub to_top : y <ℤ top
 
--- a spacing or a growth: from 0 to 2^20
-pub record IsSpacing (s : ℤ) : Type 0 where
-  pub least : pos 0 ≤ℤ s
-  pub most : s ≤ℤ pos 1048576
-
 -- all that `p` grown by `d` holds lies within the coordinates
 abbrev pub StaysInRange : (ℤ → ℤ → Bool) → ℤ → Type 0
 StaysInRange p d = (x y : ℤ) → Reaches p d x y → (lowest ≤ℤ x) × (x <ℤ highest) × (lowest ≤ℤ y) × (y <ℤ highest)

@@ -3,7 +3,8 @@ ghost use Rattle.std.specs.Prelude.{◌≡◌, ◌↔◌, ℤ, true, IsTrue};
 ghost use Rattle.fill_base.specs.Coordinates.{IsCoordinate, IsInRange};
 ghost use Rattle.fill_base.specs.Squares.{squares};
 ghost use Rattle.fill_region.specs.Bands.{holds};
-ghost use Rattle.fill_size.specs.Distance.{AreNear, HasSquare, InConflict, IsSpacing};
+ghost use Rattle.fill_base.specs.Limits.{IsSpacing};
+ghost use Rattle.fill_size.specs.Distance.{AreNear, HasSquare, InConflict};
 
 use fill_base::Rect;
 use fill_region::Region;

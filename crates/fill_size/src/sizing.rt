@@ -2,7 +2,8 @@
 ghost use Rattle.std.specs.Prelude.{◌≡◌, ◌↔◌, ◌||◌, ◌+ℤ◌, ◌-ℤ◌, ℤ, IsTrue, IfOk, OnOk};
 ghost use Rattle.fill_base.specs.Squares.{squares};
 ghost use Rattle.fill_region.specs.Bands.{holds};
-ghost use Rattle.fill_size.specs.Distance.{IsSized, IsSpacing, StaysInRange};
+ghost use Rattle.fill_base.specs.Limits.{IsSpacing};
+ghost use Rattle.fill_size.specs.Distance.{IsSized, StaysInRange};
 ghost use Rattle.fill_size.specs.Growth.{Continues, FitsGrown, IsAdded};
 
 use crate::clearance::has_square;

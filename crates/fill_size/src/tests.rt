@@ -1,4 +1,4 @@
-ghost use Rattle.fill_size.specs.Distance.{IsSpacing};
+ghost use Rattle.fill_base.specs.Limits.{IsSpacing};
 
 use crate::{conflicts, fits, is_clear, sized};
 use fill_base::Rect;

@@ -5,17 +5,18 @@ use Rattle.std.proofs.lemmas.List.FromFn.{fill_by_all}
 use Rattle.fill_base.specs.Sequence.{◌>>=◌}
 use Rattle.fill_text.specs.RectTests.{is_rect, rect_with}
 use Rattle.fill_text.specs.Grids.{grid_with, is_grid}
+use Rattle.fill_text.specs.Rasters.{has_few_places, keeps_pitch, raster_with}
 use Rattle.fill_text.specs.Keys.{all_keys, all_number_keys, all_text_keys}
 use Rattle.fill_text.specs.Numbers.{number_of}
 use Rattle.fill_text.specs.Refusals.{each_fault, fault_if, fault_unless, first_some, refused_or}
-use Rattle.fill_text.specs.Rules.{Values, frame_of, joint_faults, missing, number_for, record_fault, rule_faults, rules_of, value_of, values_for, windows_of, word_for}
+use Rattle.fill_text.specs.Rules.{Values, frame_of, joint_faults, missing, number_for, raster_of, record_fault, rule_faults, rules_of, value_of, values_for, windows_of, word_for}
 use Rattle.fill_text.specs.Rows.{rows_of}
 use Rattle.fill_text.specs.declared.keys.Key.TheVariants.{Number, Text}
 use Rattle.fill_text.specs.declared.keys.NumberKey.{NumberKey}
 use Rattle.fill_text.specs.declared.keys.NumberKey.TheVariants as number
 use Rattle.fill_text.specs.declared.keys.TextKey.TheVariants as text
 use Rattle.fill_text.specs.declared.rule_error.RuleError.{RuleError}
-use Rattle.fill_text.specs.declared.rule_error.RuleError.TheVariants.{BadRect, BadRule, BadWindows}
+use Rattle.fill_text.specs.declared.rule_error.RuleError.TheVariants.{BadPitch, BadRect, BadRule, BadWindows, TooManyPlaces}
 use Rattle.fill_text.specs.steps.Entries.{Found, all_numbers, all_values, checked, number_found, rules_found, with_front}
 use Rattle.fill_text.proofs.FirstFaults.{first_stays, later_first}
 use Rattle.fill_text.proofs.Holding.{Holds}
@@ -84,18 +85,22 @@ values_given rows found held = by (first_some (map (missing rows) (map Number al
         (texts_given (map (number_for rows) all_number_keys) (word_for (Text text.Top) rows) (word_for (Text text.FillLib) rows) (word_for (Text text.FillCell) rows) (word_for (Text text.FillTop) rows))
 
 checked_given : (values : Values) → checked values ≡ refused_or (first_some (joint_faults values)) values
-unfolding checked rect_with grid_with
+unfolding checked rect_with grid_with raster_with
 checked_given values = by (int_lt (value_of values number.Max) (value_of values number.Min)) (bytes_eq values.fill_top values.fill_cell) (is_rect (frame_of values.numbers)) (is_grid (windows_of values.numbers))
+    (keeps_pitch (raster_of values.numbers) (value_of values number.FillSpacing)) (has_few_places (raster_of values.numbers))
   where
-    by : (less same rect grid : Bool)
+    by : (less same rect grid pitch few : Bool)
         → (if less then Err (BadRule (Number number.Max)) else if same then Err (BadRule (Text text.FillTop))
-        else (ok_or (if rect then Some (frame_of values.numbers) else None) BadRect >>= λ _. ok_or (if grid then Some (windows_of values.numbers) else None) BadWindows >>= λ _. Ok values))
-        ≡ refused_or (first_some (fault_if less (BadRule (Number number.Max)) ∷ fault_if same (BadRule (Text text.FillTop)) ∷ fault_unless rect BadRect ∷ fault_unless grid BadWindows ∷ [])) values
-    by true same rect grid = refl
-    by false true rect grid = refl
-    by false false false grid = refl
-    by false false true false = refl
-    by false false true true = refl
+        else (ok_or (if rect then Some (frame_of values.numbers) else None) BadRect >>= λ _. ok_or (if grid then Some (windows_of values.numbers) else None) BadWindows >>= λ _.
+        (if pitch then (if few then Ok (raster_of values.numbers) else Err TooManyPlaces) else Err BadPitch) >>= λ _. Ok values))
+        ≡ refused_or (first_some (fault_if less (BadRule (Number number.Max)) ∷ fault_if same (BadRule (Text text.FillTop)) ∷ fault_unless rect BadRect ∷ fault_unless grid BadWindows ∷ fault_unless pitch BadPitch ∷ fault_unless few TooManyPlaces ∷ [])) values
+    by true same rect grid pitch few = refl
+    by false true rect grid pitch few = refl
+    by false false false grid pitch few = refl
+    by false false true false pitch few = refl
+    by false false true true false few = refl
+    by false false true true true false = refl
+    by false false true true true true = refl
 
 -- a file with a record at fault
 pub refused_at : (file : List ℕ) (e : RuleError) → first_some (each_fault record_fault [] (rows_of file)) ≡ Some e → rules_of file ≡ Err e

@@ -7,7 +7,8 @@ use Rattle.std.proofs.lemmas.Bool.{cases_Bool}
 use Rattle.std.proofs.lemmas.Bool.Decides.{nat_tests}
 use Rattle.std.proofs.lemmas.Int.{ints}
 use Rattle.fill_base.specs.Coordinates.{highest}
-use Rattle.fill_area.specs.Axes.{IsAxis, IsCount, IsLength, axis_end}
+use Rattle.fill_base.specs.Limits.{IsLength}
+use Rattle.fill_area.specs.Axes.{IsAxis, IsCount, axis_end}
 use Rattle.fill_area.specs.Grid.{Grid, IsGrid}
 use Rattle.fill_area.specs.declared.axis.Axis.{Axis}
 use Rattle.fill_text.specs.Grids.{grid_with, is_axis, is_count, is_grid, is_length}
@@ -16,16 +17,16 @@ use Rattle.fill_text.proofs.Rectangles.{both, is_coordinate_facts, is_coordinate
 abbrev pub grid_of_numbers : ℤ → ℤ → ℤ → ℤ → ℤ → ℤ → ℕ → ℕ → Grid
 grid_of_numbers x y w h s t m n = record { across = record { first = x; length = w; step = s; count = m }; up = record { first = y; length = h; step = t; count = n } }
 
-int_le_true : (a b : ℤ) → a ≤ℤ b → int_le a b ≡ true
+pub int_le_true : (a b : ℤ) → a ≤ℤ b → int_le a b ≡ true
 int_le_true a b order = grind (arith, ints)
 
-int_le_facts : (a b : ℤ) → int_le a b ≡ true → a ≤ℤ b
+pub int_le_facts : (a b : ℤ) → int_le a b ≡ true → a ≤ℤ b
 int_le_facts a b test = grind (arith, ints)
 
-nat_le_true : (a b : ℕ) → a ≤ b → nat_le a b ≡ true
+pub nat_le_true : (a b : ℕ) → a ≤ b → nat_le a b ≡ true
 nat_le_true a b order = grind (arith, nat_tests)
 
-nat_le_facts : (a b : ℕ) → nat_le a b ≡ true → a ≤ b
+pub nat_le_facts : (a b : ℕ) → nat_le a b ≡ true → a ≤ b
 nat_le_facts a b test = grind (arith, nat_tests)
 
 is_length_true : (z : ℤ) → IsLength z → is_length z ≡ true

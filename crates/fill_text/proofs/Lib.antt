@@ -11,6 +11,7 @@ pub mod Holding
 pub mod Given
 pub mod SameRules
 pub mod GridTests
+pub mod RasterTests
 pub mod Standing
 pub mod Written
 pub mod Once

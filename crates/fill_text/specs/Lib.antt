@@ -1,6 +1,7 @@
 -- What the two texts say.
 pub mod RectTests
 pub mod Grids
+pub mod Rasters
 pub mod Keys
 pub mod Laws
 pub mod Numbers

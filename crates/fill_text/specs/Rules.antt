@@ -2,11 +2,13 @@
 use Rattle.std.specs.Prelude.{unsigned_abs, ℕ, ℤ, pos, ◌+◌, ◌==◌, ◌&&◌, ◌||◌, ◌++◌, Bool, List, [], ◌∷◌, length, get_or, map, find, Option, Some, None, option_map, option_and_then, unwrap_or, is_some, Result, bytes_eq, int_le, int_lt, nat_lt, nat_le, if◌then◌else◌}
 use Rattle.std.specs.List.{list_all}
 use Rattle.fill_area.specs.Grid.{Grid}
+use Rattle.fill_raster.specs.Lattice.{Lattice}
 use Rattle.fill_base.specs.Sides.{Sides, sides}
 use Rattle.fill_text.specs.RectTests.{is_rect}
 use Rattle.fill_text.specs.Grids.{is_grid}
 use Rattle.fill_text.specs.Keys.{all_keys, all_number_keys, key_name, key_named, number_rule}
 use Rattle.fill_text.specs.Numbers.{number_of}
+use Rattle.fill_text.specs.Rasters.{has_few_places, keeps_pitch}
 use Rattle.fill_text.specs.Refusals.{each_fault, fault_if, fault_unless, first_some, refused_or}
 use Rattle.fill_text.specs.Rows.{rows_of}
 use Rattle.fill_text.specs.declared.keys.Key.{Key}
@@ -16,7 +18,7 @@ use Rattle.fill_text.specs.declared.keys.NumberKey.TheVariants as number
 use Rattle.fill_text.specs.declared.keys.TextKey.{TextKey}
 use Rattle.fill_text.specs.declared.keys.TextKey.TheVariants as text
 use Rattle.fill_text.specs.declared.rule_error.RuleError.{RuleError}
-use Rattle.fill_text.specs.declared.rule_error.RuleError.TheVariants.{BadRow, BadNumber, BadRule, BadRect, BadWindows}
+use Rattle.fill_text.specs.declared.rule_error.RuleError.TheVariants.{BadRow, BadNumber, BadRule, BadRect, BadWindows, BadPitch, TooManyPlaces}
 
 -- the value of each key
 pub record Values : Type 0 where
@@ -45,6 +47,26 @@ abbrev pub windows_of : List ℤ → Grid
 windows_of numbers = record {
   across = record { first = number_in numbers number.WinX; length = number_in numbers number.WinW; step = number_in numbers number.WinStepX; count = unsigned_abs (number_in numbers number.WinNx) };
   up = record { first = number_in numbers number.WinY; length = number_in numbers number.WinH; step = number_in numbers number.WinStepY; count = unsigned_abs (number_in numbers number.WinNy) };
+}
+
+abbrev pub raster_of : List ℤ → Lattice
+raster_of numbers = record {
+  across = record {
+    low = number_in numbers number.FrameX1;
+    high = number_in numbers number.FrameX2;
+    length = number_in numbers number.BoxW;
+    step = number_in numbers number.StepX;
+    origin = number_in numbers number.OriginX;
+    group = unsigned_abs (number_in numbers number.TileNx);
+  };
+  up = record {
+    low = number_in numbers number.FrameY1;
+    high = number_in numbers number.FrameY2;
+    length = number_in numbers number.BoxH;
+    step = number_in numbers number.StepY;
+    origin = number_in numbers number.OriginY;
+    group = unsigned_abs (number_in numbers number.TileNy);
+  };
 }
 
 -- the word that the records give a key: the second field of the first that begins with its name
@@ -118,6 +140,8 @@ joint_faults values =
     ∷ fault_if (bytes_eq values.fill_top values.fill_cell) (BadRule (Text text.FillTop))
     ∷ fault_unless (is_rect (frame_of values.numbers)) BadRect
     ∷ fault_unless (is_grid (windows_of values.numbers)) BadWindows
+    ∷ fault_unless (keeps_pitch (raster_of values.numbers) (value_of values number.FillSpacing)) BadPitch
+    ∷ fault_unless (has_few_places (raster_of values.numbers)) TooManyPlaces
     ∷ []
 
 -- every fault of a rule file, in the order in which it is refused: of each record, of each key in table order, of the values

@@ -1,6 +1,7 @@
 //! The value of each rule. Lengths, gaps and coordinates are in database units.
 ghost use Rattle.std.specs.Prelude.{◌≡◌};
 ghost use Rattle.fill_base.specs.Sides.{sides_of};
+ghost use Rattle.fill_raster.specs.Lattice.{KeepsPitch};
 ghost use Rattle.fill_text.specs.Keys.{IsWithin};
 ghost use Rattle.fill_text.specs.Rules as spec;
 ghost use Rattle.fill_text.specs.Rules.{value_of};
@@ -10,6 +11,7 @@ use crate::keys::NumberKey;
 use crate::rules::Rules;
 use fill_area::Windows;
 use fill_base::Rect;
+use fill_raster::Raster;
 
 impl Rules {
     /// The frame, in which every fill box lies.
@@ -24,6 +26,14 @@ impl Rules {
         ensures { result ≡ spec.windows_of (values_of self.now).numbers }
     {
         self.windows
+    }
+
+    /// The places where a fill box may stand, and their tiles.
+    pub fn raster(&self) -> Raster
+        ensures raster { result ≡ spec.raster_of (values_of self.now).numbers }
+        ensures pitch { KeepsPitch result (value_of (values_of self.now) NumberKey.FillSpacing) }
+    {
+        self.raster
     }
 
     /// The frame's left edge.

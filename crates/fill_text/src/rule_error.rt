@@ -25,6 +25,12 @@ pub enum RuleError {
     /// The windows are too many, or leave the coordinate range.
     #[error("the windows are too many or out of range")]
     BadWindows,
+    /// A step is below the side of a box and the fill spacing together.
+    #[error("a step is below the side of a box and the fill spacing")]
+    BadPitch,
+    /// There are more than 2^24 places for a box.
+    #[error("the frame has more than 16777216 places for a box")]
+    TooManyPlaces,
     /// An allocation was refused.
     #[error("out of memory")]
     Memory,

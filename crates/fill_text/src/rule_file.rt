@@ -4,6 +4,7 @@ ghost use Rattle.fill_text.specs.Refusals.{seen, Gives};
 ghost use Rattle.fill_base.specs.Sides.{sides_of};
 ghost use Rattle.fill_text.specs.RectTests.{rect_with};
 ghost use Rattle.fill_text.specs.Grids.{grid_with};
+ghost use Rattle.fill_text.specs.Rasters.{raster_with};
 ghost use Rattle.fill_text.specs.Rules as spec;
 ghost use Rattle.fill_text.specs.steps.Entries as step;
 ghost use Rattle.fill_text.specs.steps.Entries.{found_in};
@@ -17,6 +18,7 @@ use crate::rules::{Numbers, Rules, Texts};
 use crate::sides::rect_from;
 use fill_area::Windows;
 use fill_base::{Point, Rect};
+use fill_raster::{Raster, RasterError};
 use std::alloc::Global;
 
 /// The frame that the numbers make, if it holds a square.
@@ -51,6 +53,32 @@ fn windows_in(numbers: &Numbers) -> Option<Windows>
     Windows::new(origin, size, step, count).ok()
 }
 
+/// The raster that the numbers make in the frame.
+fn raster_in(numbers: &Numbers, frame: Rect) -> Result<Raster, RuleError>
+    requires { sides_of frame ≡ spec.frame_of numbers.now.values }
+    ensures { result ≡ raster_with (spec.raster_of numbers.now.values) (spec.number_in numbers.now.values NumberKey.FillSpacing) }
+{
+    let size = (
+        numbers.value(NumberKey::BoxW),
+        numbers.value(NumberKey::BoxH),
+    );
+    let step = (
+        numbers.value(NumberKey::StepX),
+        numbers.value(NumberKey::StepY),
+    );
+    let origin = Point {
+        x: numbers.value(NumberKey::OriginX),
+        y: numbers.value(NumberKey::OriginY),
+    };
+    let fill_spacing = numbers.value(NumberKey::FillSpacing);
+    let tile = (numbers.tile_columns(), numbers.tile_rows());
+    match Raster::new(frame, size, step, origin, fill_spacing, tile) {
+        Ok(raster) => Ok(raster),
+        Err(RasterError::BadPitch) => Err(RuleError::BadPitch),
+        Err(RasterError::TooManyPlaces) => Err(RuleError::TooManyPlaces),
+    }
+}
+
 /// What is asked of the values together.
 #[tactic(auto, unfolding(crate::specs::steps::Entries::checked))]
 fn checked(numbers: Numbers, texts: Texts) -> Result<Rules, RuleError>
@@ -68,11 +96,13 @@ fn checked(numbers: Numbers, texts: Texts) -> Result<Rules, RuleError>
     }
     let frame = frame_in(&numbers).ok_or(RuleError::BadRect)?;
     let windows = windows_in(&numbers).ok_or(RuleError::BadWindows)?;
+    let raster = raster_in(&numbers, frame)?;
     Ok(Rules {
         numbers,
         texts,
         frame,
         windows,
+        raster,
     })
 }
 
@@ -120,8 +150,9 @@ fn missing(key: TextKey) -> RuleError
 /// The first refusal. Record by record: `BadRow` for other than two fields and for a key that is unknown or has stood
 /// before, then `BadNumber` for a value that writes no number, then `BadRule` for one that its key doesn't allow. Then
 /// `BadRule` for the first key in table order that is missing, for `max` below `min` and for `fill_top` equal to
-/// `fill_cell`; then `BadRect` for a frame that holds no square, and
-/// `BadWindows` for more than 2^20 windows or one that leaves the coordinates. `Memory` where memory runs out.
+/// `fill_cell`; then `BadRect` for a frame that holds no square, `BadWindows` for more than 2^20 windows or one that leaves
+/// the coordinates, `BadPitch` for a step below the box's side and the fill spacing, and `TooManyPlaces` for more than 2^24
+/// places for a box in the frame. `Memory` where memory runs out.
 pub fn read_rules(alloc: Global, text: &[u8]) -> Result<Rules, RuleError>
     ensures { Gives RuleError.Memory values_of result (spec.rules_of text.now) }
 {

@@ -1,6 +1,7 @@
 //! The rules that a rule file gives: a number or a text for each key.
 ghost use Rattle.std.specs.Prelude.{◌≡◌, ◌≤ℤ◌, ◌↔◌, IfOk, IsTrue, unsigned_abs};
 ghost use Rattle.fill_base.specs.Sides.{sides_of};
+ghost use Rattle.fill_raster.specs.Lattice.{KeepsPitch};
 ghost use Rattle.fill_text.specs.Keys.{number_rule};
 ghost use Rattle.fill_text.specs.Rules as spec;
 ghost use Rattle.fill_text.specs.declared.keys.NumberKey.{NumberKey};
@@ -8,6 +9,7 @@ ghost use Rattle.fill_text.specs.declared.keys.NumberKey.{NumberKey};
 use crate::keys::{NUMBER_COUNT, NumberKey};
 use fill_area::Windows;
 use fill_base::Rect;
+use fill_raster::Raster;
 use std::alloc::{AllocError, Global};
 
 /// The numbers of the rules, each in the range of its key.
@@ -48,6 +50,20 @@ impl Numbers {
     {
         self.value(NumberKey::WinNy) as u32
     }
+
+    /// How many columns of places a tile has.
+    pub fn tile_columns(&self) -> u32
+        ensures { result ≡ unsigned_abs (spec.number_in self.now.values NumberKey.TileNx) }
+    {
+        self.value(NumberKey::TileNx) as u32
+    }
+
+    /// How many rows of places a tile has.
+    pub fn tile_rows(&self) -> u32
+        ensures { result ≡ unsigned_abs (spec.number_in self.now.values NumberKey.TileNy) }
+    {
+        self.value(NumberKey::TileNy) as u32
+    }
 }
 
 /// The texts of the rules.
@@ -63,8 +79,8 @@ pub struct Texts {
     pub fill_top: Vec<u8>,
 }
 
-/// The rules of a check and a fill: the value of each key of a rule file, and the frame and
-/// the windows that they make.
+/// The rules of a check and a fill: the value of each key of a rule file, and the frame, the windows and the raster that
+/// they make.
 #[derive(Drop)]
 #[derive_where(Debug, PartialEq, Eq)]
 pub struct Rules {
@@ -75,7 +91,11 @@ pub struct Rules {
     pub(crate) frame: Rect,
     #[derive_where(skip(EqHashOrd))]
     pub(crate) windows: Windows,
+    #[derive_where(skip(EqHashOrd))]
+    pub(crate) raster: Raster,
     pub ghost windowed: { windows ≡ spec.windows_of numbers.values },
+    pub ghost placed: { raster ≡ spec.raster_of numbers.values },
+    pub ghost pitched: { KeepsPitch (spec.raster_of numbers.values) (spec.number_in numbers.values NumberKey.FillSpacing) },
     pub ghost framed: { sides_of frame ≡ spec.frame_of numbers.values },
 }
 
@@ -118,6 +138,7 @@ impl Rules {
             texts: self.texts.copy(alloc)?,
             frame: self.frame,
             windows: self.windows,
+            raster: self.raster,
         })
     }
 

@@ -1,6 +1,7 @@
 use crate::{Edit, Key, NumberKey, RuleError, ScriptError, TextKey, read_rules, read_script};
 use fill_area::Windows;
 use fill_base::{Point, Rect};
+use fill_raster::Raster;
 use std::alloc::Global;
 use std::process::Abort;
 use std::test::Fail;
@@ -43,9 +44,24 @@ const RULES: [&str; 32] = [
 
 /// The rule file with the record `at`, from 1, written in another way.
 fn rules_with(alloc: Global, at: usize, record: &str) -> Result<Vec<u8>, Fail> {
+    rules_with_both(alloc, (at, record), (0, ""))
+}
+
+/// The rule file with two records, each at a number from 1, written in another way.
+fn rules_with_both(
+    alloc: Global,
+    one: (usize, &str),
+    other: (usize, &str),
+) -> Result<Vec<u8>, Fail> {
     let mut text = Vec::new(alloc);
     for (i, line) in RULES.iter().enumerate() {
-        let line = if i + 1 == at { record } else { *line };
+        let line = if i + 1 == one.0 {
+            one.1
+        } else if i + 1 == other.0 {
+            other.1
+        } else {
+            *line
+        };
         text.extend_from_slice(line.as_bytes())?;
         text.push(b'\n')?;
     }
@@ -111,6 +127,9 @@ fn every_rule_has_its_value(rt: HostRuntime) -> Result<(), Fail> {
         rules.frame_y2(),
     ];
     assert_eq!(rt; frame, [-101, -102, 203, 204]);
+    let origin = Point { x: -9, y: -10 };
+    let places = Raster::new(rules.frame(), (5, 6), (17, 18), origin, 12, (7, 8));
+    assert_eq!(rt; places, Ok(rules.raster()));
     let raster = [
         rules.box_w(),
         rules.box_h(),
@@ -181,6 +200,14 @@ fn refusals_print_their_reason(rt: HostRuntime) -> Result<(), Fail> {
         (
             RuleError::BadWindows,
             "the windows are too many or out of range",
+        ),
+        (
+            RuleError::BadPitch,
+            "a step is below the side of a box and the fill spacing",
+        ),
+        (
+            RuleError::TooManyPlaces,
+            "the frame has more than 16777216 places for a box",
         ),
         (RuleError::Memory, "out of memory"),
     ] {
@@ -313,11 +340,20 @@ fn the_values_together_are_checked(rt: HostRuntime) -> Result<(), Fail> {
         (3, "frame_x2,-5", RuleError::BadRect),
         (17, "win_x,1073741800", RuleError::BadWindows),
         (19, "win_nx,349526", RuleError::BadWindows),
+        (7, "step_x,5", RuleError::BadPitch),
+        (8, "step_y,5", RuleError::BadPitch),
+        (12, "fill_spacing,7", RuleError::BadPitch),
+        (3, "frame_x2,16777217", RuleError::TooManyPlaces),
+        (4, "frame_y2,1073741824", RuleError::TooManyPlaces),
     ] {
         assert_refused(&rt, alloc, &rules_with(alloc, at, record)?, want);
     }
     for (at, record) in [
         (19, "win_nx,349525"),
+        (7, "step_x,6"),
+        (12, "fill_spacing,6"),
+        (3, "frame_x2,16777216"),
+        (3, "frame_x2,5"),
         (22, "max,300000"),
         (32, "fill_top,TOP"),
         (26, "datatype,-0"),
@@ -492,5 +528,33 @@ fn edits_of_one_kind_and_one_rectangle_are_equal(rt: HostRuntime) -> Result<(), 
     assert_ne!(rt; Edit::Add(rect), Edit::Cut(rect));
     assert_ne!(rt; Edit::Add(rect), Edit::Add(wider));
     assert_ne!(rt; Edit::Cut(rect), Edit::Cut(wider));
+    Ok(())
+}
+
+#[test]
+fn pitch_and_places_are_judged_last(rt: HostRuntime) -> Result<(), Fail> {
+    let alloc = rt.alloc();
+    for (one, other, want) in [
+        (
+            (7, "step_x,5"),
+            (17, "win_x,1073741800"),
+            RuleError::BadWindows,
+        ),
+        ((7, "step_x,5"), (3, "frame_x2,0"), RuleError::BadRect),
+        ((7, "step_x,5"), (22, "max,200000"), missing(NumberKey::Max)),
+        (
+            (8, "step_y,5"),
+            (3, "frame_x2,1073741824"),
+            RuleError::BadPitch,
+        ),
+        ((8, "step_y,5"), (3, "frame_x2,5"), RuleError::BadPitch),
+        (
+            (3, "frame_x2,1073741824"),
+            (19, "win_nx,349526"),
+            RuleError::BadWindows,
+        ),
+    ] {
+        assert_refused(&rt, alloc, &rules_with_both(alloc, one, other)?, want);
+    }
     Ok(())
 }

@@ -1,3 +1,9 @@
+pub mod Chains
+pub mod Items
+pub mod Searching
+pub mod Searched
+pub mod SearchTurns
+pub mod HeightsInOrder
 pub mod Pointing
 pub mod Within
 pub mod Composing
@@ -6,6 +12,14 @@ pub mod Stepping
 pub mod Turns
 pub mod Arrays
 pub mod Wholes
+pub mod Drawing
+pub mod Capping
+pub mod CountsInOrder
+pub mod Naming
+pub mod Building
 pub mod Filling
 pub mod Carrying
 pub mod Placing
+pub mod Surveying
+pub mod Agreeing
+pub mod Flattened

@@ -1,6 +1,10 @@
 pub mod Placements
 pub mod Shapes
 pub mod References
+pub mod Graphs
 pub mod Links
+pub mod Copies
+pub mod Designs
+pub mod Flattening
 pub mod Laws
 pub mod steps

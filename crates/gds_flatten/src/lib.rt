@@ -3,15 +3,25 @@
 //! references say, and each refusal comes exactly where its cause is the first.
 #![tactic(auto)]
 
+mod cell;
+mod cells;
+mod counts;
 mod error;
+mod flattening;
+mod graph;
+mod heights;
 pub mod laws;
 mod link;
 mod placement;
 mod reference;
+mod search;
 mod shape;
 mod shapes;
+mod survey;
+mod walk;
 
 pub use error::FlattenError;
+pub use flattening::{flatten, flatten_rects};
 pub use link::Link;
 pub use placement::Placement;
 pub use reference::{array_link, reference_link};

@@ -4,9 +4,10 @@ use Rattle.std.specs.Prelude.{◌≤ℤ◌, IfSome, ℕ, ℤ, ◌==◌, Bool, Li
 use Rattle.fill_base.specs.Sequence.{◌>>=◌}
 use Rattle.fill_text.specs.RectTests.{rect_with}
 use Rattle.fill_text.specs.Grids.{grid_with}
+use Rattle.fill_text.specs.Rasters.{raster_with}
 use Rattle.fill_text.specs.Keys.{all_number_keys, key_named, number_rule}
 use Rattle.fill_text.specs.Numbers.{number_of}
-use Rattle.fill_text.specs.Rules.{Values, frame_of, is_in_range, is_text, value_of, windows_of}
+use Rattle.fill_text.specs.Rules.{Values, frame_of, is_in_range, is_text, value_of, raster_of, windows_of}
 use Rattle.fill_text.specs.declared.keys.Key.{Key}
 use Rattle.fill_text.specs.declared.keys.Key.TheVariants.{Number, Text}
 use Rattle.fill_text.specs.declared.keys.NumberKey.{NumberKey}
@@ -104,6 +105,7 @@ checked values =
     else (do
       frame ← ok_or (rect_with (frame_of values.numbers)) BadRect
       windows ← ok_or (grid_with (windows_of values.numbers)) BadWindows
+      raster ← raster_with (raster_of values.numbers) (value_of values number.FillSpacing)
       Ok values)
 
 -- the rules that were found

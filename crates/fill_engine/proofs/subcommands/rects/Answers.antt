@@ -7,7 +7,7 @@ use Rattle.fill_text.specs.Script.{change_of}
 use Rattle.fill_text.specs.ValuesOfRules.{values_of}
 use Rattle.fill_text.specs.declared.script.Edit.{Edit}
 use Rattle.fill_engine.specs.Metal.{is_metal}
-use Rattle.fill_engine.proofs.Reasons.{answered, report_is}
+use Rattle.fill_engine.proofs.Reasons.{answered, report_is, rules_are, script_reason}
 use Rattle.fill_engine.proofs.subcommands.rects.Goals as goal
 
 pub returns-clause-written : goal.returns-clause-written
@@ -35,3 +35,13 @@ returns-in_err-write_text-clause-prefix g c =
     (map change_of c.in_ok-edits.edits.items) c.deref-2.result.now
     (λ text. (k : ℕ) × Appends (g.W.Write.contents (under c.args.out.now)) (g.W.Write.contents (under c.write_text.new.tap)) (take k text))
     c.in_ok-values.ensures.rules c.in_ok-edits.ensures.edits (c.deref-2.ensures.value ∙ made) c.in_err-write_text.ensures.prefix
+
+pub returns-in_err-edits-clause-refused : goal.returns-in_err-edits-clause-refused
+returns-in_err-edits-clause-refused g c =
+    let p = err_from_is_err_and c.from_residual-in_err-edits.result c.from_residual-in_err-edits.ensures.1 in
+    rw (p.1, p.2) (script_reason (g.R.Read.remaining (under c.args.rules.now)) (g.S.Read.remaining (under c.args.script.now)) (values_of c.in_ok-values.values) c.in_err-edits.field-0.0 c.in_ok-values.ensures.rules c.in_err-edits.ensures.refused)
+
+pub returns-in_err-write_text-clause-in_turn : goal.returns-in_err-write_text-clause-in_turn
+returns-in_err-write_text-clause-in_turn g c =
+    let p = err_from_is_err_and c.from_residual-in_err-write_text.result c.from_residual-in_err-write_text.ensures.1 in
+    rw (p.1, p.2) (λ _. rules_are (g.R.Read.remaining (under c.args.rules.now)) (values_of c.in_ok-values.values) c.in_ok-values.ensures.rules)

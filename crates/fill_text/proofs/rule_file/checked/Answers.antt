@@ -1,3 +1,7 @@
+use Rattle.std.proofs.Common.{sym, ◌∙◌, rules}
+use Rattle.std.proofs.lemmas.Result.{err_from_is_err_and}
+use Rattle.fill_text.specs.steps.Entries.{checked}
+use Rattle.fill_text.proofs.RasterTests.{raster_same}
 use Rattle.fill_text.proofs.GridTests.{grid_with_same}
 use Rattle.fill_text.proofs.Rectangles.{rect_with_same}
 use Rattle.fill_text.proofs.rule_file.checked.Goals as goal
@@ -5,5 +9,19 @@ use Rattle.fill_text.proofs.rule_file.checked.Goals as goal
 pub invariant_of-result : goal.invariant_of-result
 invariant_of-result c = record {
   windowed = grid_with_same _ _ (rw c.in_ok-windows.ensures.ok_part at c.windows_in.ensures);
+  placed = (raster_same _ _ _ (sym c.in_ok-raster.was ∙ c.raster_in.ensures)).0;
+  pitched = (raster_same _ _ _ (sym c.in_ok-raster.was ∙ c.raster_in.ensures)).1;
   framed = rect_with_same _ _ (rw c.in_ok-frame.ensures.ok_part at c.frame_in.ensures);
 }
+
+pub raster_in-requires : goal.raster_in-requires
+raster_in-requires c = rect_with_same _ _ (rw c.in_ok-frame.ensures.ok_part at c.frame_in.ensures)
+
+pub returns-in_err-raster : goal.returns-in_err-raster
+unfolding checked
+returns-in_err-raster c =
+    let frame = rw c.in_ok-frame.ensures.ok_part at c.frame_in.ensures in
+    let windows = rw c.in_ok-windows.ensures.ok_part at c.windows_in.ensures in
+    let p = err_from_is_err_and c.from_residual-in_err-raster.result c.from_residual-in_err-raster.ensures.1 in
+    let refused = sym c.raster_in.ensures ∙ c.in_err-raster.was in
+    rw (p.1, p.2, ← frame, ← windows, refused) (search rules)

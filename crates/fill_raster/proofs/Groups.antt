@@ -1,0 +1,125 @@
+-- Places of one axis, group by group.
+use Rattle.std.proofs.Common.{◌≡◌, ℕ, suc, ◌+◌, ◌*◌, ◌/◌, ◌≤◌, ◌<◌, inl, inr, ℤ, pos, ◌+ℤ◌, ◌-ℤ◌, ◌≤ℤ◌, ◌<ℤ◌, arith}
+use Rattle.std.specs.Int.{div_ceil, int_min}
+use Rattle.std.proofs.lemmas.Bool.{cases_lt}
+use Rattle.std.proofs.lemmas.Grind.{div_ceil_times}
+use Rattle.std.proofs.lemmas.Int.{ints, clamps}
+use Rattle.std.proofs.lemmas.Nat.{le-div, div_below, row_fits}
+use Rattle.std.proofs.Math.Nat.{div-mul-le_self, lt-div-mul-add, mul-le-mul}
+use Rattle.fill_base.specs.Counts.{span_len}
+use Rattle.fill_raster.specs.Axes.{first, past, extent, groups, group_of, group_first, group_past}
+use Rattle.fill_raster.specs.declared.axis.Axis.{Axis}
+use Rattle.fill_raster.proofs.Ranges.{IsIn, first_past}
+
+-- ---- numbers in groups of b, of which there are e
+
+same : (n : ℕ) → n ≤ n
+same n = omega arith
+
+pub starts_below : (e b g : ℕ) → 1 ≤ b → g < div_ceil e b → g * b < e
+starts_below e b g some lt = let row = row_fits g b (div_ceil e b) b lt (same b) in let h = (div_ceil_times e b some).1 in omega (arith, row, h)
+
+pub below_groups : (e b n : ℕ) → 1 ≤ b → n < e → n / b < div_ceil e b
+below_groups e b n some lt = let h = (div_ceil_times e b some).0 in div_below n b (div_ceil e b) some (omega (arith, h))
+
+-- there are no more groups than numbers
+pub groups_few : (e b : ℕ) → 1 ≤ b → div_ceil e b ≤ e
+groups_few e b some = few (div_ceil e b) e b some (div_ceil_times e b some).1
+  where
+    few : (c e b : ℕ) → 1 ≤ b → c * b < e + b → c ≤ e
+    few c e b some lt = elim (cases_lt e c) [
+      | inl above ↦
+          let row : suc e * b ≤ c * b = mul-le-mul above (same b) in
+          let least : e * 1 ≤ e * b = mul-le-mul (same e) some in
+          omega (arith, row, least, lt)
+      | inr le ↦ le
+    ]
+
+-- a number is in the group that its quotient says
+pub in_group_of : (n b : ℕ) → 1 ≤ b → (n / b * b ≤ n) × (n < n / b * b + b)
+in_group_of n b some = (div-mul-le_self n b, lt-div-mul-add some)
+
+pub group_is : (n b g : ℕ) → 1 ≤ b → g * b ≤ n → n < g * b + b → n / b ≡ g
+group_is n b g some low high =
+    let least = le-div g n b some low in
+    let most = div_below n b (suc g) some (above g b n high) in
+    omega (arith, least, most)
+  where
+    above : (g b n : ℕ) → n < g * b + b → n < suc g * b
+    above g b n h = omega (arith, h)
+
+-- ---- places
+
+-- how far a place is from the first one
+pub apart_below : (a : Axis) (i : ℤ) → IsIn a i → span_len (first a) i < extent a
+apart_below a i is = less (first a) (past a) i is.low is.high
+  where
+    less : (f p i : ℤ) → f ≤ℤ i → i <ℤ p → span_len f i < span_len f p
+    less f p i low high = omega (arith, ints)
+
+pub group_below : (a : Axis) (i : ℤ) → 1 ≤ a.group → IsIn a i → group_of a i < groups a
+group_below a i some is = below_groups (extent a) a.group (span_len (first a) i) some (apart_below a i is)
+
+-- the first place of a group is the raster's
+pub first_in : (a : Axis) (g : ℕ) → 1 ≤ a.group → g < groups a → IsIn a (group_first a g)
+first_in a g some lt = record { low = later (first a) (g * a.group); high = within (first a) (past a) (g * a.group) (first_past a) (starts_below (extent a) a.group g some lt) }
+  where
+    later : (f : ℤ) (m : ℕ) → f ≤ℤ (f +ℤ pos m)
+    later f m = omega (arith, ints)
+
+    within : (f p : ℤ) (m : ℕ) → f ≤ℤ p → m < span_len f p → (f +ℤ pos m) <ℤ p
+    within f p m le lt = omega (arith, ints)
+
+-- and so is its last one
+pub last_in : (a : Axis) (g : ℕ) → 1 ≤ a.group → g < groups a → IsIn a (group_past a g -ℤ pos 1)
+last_in a g some lt =
+    let f = first_in a g some lt in
+    record { low = from (first a) (past a) (group_first a g) a.group some f.low f.high; high = under (first a) (past a) (group_first a g) a.group }
+  where
+    from : (f p z : ℤ) (b : ℕ) → 1 ≤ b → f ≤ℤ z → z <ℤ p → f ≤ℤ (int_min (z +ℤ pos b) p -ℤ pos 1)
+    from f p z b some low high = omega (arith, ints, clamps)
+
+    under : (f p z : ℤ) (b : ℕ) → (int_min (z +ℤ pos b) p -ℤ pos 1) <ℤ p
+    under f p z b = omega (arith, ints, clamps)
+
+pub first_before_last : (a : Axis) (g : ℕ) → 1 ≤ a.group → g < groups a → group_first a g <ℤ group_past a g
+first_before_last a g some lt = before (group_first a g) (past a) a.group some (first_in a g some lt).high
+  where
+    before : (z p : ℤ) (b : ℕ) → 1 ≤ b → z <ℤ p → z <ℤ int_min (z +ℤ pos b) p
+    before z p b some lt = omega (arith, ints, clamps)
+
+-- ---- a group's places are a range
+
+-- a place of a group
+pub record IsInGroup (a : Axis) (g : ℕ) (i : ℤ) : Type 0 where
+  pub low : group_first a g ≤ℤ i
+  pub high : i <ℤ group_past a g
+
+pub of_group : (a : Axis) (g : ℕ) (i : ℤ) → 1 ≤ a.group → IsIn a i → group_of a i ≡ g → IsInGroup a g i
+of_group a g i some is e =
+    let n = rw e at (in_group_of (span_len (first a) i) a.group some) in
+    record { low = from (first a) i (g * a.group) is.low n.0; high = under (first a) (past a) i (g * a.group) a.group is.low is.high n.1 }
+  where
+    from : (f i : ℤ) (m : ℕ) → f ≤ℤ i → m ≤ span_len f i → (f +ℤ pos m) ≤ℤ i
+    from f i m low le = omega (arith, ints)
+
+    under : (f p i : ℤ) (m b : ℕ) → f ≤ℤ i → i <ℤ p → span_len f i < m + b → i <ℤ int_min ((f +ℤ pos m) +ℤ pos b) p
+    under f p i m b low high lt = omega (arith, ints, clamps)
+
+pub group_in : (a : Axis) (g : ℕ) (i : ℤ) → IsInGroup a g i → IsIn a i
+group_in a g i is = record { low = later (first a) i (g * a.group) is.low; high = below i (group_first a g +ℤ pos a.group) (past a) is.high }
+  where
+    later : (f i : ℤ) (m : ℕ) → (f +ℤ pos m) ≤ℤ i → f ≤ℤ i
+    later f i m h = omega (arith, ints)
+
+    below : (i z p : ℤ) → i <ℤ int_min z p → i <ℤ p
+    below i z p h = omega (arith, ints, clamps)
+
+pub group_of_in : (a : Axis) (g : ℕ) (i : ℤ) → 1 ≤ a.group → IsInGroup a g i → group_of a i ≡ g
+group_of_in a g i some is = group_is (span_len (first a) i) a.group g some (least (first a) i (g * a.group) is.low) (most (first a) i (past a) (g * a.group) a.group is.low is.high)
+  where
+    least : (f i : ℤ) (m : ℕ) → (f +ℤ pos m) ≤ℤ i → m ≤ span_len f i
+    least f i m h = omega (arith, ints)
+
+    most : (f i p : ℤ) (m b : ℕ) → (f +ℤ pos m) ≤ℤ i → i <ℤ int_min ((f +ℤ pos m) +ℤ pos b) p → span_len f i < m + b
+    most f i p m b h k = omega (arith, ints, clamps)

@@ -1,0 +1,11 @@
+pub mod Floors
+pub mod Ranges
+pub mod Groups
+pub mod Reading
+pub mod Tiling
+pub mod Halos
+pub mod Blocks
+pub mod Setting
+pub mod Points
+pub mod Marking
+pub mod RasterLaws

@@ -1,0 +1,5 @@
+pub mod Axes
+pub mod Lattice
+pub mod Bits
+pub mod Marks
+pub mod Laws

@@ -1,0 +1,49 @@
+-- What flattening answers, and when each refusal comes.
+use Rattle.std.specs.Prelude.{◌≡◌, ℕ, ◌<◌, ◌≤◌, List, length}
+use Rattle.gds_flatten.specs.declared.error.FlattenError.{FlattenError}
+use Rattle.gds_flatten.specs.declared.error.FlattenError.TheVariants.{Memory, NoTop, MissingCell, Cycle, TooDeep, TooManyShapes, OutOfRange}
+use Rattle.gds_flatten.specs.Graphs.{IsReached, IsCyclic, IsTooDeep}
+use Rattle.gds_flatten.specs.Copies.{Copy, copies, AllStayInRange}
+use Rattle.gds_flatten.specs.Designs.{Entry, index_of, graph_of, hierarchy_of, IsFirstFault, AllFine}
+
+abbrev pub HasTop : List Entry → List ℕ → Type 0
+HasTop cells top = index_of cells top < length cells
+
+-- the top refers to a cell that isn't there, itself or through others
+abbrev pub LacksCell : List Entry → List ℕ → Type 0
+LacksCell cells top = IsReached (graph_of cells) (index_of cells top) (length cells)
+
+-- the cells that the top refers to are there, none refers to itself, and no chain is too long
+pub record IsSound (cells : List Entry) (top : List ℕ) : Type 0 where
+  pub has_top : HasTop cells top
+  pub complete : LacksCell cells top → ⊥
+  pub acyclic : IsCyclic (graph_of cells) (index_of cells top) → ⊥
+  pub shallow : IsTooDeep (graph_of cells) (index_of cells top) → ⊥
+
+-- the copies of shapes that the top draws, through chains of at most 256 cells
+abbrev pub copies_of : List Entry → List ℕ → ℕ → ℕ → List Copy
+copies_of cells top layer data_type = copies (hierarchy_of cells layer data_type) 256 (index_of cells top)
+
+-- references and shapes are sound, and there are not too many copies
+pub record IsCountable (cells : List Entry) (top : List ℕ) (layer data_type : ℕ) : Type 0 where
+  pub sound : IsSound cells top
+  pub fine : AllFine cells (index_of cells top) layer data_type
+  pub few : length (copies_of cells top layer data_type) ≤ 4000000
+
+-- why a design is refused: each cause is the first in this order
+abbrev pub IsRefused : List Entry → List ℕ → ℕ → ℕ → FlattenError → Type 0
+IsRefused cells top layer data_type Memory = Unit {0}
+IsRefused cells top layer data_type NoTop = HasTop cells top → ⊥
+IsRefused cells top layer data_type MissingCell = HasTop cells top × LacksCell cells top
+IsRefused cells top layer data_type Cycle =
+    HasTop cells top × (LacksCell cells top → ⊥) × IsCyclic (graph_of cells) (index_of cells top)
+IsRefused cells top layer data_type TooDeep =
+    HasTop cells top × (LacksCell cells top → ⊥) × (IsCyclic (graph_of cells) (index_of cells top) → ⊥)
+    × IsTooDeep (graph_of cells) (index_of cells top)
+IsRefused cells top layer data_type TooManyShapes =
+    IsSound cells top × AllFine cells (index_of cells top) layer data_type
+    × (4000000 < length (copies_of cells top layer data_type))
+IsRefused cells top layer data_type OutOfRange =
+    IsCountable cells top layer data_type × (AllStayInRange (copies_of cells top layer data_type) → ⊥)
+IsRefused cells top layer data_type e =
+    IsSound cells top × IsFirstFault cells (index_of cells top) layer data_type e

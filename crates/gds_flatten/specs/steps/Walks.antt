@@ -1,0 +1,57 @@
+-- The walk from copy to copy.
+use Rattle.std.specs.Prelude.{◌≡◌, ℕ, ◌*◌, ◌≤◌, ℤ, ◌||◌, List, [], ◌∷◌, ◌++◌, map, slice_get, Option, Some, None}
+use Rattle.std.specs.List.{flat_map, range_with_len}
+use Rattle.fill_base.specs.declared.rect.Rect.{Rect}
+use Rattle.fill_region.specs.Squares.{covered}
+use Rattle.gds_grammar.specs.declared.element.Element.{Element}
+use Rattle.gds_flatten.specs.declared.cell.Cell.{Cell}
+use Rattle.gds_flatten.specs.declared.link.Link.{Link}
+use Rattle.gds_flatten.specs.declared.placement.Placement.{Placement}
+use Rattle.gds_flatten.specs.declared.shape.Shape.{Shape}
+use Rattle.gds_flatten.specs.Placements.{composed}
+use Rattle.gds_flatten.specs.Links.{single, singles}
+use Rattle.gds_flatten.specs.Graphs.{item}
+use Rattle.gds_flatten.specs.Copies.{Copy, Hierarchy, own_copy, carry_copy, copies, drawn, AllStayInRange}
+
+-- the single references of a link, each with the index of its cell
+abbrev pub singles_of : Link → List (ℕ × Placement)
+singles_of l = map (λ p. (l.cell, p)) (singles l)
+
+abbrev pub own_in : Option Cell → List Element
+own_in (Some c) = map (λ s. s.element.now) c.shapes.items
+own_in None = []
+
+abbrev pub singles_in : Option Cell → List (ℕ × Placement)
+singles_in (Some c) = flat_map singles_of c.links.items
+singles_in None = []
+
+-- what the cells have, by index
+abbrev pub hierarchy : List Cell → Hierarchy
+hierarchy cells = record {
+  own = λ c. own_in (slice_get cells c);
+  singles = λ c. singles_in (slice_get cells c);
+}
+
+-- what a shape, a link, a cell draws, carried so, where cells draw `below`
+abbrev pub shape_copies : Placement → Shape → List Copy
+shape_copies at s = carry_copy at (own_copy s.element.now) ∷ []
+
+abbrev pub single_copies : Placement → (ℕ → List Copy) → Link → ℕ → List Copy
+single_copies at below l k = map (carry_copy (composed at (single l k))) (below l.cell)
+
+abbrev pub link_copies : Placement → (ℕ → List Copy) → Link → List Copy
+link_copies at below l = flat_map (single_copies at below l) (range_with_len 0 (l.columns * l.rows))
+
+abbrev pub cell_copies : Placement → (ℕ → List Copy) → Option Cell → List Copy
+cell_copies at below (Some c) =
+    flat_map (shape_copies at) c.shapes.items ++ flat_map (link_copies at below) c.links.items
+cell_copies at below None = []
+
+-- the copies were appended, and each stays in range
+pub record IsDrawn (cs : List Copy) (old new : List Rect) : Type 0 where
+  pub inside : AllStayInRange cs
+  pub added : (x y : ℤ) → covered new x y ≡ (covered old x y || drawn cs x y)
+
+-- a cell whose count is 0 draws nothing
+abbrev pub AreCounted : List Cell → List ℕ → Type 0
+AreCounted cells counts = (c n : ℕ) → n ≤ 256 → item counts c ≡ 0 → copies (hierarchy cells) n c ≡ []

@@ -1,0 +1,104 @@
+//! Flattening: what the top draws on a layer.
+
+ghost use Rattle.std.specs.Prelude.{◌≡◌, ℤ, IfOk, IfErr};
+ghost use Rattle.fill_region.specs.Bands.{holds, IsRegion};
+ghost use Rattle.fill_region.specs.Squares.{covered};
+ghost use Rattle.gds_flatten.specs.Copies.{drawn, AllStayInRange};
+ghost use Rattle.gds_flatten.specs.Designs.{index_of};
+ghost use Rattle.gds_flatten.specs.Flattening.{HasTop, copies_of, IsCountable, IsRefused};
+
+use crate::cells::cells_of;
+use crate::counts::{TOO_MANY, counts_of};
+use crate::error::FlattenError;
+use crate::graph::{graph_of, index_of};
+use crate::placement::Placement;
+use crate::search::number_at;
+use crate::survey::survey;
+use crate::walk::carry_cell;
+use fill_base::Rect;
+use fill_region::Region;
+use gds_grammar::{Element, Library};
+use indexmap::IndexMap;
+use std::alloc::Global;
+
+/// How many cells a chain may have, the top among them.
+const DEEPEST: u32 = 256;
+
+/// The index of the top.
+fn top_of(cells: &IndexMap<Vec<u8>, Vec<Element>>, top: &[u8]) -> Result<usize, FlattenError>
+    ensures found { IfOk result (λ c. HasTop cells.now.entries top.now × (c ≡ index_of cells.now.entries top.now)) }
+    ensures refused { IfErr result (λ e. (e ≡ FlattenError.NoTop) × (HasTop cells.now.entries top.now → ⊥)) }
+{
+    let index = index_of(cells, top);
+    if index < cells.len() {
+        Ok(index)
+    } else {
+        Err(FlattenError::NoTop)
+    }
+}
+
+/// The rectangles that the top draws on the layer, as many as its copies of shapes come to; together
+/// they are what is drawn. All lengths are database units (Calma GDSII Stream Format Manual, release
+/// 6.0, with this project's profile).
+///
+/// # Errors
+/// Of the cells that the top reaches alone, the first of these: `NoTop`; `MissingCell`; `Cycle`;
+/// `TooDeep`; the first fault of a reference, or of a shape of the layer and data type, in the order
+/// of the file; `TooManyShapes` above 4,000,000 copies of shapes; `OutOfRange` where a copy passes the
+/// coordinates from -2^30 to 2^30. Or `Memory` where memory is refused.
+pub fn flatten_rects(
+    alloc: Global,
+    library: &Library,
+    top: &[u8],
+    layer: u16,
+    data_type: u16,
+) -> Result<Vec<Rect>, FlattenError>
+    ensures fine { IfOk result (λ v. IsCountable library.now.cells.entries top.now layer data_type) }
+    ensures inside { IfOk result (λ v. AllStayInRange (copies_of library.now.cells.entries top.now layer data_type)) }
+    ensures squares { IfOk result (λ v. (x y : ℤ) → covered v.items x y
+        ≡ drawn (copies_of library.now.cells.entries top.now layer data_type) x y) }
+    ensures refused { IfErr result (λ e. IsRefused library.now.cells.entries top.now layer data_type e) }
+{
+    let cells = &library.cells;
+    let top = top_of(cells, top)?;
+    let graph = graph_of(alloc, cells)?;
+    let found = survey(alloc, &graph, top)?;
+    let built = cells_of(alloc, cells, &graph, &found.steps, layer, data_type)?;
+    let counts = counts_of(alloc, &built, &found.order)?;
+    if number_at(&counts, top) >= TOO_MANY {
+        return Err(FlattenError::TooManyShapes);
+    }
+    let mut rects = Vec::new(alloc);
+    carry_cell(
+        &built,
+        &counts,
+        DEEPEST,
+        top,
+        &Placement::shift(0, 0),
+        &mut rects,
+    )?;
+    Ok(rects)
+}
+
+/// The squares that the top draws on the layer, as a region.
+///
+/// # Errors
+/// Those of `flatten_rects`.
+pub fn flatten(
+    alloc: Global,
+    library: &Library,
+    top: &[u8],
+    layer: u16,
+    data_type: u16,
+) -> Result<Region, FlattenError>
+    ensures region { IfOk result IsRegion }
+    ensures fine { IfOk result (λ r. IsCountable library.now.cells.entries top.now layer data_type) }
+    ensures inside { IfOk result (λ r. AllStayInRange (copies_of library.now.cells.entries top.now layer data_type)) }
+    ensures squares { IfOk result (λ r. (x y : ℤ) → holds r x y
+        ≡ drawn (copies_of library.now.cells.entries top.now layer data_type) x y) }
+    ensures refused { IfErr result (λ e. IsRefused library.now.cells.entries top.now layer data_type e) }
+{
+    let rects = flatten_rects(alloc, library, top, layer, data_type)?;
+    let region = Region::from_rects(alloc, &rects)?;
+    Ok(region)
+}
