@@ -5,6 +5,8 @@ use gds_grammar::{Array, Element, Library, Ref, Transform, read_library};
 use std::alloc::Global;
 use std::test::*;
 
+mod designs;
+
 /// A transformation that leaves all as it is.
 const PLAIN: Transform = Transform {
     flags: 0,
