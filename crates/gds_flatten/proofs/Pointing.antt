@@ -21,7 +21,7 @@ signed_close false v h = h
 sum_read : (v z : ℤ) → IsClose v → unsigned_abs z ≤ 258 * 68719476736 → read (read v +ℤ read z) ≡ v +ℤ z
 sum_read v z h k = omega (arith, ints)
 
--- the number that takes a place of the new one, negated or not, and moved
+-- the number that becomes one of the new numbers, negated or not, and moved
 pub moved_along : (flip : Bool) (v z along made : ℤ) → IsClose v → unsigned_abs z ≤ 258 * 68719476736 → along ≡ read v → made ≡ signed flip along
     → read (read made +ℤ read z) ≡ signed flip v +ℤ z
 moved_along flip v z along made h k is by =

@@ -105,7 +105,7 @@ before_in xs p q c before (i, within, is) =
     let inside : i < length (take q xs) = grind (arith, common_steps, within, before) in
     (i, inside, get_or-take q xs i 0 (omega (arith, short, before)) ∙ sym (get_or-take p xs i 0 short) ∙ is)
 
--- what stands before a place of the list
+-- what stands before an index of the list
 stands : (xs : List ℕ) (q c : ℕ) → q ≤ length xs → IsIn (take q xs) c → (p : ℕ) × (p < q) × (item xs p ≡ c)
 stands xs q c within (p, below, is) =
     let len : length (take q xs) ≡ q = length-take-le q xs within in

@@ -1,4 +1,4 @@
-//! What a cell refers to, by the place of the cell that is meant.
+//! What a cell refers to, by the index of the cell that is meant.
 
 ghost use Rattle.gds_flatten.specs.steps.Ranges.{IsGrid};
 
@@ -8,7 +8,7 @@ use fill_base::Point;
 /// A reference to a cell, or an array of references: one a column of each row.
 #[derive(Clone, Copy, Debug, PartialEq, Eq)]
 pub struct Link {
-    /// The place of the cell that is meant among the cells of the library.
+    /// The index of the cell that is meant among the cells of the library.
     pub cell: usize,
     /// How the first single reference carries it: that in the first column of the first row.
     pub placement: Placement,

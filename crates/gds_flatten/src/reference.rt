@@ -28,14 +28,14 @@ fn stepped(first: i64, column: u32, column_step: i64, row: u32, row_step: i64) -
 }
 
 impl Link {
-    /// How the single reference at this place carries the cell; the places go row by row.
-    pub fn single(&self, place: u32) -> Placement
-        requires { place < self.now.columns * self.now.rows }
-        ensures is { result ≡ single self.now place }
+    /// How the single reference at this index carries the cell; the indices go row by row.
+    pub fn single(&self, index: u32) -> Placement
+        requires { index < self.now.columns * self.now.rows }
+        ensures is { result ≡ single self.now index }
         ensures near { IsWithin 1 result }
     {
-        let column = place % self.columns;
-        let row = place / self.columns;
+        let column = index % self.columns;
+        let row = index / self.columns;
         let first = self.placement;
         let (right, up) = (self.column_step, self.row_step);
         Placement {
@@ -102,7 +102,7 @@ fn placement_of(transform: &Transform, by: Point) -> Result<Placement, FlattenEr
 /// The one step of a single reference, which leads nowhere.
 const NO_STEP: Point = Point { x: 0, y: 0 };
 
-/// How a single reference carries the cell at this place.
+/// How a single reference carries the cell at this index.
 ///
 /// # Errors
 /// `BadTransform` where the angle is absolute or no quarter turns, or the magnification isn't 1.
@@ -160,7 +160,7 @@ fn step_between(from: Point, to: Point, count: u16) -> Option<Point>
     Some(Point { x, y })
 }
 
-/// How an array carries the cell at this place: one reference in each column of each row, the points
+/// How an array carries the cell at this index: one reference in each column of each row, the points
 /// of XY being the origin, the origin behind all columns and the origin behind all rows.
 ///
 /// # Errors

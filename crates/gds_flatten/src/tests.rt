@@ -5,6 +5,8 @@ use gds_grammar::{Array, Element, Library, Ref, Transform, read_library};
 use std::alloc::Global;
 use std::test::*;
 
+mod designs;
+
 /// A transformation that leaves all as it is.
 const PLAIN: Transform = Transform {
     flags: 0,
@@ -175,14 +177,14 @@ fn singles_of_an_array(rt: HostRuntime) -> Result<(), Fail> {
     let link = array_link(4, &array(rt.alloc(), PLAIN, (3, 2), (31, 42)))?;
     assert_eq!(rt; (link.cell, link.columns, link.rows), (4, 3, 2));
     let want = [(1, 2), (11, 2), (21, 2), (1, 22), (11, 22), (21, 22)];
-    let mut place = 0u32;
+    let mut index = 0u32;
     for (x, y) in want {
-        if link.columns == 3 && link.rows == 2 && place < 6 {
-            assert_eq!(rt; link.single(place), Placement::shift(x, y));
-            place += 1;
+        if link.columns == 3 && link.rows == 2 && index < 6 {
+            assert_eq!(rt; link.single(index), Placement::shift(x, y));
+            index += 1;
         }
     }
-    assert_eq!(rt; place, 6);
+    assert_eq!(rt; index, 6);
     Ok(())
 }
 
