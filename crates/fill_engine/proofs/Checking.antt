@@ -1,6 +1,5 @@
 -- What a rule file and a design say together.
-use Rattle.std.proofs.Common.{◌≡◌, ◌≤◌, ◌^◌, ◌⊎◌, inl, inr, ℕ, ℤ, Bool, arith, length, List, Option, Some, None, Result, Ok, Err, IfSome, refl, sym, subst, ap, take, ◌∙◌}
-use Rattle.std.specs.Prelude.{IsOk}
+use Rattle.std.proofs.Common.{◌≡◌, ◌≤◌, ◌^◌, ◌⊎◌, inl, inr, ℕ, ℤ, Bool, length, List, Option, Some, None, Result, Ok, Err, IfSome, refl, sym, subst}
 use Rattle.fill_text.specs.Rules.{Values}
 use Rattle.fill_report.specs.RulesReport.{metal_report}
 use Rattle.gds_grammar.specs.Values.{contents_of}

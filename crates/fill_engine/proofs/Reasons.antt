@@ -1,5 +1,5 @@
 -- What two inputs say together, once it is known what each says.
-use Rattle.std.proofs.Common.{◌≡◌, ◌⊎◌, inl, inr, ◌≤◌, ◌^◌, ℕ, false, nat_lt, arith, length, List, Option, Some, None, Result, Ok, Err, IfSome, IsOk, IsOkAnd, refl, subst, sym}
+use Rattle.std.proofs.Common.{◌≡◌, ◌⊎◌, inl, inr, ◌≤◌, ◌^◌, ℕ, false, nat_lt, arith, length, List, Option, Some, None, Result, Ok, IfSome, IsOk, IsOkAnd, refl, subst, sym}
 use Rattle.std.proofs.lemmas.Bool.Decides.{nat_tests}
 use Rattle.fill_text.specs.Rules.{Values, rules_of}
 use Rattle.fill_text.specs.Script.{Change}

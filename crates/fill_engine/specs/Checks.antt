@@ -1,5 +1,5 @@
 -- What the program answers to a rule file and a design.
-use Rattle.std.specs.Prelude.{◌≡◌, ℕ, ℤ, Bool, List, Ok, IsOk}
+use Rattle.std.specs.Prelude.{◌≡◌, ℕ, ℤ, Bool, List, Ok}
 use Rattle.fill_text.specs.Rules.{Values}
 use Rattle.fill_text.specs.declared.rule_error.RuleError.TheVariants as rule
 use Rattle.fill_report.specs.RulesReport.{metal_report}

@@ -1,5 +1,5 @@
 -- What the program answers to a rule file and a script.
-use Rattle.std.specs.Prelude.{◌≡◌, ℕ, List, Result, Ok, Err, IsOk}
+use Rattle.std.specs.Prelude.{ℕ, List, Result, Ok, IsOk}
 use Rattle.fill_base.specs.Sequence.{◌>>=◌}
 use Rattle.fill_text.specs.declared.rule_error.RuleError.TheVariants as rule
 use Rattle.fill_text.specs.declared.script.ScriptError.TheVariants as script

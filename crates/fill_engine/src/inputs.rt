@@ -1,11 +1,10 @@
 //! The inputs, each read to its end and interpreted.
-ghost use Rattle.std.specs.Prelude.{◌≡◌, ◌↔◌, true, false, map, unsigned_abs, IfOk, IfErr, IfSome, IsErrOf, Ok};
+ghost use Rattle.std.specs.Prelude.{◌≡◌, ◌↔◌, true, false, map, IfOk, IfErr, IfSome, IsErrOf, Ok};
 ghost use Rattle.fill_device.specs.Taps.{has_failed, under};
 ghost use Rattle.fill_region.specs.Bands.{holds};
-ghost use Rattle.fill_text.specs.Rules.{value_of};
 ghost use Rattle.fill_text.specs.Script.{change_of};
 ghost use Rattle.fill_text.specs.ValuesOfRules.{values_of};
-ghost use Rattle.fill_engine.specs.Designs.{layer_in, data_type_in, IsRead, IsDrawn, IsDesignFault};
+ghost use Rattle.fill_engine.specs.Designs.{layer_in, data_type_in, IsDrawn, IsDesignFault};
 ghost use Rattle.fill_engine.specs.Inputs.{rules_answer, script_answer, IsFaultOf};
 
 use crate::refusal::{DesignError, InputFault};

@@ -1,4 +1,3 @@
-use Rattle.std.proofs.Common.{rules}
 use Rattle.std.proofs.lemmas.Result.{err_from_is_err_and}
 use Rattle.fill_device.specs.Taps.{under}
 use Rattle.fill_region.specs.Bands.{holds}

@@ -1,4 +1,4 @@
-use Rattle.std.proofs.Common.{ℕ, List, Err, ap, take}
+use Rattle.std.proofs.Common.{ℕ, Err, ap, take}
 use Rattle.fill_engine.specs.declared.refusal.Refusal.TheVariants.{Report}
 use Rattle.std.proofs.lemmas.Result.{err_from_is_err_and}
 use Rattle.std.specs.Io.KnownBytes.{Appends}
