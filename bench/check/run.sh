@@ -44,7 +44,7 @@ for count in "$@"; do
             theirs=$(measure plain "$processors")
             cmp "$work/densfill.csv" "$work/plain.csv"
             echo "$form $count $processors $ours $theirs" |
-                awk '{ printf "%-6s %10d %10d %12.2f %8.2f %6.2f %12d %9d\n", $1, $2, $3, $4, $6, $6 > 0 ? $4 / $6 : 0, $5, $7 }'
+                awk '{ printf "%-6s %10d %10d %12.2f %8.2f %6.2f %12d %9d\n", $1, $2, $3, $4, $6, ($6 > 0 ? $4 / $6 : 0), $5, $7 }'
         done
         mv "$work/plain.csv" "$work/$form.csv"
     done
