@@ -1,0 +1,523 @@
+//! `densfill check` without proofs, for the benchmark alone: reads the rule file and the design, carries the shapes of
+//! the layer to their copies, joins them by a sweep over y, measures the windows row by row on all processors and
+//! prints the report. It takes sound inputs for granted.
+use std::collections::HashMap;
+use std::io::Write;
+use std::sync::Mutex;
+
+#[derive(Clone, Copy)]
+struct Rect {
+    x1: i32,
+    y1: i32,
+    x2: i32,
+    y2: i32,
+}
+
+type Point = (i64, i64);
+
+/// Where a reference carries: swapped first, then each coordinate negated or not, then moved.
+#[derive(Clone, Copy)]
+struct Placement {
+    swapped: bool,
+    flip_x: bool,
+    flip_y: bool,
+    x: i64,
+    y: i64,
+}
+
+fn signed(flip: bool, v: i64) -> i64 {
+    if flip { -v } else { v }
+}
+
+impl Placement {
+    fn shift(x: i64, y: i64) -> Placement {
+        Placement { swapped: false, flip_x: false, flip_y: false, x, y }
+    }
+
+    fn of(reflected: bool, turns: u8, (x, y): Point) -> Placement {
+        let (swapped, flip_x, flip_y) = match turns {
+            0 => (false, false, reflected),
+            1 => (true, !reflected, false),
+            2 => (false, true, !reflected),
+            _ => (true, reflected, true),
+        };
+        Placement { swapped, flip_x, flip_y, x, y }
+    }
+
+    fn point(&self, (x, y): Point) -> Point {
+        let (a, b) = if self.swapped { (y, x) } else { (x, y) };
+        (signed(self.flip_x, a) + self.x, signed(self.flip_y, b) + self.y)
+    }
+
+    fn after(&self, inner: &Placement) -> Placement {
+        let (fx, fy) = if self.swapped { (inner.flip_y, inner.flip_x) } else { (inner.flip_x, inner.flip_y) };
+        let (x, y) = self.point((inner.x, inner.y));
+        let swapped = self.swapped != inner.swapped;
+        Placement { swapped, flip_x: self.flip_x != fx, flip_y: self.flip_y != fy, x, y }
+    }
+
+    fn rect(&self, r: &Rect) -> Rect {
+        let (a, b) = self.point((r.x1.into(), r.y1.into()));
+        let (c, d) = self.point((r.x2.into(), r.y2.into()));
+        Rect { x1: a.min(c) as i32, y1: b.min(d) as i32, x2: a.max(c) as i32, y2: b.max(d) as i32 }
+    }
+}
+
+// ---- the design
+
+struct Link {
+    name: Vec<u8>,
+    placement: Placement,
+    columns: i64,
+    rows: i64,
+    column_step: Point,
+    row_step: Point,
+}
+
+#[derive(Default)]
+struct Cell {
+    pieces: Vec<Rect>,
+    shapes: usize,
+    links: Vec<Link>,
+}
+
+#[derive(Default)]
+struct Draft<'a> {
+    layer: u16,
+    data_type: u16,
+    path_type: u16,
+    width: i32,
+    begin: i32,
+    end: i32,
+    cell: &'a [u8],
+    flags: u16,
+    angle: f64,
+    columns: u16,
+    rows: u16,
+    xy: &'a [u8],
+}
+
+fn word(b: &[u8]) -> u16 {
+    u16::from_be_bytes([b[0], b[1]])
+}
+
+fn number(b: &[u8]) -> i32 {
+    i32::from_be_bytes([b[0], b[1], b[2], b[3]])
+}
+
+fn real(b: &[u8]) -> f64 {
+    let fraction = b[1..8].iter().fold(0u64, |sum, byte| sum << 8 | u64::from(*byte)) as f64;
+    let size = fraction / 2f64.powi(56) * 16f64.powi(i32::from(b[0] & 0x7f) - 64);
+    if b[0] >> 7 == 1 { -size } else { size }
+}
+
+fn name(mut b: &[u8]) -> Vec<u8> {
+    while let [front @ .., 0] = b {
+        b = front;
+    }
+    b.to_vec()
+}
+
+fn points(xy: &[u8]) -> Vec<Point> {
+    xy.chunks_exact(8).map(|b| (number(b).into(), number(&b[4..]).into())).collect()
+}
+
+fn next<'a>(bytes: &'a [u8], at: &mut usize) -> (u8, &'a [u8]) {
+    let len = word(&bytes[*at..]) as usize;
+    let body = &bytes[*at + 4..*at + len];
+    let kind = bytes[*at + 2];
+    *at += len;
+    (kind, body)
+}
+
+/// The rectangles of a rectilinear polygon, by its vertical edges and winding numbers.
+fn fill(points: &[Point], out: &mut Vec<Rect>) {
+    let edges: Vec<_> = points
+        .windows(2)
+        .filter(|p| p[0].0 == p[1].0 && p[0].1 != p[1].1)
+        .map(|p| (p[0].0, p[0].1.min(p[1].1), p[0].1.max(p[1].1), if p[0].1 < p[1].1 { 1 } else { -1 }))
+        .collect();
+    if let ([a, b], 5) = (edges.as_slice(), points.len()) {
+        out.push(Rect { x1: a.0.min(b.0) as i32, y1: a.1 as i32, x2: a.0.max(b.0) as i32, y2: a.2 as i32 });
+        return;
+    }
+    let mut lines: Vec<i64> = edges.iter().flat_map(|e| [e.1, e.2]).collect();
+    lines.sort_unstable();
+    lines.dedup();
+    for line in lines.windows(2) {
+        let mut row: Vec<_> = edges.iter().filter(|e| e.1 <= line[0] && line[1] <= e.2).map(|e| (e.0, e.3)).collect();
+        row.sort_unstable();
+        let mut winding = 0;
+        for pair in row.windows(2) {
+            winding += pair[0].1;
+            if winding != 0 && pair[0].0 < pair[1].0 {
+                out.push(Rect { x1: pair[0].0 as i32, y1: line[0] as i32, x2: pair[1].0 as i32, y2: line[1] as i32 });
+            }
+        }
+    }
+}
+
+/// The rectangles of a path's segments; its points are corners.
+fn wire(draft: &Draft, out: &mut Vec<Rect>) {
+    let corners = points(draft.xy);
+    let half = i64::from(draft.width.abs() / 2);
+    let ends = match draft.path_type {
+        0 => (0, 0),
+        2 => (half, half),
+        _ => (draft.begin.into(), draft.end.into()),
+    };
+    let last = corners.len() - 2;
+    for (k, pair) in corners.windows(2).enumerate() {
+        let mut before = if k == 0 { ends.0 } else { half };
+        let mut behind = if k == last { ends.1 } else { half };
+        let (mut a, mut b) = (pair[0], pair[1]);
+        if b < a {
+            (a, b, before, behind) = (b, a, behind, before);
+        }
+        let (x1, y1, x2, y2) = if a.1 == b.1 {
+            (a.0 - before, a.1 - half, b.0 + behind, a.1 + half)
+        } else {
+            (a.0 - half, a.1 - before, a.0 + half, b.1 + behind)
+        };
+        out.push(Rect { x1: x1 as i32, y1: y1 as i32, x2: x2 as i32, y2: y2 as i32 });
+    }
+}
+
+fn link(draft: &Draft, array: bool) -> Link {
+    let points = points(draft.xy);
+    let turns = (draft.angle / 90.0).rem_euclid(4.0) as u8;
+    let placement = Placement::of(draft.flags >> 15 == 1, turns, points[0]);
+    let (columns, rows) = if array { (draft.columns.into(), draft.rows.into()) } else { (1, 1) };
+    let step = |k: usize, n: i64| {
+        if array { ((points[k].0 - points[0].0) / n, (points[k].1 - points[0].1) / n) } else { (0, 0) }
+    };
+    let (column_step, row_step) = (step(1, columns), step(2, rows));
+    Link { name: name(draft.cell), placement, columns, rows, column_step, row_step }
+}
+
+fn element(bytes: &[u8], at: &mut usize, kind: u8, layer: (u16, u16), cell: &mut Cell) {
+    let mut draft = Draft::default();
+    loop {
+        let (record, body) = next(bytes, at);
+        match record {
+            0x0d => draft.layer = word(body),
+            0x0e => draft.data_type = word(body),
+            0x0f => draft.width = number(body),
+            0x10 => draft.xy = body,
+            0x12 => draft.cell = body,
+            0x13 => (draft.columns, draft.rows) = (word(body), word(&body[2..])),
+            0x1a => draft.flags = word(body),
+            0x1c => draft.angle = real(body),
+            0x21 => draft.path_type = word(body),
+            0x30 => draft.begin = number(body),
+            0x31 => draft.end = number(body),
+            0x11 => break,
+            _ => {}
+        }
+    }
+    match kind {
+        0x0a | 0x0b => cell.links.push(link(&draft, kind == 0x0b)),
+        0x08 | 0x09 if (draft.layer, draft.data_type) == layer => {
+            cell.shapes += 1;
+            if kind == 0x08 {
+                fill(&points(draft.xy), &mut cell.pieces);
+            } else {
+                wire(&draft, &mut cell.pieces);
+            }
+        }
+        _ => {}
+    }
+}
+
+/// The cells and their names, in the order of the file.
+fn read(bytes: &[u8], layer: (u16, u16)) -> (Vec<Cell>, HashMap<Vec<u8>, usize>) {
+    let (mut cells, mut indices, mut at) = (Vec::new(), HashMap::new(), 0);
+    loop {
+        match next(bytes, &mut at).0 {
+            0x05 => {
+                indices.insert(name(next(bytes, &mut at).1), cells.len());
+                let mut cell = Cell::default();
+                loop {
+                    match next(bytes, &mut at).0 {
+                        0x07 => break,
+                        kind => element(bytes, &mut at, kind, layer, &mut cell),
+                    }
+                }
+                cells.push(cell);
+            }
+            0x04 => return (cells, indices),
+            _ => {}
+        }
+    }
+}
+
+// ---- the copies
+
+struct Design {
+    cells: Vec<Cell>,
+    targets: Vec<Vec<usize>>,
+    counts: Vec<Option<usize>>,
+}
+
+impl Design {
+    fn count(&mut self, cell: usize) -> usize {
+        if let Some(count) = self.counts[cell] {
+            return count;
+        }
+        let mut total = self.cells[cell].shapes;
+        for k in 0..self.targets[cell].len() {
+            let each = self.count(self.targets[cell][k]);
+            let link = &self.cells[cell].links[k];
+            total += (link.columns * link.rows) as usize * each;
+        }
+        self.counts[cell] = Some(total);
+        total
+    }
+
+    fn carry(&self, cell: usize, at: &Placement, out: &mut Vec<Rect>) {
+        out.extend(self.cells[cell].pieces.iter().map(|piece| at.rect(piece)));
+        for (link, target) in self.cells[cell].links.iter().zip(&self.targets[cell]) {
+            if self.counts[*target] == Some(0) {
+                continue;
+            }
+            for row in 0..link.rows {
+                for column in 0..link.columns {
+                    let x = link.placement.x + column * link.column_step.0 + row * link.row_step.0;
+                    let y = link.placement.y + column * link.column_step.1 + row * link.row_step.1;
+                    self.carry(*target, &at.after(&Placement { x, y, ..link.placement }), out);
+                }
+            }
+        }
+    }
+}
+
+fn flatten(bytes: &[u8], top: &[u8], layer: (u16, u16)) -> Vec<Rect> {
+    let (cells, indices) = read(bytes, layer);
+    let targets = cells.iter().map(|cell| cell.links.iter().map(|link| indices[&link.name]).collect()).collect();
+    let counts = vec![None; cells.len()];
+    let mut design = Design { cells, targets, counts };
+    let count = design.count(indices[top]);
+    let mut rects = Vec::with_capacity(count);
+    design.carry(indices[top], &Placement::shift(0, 0), &mut rects);
+    rects
+}
+
+// ---- the region and its windows
+
+/// The bands upwards, each with its bottom and its rising edges.
+type Bands = Vec<(i32, Vec<i32>)>;
+
+/// Keeps the rectangles of `active` that end above `y`, merges in those of `started`, both sorted by their left side,
+/// and writes the edges of the row and the least upper edge.
+fn advance(active: &[Rect], started: &[Rect], y: i32, kept: &mut Vec<Rect>, row: &mut Vec<i32>) -> i32 {
+    kept.clear();
+    row.clear();
+    let mut least_top = i32::MAX;
+    let mut end = i32::MIN;
+    let mut begin = i32::MIN;
+    let mut rest = started.iter().peekable();
+    let mut put = |rect: Rect| {
+        least_top = least_top.min(rect.y2);
+        if rect.x1 > end {
+            if begin < end {
+                row.push(begin);
+                row.push(end);
+            }
+            begin = rect.x1;
+            end = rect.x2;
+        } else {
+            end = end.max(rect.x2);
+        }
+        kept.push(rect);
+    };
+    for rect in active.iter().filter(|rect| rect.y2 > y) {
+        while let Some(new) = rest.next_if(|new| new.x1 < rect.x1) {
+            put(*new);
+        }
+        put(*rect);
+    }
+    rest.for_each(|new| put(*new));
+    if begin < end {
+        row.push(begin);
+        row.push(end);
+    }
+    least_top
+}
+
+/// The region of the rectangles, by a sweep over y.
+fn from_rects(rects: &[Rect]) -> Bands {
+    let mut sorted = rects.to_vec();
+    sorted.sort_unstable_by_key(|rect| (rect.y1, rect.x1));
+    let mut bands: Bands = Vec::new();
+    let (mut active, mut kept, mut row) = (Vec::new(), Vec::new(), Vec::new());
+    let mut from = 0;
+    let mut least_top = i32::MAX;
+    loop {
+        let next = sorted.get(from).map_or(i32::MAX, |rect| rect.y1);
+        let y = next.min(least_top);
+        if y == i32::MAX {
+            return bands;
+        }
+        let count = sorted[from..].iter().take_while(|rect| rect.y1 == y).count();
+        least_top = advance(&active, &sorted[from..from + count], y, &mut kept, &mut row);
+        from += count;
+        std::mem::swap(&mut active, &mut kept);
+        if bands.last().map_or(!row.is_empty(), |last| last.1 != row) {
+            bands.push((y, row.as_slice().to_vec()));
+        }
+    }
+}
+
+/// The place of the first item that does not pass. Unlike `partition_point` it branches: consecutive searches for areas
+/// go nearly the same way, so the processor guesses the turns and loads ahead.
+fn first_not<T>(items: &[T], passes: impl Fn(&T) -> bool) -> usize {
+    let (mut low, mut high) = (0, items.len());
+    while low < high {
+        let mid = low + (high - low) / 2;
+        if passes(&items[mid]) {
+            low = mid + 1;
+        } else {
+            high = mid;
+        }
+    }
+    low
+}
+
+/// How far a walk along the edges of a row has come. `sum` has the edges so far with signs by turns, the last one added.
+#[derive(Clone, Copy)]
+struct Walk {
+    next: usize,
+    sum: i64,
+}
+
+impl Walk {
+    fn begin(edges: &[i32], start: i64) -> Walk {
+        let next = first_not(edges, |edge| i64::from(*edge) <= start);
+        Walk { next, sum: if next % 2 == 1 { start } else { 0 } }
+    }
+
+    /// The walk, gone on to `to`.
+    fn advanced(self, edges: &[i32], to: i64) -> Walk {
+        let Walk { mut next, mut sum } = self;
+        while next < edges.len() && i64::from(edges[next]) < to {
+            sum = i64::from(edges[next]) - sum;
+            next += 1;
+        }
+        Walk { next, sum }
+    }
+
+    /// How many numbers of the row lie from the start on and below `at`, to which the walk has come.
+    fn counted(self, at: i64) -> i64 {
+        if self.next % 2 == 1 { at - self.sum } else { self.sum }
+    }
+}
+
+/// Windows of one size, in columns and rows.
+struct Windows {
+    origin: (i32, i32),
+    size: (i32, i32),
+    step: (i32, i32),
+    columns: usize,
+    rows: usize,
+}
+
+impl Windows {
+    /// Adds to each number `height` times what the row has in the windows of its column.
+    fn add_lengths(&self, edges: &[i32], height: i64, sums: &mut [i64]) {
+        let mut behind = Walk::begin(edges, i64::from(self.origin.0));
+        let mut ahead = behind;
+        for (a, sum) in sums.iter_mut().enumerate() {
+            let left = i64::from(self.origin.0) + a as i64 * i64::from(self.step.0);
+            let right = left + i64::from(self.size.0);
+            behind = behind.advanced(edges, left);
+            ahead = ahead.advanced(edges, right);
+            *sum += height * (ahead.counted(right) - behind.counted(left));
+        }
+    }
+
+    /// Adds what the windows of one row have in one of so many strips.
+    fn measure_strip(&self, bands: &Bands, row: usize, strips: i32, strip: i32, sums: &mut [i64]) {
+        let bottom = self.origin.1 + row as i32 * self.step.1;
+        let lines = self.size.1 / strips + 1;
+        let mut from = self.size.1.min(strip * lines) + bottom;
+        let to = self.size.1.min((strip + 1) * lines) + bottom;
+        let first = first_not(bands, |band| band.0 <= from);
+        for k in first..=bands.len() {
+            let top = bands.get(k).map_or(to, |band| band.0.min(to));
+            if k > 0 {
+                self.add_lengths(&bands[k - 1].1, i64::from(top - from), sums);
+            }
+            if top == to {
+                break;
+            }
+            from = top;
+        }
+    }
+}
+
+/// The area in every window: strips of rows of windows are taken one by one by each processor.
+fn measure_all(bands: &Bands, windows: &Windows) -> Vec<i64> {
+    let count = windows.columns * windows.rows;
+    let strips = (131_072 / count).clamp(1, 64);
+    let threads = std::thread::available_parallelism().map_or(1, |n| n.get());
+    let mut sums = vec![0; count * strips];
+    let pieces = Mutex::new(sums.chunks_mut(windows.columns).enumerate());
+    std::thread::scope(|scope| {
+        for _ in 0..threads {
+            scope.spawn(|| loop {
+                let Some((piece, sums)) = pieces.lock().unwrap().next() else { break };
+                let (strip, row) = (piece / windows.rows, piece % windows.rows);
+                windows.measure_strip(bands, row, strips as i32, strip as i32, sums);
+            });
+        }
+    });
+    let (areas, rest) = sums.split_at_mut(count);
+    for part in rest.chunks_exact(count) {
+        areas.iter_mut().zip(part).for_each(|(area, more)| *area += more);
+    }
+    sums.truncate(count);
+    sums
+}
+
+// ---- the rules and the report
+
+fn report(rules: &HashMap<String, String>, windows: &Windows, areas: &[i64]) -> Vec<u8> {
+    let key = |name: &str| rules[name].parse::<i64>().expect("a number");
+    let (min, max) = (key("min"), key("max"));
+    let whole = i64::from(windows.size.0) * i64::from(windows.size.1);
+    let mut out = Vec::new();
+    for (k, area) in areas.iter().enumerate() {
+        let (a, b) = (k % windows.columns, k / windows.columns);
+        let x = windows.origin.0 + a as i32 * windows.step.0;
+        let y = windows.origin.1 + b as i32 * windows.step.1;
+        let (right, top) = (x + windows.size.0, y + windows.size.1);
+        let state = match area * 1_000_000 {
+            share if share < min * whole => "LOW",
+            share if share > max * whole => "HIGH",
+            _ => "OK",
+        };
+        let share = area * 1_000_000 / whole;
+        writeln!(out, "{a},{b},{x},{y},{right},{top},{area},0,{area},{share},{state}").expect("memory");
+    }
+    out
+}
+
+fn main() {
+    let paths: Vec<String> = std::env::args().skip(1).collect();
+    let [rules, design] = paths.as_slice() else { panic!("usage: plain RULES DESIGN") };
+    let rules = std::fs::read_to_string(rules).expect("the rules");
+    let pair = |line: &str| line.split_once(',').map(|(key, value)| (key.to_string(), value.to_string()));
+    let rules: HashMap<String, String> = rules.lines().filter_map(pair).collect();
+    let key = |name: &str| rules[name].parse::<i32>().expect("a number");
+    let windows = Windows {
+        origin: (key("win_x"), key("win_y")),
+        size: (key("win_w"), key("win_h")),
+        step: (key("win_step_x"), key("win_step_y")),
+        columns: key("win_nx") as usize,
+        rows: key("win_ny") as usize,
+    };
+    let bytes = std::fs::read(design).expect("the design");
+    let rects = flatten(&bytes, rules["top"].as_bytes(), (key("layer") as u16, key("datatype") as u16));
+    let areas = measure_all(&from_rects(&rects), &windows);
+    std::io::stdout().write_all(&report(&rules, &windows, &areas)).expect("the report");
+}

@@ -1,0 +1,53 @@
+#!/usr/bin/env bash
+# Times the whole of `densfill check` on generated designs of 100,000, 1,000,000 and 4,000,000 copies of shapes, flat and
+# in five levels, over 10,000 windows, beside the same algorithms in plain Rust (plain.rs), on one processor and on all.
+# Seconds are the best of three runs, peaks in MB those of the whole process. Where two reports differ in a byte, the run
+# fails; so the report of a flat design is compared with that of the deep one, too.
+#
+# usage: bench/check/run.sh [COUNT ..]     (after make build; needs rustc, python3, taskset and GNU time; without COUNT
+#                                           some five minutes and 4 GB)
+set -eu
+here=$(cd "$(dirname "$0")" && pwd)
+root=$(cd "$here/../.." && pwd)
+work=$(mktemp -d)
+trap 'rm -rf "$work"' EXIT
+
+rustc --edition 2021 -O -o "$work/plain" "$here/plain.rs"
+
+# run PROGRAM OUT: prints the report of the design into OUT.
+run() {
+    case $1 in
+        densfill) "$root/bin/densfill" check "$work/rules.csv" "$work/design.gds" > "$2" ;;
+        plain) "$work/plain" "$work/rules.csv" "$work/design.gds" > "$2" ;;
+    esac
+}
+export -f run
+export root work
+
+# measure PROGRAM PROCESSORS: the least seconds and the peak of three runs; the report stays in WORK/PROGRAM.csv.
+measure() {
+    for _ in 1 2 3; do
+        /usr/bin/time -f '%e %M' -a -o "$work/cost" taskset -c "0-$(($2 - 1))" bash -c "run $1 $work/$1.csv"
+    done
+    awk 'NR == 1 || $1 < best { best = $1 } $2 > peak { peak = $2 } END { printf "%.2f %.0f\n", best, peak / 1024 }' "$work/cost"
+    rm "$work/cost"
+}
+
+all=$(nproc)
+printf '%-6s %10s %10s %12s %8s %6s %12s %9s\n' form copies processors "densfill s" "plain s" ratio "densfill MB" "plain MB"
+[ $# -gt 0 ] || set -- 100000 1000000 4000000
+for count in "$@"; do
+    for form in flat deep; do
+        python3 "$here/generate.py" "$count" "$form" "$work"
+        for processors in $(printf '1\n%s\n' "$all" | sort -nu); do
+            ours=$(measure densfill "$processors")
+            theirs=$(measure plain "$processors")
+            cmp "$work/densfill.csv" "$work/plain.csv"
+            echo "$form $count $processors $ours $theirs" |
+                awk '{ printf "%-6s %10d %10d %12.2f %8.2f %6.2f %12d %9d\n", $1, $2, $3, $4, $6, ($6 > 0 ? $4 / $6 : 0), $5, $7 }'
+        done
+        mv "$work/plain.csv" "$work/$form.csv"
+    done
+    cmp "$work/flat.csv" "$work/deep.csv"
+done
+echo "processes that ran or waited, on average over 1, 5 and 15 minutes: $(cut -d' ' -f1-3 /proc/loadavg)"
