@@ -618,3 +618,18 @@ fn laws_are_calls(rt: HostRuntime) {
     laws::refused_at_the_first();
     assert!(rt; true);
 }
+
+#[test]
+fn large_library(rt: HostRuntime) -> Result<(), Fail> {
+    let wire = joined(rt.alloc(), &[BOUNDARY, LAYER, DATATYPE, XY, ENDEL])?;
+    let mut wires = Vec::new(rt.alloc());
+    for _ in 0..160_000u32 {
+        wires.extend_from_slice(&wire)?;
+    }
+    let bytes = library_of(rt.alloc(), &[&wires])?;
+    assert!(rt; bytes.len() > 10_000_000);
+    let library = read_library(rt.alloc(), &bytes)?;
+    let elements = library.cells.get(b"TOP".as_slice()).ok_or("no cell TOP")?;
+    assert_eq!(rt; elements.len(), 160_000);
+    Ok(())
+}
