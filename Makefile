@@ -1,4 +1,4 @@
-# make demo               runs the main job on examples/ and prints its report (by bin/densfill where it stands, else unproved, by rt try)
+# make demo               runs check and rects on examples/ and prints their reports (by bin/densfill where it stands, else unproved, by rt try)
 # make build              proves the program and leaves it, optimized, at bin/densfill
 # make check CRATE=name   proves one crate over what earlier runs kept: for work on it
 # make test               the gate: every proof from nothing, the must-fail edits, the tests, the programs
@@ -6,9 +6,11 @@
 .PHONY: demo build check test bench
 
 demo:
-	@if [ -x bin/densfill ]; then bin/densfill rects examples/rules.csv examples/script.csv; \
-	else echo "bin/densfill is not built: this run is unproved (make build proves and builds it)" >&2; \
-	cd crates/densfill && rt try -- rects $(CURDIR)/examples/rules.csv $(CURDIR)/examples/script.csv; fi
+	@if [ -x bin/densfill ]; then bin/densfill check examples/design_rules.csv examples/design.gds; \
+	bin/densfill rects examples/rules.csv examples/script.csv; \
+	else echo "bin/densfill is not built: these runs are unproved (make build proves and builds it)" >&2; cd crates/densfill; \
+	rt try -- check $(CURDIR)/examples/design_rules.csv $(CURDIR)/examples/design.gds; \
+	rt try -- rects $(CURDIR)/examples/rules.csv $(CURDIR)/examples/script.csv; fi
 
 build:
 	mkdir -p bin

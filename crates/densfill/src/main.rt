@@ -1,16 +1,17 @@
 //! The program: it opens what the command line names, runs the engine and prints a fault.
 #![tactic(auto)]
 
-ghost use Rattle.std.specs.Prelude.{◌≡◌, ◌⊎◌, ◌↔◌, ◌<◌, false, true, map, IfErr, IfOk, IsSome, OnErr, OnOk};
+ghost use Rattle.std.specs.Prelude.{◌≡◌, ◌⊎◌, ◌↔◌, ◌<◌, false, true, Some, map, IfErr, IfOk, IsSome, OnErr, OnOk};
 ghost use Rattle.std.specs.IoError.{error_kind};
 ghost use Rattle.std.specs.Process.{exit_status};
 ghost use Rattle.fill_device.specs.Taps.{has_failed, under};
 ghost use Rattle.fill_engine.specs.Refusals.{refusal_status};
+ghost use Rattle.fill_line.specs.Lines.{text_of};
 ghost use Rattle.fill_line.specs.Grammar.{said_in, IsFaultless, IsTaken};
-ghost use Rattle.densfill.specs.Outcomes.{GaveUp, IsCause, IsReport, IsTold, IsToldOf};
+ghost use Rattle.densfill.specs.Outcomes.{GaveUp, IsCause, IsReport, IsTold, IsToldOf, IsUnopened};
 
 use fill_device::{InputError, Tap, write_text};
-use fill_engine::{InputFault, Refusal, RunFault, rects};
+use fill_engine::{InputFault, Refusal, RunFault, check, rects};
 use fill_line::{Line, LineError, read_line};
 use std::alloc::Global;
 use std::convert::AsStr;
@@ -50,28 +51,63 @@ fn opened<R: Files>(rt: &R, path: &str) -> Result<Tap<R::File>, InputError>
     }
 }
 
-/// Runs `rects` on the files that two paths name. Both are opened before one is read.
-fn run_rects<R: Files + Threads + Sync, W: Write + Drop>(
+/// The rule file, opened.
+fn opened_rules<R: Files>(rt: &R, path: &str) -> Result<Tap<R::File>, Refusal>
+    ensures whole { IfOk result (λ tap. has_failed tap ≡ false) }
+    ensures unopened { IfErr result IsUnopened }
+{
+    match opened(rt, path) {
+        Ok(tap) => Ok(tap),
+        Err(error) => Err(Refusal::Rules(InputFault::Unread(error))),
+    }
+}
+
+/// The script, opened.
+fn opened_script<R: Files>(rt: &R, path: &str) -> Result<Tap<R::File>, Refusal>
+    ensures whole { IfOk result (λ tap. has_failed tap ≡ false) }
+    ensures unopened { IfErr result IsUnopened }
+{
+    match opened(rt, path) {
+        Ok(tap) => Ok(tap),
+        Err(error) => Err(Refusal::Script(InputFault::Unread(error))),
+    }
+}
+
+/// The design, opened.
+fn opened_design<R: Files>(rt: &R, path: &str) -> Result<Tap<R::File>, Refusal>
+    ensures whole { IfOk result (λ tap. has_failed tap ≡ false) }
+    ensures unopened { IfErr result IsUnopened }
+{
+    match opened(rt, path) {
+        Ok(tap) => Ok(tap),
+        Err(error) => Err(Refusal::Design(InputFault::Unread(error))),
+    }
+}
+
+/// Does what a line asks for, on the files that its two paths name. Both are opened before one is read.
+fn run<R: Files + Threads + Sync, W: Write + Drop>(
     rt: &R,
     alloc: Global,
-    rules: &str,
-    script: &str,
+    line: Line,
     out: &mut Tap<W>,
 ) -> Result<(), Refusal>
     requires { has_failed out.old ≡ false }
-    ensures written { OnOk result (IsReport R.File.remaining (W.contents (under out.old)) (W.contents (under out.new))) }
-    ensures refused { IfErr result (IsCause R.File.remaining) }
+    ensures written { OnOk result (IsReport R.File.remaining (Some (text_of line.entry)) (W.contents (under out.old)) (W.contents (under out.new))) }
+    ensures refused { IfErr result (IsCause R.File.remaining (Some (text_of line.entry))) }
     ensures silent { OnErr result ((has_failed out.new ≡ true) ⊎ (out.new ≡ out.old)) }
 {
-    let mut rules = match opened(rt, rules) {
-        Ok(tap) => tap,
-        Err(error) => return Err(Refusal::Rules(InputFault::Unread(error))),
-    };
-    let mut script = match opened(rt, script) {
-        Ok(tap) => tap,
-        Err(error) => return Err(Refusal::Script(InputFault::Unread(error))),
-    };
-    rects(rt, alloc, &mut rules, &mut script, out)
+    match line {
+        Line::Rects { rules, script } => {
+            let mut rules = opened_rules(rt, rules)?;
+            let mut script = opened_script(rt, script)?;
+            rects(rt, alloc, &mut rules, &mut script, out)
+        }
+        Line::Check { rules, design } => {
+            let mut rules = opened_rules(rt, rules)?;
+            let mut design = opened_design(rt, design)?;
+            check(rt, alloc, &mut rules, &mut design, out)
+        }
+    }
 }
 
 /// Writes a line, and gives the exit status of a refusal.
@@ -120,13 +156,12 @@ fn line_status<R: Files + Threads + Sync, W: Write + Drop, E: Write>(
 ) -> ExitCode
     requires out { has_failed out.old ≡ false }
     requires err { has_failed err.old ≡ false }
-    ensures done { exit_status result ≡ 0 → IsReport R.File.remaining (W.contents (under out.old)) (W.contents (under out.new)) }
-    ensures refused { (exit_status result ≡ 0) ⊎ GaveUp R.File.remaining (E.contents (under err.old)) (E.contents (under err.new)) (has_failed err.new) (exit_status result) }
+    ensures done { exit_status result ≡ 0 → IsReport R.File.remaining (Some (text_of line.entry)) (W.contents (under out.old)) (W.contents (under out.new)) }
+    ensures refused { (exit_status result ≡ 0) ⊎ GaveUp R.File.remaining (Some (text_of line.entry)) (E.contents (under err.old)) (E.contents (under err.new)) (has_failed err.new) (exit_status result) }
     ensures status { (exit_status result ≡ 0) ⊎ (1 < exit_status result) }
     ensures silent { (exit_status result ≡ 0) ⊎ (has_failed out.new ≡ true) ⊎ (out.new ≡ out.old) }
 {
-    let Line::Rects { rules, script } = line;
-    let done = run_rects(rt, alloc, rules, script, out);
+    let done = run(rt, alloc, line, out);
     ended(alloc, err, done)
 }
 
@@ -142,14 +177,14 @@ fn status_of<R: AllocGlobal + Files + Threads + Sync, S: AsStr, W: Write + Drop,
     requires out { has_failed out.old ≡ false }
     requires err { has_failed err.old ≡ false }
 
-    // Status 0: clap finds no fault in the words, and the report of two opened files is written whole.
+    // Status 0: clap finds no fault in the words, and the report of the line that they make, of two opened files, is written whole.
     ensures faultless { exit_status result ≡ 0 → IsFaultless (map S.text words.now) }
-    ensures done { exit_status result ≡ 0 → IsReport R.File.remaining (W.contents (under out.old)) (W.contents (under out.new)) }
+    ensures done { exit_status result ≡ 0 → IsReport R.File.remaining (said_in (map S.text words.now)) (W.contents (under out.old)) (W.contents (under out.new)) }
 
     // Status 1: words that make no line. Any other: a refusal, which is told.
     ensures usage { IsTaken (map S.text words.now) → IsSome (said_in (map S.text words.now)) → (exit_status result ≡ 0) ⊎ (1 < exit_status result) }
     ensures refused { (exit_status result ≡ 0) ⊎ (exit_status result ≡ 1)
-        ⊎ GaveUp R.File.remaining (E.contents (under err.old)) (E.contents (under err.new)) (has_failed err.new) (exit_status result) }
+        ⊎ GaveUp R.File.remaining (said_in (map S.text words.now)) (E.contents (under err.old)) (E.contents (under err.new)) (has_failed err.new) (exit_status result) }
     ensures silent { (exit_status result ≡ 0) ⊎ (has_failed out.new ≡ true) ⊎ (out.new ≡ out.old) }
 {
     match read_line(rt.alloc(), words) {

@@ -1,7 +1,8 @@
 //! What the program's functions tell of bad lines, missing files and want of memory.
-use crate::{ended, run_rects, status_of, without_words};
+use crate::{ended, run, status_of, without_words};
 use fill_device::{InputError, Tap};
 use fill_engine::{InputFault, Refusal, RunFault};
+use fill_line::Line;
 use std::io::{self, ErrorKind};
 use std::process::ExitCode;
 
@@ -46,19 +47,29 @@ fn a_bad_line_is_status_1_with_its_text(rt: HostRuntime) {
 
 #[test]
 fn a_fault_has_its_line_and_its_status(rt: HostRuntime) {
-    for (rules, script, want, line) in [
+    for (name, rules, other, want, line) in [
         (
+            "rects",
             EMPTY,
             EMPTY,
             2,
             "densfill: rules: 23 BadRule key frame_x1\n",
         ),
-        (NO_FILE, EMPTY, 4, "densfill: rules: 30 Device\n"),
-        (EMPTY, NO_FILE, 4, "densfill: script: 30 Device\n"),
+        ("rects", NO_FILE, EMPTY, 4, "densfill: rules: 30 Device\n"),
+        ("rects", EMPTY, NO_FILE, 4, "densfill: script: 30 Device\n"),
+        (
+            "check",
+            EMPTY,
+            EMPTY,
+            2,
+            "densfill: rules: 23 BadRule key frame_x1\n",
+        ),
+        ("check", NO_FILE, EMPTY, 4, "densfill: rules: 30 Device\n"),
+        ("check", EMPTY, NO_FILE, 4, "densfill: design: 30 Device\n"),
     ] {
         let mut written = Vec::new(rt.alloc());
         let mut told = Vec::new(rt.alloc());
-        let words = ["densfill", "rects", rules, script];
+        let words = ["densfill", name, rules, other];
         let status = status_of(
             &rt,
             words.as_slice(),
@@ -77,14 +88,24 @@ fn a_fault_has_its_line_and_its_status(rt: HostRuntime) {
 fn a_missing_file_is_a_device_fault_at_its_part(rt: HostRuntime) {
     let rules_missing = Refusal::Rules(InputFault::Unread(InputError::Device));
     let script_missing = Refusal::Script(InputFault::Unread(InputError::Device));
-    for (rules, script, want) in [
-        (NO_FILE, EMPTY, rules_missing),
-        (EMPTY, NO_FILE, script_missing),
-        (NO_FILE, NO_FILE, rules_missing),
+    let design_missing = Refusal::Design(InputFault::Unread(InputError::Device));
+    for (rules, other, of_script, of_design) in [
+        (NO_FILE, EMPTY, rules_missing, rules_missing),
+        (EMPTY, NO_FILE, script_missing, design_missing),
+        (NO_FILE, NO_FILE, rules_missing, rules_missing),
     ] {
         let mut out = Tap::new(Vec::<u8>::new(rt.alloc()));
-        let done = run_rects(&rt, rt.alloc(), rules, script, &mut out);
-        assert_eq!(rt; done, Err(want));
+        let line = Line::Rects {
+            rules,
+            script: other,
+        };
+        assert_eq!(rt; run(&rt, rt.alloc(), line, &mut out), Err(of_script));
+        let mut out = Tap::new(Vec::<u8>::new(rt.alloc()));
+        let line = Line::Check {
+            rules,
+            design: other,
+        };
+        assert_eq!(rt; run(&rt, rt.alloc(), line, &mut out), Err(of_design));
     }
 }
 

@@ -6,7 +6,7 @@ use Rattle.std.proofs.lemmas.Nat.{div-mul-add, mod-mul-add, mul-add-lt, div_belo
 use Rattle.std.proofs.Math.Nat.{mod-add-div, mul-div_cancel, mul-mod_left, mul-le-mul}
 use Rattle.std.proofs.lemmas.List.{get_or-take, length-take-le}
 use Rattle.std.proofs.Math.Seq.{take-append_seam}
-use Rattle.fill_spans.specs.Comb.{AreSums}
+use Rattle.fill_spans.specs.EvenColumns.{AreSums}
 use Rattle.fill_area.specs.steps.Parts.{PartAdded}
 use Rattle.fill_area.proofs.Cutting.{cut_first, cut_last, cut_low, cut_high, cut_rises, strip_more}
 use Rattle.fill_area.proofs.Measuring.{area_at, longer}

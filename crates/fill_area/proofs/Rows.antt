@@ -9,7 +9,7 @@ use Rattle.fill_base.specs.Coordinates.{lowest, highest}
 use Rattle.fill_base.specs.Counts.{span_len, count_between}
 use Rattle.fill_base.proofs.Signed.{read, read_is, coordinate_fits, lt_le, le_trans}
 use Rattle.fill_base.proofs.Counting.{sum_between_le, count_between_le}
-use Rattle.fill_spans.specs.Comb.{AreSums, column_left, column_right}
+use Rattle.fill_spans.specs.EvenColumns.{AreSums, column_left, column_right}
 use Rattle.fill_spans.specs.Spans.{inside}
 use Rattle.fill_region.specs.Bands.{Band, holds}
 use Rattle.fill_region.specs.Rows.{Upwards, IsNextRow, AreOver}

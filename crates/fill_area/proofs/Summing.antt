@@ -3,7 +3,7 @@ use Rattle.std.proofs.Common.{◌≡◌, ◌≢◌, ◌==◌, Bool, true, false,
 use Rattle.std.proofs.lemmas.Int.{ints}
 use Rattle.std.proofs.lemmas.List.{get_or-set_same, get_or-set_other, length-set, get_or_default}
 use Rattle.fill_base.proofs.Signed.{read, read_is}
-use Rattle.fill_spans.specs.Comb.{AreSums}
+use Rattle.fill_spans.specs.EvenColumns.{AreSums}
 use Rattle.fill_area.specs.steps.Parts.{PartAdded}
 
 -- the first `n` numbers have grown, and the others are as they were

@@ -5,7 +5,7 @@ ghost use Rattle.fill_area.specs.Density.{AreMeasured, IsArea, window_area};
 ghost use Rattle.fill_area.specs.Grid.{IsGrid};
 ghost use Rattle.fill_area.specs.steps.Strips.{AreStripAt, AreStrips};
 ghost use Rattle.fill_area.specs.steps.Parts.{PartAdded};
-ghost use Rattle.fill_spans.specs.Comb.{AreSums};
+ghost use Rattle.fill_spans.specs.EvenColumns.{AreSums};
 
 use crate::strips::measure_strip;
 use crate::windows::Windows;

@@ -1,4 +1,4 @@
-use crate::{Windows, area_in, is_high, is_low, measure_all};
+use crate::{BadWindows, Windows, area_in, is_high, is_low, measure_all};
 use fill_base::{Point, Rect};
 use fill_region::Region;
 use std::ops::Range;
@@ -110,4 +110,55 @@ fn windows_that_share_and_hold(rt: HostRuntime) {
     assert!(rt; columns.start >= columns.end);
     let (columns, _) = windows.touching(&rect(&rt, [-10, 0, 0, 10]));
     assert!(rt; columns.start >= columns.end);
+}
+
+#[test]
+fn each_refusal_says_why(rt: HostRuntime) -> Result<(), Fail> {
+    let text = format!(in rt.alloc(); "{}", BadWindows)?;
+    let want = "a window's size, step, count or place is out of its limits";
+    assert_eq!(rt; text.as_str(), want);
+    Ok(())
+}
+
+#[test]
+fn windows_are_equal_where_all_numbers_are(rt: HostRuntime) {
+    let origin = Point { x: -3, y: 4 };
+    let grid = Windows::new(origin, (10, 11), (12, 13), (5, 6));
+    assert!(rt; grid.is_ok());
+    assert!(rt; grid == Windows::new(origin, (10, 11), (12, 13), (5, 6)));
+    for other in [
+        Windows::new(Point { x: -2, y: 4 }, (10, 11), (12, 13), (5, 6)),
+        Windows::new(Point { x: -3, y: 5 }, (10, 11), (12, 13), (5, 6)),
+        Windows::new(origin, (9, 11), (12, 13), (5, 6)),
+        Windows::new(origin, (10, 10), (12, 13), (5, 6)),
+        Windows::new(origin, (10, 11), (11, 13), (5, 6)),
+        Windows::new(origin, (10, 11), (12, 12), (5, 6)),
+        Windows::new(origin, (10, 11), (12, 13), (4, 6)),
+        Windows::new(origin, (10, 11), (12, 13), (5, 5)),
+    ] {
+        assert!(rt; other.is_ok());
+        assert!(rt; grid != other);
+    }
+}
+
+#[test]
+fn a_million_windows_are_measured_at_once(rt: HostRuntime) -> Result<(), Fail> {
+    let alloc = rt.alloc();
+    let wire = Region::one(alloc, &rect(&rt, [0, 0, 1024, 2]))?;
+    let Ok(windows) = Windows::new(Point { x: 0, y: 0 }, (1, 4), (1, 1), (1024, 1024)) else {
+        panic!(&rt; "the windows are refused");
+    };
+    let totals = measure_all(&rt, alloc, &wire, &windows)?;
+    assert_eq!(rt; totals.len(), 1_048_576);
+    for (k, total) in totals.iter().enumerate() {
+        let want = if k < 1024 {
+            2
+        } else if k < 2048 {
+            1
+        } else {
+            0
+        };
+        assert_eq!(rt; *total, want);
+    }
+    Ok(())
 }

@@ -1,7 +1,7 @@
 //! The density windows of a layer.
 ghost use Rattle.std.specs.Prelude.{◌≡◌, ◌↔◌, ℕ, ◌<◌, ◌*◌, ◌/◌, ◌%◌, ◌≤◌, pos, ◌*ℤ◌, ◌≤ℤ◌, IsTrue, IsOk, IfOk, length};
 ghost use Rattle.fill_base.specs.Squares.{squares};
-ghost use Rattle.fill_spans.specs.Comb.{AreSums};
+ghost use Rattle.fill_spans.specs.EvenColumns.{AreSums};
 ghost use Rattle.fill_area.specs.Axes.{IsAxis, IsIndex, IsTouching, IsContaining, IsRangeOf};
 ghost use Rattle.fill_area.specs.Grid.{Grid, IsGrid, grid_of, window_left, window_right, window_bottom, window_top};
 ghost use Rattle.fill_area.specs.Sharing.{IsWindow, ShareASquare, Holds, window_squares};

@@ -1,3 +1,4 @@
 mod FaultLines
 mod Patches
 mod Reasons
+pub mod Checking

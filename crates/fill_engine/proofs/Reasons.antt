@@ -1,5 +1,5 @@
 -- What two inputs say together, once it is known what each says.
-use Rattle.std.proofs.Common.{◌≡◌, ◌≤◌, ◌^◌, ℕ, false, nat_lt, arith, length, List, Option, Some, None, Result, Ok, Err, IfSome, IsOk, IsOkAnd, refl, subst}
+use Rattle.std.proofs.Common.{◌≡◌, ◌⊎◌, inl, inr, ◌≤◌, ◌^◌, ℕ, false, nat_lt, arith, length, List, Option, Some, None, Result, Ok, IfSome, IsOk, IsOkAnd, refl, subst, sym}
 use Rattle.std.proofs.lemmas.Bool.Decides.{nat_tests}
 use Rattle.fill_text.specs.Rules.{Values, rules_of}
 use Rattle.fill_text.specs.Script.{Change}
@@ -9,9 +9,11 @@ use Rattle.fill_text.specs.declared.script.ScriptError.{ScriptError}
 use Rattle.fill_text.specs.declared.script.ScriptError.TheVariants as script
 use Rattle.fill_report.specs.RulesReport.{metal_report}
 use Rattle.fill_engine.specs.Metal.{is_metal}
-use Rattle.fill_engine.specs.Rects.{IsFaultOf, IsReason, report_answer, rules_answer, script_answer}
+use Rattle.fill_engine.specs.Inputs.{IsFaultOf, rules_answer, script_answer}
+use Rattle.fill_engine.specs.Rects.{IsReason, report_answer}
 use Rattle.fill_engine.specs.declared.refusal.InputFault.{InputFault}
-use Rattle.fill_engine.specs.declared.refusal.RunFault.{RunFault}
+use Rattle.fill_engine.specs.declared.refusal.RunFault.TheVariants as run
+use Rattle.fill_engine.specs.declared.refusal.Refusal.{Refusal}
 use Rattle.fill_engine.specs.declared.refusal.Refusal.TheVariants.{Rules, Script, Run, Report}
 
 both_read : (rules edits : List ℕ) (values : Values) (changes : List Change) → rules_answer rules ≡ Ok values → script_answer edits ≡ Ok changes
@@ -50,6 +52,14 @@ pub answered : (rules edits : Option (List ℕ)) (values : Values) (changes : Li
 answered None edits values changes read edited = tt
 answered (Some r) None values changes read edited = tt
 answered (Some r) (Some s) values changes read edited = is_ok_of _ _ (both_read r s values changes read edited)
+
+-- the report was not written, or there was no memory for it
+pub output_reason : (rules edits : Option (List ℕ)) (values : Values) (changes : List Change) (e : Refusal) → IfSome rules (λ t. rules_answer t ≡ Ok values)
+    → IfSome edits (λ t. script_answer t ≡ Ok changes) → ((e ≡ Report) ⊎ (e ≡ Run run.Memory)) → IfSome rules (λ r. IfSome edits (λ s. IsReason r s e))
+output_reason rules edits values changes e read edited (inl is) =
+    subst (λ x. IfSome rules (λ r. IfSome edits (λ s. IsReason r s x))) (sym is) (answered rules edits values changes read edited)
+output_reason rules edits values changes e read edited (inr is) =
+    subst (λ x. IfSome rules (λ r. IfSome edits (λ s. IsReason r s x))) (sym is) (answered rules edits values changes read edited)
 
 -- the rules were given
 pub rules_are : (rules : Option (List ℕ)) (values : Values) → IfSome rules (λ text. rules_answer text ≡ Ok values) → IfSome rules (λ r. IsOk (rules_answer r))

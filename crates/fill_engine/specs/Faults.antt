@@ -5,12 +5,35 @@ use Rattle.fill_text.specs.declared.rule_error.RuleError.{RuleError}
 use Rattle.fill_text.specs.declared.rule_error.RuleError.TheVariants as rule
 use Rattle.fill_text.specs.declared.script.ScriptError.{ScriptError}
 use Rattle.fill_text.specs.declared.script.ScriptError.TheVariants as script
+use Rattle.gds_grammar.specs.declared.error.LibraryError.{LibraryError}
+use Rattle.gds_grammar.specs.declared.error.LibraryError.TheVariants as library
+use Rattle.gds_flatten.specs.declared.error.FlattenError.{FlattenError}
+use Rattle.gds_flatten.specs.declared.error.FlattenError.TheVariants as flatten
 use Rattle.fill_device.specs.declared.input.InputError.{InputError}
 use Rattle.fill_device.specs.declared.input.InputError.TheVariants as input
 use Rattle.fill_engine.specs.declared.fault.Fault.{Fault}
-use Rattle.fill_engine.specs.declared.fault.Fault.TheVariants.{BadRow, BadNumber, BadRule, TooManyLines, BadRect, BadWindows, BadPitch, TooManyPlaces, TooLong, Device, Memory}
+use Rattle.fill_engine.specs.declared.fault.Fault.TheVariants.{Truncated, BadLength, Unexpected, DuplicateCell, BadXY, NotClosed, BadArray, NotManhattan, RoundEnd, OddWidth, DoublesBack, BadExtension, NoTop, MissingCell, Cycle, TooDeep, TooManyShapes, OutOfRange, BadTransform, BadRow, BadNumber, BadRule, TooManyLines, BadRect, BadWindows, BadPitch, TooManyPlaces, TooLong, Device, Memory}
 
 abbrev pub fault_number : Fault → ℕ
+fault_number Truncated = 1
+fault_number BadLength = 2
+fault_number (Unexpected at) = 4
+fault_number DuplicateCell = 5
+fault_number BadXY = 6
+fault_number NotClosed = 7
+fault_number BadArray = 8
+fault_number NotManhattan = 9
+fault_number RoundEnd = 10
+fault_number OddWidth = 11
+fault_number DoublesBack = 12
+fault_number BadExtension = 13
+fault_number NoTop = 14
+fault_number MissingCell = 15
+fault_number Cycle = 16
+fault_number TooDeep = 17
+fault_number TooManyShapes = 18
+fault_number OutOfRange = 19
+fault_number BadTransform = 20
 fault_number (BadRow line) = 21
 fault_number (BadNumber line) = 22
 fault_number (BadRule key) = 23
@@ -24,6 +47,25 @@ fault_number Device = 30
 fault_number Memory = 31
 
 abbrev pub fault_name : Fault → List ℕ
+fault_name Truncated = codes "Truncated"
+fault_name BadLength = codes "BadLength"
+fault_name (Unexpected at) = codes "Unexpected"
+fault_name DuplicateCell = codes "DuplicateCell"
+fault_name BadXY = codes "BadXY"
+fault_name NotClosed = codes "NotClosed"
+fault_name BadArray = codes "BadArray"
+fault_name NotManhattan = codes "NotManhattan"
+fault_name RoundEnd = codes "RoundEnd"
+fault_name OddWidth = codes "OddWidth"
+fault_name DoublesBack = codes "DoublesBack"
+fault_name BadExtension = codes "BadExtension"
+fault_name NoTop = codes "NoTop"
+fault_name MissingCell = codes "MissingCell"
+fault_name Cycle = codes "Cycle"
+fault_name TooDeep = codes "TooDeep"
+fault_name TooManyShapes = codes "TooManyShapes"
+fault_name OutOfRange = codes "OutOfRange"
+fault_name BadTransform = codes "BadTransform"
 fault_name (BadRow line) = codes "BadRow"
 fault_name (BadNumber line) = codes "BadNumber"
 fault_name (BadRule key) = codes "BadRule"
@@ -36,8 +78,27 @@ fault_name TooLong = codes "TooLong"
 fault_name Device = codes "Device"
 fault_name Memory = codes "Memory"
 
--- what follows the name: the record's number, or the key
+-- what follows the name: the record's number, the key, or the record's first byte
 abbrev pub fault_ending : Fault → List ℕ
+fault_ending Truncated = []
+fault_ending BadLength = []
+fault_ending (Unexpected at) = codes " at " ++ decimal at
+fault_ending DuplicateCell = []
+fault_ending BadXY = []
+fault_ending NotClosed = []
+fault_ending BadArray = []
+fault_ending NotManhattan = []
+fault_ending RoundEnd = []
+fault_ending OddWidth = []
+fault_ending DoublesBack = []
+fault_ending BadExtension = []
+fault_ending NoTop = []
+fault_ending MissingCell = []
+fault_ending Cycle = []
+fault_ending TooDeep = []
+fault_ending TooManyShapes = []
+fault_ending OutOfRange = []
+fault_ending BadTransform = []
 fault_ending (BadRow line) = codes " line " ++ decimal line
 fault_ending (BadNumber line) = codes " line " ++ decimal line
 fault_ending (BadRule key) = codes " key " ++ key_name key
@@ -71,6 +132,33 @@ script_fault (script.BadRow line) = BadRow line
 script_fault (script.BadNumber line) = BadNumber line
 script_fault script.TooManyLines = TooManyLines
 script_fault script.Memory = Memory
+
+-- the fault of a refused library
+abbrev pub library_fault : LibraryError → Fault
+library_fault library.Truncated = Truncated
+library_fault library.BadLength = BadLength
+library_fault (library.Unexpected at) = Unexpected at
+library_fault library.DuplicateCell = DuplicateCell
+library_fault library.BadXY = BadXY
+library_fault library.NotClosed = NotClosed
+library_fault library.Memory = Memory
+
+-- the fault of a design that can't be flattened
+abbrev pub flatten_fault : FlattenError → Fault
+flatten_fault flatten.NoTop = NoTop
+flatten_fault flatten.MissingCell = MissingCell
+flatten_fault flatten.Cycle = Cycle
+flatten_fault flatten.TooDeep = TooDeep
+flatten_fault flatten.BadTransform = BadTransform
+flatten_fault flatten.BadArray = BadArray
+flatten_fault flatten.NotManhattan = NotManhattan
+flatten_fault flatten.RoundEnd = RoundEnd
+flatten_fault flatten.OddWidth = OddWidth
+flatten_fault flatten.DoublesBack = DoublesBack
+flatten_fault flatten.BadExtension = BadExtension
+flatten_fault flatten.TooManyShapes = TooManyShapes
+flatten_fault flatten.OutOfRange = OutOfRange
+flatten_fault flatten.Memory = Memory
 
 -- the fault of an input that was not taken
 abbrev pub input_fault : InputError → Fault

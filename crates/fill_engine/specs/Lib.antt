@@ -1,5 +1,8 @@
 -- The table of faults, the line that tells of one, and what the program answers to its inputs.
 pub mod Faults
+pub mod Inputs
 pub mod Metal
 pub mod Rects
+pub mod Designs
+pub mod Checks
 pub mod Refusals

@@ -1,16 +1,18 @@
 -- Where the program gave up and why, and the line and the exit status that tell of it.
 use Rattle.std.specs.Prelude.{ℕ, List, ◌++◌, codes, decimal}
-use Rattle.fill_engine.specs.Faults.{fault_ending, fault_name, fault_number, fault_status, input_fault, rule_fault, script_fault}
+use Rattle.fill_engine.specs.Faults.{fault_ending, fault_name, fault_number, fault_status, flatten_fault, input_fault, library_fault, rule_fault, script_fault}
 use Rattle.fill_engine.specs.declared.fault.Fault.{Fault}
 use Rattle.fill_engine.specs.declared.fault.Fault.TheVariants.{Device, Memory}
+use Rattle.fill_engine.specs.declared.refusal.DesignError.TheVariants as design
 use Rattle.fill_engine.specs.declared.refusal.InputFault.TheVariants.{Unread, Refused}
 use Rattle.fill_engine.specs.declared.refusal.RunFault.TheVariants as run
 use Rattle.fill_engine.specs.declared.refusal.Refusal.{Refusal}
-use Rattle.fill_engine.specs.declared.refusal.Refusal.TheVariants.{Rules, Script, Run, Report}
+use Rattle.fill_engine.specs.declared.refusal.Refusal.TheVariants.{Rules, Design, Script, Run, Report}
 
 -- the part as the line names it
 abbrev pub part_name : Refusal → List ℕ
 part_name (Rules fault) = codes "rules"
+part_name (Design fault) = codes "design"
 part_name (Script fault) = codes "script"
 part_name (Run fault) = codes "run"
 part_name Report = codes "report"
@@ -19,6 +21,9 @@ part_name Report = codes "report"
 abbrev pub fault_of : Refusal → Fault
 fault_of (Rules (Unread error)) = input_fault error
 fault_of (Rules (Refused error)) = rule_fault error
+fault_of (Design (Unread error)) = input_fault error
+fault_of (Design (Refused (design.Library error))) = library_fault error
+fault_of (Design (Refused (design.Flatten error))) = flatten_fault error
 fault_of (Script (Unread error)) = input_fault error
 fault_of (Script (Refused error)) = script_fault error
 fault_of (Run run.Memory) = Memory

@@ -5,11 +5,51 @@ ghost use Rattle.fill_engine.specs.Faults as spec;
 
 use fill_device::InputError;
 use fill_text::{Key, RuleError, ScriptError};
+use gds_flatten::FlattenError;
+use gds_grammar::LibraryError;
 use std::alloc::{AllocError, Global};
 
 /// A row of the table of faults. A line is the number of a record, counted from 1.
 #[derive(Clone, Copy)]
 pub(crate) enum Fault {
+    /// The design ends within a record, or before its last one.
+    Truncated,
+    /// A record of the design has an impossible length.
+    BadLength,
+    /// A record of the design that stands where none of its kind may, from this byte on.
+    Unexpected { at: u64 },
+    /// Two cells of one name.
+    DuplicateCell,
+    /// Points of another number or length than the element has.
+    BadXY,
+    /// A boundary whose last point isn't its first.
+    NotClosed,
+    /// An array without columns or rows, with too many, or with steps that are no whole numbers.
+    BadArray,
+    /// A shape with a slanted edge.
+    NotManhattan,
+    /// A path with round ends.
+    RoundEnd,
+    /// A path of odd width.
+    OddWidth,
+    /// A path that turns back on itself.
+    DoublesBack,
+    /// A path with a negative extension.
+    BadExtension,
+    /// A design without the top.
+    NoTop,
+    /// A reference to a cell that isn't there.
+    MissingCell,
+    /// A cell that refers to itself, at once or through others.
+    Cycle,
+    /// A chain of more than 256 cells.
+    TooDeep,
+    /// More than 4,000,000 copies of shapes.
+    TooManyShapes,
+    /// A copy of a shape that passes the coordinates.
+    OutOfRange,
+    /// A reference that is magnified, or turned by other than quarter turns.
+    BadTransform,
     /// A record that is no rule or no edit.
     BadRow { line: u64 },
     /// A field that should be a number and isn't one.
@@ -41,6 +81,25 @@ impl Fault {
         ensures name { result.1.now ≡ fault_name self }
     {
         match self {
+            Fault::Truncated => (1, "Truncated"),
+            Fault::BadLength => (2, "BadLength"),
+            Fault::Unexpected { at: _ } => (4, "Unexpected"),
+            Fault::DuplicateCell => (5, "DuplicateCell"),
+            Fault::BadXY => (6, "BadXY"),
+            Fault::NotClosed => (7, "NotClosed"),
+            Fault::BadArray => (8, "BadArray"),
+            Fault::NotManhattan => (9, "NotManhattan"),
+            Fault::RoundEnd => (10, "RoundEnd"),
+            Fault::OddWidth => (11, "OddWidth"),
+            Fault::DoublesBack => (12, "DoublesBack"),
+            Fault::BadExtension => (13, "BadExtension"),
+            Fault::NoTop => (14, "NoTop"),
+            Fault::MissingCell => (15, "MissingCell"),
+            Fault::Cycle => (16, "Cycle"),
+            Fault::TooDeep => (17, "TooDeep"),
+            Fault::TooManyShapes => (18, "TooManyShapes"),
+            Fault::OutOfRange => (19, "OutOfRange"),
+            Fault::BadTransform => (20, "BadTransform"),
             Fault::BadRow { line: _ } => (21, "BadRow"),
             Fault::BadNumber { line: _ } => (22, "BadNumber"),
             Fault::BadRule { key: _ } => (23, "BadRule"),
@@ -73,6 +132,7 @@ impl Fault {
         match self {
             Fault::BadRow { line } | Fault::BadNumber { line } => format!(in alloc; " line {line}"),
             Fault::BadRule { key } => format!(in alloc; " key {}", key.name()),
+            Fault::Unexpected { at } => format!(in alloc; " at {at}"),
             _ => Ok(String::new(alloc)),
         }
     }
@@ -104,6 +164,45 @@ impl From<ScriptError> for Fault {
             ScriptError::BadNumber { line } => Fault::BadNumber { line },
             ScriptError::TooManyLines => Fault::TooManyLines,
             ScriptError::Memory => Fault::Memory,
+        }
+    }
+}
+
+impl From<LibraryError> for Fault {
+    ghost from_gives = { λ error fault. fault ≡ spec.library_fault error };
+
+    fn from(error: LibraryError) -> Fault {
+        match error {
+            LibraryError::Truncated => Fault::Truncated,
+            LibraryError::BadLength => Fault::BadLength,
+            LibraryError::Unexpected { at } => Fault::Unexpected { at: at as u64 },
+            LibraryError::DuplicateCell => Fault::DuplicateCell,
+            LibraryError::BadXY => Fault::BadXY,
+            LibraryError::NotClosed => Fault::NotClosed,
+            LibraryError::Memory => Fault::Memory,
+        }
+    }
+}
+
+impl From<FlattenError> for Fault {
+    ghost from_gives = { λ error fault. fault ≡ spec.flatten_fault error };
+
+    fn from(error: FlattenError) -> Fault {
+        match error {
+            FlattenError::NoTop => Fault::NoTop,
+            FlattenError::MissingCell => Fault::MissingCell,
+            FlattenError::Cycle => Fault::Cycle,
+            FlattenError::TooDeep => Fault::TooDeep,
+            FlattenError::BadTransform => Fault::BadTransform,
+            FlattenError::BadArray => Fault::BadArray,
+            FlattenError::NotManhattan => Fault::NotManhattan,
+            FlattenError::RoundEnd => Fault::RoundEnd,
+            FlattenError::OddWidth => Fault::OddWidth,
+            FlattenError::DoublesBack => Fault::DoublesBack,
+            FlattenError::BadExtension => Fault::BadExtension,
+            FlattenError::TooManyShapes => Fault::TooManyShapes,
+            FlattenError::OutOfRange => Fault::OutOfRange,
+            FlattenError::Memory => Fault::Memory,
         }
     }
 }

@@ -2,13 +2,14 @@
 #![tactic(auto)]
 
 mod fault;
+mod inputs;
 mod metal;
 mod refusal;
 mod subcommands;
 
 pub use metal::metal_left;
-pub use refusal::{InputFault, Refusal, RunFault};
-pub use subcommands::rects;
+pub use refusal::{DesignError, InputFault, Refusal, RunFault};
+pub use subcommands::{check, rects};
 
 #[cfg(test)]
 mod tests;

@@ -6,6 +6,8 @@ use crate::fault::Fault;
 use fill_device::{DeviceError, InputError};
 use fill_report::OutOfMemory;
 use fill_text::{RuleError, ScriptError};
+use gds_flatten::FlattenError;
+use gds_grammar::LibraryError;
 use std::alloc::{AllocError, Global};
 use std::fmt::Display;
 use thiserror::Error;
@@ -22,6 +24,17 @@ pub enum InputFault<E> {
     Refused(E),
 }
 
+/// Why the bytes of a design give no metal.
+#[derive(Clone, Copy, Debug, PartialEq, Eq, Error)]
+pub enum DesignError {
+    /// They are no library.
+    #[error("{0}")]
+    Library(LibraryError),
+    /// The library's top can't be flattened.
+    #[error("{0}")]
+    Flatten(FlattenError),
+}
+
 /// Why there is no outcome of inputs that are all taken.
 #[derive(Clone, Copy, Debug, PartialEq, Eq, Error)]
 pub enum RunFault {
@@ -36,6 +49,9 @@ pub enum Refusal {
     /// The rule file gave no rules.
     #[error("rules: {0}")]
     Rules(InputFault<RuleError>),
+    /// The design gave no metal.
+    #[error("design: {0}")]
+    Design(InputFault<DesignError>),
     /// The script gave no edits.
     #[error("script: {0}")]
     Script(InputFault<ScriptError>),
@@ -74,6 +90,38 @@ impl From<ScriptError> for InputFault<ScriptError> {
 
     fn from(error: ScriptError) -> InputFault<ScriptError> {
         InputFault::Refused(error)
+    }
+}
+
+impl From<LibraryError> for InputFault<DesignError> {
+    ghost use Rattle.fill_engine.specs.declared.refusal.DesignError.TheVariants.{Library};
+    ghost use Rattle.fill_engine.specs.declared.refusal.InputFault.TheVariants.{Refused};
+
+    ghost from_gives = { λ error fault. fault ≡ Refused (Library error) };
+
+    fn from(error: LibraryError) -> InputFault<DesignError> {
+        InputFault::Refused(DesignError::Library(error))
+    }
+}
+
+impl From<FlattenError> for InputFault<DesignError> {
+    ghost use Rattle.fill_engine.specs.declared.refusal.DesignError.TheVariants.{Flatten};
+    ghost use Rattle.fill_engine.specs.declared.refusal.InputFault.TheVariants.{Refused};
+
+    ghost from_gives = { λ error fault. fault ≡ Refused (Flatten error) };
+
+    fn from(error: FlattenError) -> InputFault<DesignError> {
+        InputFault::Refused(DesignError::Flatten(error))
+    }
+}
+
+impl From<InputFault<DesignError>> for Refusal {
+    ghost use Rattle.fill_engine.specs.declared.refusal.Refusal.TheVariants.{Design};
+
+    ghost from_gives = { λ fault refusal. refusal ≡ Design fault };
+
+    fn from(fault: InputFault<DesignError>) -> Refusal {
+        Refusal::Design(fault)
     }
 }
 
@@ -125,6 +173,7 @@ impl Refusal {
     {
         match self {
             Refusal::Rules(_) => "rules",
+            Refusal::Design(_) => "design",
             Refusal::Script(_) => "script",
             Refusal::Run(_) => "run",
             Refusal::Report => "report",
@@ -138,6 +187,9 @@ impl Refusal {
         match self {
             Refusal::Rules(InputFault::Unread(error)) => error.into(),
             Refusal::Rules(InputFault::Refused(error)) => error.into(),
+            Refusal::Design(InputFault::Unread(error)) => error.into(),
+            Refusal::Design(InputFault::Refused(DesignError::Library(error))) => error.into(),
+            Refusal::Design(InputFault::Refused(DesignError::Flatten(error))) => error.into(),
             Refusal::Script(InputFault::Unread(error)) => error.into(),
             Refusal::Script(InputFault::Refused(error)) => error.into(),
             Refusal::Run(RunFault::Memory) => Fault::Memory,
@@ -154,7 +206,7 @@ impl Refusal {
     }
 
     /// The line that tells of the refusal, with its line feed: `densfill: PART: NUMBER NAME`, and then ` line N` for a
-    /// bad record or number and ` key KEY` for a bad rule.
+    /// bad record or number, ` key KEY` for a bad rule and ` at OFFSET` for a record that stands where none may.
     ///
     /// # Errors
     /// `AllocError` where there is no memory for the line.

@@ -4,21 +4,21 @@ use Rattle.std.specs.Prelude.{bytes_eq, codes}
 use Rattle.clap.specs.Words.{HasKind, Row, Text, fault_of, first_of, is_simple_and_free, kind_of}
 use Rattle.clap.specs.declared.error.Error.{Error}
 use Rattle.clap.specs.declared.error.kind.ErrorKind.TheVariants.{MissingSubcommand, OutOfMemory}
-use Rattle.fill_line.specs.Grammar.{program_words, said_by}
+use Rattle.fill_line.specs.Grammar.{Said, both, program_words}
 use Rattle.fill_line.specs.Lines.{IsRefusalOf}
 use Rattle.fill_line.specs.declared.LineError.{LineError}
 use Rattle.fill_line.specs.declared.LineError.TheVariants.{Memory, Usage}
 
-pub no_rules : (name : Text) (rows : List Row) → bytes_eq name (codes "rects") ≡ true → first_of (codes "RULES") rows ≡ None → None ≡ said_by name rows
-no_rules name rows named none = rw (named, none) refl
+pub no_first : (make : Text → Text → Said) (a b : Text) (rows : List Row) → first_of a rows ≡ None → None ≡ both make a b rows
+no_first make a b rows none = rw none refl
 
-pub no_script : (name : Text) (rows : List Row) (rules : Text) → bytes_eq name (codes "rects") ≡ true → first_of (codes "RULES") rows ≡ Some rules
-    → first_of (codes "SCRIPT") rows ≡ None → None ≡ said_by name rows
-no_script name rows rules named some none = rw (named, some, none) refl
+pub no_second : (make : Text → Text → Said) (a b : Text) (rows : List Row) (x : Text) → first_of a rows ≡ Some x → first_of b rows ≡ None
+    → None ≡ both make a b rows
+no_second make a b rows x some none = rw (some, none) refl
 
-pub both_paths : (name : Text) (rows : List Row) (rules script : Text) → bytes_eq name (codes "rects") ≡ true → first_of (codes "RULES") rows ≡ Some rules
-    → first_of (codes "SCRIPT") rows ≡ Some script → Some (record { rules = rules; script = script }) ≡ said_by name rows
-both_paths name rows rules script named some too = rw (named, some, too) refl
+pub both_found : (make : Text → Text → Said) (a b : Text) (rows : List Row) (x y : Text) → first_of a rows ≡ Some x → first_of b rows ≡ Some y
+    → Some (make x y) ≡ both make a b rows
+both_found make a b rows x y some too = rw (some, too) refl
 
 -- the program's grammar is one of those of which `clap` says which words it refuses
 pub program_is_plain : is_simple_and_free program_words ≡ true

@@ -11,24 +11,35 @@ path name = record (new_rule name) { required = true }
 abbrev pub rects_words : App
 rects_words = with_rule (with_rule (new_app (codes "rects")) (path (codes "RULES"))) (path (codes "SCRIPT"))
 
--- one subcommand, which must be there
+-- `check RULES DESIGN`
+abbrev pub check_words : App
+check_words = with_rule (with_rule (new_app (codes "check")) (path (codes "RULES"))) (path (codes "DESIGN"))
+
+-- the program's own words: a subcommand must be there
+abbrev pub own_words : App
+own_words = record (new_app (codes "densfill")) { top = record (new_app (codes "densfill")).top { subcommand_required = true } }
+
 abbrev pub program_words : App
-program_words = with_subcommand (record (new_app (codes "densfill")) { top = record (new_app (codes "densfill")).top { subcommand_required = true } }) rects_words.top
+program_words = with_subcommand (with_subcommand own_words rects_words.top) check_words.top
 
 -- what `clap` finds in the words: the subcommand's name and a row for each of its arguments
 abbrev pub found_in : List Text → Option (Text × List Row)
 found_in words = subcommand_of program_words words
 
 -- a line by its paths
-pub record Said : Type 0 where
-  pub rules : Text
-  pub script : Text
+pub data Said : Type 0 where
+  rects : (rules script : Text) → Said
+  check : (rules design : Text) → Said
+
+-- what the rows of two arguments make
+abbrev pub both : (Text → Text → Said) → Text → Text → List Row → Option Said
+both make first second rows = option_and_then (λ a. option_map (λ b. make a b) (first_of second rows)) (first_of first rows)
 
 -- what the rows of the subcommand of a name say
 abbrev pub said_by : Text → List Row → Option Said
 said_by name rows =
-    if bytes_eq name (codes "rects")
-    then option_and_then (λ rules. option_map (λ script. record { rules = rules; script = script }) (first_of (codes "SCRIPT") rows)) (first_of (codes "RULES") rows)
+    if bytes_eq name (codes "rects") then both rects (codes "RULES") (codes "SCRIPT") rows
+    else if bytes_eq name (codes "check") then both check (codes "RULES") (codes "DESIGN") rows
     else None
 
 -- the line that the words make, the program's own name first

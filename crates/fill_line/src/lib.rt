@@ -5,9 +5,10 @@
 //! and a call for help is a usage fault too.
 #![tactic(auto)]
 
-ghost use Rattle.std.specs.Prelude.{◌≡◌, ◌≢◌, ◌⊎◌, Some, IfErr, IfOk, IsSome, OnOk, map, option_map};
-ghost use Rattle.clap.specs.Words.{app_of, found_of, kind_of, rows_of};
-ghost use Rattle.fill_line.specs.Grammar.{program_words, said_by, said_in, IsFaultless, IsTaken};
+ghost use Rattle.std.specs.Prelude.{◌≡◌, ◌≢◌, ◌⊎◌, false, Some, IfErr, IfOk, IsSome, OnOk, codes, map, option_map};
+ghost use Rattle.clap.specs.Words.{app_of, found_of, kind_of, rows_of, rule_of};
+ghost use Rattle.fill_line.specs.Grammar.{both, path, program_words, said_by, said_in, IsFaultless, IsTaken};
+ghost use Rattle.fill_line.specs.Grammar as said;
 ghost use Rattle.fill_line.specs.Lines.{text_of, IsRefusalOf};
 ghost use Rattle.fill_line.specs.declared.LineError.TheVariants.{Memory};
 
@@ -26,6 +27,13 @@ pub enum Line<'a> {
         rules: &'a str,
         /// The path of the script.
         script: &'a str,
+    },
+    /// To report the density of the metal that a design draws.
+    Check {
+        /// The path of the rule file.
+        rules: &'a str,
+        /// The path of the design.
+        design: &'a str,
     },
 }
 
@@ -48,35 +56,65 @@ impl From<AllocError> for LineError {
     }
 }
 
+/// A path that has to be given.
+fn path<'a>(alloc: Global, name: &'a str, help: &'a str) -> Arg<'a>
+    ensures rule { rule_of result ≡ path name.now }
+    ensures local { result.global ≡ false }
+{
+    Arg::new(alloc, name).help(help).required(true)
+}
+
 /// Every line that the program takes.
 fn grammar<'a>(alloc: Global) -> Result<Command<'a>, AllocError>
     ensures { IfOk result (λ c. app_of c ≡ program_words) }
 {
-    let rules = Arg::new(alloc, "RULES").help("The rule file");
-    let rules = rules.required(true);
-    let script = Arg::new(alloc, "SCRIPT").help("The script of added and cut rectangles");
-    let script = script.required(true);
+    let script = path(alloc, "SCRIPT", "The script of added and cut rectangles");
+    let design = path(alloc, "DESIGN", "The design, a GDSII Stream library");
     let rects = Command::new(alloc, "rects")
         .about("Reports the density of the metal that a script leaves of nothing")
-        .arg(rules)?
+        .arg(path(alloc, "RULES", "The rule file"))?
         .arg(script)?;
+    let check = Command::new(alloc, "check")
+        .about("Reports the density of the metal that a design draws")
+        .arg(path(alloc, "RULES", "The rule file"))?
+        .arg(design)?;
     let program = Command::new(alloc, "densfill")
         .about("Checks the metal density of a layout")
         .subcommand_required(true)
-        .subcommand(rects)?;
+        .subcommand(rects)?
+        .subcommand(check)?;
     Ok(program)
+}
+
+/// The line of `rects`, by what was found.
+fn rects_in<'a>(found: &ArgMatches<'a>) -> Option<Line<'a>>
+    ensures { option_map text_of result ≡ both said.rects (codes "RULES") (codes "SCRIPT") (rows_of (found_of found.now)) }
+{
+    let rules = found.get_str("RULES")?;
+    let script = found.get_str("SCRIPT")?;
+    Some(Line::Rects { rules, script })
+}
+
+/// The line of `check`, by what was found.
+fn check_in<'a>(found: &ArgMatches<'a>) -> Option<Line<'a>>
+    ensures { option_map text_of result ≡ both said.check (codes "RULES") (codes "DESIGN") (rows_of (found_of found.now)) }
+{
+    let rules = found.get_str("RULES")?;
+    let design = found.get_str("DESIGN")?;
+    Some(Line::Check { rules, design })
 }
 
 /// The line of a subcommand that was found.
 fn line_in<'a>(name: &str, found: &ArgMatches<'a>) -> Option<Line<'a>>
     ensures { option_map text_of result ≡ said_by name.now (rows_of (found_of found.now)) }
 {
-    if name != "rects" {
-        return None;
+    if name == "rects" {
+        return rects_in(found);
     }
-    let rules = found.get_str("RULES")?;
-    let script = found.get_str("SCRIPT")?;
-    Some(Line::Rects { rules, script })
+    if name == "check" {
+        return check_in(found);
+    }
+    None
 }
 
 /// The line that the program's words make, the program's own name first.

@@ -14,7 +14,23 @@ fn rects_takes_two_paths(rt: HostRuntime) -> Result<(), Fail> {
             assert_eq!(rt; rules, "rules.csv");
             assert_eq!(rt; script, "edits.csv");
         }
-        Err(_error) => assert!(rt; false),
+        _ => assert!(rt; false),
+    }
+    Ok(())
+}
+
+#[test]
+fn check_takes_two_paths(rt: HostRuntime) -> Result<(), Fail> {
+    let line = read_line(
+        rt.alloc(),
+        ["densfill", "check", "rules.csv", "chip.gds"].as_slice(),
+    );
+    match line {
+        Ok(Line::Check { rules, design }) => {
+            assert_eq!(rt; rules, "rules.csv");
+            assert_eq!(rt; design, "chip.gds");
+        }
+        _ => assert!(rt; false),
     }
     Ok(())
 }
@@ -30,6 +46,8 @@ fn other_lines_are_usage_faults(rt: HostRuntime) {
     assert!(rt; is_usage(read_line(rt.alloc(), ["densfill", "help"].as_slice())));
     assert!(rt; is_usage(read_line(rt.alloc(), ["densfill", "rects", "-h"].as_slice())));
     assert!(rt; is_usage(read_line(rt.alloc(), ["densfill", "rects", "a"].as_slice())));
+    assert!(rt; is_usage(read_line(rt.alloc(), ["densfill", "check", "a"].as_slice())));
+    assert!(rt; is_usage(read_line(rt.alloc(), ["densfill", "check", "--help"].as_slice())));
     assert!(rt; is_usage(read_line(rt.alloc(), ["densfill", "rects", "a", "b", "c"].as_slice())));
     assert!(rt;
         is_usage(read_line(
@@ -93,6 +111,7 @@ Usage: densfill <COMMAND>
 
 Commands:
   rects  Reports the density of the metal that a script leaves of nothing
+  check  Reports the density of the metal that a design draws
   help   Print this message or the help of the given subcommand(s)
 
 Options:
@@ -109,6 +128,21 @@ Usage: densfill rects <RULES> <SCRIPT>
 Arguments:
   <RULES>   The rule file
   <SCRIPT>  The script of added and cut rectangles
+
+Options:
+  -h, --help  Print help
+",
+    )?;
+    assert_text(
+        &rt,
+        &["densfill", "check", "--help"],
+        "Reports the density of the metal that a design draws
+
+Usage: densfill check <RULES> <DESIGN>
+
+Arguments:
+  <RULES>   The rule file
+  <DESIGN>  The design, a GDSII Stream library
 
 Options:
   -h, --help  Print help

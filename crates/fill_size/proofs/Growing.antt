@@ -1,12 +1,13 @@
 -- Regions grown on all sides.
 use Rattle.std.proofs.Common.{◌≡◌, ℕ, zero, suc, ◌+◌, ◌≤◌, ◌<◌, ℤ, pos, ◌+ℤ◌, ◌-ℤ◌, ◌≤ℤ◌, ◌<ℤ◌, List, [], ◌∷◌, ◌++◌, length, take, get_or, refl, arith, ap, ◌∙◌, sym, Bool, true, false, not, ◌||◌, ◌↔◌}
 use Rattle.std.specs.Prelude.{IsTrue}
-use Rattle.std.proofs.lemmas.Int.{ints, by_lt_z}
+use Rattle.std.proofs.lemmas.Int.{ints, clamps, by_lt_z}
 use Rattle.std.proofs.lemmas.List.{take_more, take_all}
 use Rattle.fill_base.specs.declared.rect.Rect.{Rect}
 use Rattle.fill_base.specs.Coordinates.{lowest, highest, IsInRange}
 use Rattle.fill_base.specs.Squares.{squares}
-use Rattle.fill_base.proofs.Signed.{read}
+use Rattle.std.specs.Int.{int_min}
+use Rattle.fill_base.proofs.Signed.{read, read_is}
 use Rattle.fill_region.specs.Bands.{Band, holds}
 use Rattle.fill_region.specs.Squares.{covered}
 use Rattle.fill_base.specs.Limits.{IsSpacing}
@@ -114,14 +115,44 @@ fits_test bs d a b c e region some la lb lc le = (
     not_true false false true e f g h i = absurd (h refl)
     not_true false false false true f g h i = absurd (i refl)
 
-pub fits_reads : (bs : List Band) (d : ℤ) (a b c e : Bool) → ((x y : ℤ) → holds bs x y ≡ true → IsInRange x y) → IsSpacing d
+pub fits_reads : (bs : List Band) (d : ℤ) (a b c e : Bool) → ((x y : ℤ) → holds bs x y ≡ true → IsInRange x y) → pos 0 ≤ℤ d → d ≤ℤ pos 2147483648
     → (IsTrue a ↔ HasSquare (holds bs) lowest lowest (read (lowest +ℤ read d)) highest) → (IsTrue b ↔ HasSquare (holds bs) (read (highest -ℤ read d)) lowest highest highest)
     → (IsTrue c ↔ HasSquare (holds bs) lowest lowest highest (read (lowest +ℤ read d))) → (IsTrue e ↔ HasSquare (holds bs) lowest (read (highest -ℤ read d)) highest highest)
     → (IsTrue (not (((a || b) || c) || e)) ↔ StaysInRange (holds bs) d)
-fits_reads bs d a b c e region is la lb lc le =
-    let low : read (lowest +ℤ read d) ≡ lowest +ℤ d = rw (spacing_read d is) (grown_read lowest d (record { least = omega (arith, ints); most = omega (arith, ints) }) is) in
-    let high : read (highest -ℤ read d) ≡ highest -ℤ d = rw (spacing_read d is) (shrunk_read highest d (record { least = omega (arith, ints); most = omega (arith, ints) }) is) in
-    fits_test bs d a b c e region is.least (rw low at la) (rw high at lb) (rw low at lc) (rw high at le)
+fits_reads bs d a b c e region least most la lb lc le =
+    let d_is : read d ≡ d = read_is d (omega (arith, ints)) in
+    let low : read (lowest +ℤ read d) ≡ lowest +ℤ d = rw d_is (read_is (lowest +ℤ d) (omega (arith, ints))) in
+    let high : read (highest -ℤ read d) ≡ highest -ℤ d = rw d_is (read_is (highest -ℤ d) (omega (arith, ints))) in
+    fits_test bs d a b c e region least (rw low at la) (rw high at lb) (rw low at lc) (rw high at le)
+
+-- nothing is less than 0 away, so a negative growth leaves nothing
+pub none_left : (p : ℤ → ℤ → Bool) (d : ℤ) → d <ℤ pos 0 → StaysInRange p d
+none_left p d below x y r = absurd (apart x r.u r.across.above r.across.below)
+  where
+    apart : (x u : ℤ) → (x -ℤ u) ≤ℤ d → (u -ℤ x) ≤ℤ d → ⊥
+    apart x u h k = omega (arith, ints)
+
+-- grown by 2^31 or more, a square leaves the coordinates, so only the empty set stays within
+none_stays : (p : ℤ → ℤ → Bool) (d : ℤ) → ((x y : ℤ) → p x y ≡ true → IsInRange x y) → pos 2147483648 ≤ℤ d → StaysInRange p d → (x y : ℤ) → p x y ≡ true → ⊥
+none_stays p d region far stays x y is = apart x ((stay_strips p d (omega (arith, ints)) stays).left x y is) (region x y is).right
+  where
+    apart : (x : ℤ) → (lowest +ℤ d) ≤ℤ x → x <ℤ highest → ⊥
+    apart x h k = omega (arith, ints)
+
+-- so a growth beyond 2^31 fits where 2^31 does
+pub far_same : (p : ℤ → ℤ → Bool) (d m : ℤ) → ((x y : ℤ) → p x y ≡ true → IsInRange x y) → m ≡ int_min d (pos 2147483648) → StaysInRange p m ↔ StaysInRange p d
+far_same p d m region m_is = by_lt_z (pos 2147483648) d
+    (λ far. let e : m ≡ pos 2147483648 = m_is ∙ least_far far in rw e (
+      (λ stays x y r. absurd (none_stays p (pos 2147483648) region (omega (arith, ints)) stays r.u r.v r.square)),
+      (λ stays x y r. absurd (none_stays p d region (omega (arith, ints)) stays r.u r.v r.square)),
+    ))
+    (λ near. let e : m ≡ d = m_is ∙ least_near near in rw e ((λ stays. stays), (λ stays. stays)))
+  where
+    least_far : pos 2147483648 <ℤ d → int_min d (pos 2147483648) ≡ pos 2147483648
+    least_far far = omega (arith, ints, clamps)
+
+    least_near : d ≤ℤ pos 2147483648 → int_min d (pos 2147483648) ≡ d
+    least_near near = omega (arith, ints, clamps)
 
 -- the squares of a grown rectangle are those that the rectangle reaches
 pub rect_sized : (r g : Rect) (d : ℤ) → pos 0 ≤ℤ d → g.x1 ≡ r.x1 -ℤ d → g.y1 ≡ r.y1 -ℤ d → g.x2 ≡ r.x2 +ℤ d → g.y2 ≡ r.y2 +ℤ d → IsSized (squares r) d (squares g)

@@ -3,7 +3,7 @@ use Rattle.std.proofs.Common.{◌≡◌, ℤ, ◌≤ℤ◌, ◌<ℤ◌, List, ar
 use Rattle.std.specs.Prelude.{IsTrue}
 use Rattle.std.proofs.lemmas.Int.{ints, by_lt_z}
 use Rattle.fill_base.proofs.Signed.{lt_le, le_trans}
-use Rattle.fill_spans.specs.Search.{HasMember}
+use Rattle.fill_spans.specs.EdgeLookup.{HasMember}
 use Rattle.fill_region.specs.Bands.{Band, holds}
 use Rattle.fill_region.specs.Rows.{Upwards, IsNextRow, AreOver}
 use Rattle.fill_region.specs.declared.rows.Row.{Row}

@@ -1,5 +1,6 @@
 //! Regions grown on all sides.
-ghost use Rattle.std.specs.Prelude.{◌≡◌, ◌↔◌, ◌||◌, ◌+ℤ◌, ◌-ℤ◌, ℤ, IsTrue, IfOk, OnOk};
+ghost use Rattle.std.specs.Prelude.{◌≤ℤ◌, pos, true, ◌≡◌, ◌↔◌, ◌||◌, ◌+ℤ◌, ◌-ℤ◌, ℤ, IsTrue, IfOk, OnOk};
+ghost use Rattle.fill_base.specs.Coordinates.{IsInRange};
 ghost use Rattle.fill_base.specs.Squares.{squares};
 ghost use Rattle.fill_region.specs.Bands.{holds};
 ghost use Rattle.fill_base.specs.Limits.{IsSpacing};
@@ -13,11 +14,23 @@ use fill_region::Region;
 use fill_spans::Spans;
 use std::alloc::{AllocError, Global};
 
-/// Whether the region, grown by `d` on all sides, stays within the range of coordinates, for any `d` from
-/// 0 to 2^20 database units.
+/// Whether the region, grown by `d` database units on all sides, stays within the range of coordinates. Where `d` is
+/// negative nothing is left, and that stays within.
 pub fn fits(region: &Region, d: i64) -> bool
-    requires { IsSpacing d }
     ensures { IsTrue result ↔ StaysInRange (holds region.now) d }
+{
+    if d < 0 {
+        return true;
+    }
+    has_margin(region, d.min(HIGHEST - LOWEST))
+}
+
+/// Whether no square of the region is nearer than `d` to an edge of the range of coordinates.
+fn has_margin(region: &Region, d: i64) -> bool
+    requires least { pos 0 ≤ℤ d }
+    requires most { d ≤ℤ pos 2147483648 }
+    ensures margin { IsTrue result ↔ StaysInRange (holds region.now) d }
+    ensures in_range { (x y : ℤ) → holds region.now x y ≡ true → IsInRange x y }
 {
     let left = has_square(region, LOWEST, LOWEST, LOWEST + d, HIGHEST);
     let right = has_square(region, HIGHEST - d, LOWEST, HIGHEST, HIGHEST);

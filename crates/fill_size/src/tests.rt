@@ -98,6 +98,41 @@ fn a_grown_region_has_square_corners(rt: HostRuntime) -> Result<(), Fail> {
 }
 
 #[test]
+fn any_growth_can_be_asked(rt: HostRuntime) -> Result<(), Fail> {
+    let alloc = rt.alloc();
+    let square = Region::one(alloc, &rect(&rt, [0, 0, 1, 1]))?;
+    let nothing = Region::empty(alloc);
+    for d in [i64::MIN, -1] {
+        assert!(rt; fits(&square, d));
+        assert!(rt; fits(&nothing, d));
+    }
+    assert!(rt; fits(&square, (1 << 30) - 1));
+    for d in [1 << 30, 1 << 31, (1 << 31) + 1, i64::MAX] {
+        assert!(rt; !fits(&square, d));
+        assert!(rt; fits(&nothing, d));
+    }
+    Ok(())
+}
+
+#[test]
+fn a_hundred_thousand_squares_grow_at_once(rt: HostRuntime) -> Result<(), Fail> {
+    let alloc = rt.alloc();
+    let mut rects = Vec::new(alloc);
+    for i in 0..100_000u32 {
+        let (x, y) = (i64::from(i % 1000) * 10, i64::from(i / 1000) * 10);
+        rects.push(rect(&rt, [x, y, x.wrapping_add(1), y.wrapping_add(1)]))?;
+    }
+    let region = Region::from_rects(alloc, &rects)?;
+    let Some(wide) = grown(alloc, &region, 2)? else {
+        panic!(&rt; "the squares don't fit");
+    };
+    assert_eq!(rt; wide.pieces(alloc)?.len(), 100_000);
+    assert!(rt; is_clear(&wide, &rect(&rt, [3, 3, 8, 8]), 0));
+    assert!(rt; !is_clear(&wide, &rect(&rt, [3, 3, 8, 8]), 1));
+    Ok(())
+}
+
+#[test]
 fn what_would_leave_the_range_does_not_fit(rt: HostRuntime) -> Result<(), Fail> {
     let alloc = rt.alloc();
     let edge = 1i64 << 30;

@@ -9,7 +9,7 @@ use Rattle.fill_base.specs.Counts.{is_between}
 use Rattle.fill_base.proofs.Signed.{read, read_is, read32, read32_is, coordinate_fits32, lt_le, le_trans}
 use Rattle.fill_base.proofs.Between.{is_between_true, is_between_below, is_between_above}
 use Rattle.fill_spans.specs.Spans.{inside, Chain, odd, floor, ceiling, next_edge, IsCanonical}
-use Rattle.fill_spans.specs.Search.{IsFirstAbove}
+use Rattle.fill_spans.specs.EdgeLookup.{IsFirstAbove}
 use Rattle.fill_spans.specs.Sweep.{Turned}
 use Rattle.fill_spans.proofs.Chains.{chain_raise, chain_push, inside_below, inside_past, inside_push_below, inside_take, not_odd}
 use Rattle.fill_spans.proofs.Merging.{as_wanted}

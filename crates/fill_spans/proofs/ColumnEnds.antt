@@ -3,7 +3,7 @@ use Rattle.std.proofs.Common.{◌≡◌, ℕ, ◌+◌, ◌*◌, ◌^◌, ◌≤�
 use Rattle.std.proofs.lemmas.Int.{ints}
 use Rattle.fill_base.specs.Coordinates.{lowest, highest}
 use Rattle.fill_base.proofs.Signed.{read, read_is}
-use Rattle.fill_spans.specs.Comb.{column_left, column_right}
+use Rattle.fill_spans.specs.EvenColumns.{column_left, column_right}
 
 -- a product of numbers that are not negative
 product_least : (a : ℕ) (step : ℤ) → pos 0 ≤ℤ step → pos 0 ≤ℤ (pos a *ℤ step)

@@ -4,8 +4,8 @@ use Rattle.std.proofs.lemmas.Int.{ints}
 use Rattle.std.proofs.lemmas.List.{get_or_default}
 use Rattle.fill_base.proofs.Signed.{read, read_is, product_small, pos_fits}
 use Rattle.fill_spans.specs.declared.walk.Walk.{Walk}
-use Rattle.fill_spans.specs.Walks.{length_at}
-use Rattle.fill_spans.specs.Comb.{column_left, AreSums}
+use Rattle.fill_spans.specs.CountingWalk.{length_at}
+use Rattle.fill_spans.specs.EvenColumns.{column_left, AreSums}
 use Rattle.fill_spans.proofs.ColumnEnds.{IsWithin, ends}
 use Rattle.fill_spans.proofs.ColumnWalks.{column_count, column_short, WalksOn, WalksTo, walks_on, difference}
 

@@ -6,8 +6,8 @@ use Rattle.fill_base.proofs.Signed.{read, pos_fits, le_trans}
 use Rattle.fill_base.proofs.Counting.{sum_between_split}
 use Rattle.fill_spans.specs.declared.walk.Walk.{Walk}
 use Rattle.fill_spans.specs.Spans.{inside}
-use Rattle.fill_spans.specs.Walks.{length_at, IsWalk, IsNotBeyond, HasReached}
-use Rattle.fill_spans.specs.Comb.{column_left, column_right}
+use Rattle.fill_spans.specs.CountingWalk.{length_at, IsWalk, IsNotBeyond, HasReached}
+use Rattle.fill_spans.specs.EvenColumns.{column_left, column_right}
 use Rattle.fill_spans.proofs.Searching.{count_small}
 use Rattle.fill_spans.proofs.Walking.{walk_counts, not_beyond_more}
 use Rattle.fill_spans.proofs.ColumnEnds.{IsWithin, at_first, after_left, left_rises, right_rises}

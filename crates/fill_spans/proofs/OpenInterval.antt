@@ -10,7 +10,7 @@ use Rattle.fill_base.specs.Coordinates.{lowest, highest}
 use Rattle.fill_base.proofs.Signed.{read, read_is, read32, read32_is, coordinate_fits, coordinate_fits32, lt_le, le_trans}
 use Rattle.fill_spans.specs.Spans.{inside, Chain, floor, ceiling, odd, IsCanonical}
 use Rattle.fill_spans.specs.Columns.{has_column, IsRisingBy}
-use Rattle.fill_spans.specs.Joining.{GapPut}
+use Rattle.fill_spans.specs.Gaps.{GapPut}
 use Rattle.fill_spans.proofs.Chains.{chain_raise, chain_push, chain_lt, inside_past, inside_push_below, not_odd}
 
 -- the open interval of `edges` ends at `end`: the set so far

@@ -11,7 +11,7 @@ use Rattle.fill_base.specs.Counts.{span_len, count_between}
 use Rattle.fill_base.proofs.Signed.{read, read_is, lt_le, le_trans, is_lt, not_lt, fits_max, fits_min}
 use Rattle.fill_base.proofs.Counting.{count_between_const, count_between_le, sum_between_split}
 use Rattle.fill_spans.specs.Spans.{inside, Chain, odd, floor, ceiling, next_edge, IsCanonical}
-use Rattle.fill_spans.specs.Search.{IsFirstAbove, IsEdgeBelow, HasMember}
+use Rattle.fill_spans.specs.EdgeLookup.{IsFirstAbove, IsEdgeBelow, HasMember}
 use Rattle.fill_spans.proofs.Chains.{chain_within, chain_next, inside_below, inside_past, not_odd}
 
 le_here : (e x : ℤ) → e ≤ℤ x → int_le e x ≡ true

@@ -8,8 +8,8 @@ use Rattle.fill_base.proofs.Signed.{read, read_is, pos_fits, lt_le, le_trans}
 use Rattle.fill_base.proofs.Counting.{count_between_const, sum_between_split}
 use Rattle.fill_spans.specs.declared.walk.Walk.{Walk}
 use Rattle.fill_spans.specs.Spans.{inside, odd, floor, ceiling, next_edge, IsCanonical}
-use Rattle.fill_spans.specs.Search.{IsFirstAbove, IsEdgeBelow}
-use Rattle.fill_spans.specs.Walks.{length_at, IsNotBeyond, HasReached, IsWalk}
+use Rattle.fill_spans.specs.EdgeLookup.{IsFirstAbove, IsEdgeBelow}
+use Rattle.fill_spans.specs.CountingWalk.{length_at, IsNotBeyond, HasReached, IsWalk}
 use Rattle.fill_spans.proofs.Chains.{chain_at, chain_within, chain_next, not_odd}
 use Rattle.fill_spans.proofs.Searching.{chain_rises, next_first, inside_gap, count_small}
 

@@ -2,8 +2,8 @@ pub mod Spans
 pub mod Operations
 pub mod Laws
 pub mod Sweep
-pub mod Search
+pub mod EdgeLookup
 pub mod Columns
-pub mod Joining
-pub mod Comb
-pub mod Walks
+pub mod Gaps
+pub mod EvenColumns
+pub mod CountingWalk

@@ -2,7 +2,7 @@
 ghost use Rattle.std.specs.Prelude.{◌≡◌, ◌⊎◌, ◌++◌, ◌∷◌, [], ℤ, ◌<ℤ◌, ◌≤ℤ◌, IfOk, OnOk};
 ghost use Rattle.fill_spans.specs.Spans.{inside, IsCanonical};
 ghost use Rattle.fill_spans.specs.Columns.{has_column, IsRisingBy};
-ghost use Rattle.fill_spans.specs.Joining.{GapPut};
+ghost use Rattle.fill_spans.specs.Gaps.{GapPut};
 
 use fill_base::Rect;
 use std::alloc::{AllocError, Global};

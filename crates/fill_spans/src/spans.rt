@@ -6,9 +6,9 @@ ghost use Rattle.std.specs.Cmp.{int_eq_equiv, partial_equiv_from_equiv};
 ghost use Rattle.fill_base.specs.Coordinates.{lowest, highest};
 ghost use Rattle.fill_base.specs.Counts.{is_between, count_between};
 ghost use Rattle.fill_spans.specs.Columns.{has_column, IsRisingBy};
-ghost use Rattle.fill_spans.specs.Comb.{column_left, column_right, AreSums};
+ghost use Rattle.fill_spans.specs.EvenColumns.{column_left, column_right, AreSums};
 ghost use Rattle.fill_spans.specs.Spans.{inside, IsCanonical};
-ghost use Rattle.fill_spans.specs.Search.{HasMember};
+ghost use Rattle.fill_spans.specs.EdgeLookup.{HasMember};
 ghost use Rattle.fill_spans.specs.Operations.{applied};
 ghost use Rattle.fill_spans.specs.Sweep.{Turned};
 

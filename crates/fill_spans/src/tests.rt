@@ -109,3 +109,21 @@ fn lengths_of_columns_that_overlap_lie_apart_and_begin_inside(rt: HostRuntime) -
     assert_eq!(rt; none.len(), 0);
     Ok(())
 }
+
+#[test]
+fn a_thousand_intervals_one_after_another(rt: HostRuntime) -> Result<(), Fail> {
+    let alloc = rt.alloc();
+    let mut set = Spans::empty(alloc);
+    for i in 0..1_000u32 {
+        let x = i64::from(i) * 3;
+        let next = Spans::one(alloc, x, x + 2)?;
+        set = set.union(alloc, &next)?;
+    }
+    assert_eq!(rt; set.edges().len(), 2_000);
+    let gaps = Spans::one(alloc, 0, 2_999)?.minus(alloc, &set)?;
+    assert_eq!(rt; set.length_in(0, 3_000), 2_000);
+    assert_eq!(rt; gaps.length_in(0, 3_000), 999);
+    assert_eq!(rt; set.union(alloc, &gaps)?.edges().len(), 2);
+    assert!(rt; set.meet(alloc, &gaps)?.is_empty());
+    Ok(())
+}

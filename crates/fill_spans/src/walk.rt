@@ -3,9 +3,9 @@ ghost use Rattle.std.specs.Prelude.{◌≡◌, ℕ, ℤ, ◌<◌, ◌^◌, lengt
 ghost use Rattle.fill_base.specs.Coordinates.{lowest, highest};
 ghost use Rattle.fill_base.specs.Counts.{count_between};
 ghost use Rattle.fill_spans.specs.Spans.{inside, next_edge, IsCanonical};
-ghost use Rattle.fill_spans.specs.Search.{IsFirstAbove, IsEdgeBelow};
-ghost use Rattle.fill_spans.specs.Walks.{length_at, IsWalk, IsNotBeyond, HasReached};
-ghost use Rattle.fill_spans.specs.Comb.{column_left, column_right, AreSums};
+ghost use Rattle.fill_spans.specs.EdgeLookup.{IsFirstAbove, IsEdgeBelow};
+ghost use Rattle.fill_spans.specs.CountingWalk.{length_at, IsWalk, IsNotBeyond, HasReached};
+ghost use Rattle.fill_spans.specs.EvenColumns.{column_left, column_right, AreSums};
 
 /// How far a walk along the edges has come, and what it has counted.
 #[derive(Clone, Copy)]

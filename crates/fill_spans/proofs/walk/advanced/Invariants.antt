@@ -1,5 +1,5 @@
 use Rattle.std.proofs.Common.{◌-◌, length}
-use Rattle.fill_spans.specs.Walks.{IsWalk, IsNotBeyond}
+use Rattle.fill_spans.specs.CountingWalk.{IsWalk, IsNotBeyond}
 use Rattle.fill_spans.proofs.Walking.{walk_of}
 use Rattle.fill_spans.proofs.walk.advanced.Given as goal
 

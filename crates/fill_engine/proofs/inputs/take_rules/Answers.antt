@@ -1,7 +1,7 @@
 use Rattle.fill_device.specs.Taps.{under}
 use Rattle.fill_text.specs.ValuesOfRules.{values_of}
 use Rattle.fill_engine.proofs.Reasons.{rules_taken}
-use Rattle.fill_engine.proofs.subcommands.take_rules.Goals as goal
+use Rattle.fill_engine.proofs.inputs.take_rules.Goals as goal
 
 pub returns-clause-rules : goal.returns-clause-rules
 returns-clause-rules g c =

@@ -1,0 +1,84 @@
+//! The inputs, each read to its end and interpreted.
+ghost use Rattle.std.specs.Prelude.{◌≡◌, ◌↔◌, true, false, map, IfOk, IfErr, IfSome, IsErrOf, Ok};
+ghost use Rattle.fill_device.specs.Taps.{has_failed, under};
+ghost use Rattle.fill_region.specs.Bands.{holds};
+ghost use Rattle.fill_text.specs.Script.{change_of};
+ghost use Rattle.fill_text.specs.ValuesOfRules.{values_of};
+ghost use Rattle.fill_engine.specs.Designs.{layer_in, data_type_in, IsDrawn, IsDesignFault};
+ghost use Rattle.fill_engine.specs.Inputs.{rules_answer, script_answer, IsFaultOf};
+
+use crate::refusal::{DesignError, InputFault};
+use fill_device::{InputError, Tap, read_input};
+use fill_region::Region;
+use fill_text::{Edit, RuleError, Rules, ScriptError, read_rules, read_script};
+use gds_flatten::flatten;
+use gds_grammar::read_library;
+use std::alloc::Global;
+use std::io::Read;
+
+/// How many bytes an input may have.
+const MOST_BYTES: usize = 2_147_483_648;
+
+/// The rules that the reader behind the tap gives.
+pub fn take_rules<R: Read>(alloc: Global, tap: &mut Tap<R>) -> Result<Rules, InputFault<RuleError>>
+    requires { has_failed tap.old ≡ false }
+    ensures device { IsErrOf result (InputFault.Unread InputError.Device) ↔ (has_failed tap.new ≡ true) }
+    ensures rules { IfOk result (λ r. IfSome (R.remaining (under tap.old)) (λ text. rules_answer text ≡ Ok (values_of r))) }
+    ensures refused { IfErr result (λ f. IfSome (R.remaining (under tap.old)) (λ text. IsFaultOf RuleError.Memory (rules_answer text) f)) }
+{
+    let text = read_input(alloc, tap, MOST_BYTES)?;
+    let rules = read_rules(alloc, &text)?;
+    Ok(rules)
+}
+
+/// The edits that the reader behind the tap gives.
+pub fn take_edits<S: Read>(
+    alloc: Global,
+    tap: &mut Tap<S>,
+) -> Result<Vec<Edit>, InputFault<ScriptError>>
+    requires { has_failed tap.old ≡ false }
+    ensures device { IsErrOf result (InputFault.Unread InputError.Device) ↔ (has_failed tap.new ≡ true) }
+    ensures edits { IfOk result (λ v. IfSome (S.remaining (under tap.old)) (λ text. script_answer text ≡ Ok (map change_of v.items))) }
+    ensures refused { IfErr result (λ f. IfSome (S.remaining (under tap.old)) (λ text. IsFaultOf ScriptError.Memory (script_answer text) f)) }
+{
+    let text = read_input(alloc, tap, MOST_BYTES)?;
+    let edits = read_script(alloc, &text)?;
+    Ok(edits)
+}
+
+/// The layer of a GDSII library that the rules name.
+fn layer_of(rules: &Rules) -> u16
+    ensures { result ≡ layer_in (values_of rules.now) }
+{
+    rules.layer() as u16
+}
+
+/// The data type that the rules name.
+fn data_type_of(rules: &Rules) -> u16
+    ensures { result ≡ data_type_in (values_of rules.now) }
+{
+    rules.datatype() as u16
+}
+
+/// The metal that the design behind the tap draws on the rules' layer.
+pub fn take_metal<D: Read>(
+    alloc: Global,
+    tap: &mut Tap<D>,
+    rules: &Rules,
+) -> Result<Region, InputFault<DesignError>>
+    requires { has_failed tap.old ≡ false }
+    ensures device { IsErrOf result (InputFault.Unread InputError.Device) ↔ (has_failed tap.new ≡ true) }
+    ensures metal { IfOk result (λ m. IfSome (D.remaining (under tap.old)) (λ bytes. IsDrawn bytes (values_of rules.now) (holds m))) }
+    ensures refused { IfErr result (λ f. IfSome (D.remaining (under tap.old)) (λ bytes. IsDesignFault bytes (values_of rules.now) f)) }
+{
+    let bytes = read_input(alloc, tap, MOST_BYTES)?;
+    let library = read_library(alloc, &bytes)?;
+    let metal = flatten(
+        alloc,
+        &library,
+        rules.top(),
+        layer_of(rules),
+        data_type_of(rules),
+    )?;
+    Ok(metal)
+}
