@@ -27,3 +27,4 @@ bench: build
 	bench/rects/run.sh
 	bench/gds/run.sh
 	bench/layer/run.sh
+	bench/check/run.sh

@@ -6,8 +6,9 @@ usage: design.py            writes design.gds beside this script
 
 A unit is 10 nm. The block is 1,440 by 1,080 units: six rows 180 high, every second one upside down so that rows share
 their rails, with a macro in the upper right corner, a blank part beside it, vertical straps and a wire. It has three
-cells, two rows of them, a rail that is arrayed over the block, elements that carry no metal (another layer, a text) and a cell that
-nobody refers to. The count shares nothing with `densfill`: it asks of each unit square's centre which shapes cover it.
+cells, two rows of them, a rail that is arrayed over the block, elements that carry no metal (another layer, a text) and
+a cell that nobody refers to. The count shares nothing with `densfill`: it finds the unit squares of each shape and
+carries them one by one to each copy.
 """
 import os
 import struct
@@ -68,8 +69,16 @@ def cells():
     ]
     return [
         ("BLOCK", block),
-        ("INV", [box(20, 30, 34, 150), polygon((50, 30), (50, 90), (80, 90), (80, 150), (100, 150), (100, 70), (70, 70), (70, 30))]),
-        ("NAND", [box(16, 30, 30, 150), box(60, 30, 74, 120), box(104, 30, 118, 150), wire(14, [(60, 150), (60, 134), (150, 134)], 2)]),
+        ("INV", [
+            box(20, 30, 34, 150),
+            polygon((50, 30), (50, 90), (80, 90), (80, 150), (100, 150), (100, 70), (70, 70), (70, 30)),
+        ]),
+        ("NAND", [
+            box(16, 30, 30, 150),
+            box(60, 30, 74, 120),
+            box(104, 30, 118, 150),
+            wire(14, [(60, 150), (60, 134), (150, 134)], 2),
+        ]),
         ("TAP", [box(10, 30, 62, 150)]),
         ("RAIL", [wire(RAIL, [(0, 0), (WIDTH, 0)])]),
         ("ROW_LONG", [

@@ -4,17 +4,15 @@ use Rattle.std.specs.Prelude.{slice_get, Option, Some, None}
 use Rattle.std.specs.List.{flat_map}
 use Rattle.std.specs.Str.{bytes_eq}
 use Rattle.std.proofs.lemmas.Bool.{cases_eq}
-use Rattle.std.proofs.lemmas.List.{get_or-append-add}
-use Rattle.std.proofs.lemmas.Option.{slice_get_past}
 use Rattle.std.proofs.lemmas.Grind.{common_steps}
 use Rattle.gds_grammar.specs.declared.element.Element.{Element}
 use Rattle.gds_flatten.specs.declared.cell.Cell.{Cell}
 use Rattle.gds_flatten.specs.declared.placement.Placement.{Placement}
-use Rattle.gds_flatten.specs.Graphs.{Graph, next, item, IsChain, IsReached, IsDeep, IsTooDeep, IsWhole}
+use Rattle.gds_flatten.specs.Graphs.{next, item, IsReached, IsDeep, IsWhole}
 use Rattle.gds_flatten.specs.References.{placements_of, name_of}
 use Rattle.gds_flatten.specs.Copies.{Copy, Hierarchy, own_copy, carry_copy, copies}
 use Rattle.gds_flatten.specs.Designs.{Entry, index_of, elements_at, target_if, targets, graph_of, singles_to, singles_among, hierarchy_of}
-use Rattle.gds_flatten.specs.steps.Searches.{State, IsIn}
+use Rattle.gds_flatten.specs.steps.Searches.{State}
 use Rattle.gds_flatten.specs.steps.Surveys.{IsSurveyed}
 use Rattle.gds_flatten.specs.steps.Walks.{own_in, singles_in, hierarchy, AreCounted}
 use Rattle.gds_flatten.specs.steps.Built.{IsCellAt, AreBuilt}

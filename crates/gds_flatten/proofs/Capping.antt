@@ -1,13 +1,11 @@
 -- Numbers of copies that stop at 4,000,001.
-use Rattle.std.proofs.Common.{◌≡◌, ℕ, zero, suc, ◌+◌, ◌-◌, ◌*◌, ◌<◌, ◌≤◌, ◌⊎◌, inl, inr, List, [], ◌∷◌, ◌++◌, length, take, map, get_or, refl, sym, ap, subst, arith, ◌∙◌}
-use Rattle.std.specs.Prelude.{All, slice_get, Option, Some, None}
-use Rattle.std.specs.List.{sum_by, flat_map, slice_set, range_with_len}
-use Rattle.std.proofs.lemmas.List.{take_more, get_or_append_left, get_or-take, length-take-le, length-set, map-append}
-use Rattle.std.proofs.lemmas.Grind.{common_steps, flat_map-append}
-use Rattle.gds_flatten.specs.declared.cell.Cell.{Cell}
+use Rattle.std.proofs.Common.{◌≡◌, ℕ, zero, suc, ◌+◌, ◌*◌, ◌<◌, ◌≤◌, ◌⊎◌, inl, inr, List, length, take, get_or, refl, sym, ap, subst, arith, ◌∙◌}
+use Rattle.std.specs.List.{sum_by}
+use Rattle.std.proofs.lemmas.List.{take_more, get_or-take}
+use Rattle.std.proofs.lemmas.Grind.{common_steps}
 use Rattle.gds_flatten.specs.declared.link.Link.{Link}
-use Rattle.gds_flatten.specs.Graphs.{Graph, next, item, IsChain, IsDeep}
-use Rattle.gds_flatten.specs.steps.Counting.{IsCapped, counted, AreRight, links_in, IsTied, IsCount}
+use Rattle.gds_flatten.specs.Graphs.{item}
+use Rattle.gds_flatten.specs.steps.Counting.{IsCapped, AreRight}
 
 -- so many times a number: exact, or both beyond
 times : (m b each : ℕ) → 0 < m → IsCapped b each → (m * each ≡ m * b) ⊎ ((4000001 ≤ m * each) × (4000001 ≤ m * b))

@@ -1,5 +1,5 @@
 -- Chains of references.
-use Rattle.std.proofs.Common.{◌≡◌, ℕ, zero, suc, ◌+◌, ◌<◌, List, [], length, refl, sym, subst, arith}
+use Rattle.std.proofs.Common.{◌≡◌, ℕ, zero, suc, ◌+◌, ◌<◌, length, refl, sym, subst, arith}
 use Rattle.gds_flatten.specs.Graphs.{Graph, next, item, IsChain, IsReached}
 
 pub chain_ends : (g : Graph) (n c d k : ℕ) → IsChain g n c d → k < length (next g d) → IsChain g (suc n) c (item (next g d) k)

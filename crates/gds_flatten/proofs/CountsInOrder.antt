@@ -1,6 +1,6 @@
 -- How many copies each cell of an order draws.
-use Rattle.std.proofs.Common.{◌≡◌, ℕ, zero, suc, ◌+◌, ◌-◌, ◌*◌, ◌<◌, ◌≤◌, ◌⊎◌, inl, inr, List, [], ◌∷◌, ◌++◌, length, take, map, get_or, refl, sym, ap, subst, arith, ◌∙◌}
-use Rattle.std.specs.Prelude.{slice_get, Option, Some, None}
+use Rattle.std.proofs.Common.{◌≡◌, ℕ, zero, suc, ◌+◌, ◌*◌, ◌<◌, ◌≤◌, ◌⊎◌, inl, inr, List, [], ◌∷◌, ◌++◌, length, take, map, get_or, refl, sym, ap, subst, arith, ◌∙◌}
+use Rattle.std.specs.Prelude.{slice_get, Option, Some}
 use Rattle.std.specs.List.{sum_by, flat_map, slice_set, range_with_len}
 use Rattle.std.proofs.lemmas.Bool.{cases_eq}
 use Rattle.std.proofs.lemmas.List.{get_or-take, length-take-le, length-set}
@@ -12,7 +12,7 @@ use Rattle.gds_flatten.specs.declared.placement.Placement.{Placement}
 use Rattle.gds_flatten.specs.Graphs.{Graph, next, item, IsDeep}
 use Rattle.gds_flatten.specs.Links.{single}
 use Rattle.gds_flatten.specs.Copies.{Copy, own_copy, carry_copy, copies}
-use Rattle.gds_flatten.specs.steps.Searches.{IsIn, IsOrdered}
+use Rattle.gds_flatten.specs.steps.Searches.{IsOrdered}
 use Rattle.gds_flatten.specs.steps.Walks.{singles_of, own_in, singles_in, hierarchy}
 use Rattle.gds_flatten.specs.steps.Counting.{IsCapped, counted, AreRight, links_in, IsTied, IsCount}
 use Rattle.gds_flatten.proofs.Items.{Changed, changed}

@@ -1,7 +1,7 @@
 -- Lists of copies that were appended.
 use Rattle.std.proofs.Common.{◌≡◌, ℕ, zero, suc, ◌+◌, ◌-◌, ◌<◌, ◌≤◌, ◌⊎◌, inl, inr, ℤ, Bool, List, get_or, [], ◌∷◌, ◌++◌, length, take, map, refl, sym, ap, subst, arith, ◌∙◌}
-use Rattle.std.specs.Prelude.{All, false, ◌||◌, ◌*◌, Option, Some, None, slice_get}
-use Rattle.std.specs.List.{list_any, flat_map, range_with_len}
+use Rattle.std.specs.Prelude.{false, ◌||◌, ◌*◌, Option, Some, None, slice_get}
+use Rattle.std.specs.List.{flat_map, range_with_len}
 use Rattle.std.proofs.lemmas.List.Elements.{All-append}
 use Rattle.std.proofs.lemmas.List.{get_or_append_left, get_or-append-add, take_more, map-append}
 use Rattle.std.proofs.lemmas.List.FromFn.{get_or-range_with_len, length-range_with_len, map-range_with_len_more}

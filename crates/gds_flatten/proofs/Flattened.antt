@@ -1,13 +1,12 @@
 -- Why a design is refused, and what is answered, from what each step says.
-use Rattle.std.proofs.Common.{◌≡◌, ℕ, ◌+◌, ◌<◌, ◌≤◌, ◌⊎◌, inl, inr, Bool, true, false, List, [], ◌∷◌, ◌++◌, length, map, refl, sym, ap, subst, arith, ◌∙◌, ℤ}
-use Rattle.std.specs.Prelude.{Option, Some, None, All, ◌||◌, if◌then◌else◌, cond}
+use Rattle.std.proofs.Common.{◌≡◌, ℕ, ◌<◌, ◌≤◌, ◌⊎◌, inl, inr, Bool, true, false, List, [], ◌∷◌, length, map, refl, sym, ap, subst, arith, ◌∙◌, ℤ}
+use Rattle.std.specs.Prelude.{Option, Some, None, ◌||◌, if◌then◌else◌, cond}
 use Rattle.std.specs.List.{list_any}
 use Rattle.std.proofs.lemmas.Grind.{common_steps}
 use Rattle.fill_base.specs.declared.rect.Rect.{Rect}
 use Rattle.fill_region.specs.Squares.{covered}
 use Rattle.gds_grammar.specs.declared.element.Element.{Element}
 use Rattle.gds_grammar.specs.declared.element.Element.TheVariants.{Boundary, Path, Ref, Array}
-use Rattle.gds_grammar.specs.declared.element.Path as paths
 use Rattle.gds_shape.specs.declared.error.ShapeError.{ShapeError}
 use Rattle.gds_shape.specs.declared.error.ShapeError.TheVariants as shapes
 use Rattle.gds_shape.specs.Winding.{edges}
@@ -16,16 +15,16 @@ use Rattle.gds_flatten.specs.declared.cell.Cell.{Cell}
 use Rattle.gds_flatten.specs.declared.error.FlattenError.{FlattenError}
 use Rattle.gds_flatten.specs.declared.error.FlattenError.TheVariants.{Memory, NoTop, MissingCell, Cycle, TooDeep, BadTransform, BadArray, NotManhattan, RoundEnd, OddWidth, DoublesBack, BadExtension, TooManyShapes, OutOfRange}
 use Rattle.gds_flatten.specs.declared.placement.Placement.{Placement}
-use Rattle.gds_flatten.specs.Graphs.{Graph, item, IsReached, IsCyclic, IsTooDeep}
+use Rattle.gds_flatten.specs.Graphs.{Graph, item, IsReached}
 use Rattle.gds_flatten.specs.References.{reference_fault, is_bad_transform, is_bad_array}
-use Rattle.gds_flatten.specs.Shapes.{is_shape, shape_fault, refusal_of, refusal_if}
+use Rattle.gds_flatten.specs.Shapes.{is_shape, shape_fault, refusal_if}
 use Rattle.gds_flatten.specs.Copies.{Copy, carry_copy, copies, drawn, AllStayInRange}
 use Rattle.gds_flatten.specs.Placements.{still}
-use Rattle.gds_flatten.specs.Designs.{Entry, index_of, graph_of, element_fault, elements_at, hierarchy_of, IsFirstFault, AllFine}
+use Rattle.gds_flatten.specs.Designs.{Entry, index_of, graph_of, element_fault, IsFirstFault, AllFine}
 use Rattle.gds_flatten.specs.Flattening.{HasTop, LacksCell, IsSound, copies_of, IsCountable, IsRefused}
 use Rattle.gds_flatten.specs.steps.Searches.{State, IsOrdered}
 use Rattle.gds_flatten.specs.steps.Surveys.{IsSurveyed, IsUnsound}
-use Rattle.gds_flatten.specs.steps.Walks.{hierarchy, IsDrawn, AreCounted}
+use Rattle.gds_flatten.specs.steps.Walks.{hierarchy, IsDrawn}
 use Rattle.gds_flatten.specs.steps.Built.{AreBuilt, IsFaultAmong}
 use Rattle.gds_flatten.specs.steps.Counting.{IsCapped, IsTied, IsCount}
 use Rattle.gds_flatten.proofs.Composing.{still_composed}

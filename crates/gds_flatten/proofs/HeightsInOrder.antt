@@ -1,12 +1,12 @@
 -- Heights of cells in an order.
-use Rattle.std.proofs.Common.{◌≡◌, ℕ, zero, suc, ◌+◌, ◌-◌, ◌<◌, ◌≤◌, ◌⊎◌, List, [], ◌∷◌, ◌++◌, length, take, replicate, refl, sym, ap, subst, arith, inl, inr, ◌∙◌}
+use Rattle.std.proofs.Common.{◌≡◌, ℕ, zero, suc, ◌+◌, ◌<◌, ◌≤◌, ◌⊎◌, List, [], ◌∷◌, ◌++◌, length, take, refl, sym, ap, subst, arith, inl, inr, ◌∙◌}
 use Rattle.std.specs.Prelude.{IsTrue, nat_le, ◌↔◌}
 use Rattle.std.specs.List.{slice_set}
 use Rattle.std.proofs.lemmas.Bool.{cases_eq, cases_lt}
 use Rattle.std.proofs.lemmas.List.{get_or-take, get_or_append_left, length-take-le, length-set, take_more}
 use Rattle.std.proofs.lemmas.Grind.{common_steps}
-use Rattle.gds_flatten.specs.Graphs.{Graph, next, item, IsChain, IsDeep, IsTooDeep}
-use Rattle.gds_flatten.specs.steps.Searches.{IsIn, IsOrdered}
+use Rattle.gds_flatten.specs.Graphs.{Graph, next, item, IsDeep, IsTooDeep}
+use Rattle.gds_flatten.specs.steps.Searches.{IsOrdered}
 use Rattle.gds_flatten.specs.steps.Heights.{IsHeight, IsGreater, IsOver, IsAbove}
 use Rattle.gds_flatten.proofs.Items.{Changed, changed}
 

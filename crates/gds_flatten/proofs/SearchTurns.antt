@@ -1,12 +1,12 @@
 -- One turn of a search, as the code takes it.
-use Rattle.std.proofs.Common.{◌≡◌, ℕ, ◌+◌, ◌-◌, ◌<◌, ◌≤◌, ◌∷◌, ◌++◌, [], Bool, List, length, refl, sym, ap, subst, arith, ◌∙◌}
+use Rattle.std.proofs.Common.{◌≡◌, ℕ, ◌+◌, ◌-◌, ◌<◌, ◌≤◌, Bool, List, length, sym, ap, subst, arith, ◌∙◌}
 use Rattle.std.specs.Prelude.{not, ◌==◌}
-use Rattle.std.specs.List.{slice_set, sum}
+use Rattle.std.specs.List.{sum}
 use Rattle.gds_flatten.specs.Graphs.{Graph, next, item, IsWhole}
 use Rattle.gds_flatten.specs.steps.Searches.{State, opened, passed, closed, IsSearch}
 use Rattle.gds_flatten.specs.steps.Rows.{left}
 use Rattle.gds_flatten.proofs.Searching.{last_of, here_open, opened_search, passed_search, closed_search}
-use Rattle.gds_flatten.proofs.Searched.{limits, steps_bounded, one_more}
+use Rattle.gds_flatten.proofs.Searched.{steps_bounded, one_more}
 
 module _ (g : Graph) (t : ℕ) (s : State) (h : IsSearch g t s) (on : 0 < length s.trail) (cell steps : ℕ) (row : List ℕ)
     (is_last : cell ≡ last_of s) (is_row : row ≡ next g cell) (is_steps : steps ≡ item s.steps cell) where

@@ -1,12 +1,12 @@
 -- Where a search begins, and what it says when it has ended.
-use Rattle.std.proofs.Common.{◌≡◌, ℕ, zero, suc, ◌+◌, ◌-◌, ◌<◌, ◌≤◌, ◌⊎◌, Bool, true, false, List, [], ◌∷◌, ◌++◌, length, take, replicate, map, refl, sym, ap, subst, arith, inl, inr, ◌∙◌}
+use Rattle.std.proofs.Common.{◌≡◌, ℕ, zero, suc, ◌+◌, ◌<◌, ◌≤◌, ◌⊎◌, false, List, [], ◌∷◌, ◌++◌, length, take, replicate, map, refl, sym, ap, subst, arith, inl, inr, ◌∙◌}
 use Rattle.std.proofs.lemmas.Bool.{cases_eq}
-use Rattle.std.proofs.lemmas.List.{length-set, get_or-take, length-take-le}
+use Rattle.std.proofs.lemmas.List.{get_or-take, length-take-le}
 use Rattle.std.proofs.lemmas.List.Sums.{sum_by-set}
 use Rattle.std.proofs.lemmas.Grind.{common_steps}
 use Rattle.std.specs.List.{slice_set, sum}
-use Rattle.gds_flatten.specs.Graphs.{Graph, next, item, IsChain, IsReached, IsCyclic, IsWhole}
-use Rattle.gds_flatten.specs.steps.Searches.{State, begun, IsIn, IsOpen, IsClosed, IsPassed, IsOrdered, IsSearch}
+use Rattle.gds_flatten.specs.Graphs.{Graph, next, item, IsChain, IsReached, IsCyclic}
+use Rattle.gds_flatten.specs.steps.Searches.{State, begun, IsIn, IsOpen, IsClosed, IsOrdered, IsSearch}
 use Rattle.gds_flatten.specs.steps.Rows.{limit}
 use Rattle.gds_flatten.proofs.Items.{Changed, changed, item_within}
 

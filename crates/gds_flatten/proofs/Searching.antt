@@ -1,13 +1,13 @@
 -- Each step of a search keeps what `IsSearch` says.
-use Rattle.std.proofs.Common.{◌≡◌, ℕ, zero, suc, ◌+◌, ◌-◌, ◌<◌, ◌≤◌, ◌⊎◌, Bool, true, false, List, [], ◌∷◌, ◌++◌, length, take, refl, sym, ap, subst, arith, inl, inr, ◌∙◌}
+use Rattle.std.proofs.Common.{◌≡◌, ℕ, suc, ◌+◌, ◌-◌, ◌<◌, ◌≤◌, ◌⊎◌, Bool, true, false, [], ◌∷◌, ◌++◌, length, take, refl, sym, ap, subst, arith, inl, inr, ◌∙◌}
 use Rattle.std.specs.Prelude.{◌||◌, not, ◌==◌}
 use Rattle.std.proofs.lemmas.Bool.{cases_eq}
 use Rattle.std.proofs.lemmas.List.{length-set, get_or-take, length-take-le, take-append-le}
 use Rattle.std.proofs.lemmas.Grind.{common_steps}
 use Rattle.std.specs.List.{slice_set}
-use Rattle.gds_flatten.specs.Graphs.{Graph, next, item, IsChain, IsReached, IsCyclic, IsWhole}
+use Rattle.gds_flatten.specs.Graphs.{Graph, next, item, IsChain, IsReached, IsCyclic}
 use Rattle.gds_flatten.specs.steps.Searches.{State, opened, passed, closed, IsIn, IsOpen, IsClosed, IsPassed, IsOrdered, IsSearch}
-use Rattle.gds_flatten.proofs.Chains.{chain_ends, chain_joins, reached_next}
+use Rattle.gds_flatten.proofs.Chains.{chain_ends, reached_next}
 use Rattle.gds_flatten.proofs.Items.{Changed, changed, More, more, has_more, has_last, item_within}
 
 abbrev pub last_of : State → ℕ

@@ -1,8 +1,8 @@
 -- What a search that has ended tells of the cells that the top reaches.
-use Rattle.std.proofs.Common.{◌≡◌, ℕ, ◌+◌, ◌<◌, ◌≤◌, ◌⊎◌, inl, inr, Bool, true, false, List, [], length, refl, sym, ap, subst, arith, ◌∙◌}
+use Rattle.std.proofs.Common.{◌≡◌, ℕ, ◌<◌, ◌≤◌, ◌⊎◌, inl, inr, false, List, [], length, refl, sym, ap, subst, arith, ◌∙◌}
 use Rattle.std.proofs.lemmas.Bool.{cases_order}
 use Rattle.std.proofs.lemmas.Grind.{common_steps}
-use Rattle.gds_flatten.specs.Graphs.{Graph, next, item, IsChain, IsReached, IsCyclic, IsTooDeep, IsWhole}
+use Rattle.gds_flatten.specs.Graphs.{Graph, item, IsReached, IsTooDeep}
 use Rattle.gds_flatten.specs.steps.Searches.{State, IsIn, IsClosed, IsSearch}
 use Rattle.std.specs.Global.{Vec}
 use Rattle.gds_flatten.specs.steps.Rows.{rows}

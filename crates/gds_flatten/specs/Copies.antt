@@ -1,6 +1,6 @@
 -- Copies of shapes: those that a cell draws itself, and those that it draws through its references,
 -- each carried as its references say.
-use Rattle.std.specs.Prelude.{◌≡◌, ℕ, zero, suc, ℤ, Bool, List, [], ◌∷◌, ◌++◌, map, All}
+use Rattle.std.specs.Prelude.{ℕ, zero, suc, ℤ, Bool, List, [], ◌++◌, map, All}
 use Rattle.std.specs.List.{list_any, flat_map}
 use Rattle.gds_grammar.specs.declared.element.Element.{Element}
 use Rattle.gds_flatten.specs.declared.placement.Placement.{Placement}

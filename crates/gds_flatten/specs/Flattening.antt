@@ -1,5 +1,5 @@
 -- What flattening answers, and when each refusal comes.
-use Rattle.std.specs.Prelude.{◌≡◌, ℕ, ◌<◌, ◌≤◌, List, length}
+use Rattle.std.specs.Prelude.{ℕ, ◌<◌, ◌≤◌, List, length}
 use Rattle.gds_flatten.specs.declared.error.FlattenError.{FlattenError}
 use Rattle.gds_flatten.specs.declared.error.FlattenError.TheVariants.{Memory, NoTop, MissingCell, Cycle, TooDeep, TooManyShapes, OutOfRange}
 use Rattle.gds_flatten.specs.Graphs.{IsReached, IsCyclic, IsTooDeep}

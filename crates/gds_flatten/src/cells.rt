@@ -1,8 +1,7 @@
 //! The cells that the top reaches, with their shapes filled and their references resolved.
 
-ghost use Rattle.std.specs.Prelude.{◌≡◌, ◌⊎◌, List, ℕ, length, None, Some, true, is_some, IfOk, IfErr, IfSome, IfNone, OnOk};
+ghost use Rattle.std.specs.Prelude.{◌≡◌, ◌⊎◌, List, length, None, Some, true, is_some, IfOk, IfErr, IfSome, IfNone, OnOk};
 ghost use Rattle.gds_flatten.specs.Designs.{Entry, targets, element_fault, graph_of, AreFine};
-ghost use Rattle.gds_flatten.specs.Graphs.{item};
 ghost use Rattle.gds_flatten.specs.Links.{singles};
 ghost use Rattle.gds_flatten.specs.References.{placements_of, name_of, reference_fault};
 ghost use Rattle.gds_flatten.specs.steps.Built.{IsAdded, IsCell, IsFaulty, AreBuilt, IsFaultAmong};

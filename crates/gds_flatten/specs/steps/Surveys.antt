@@ -1,5 +1,5 @@
 -- What a survey of the cells that the top reaches has found.
-use Rattle.std.specs.Prelude.{◌≡◌, ℕ, ◌<◌, List, length}
+use Rattle.std.specs.Prelude.{ℕ, ◌<◌, length}
 use Rattle.gds_flatten.specs.declared.error.FlattenError.{FlattenError}
 use Rattle.gds_flatten.specs.declared.error.FlattenError.TheVariants.{Memory, MissingCell, Cycle, TooDeep}
 use Rattle.gds_flatten.specs.Graphs.{Graph, item, IsReached, IsCyclic, IsTooDeep}

@@ -1,4 +1,4 @@
-use Rattle.std.proofs.Common.{◌≡◌, ◌⊎◌, arith, sym, refl, subst, ◌∙◌}
+use Rattle.std.proofs.Common.{◌≡◌, ◌⊎◌, sym, refl, subst, ◌∙◌}
 use Rattle.std.proofs.lemmas.Result.{err_from_is_err_and}
 use Rattle.gds_flatten.specs.declared.error.FlattenError.TheVariants.{Memory}
 use Rattle.gds_flatten.specs.steps.Built.{IsCell, IsFaulty}

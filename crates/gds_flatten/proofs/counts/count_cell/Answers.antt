@@ -1,8 +1,7 @@
-use Rattle.std.proofs.Common.{rules, arith, ℕ, ◌+◌, ◌*◌, ◌<◌, ◌∙◌, subst, ap, take, length}
-use Rattle.std.proofs.lemmas.Grind.{common_steps}
+use Rattle.std.proofs.Common.{arith, ◌+◌, ◌*◌, ◌∙◌, subst, ap, take, length}
 use Rattle.gds_flatten.specs.Graphs.{item}
-use Rattle.gds_flatten.specs.steps.Counting.{IsCapped, counted, AreRight}
-use Rattle.gds_flatten.proofs.Capping.{so_far, link_counted, some_turns, themselves, all_counted}
+use Rattle.gds_flatten.specs.steps.Counting.{IsCapped}
+use Rattle.gds_flatten.proofs.Capping.{link_counted, some_turns, themselves, all_counted}
 use Rattle.gds_flatten.proofs.counts.count_cell.Goals as goal
 
 pub overflow_add-total : goal.overflow_add-total

@@ -1,4 +1,4 @@
-use Rattle.std.proofs.Common.{ℕ, arith, refl, subst, length, ◌<◌, ◌≤◌}
+use Rattle.std.proofs.Common.{ℕ, arith, refl, subst, length}
 use Rattle.std.proofs.lemmas.Option.{slice_get_read}
 use Rattle.gds_flatten.specs.Graphs.{item}
 use Rattle.gds_flatten.specs.steps.Counting.{IsCapped, counted, AreRight}

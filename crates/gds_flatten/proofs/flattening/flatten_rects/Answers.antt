@@ -1,12 +1,12 @@
-use Rattle.std.proofs.Common.{◌≡◌, ◌≤◌, ◌⊎◌, arith, rules, subst, sym, ap, refl, length, map, ◌∙◌}
+use Rattle.std.proofs.Common.{◌≡◌, ◌≤◌, ◌⊎◌, arith, subst, sym, ap, length, ◌∙◌}
 use Rattle.std.proofs.lemmas.Result.{err_from_is_err_and}
 use Rattle.gds_flatten.specs.declared.error.FlattenError.TheVariants.{Memory, OutOfRange}
-use Rattle.gds_flatten.specs.Copies.{carry_copy, copies, AllStayInRange}
-use Rattle.gds_flatten.specs.Designs.{index_of, graph_of}
+use Rattle.gds_flatten.specs.Copies.{AllStayInRange}
+use Rattle.gds_flatten.specs.Designs.{index_of}
 use Rattle.gds_flatten.specs.Graphs.{item, IsWhole}
 use Rattle.gds_flatten.specs.steps.Built.{AreBuilt, IsFaultAmong}
 use Rattle.gds_flatten.specs.steps.Rows.{rows, state_of}
-use Rattle.gds_flatten.specs.steps.Walks.{hierarchy, IsDrawn, AreCounted}
+use Rattle.gds_flatten.specs.steps.Walks.{IsDrawn, AreCounted}
 use Rattle.gds_flatten.proofs.Agreeing.{whole, counted}
 use Rattle.gds_flatten.proofs.Flattened.{unsound_told, told_surveyed, fault_refused, many_refused, countable, range_refused, all_drawn, counts_right, walked}
 use Rattle.gds_flatten.proofs.flattening.flatten_rects.Goals as goal

@@ -1,5 +1,3 @@
-use Rattle.std.proofs.Common.{◌-◌}
-use Rattle.std.specs.List.{sum}
 use Rattle.gds_flatten.specs.steps.Searches.{IsSearch}
 use Rattle.gds_flatten.specs.steps.Rows.{rows, state_of, left}
 use Rattle.gds_flatten.proofs.search.search_from.Given as goal

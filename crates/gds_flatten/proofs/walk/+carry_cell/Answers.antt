@@ -1,4 +1,4 @@
-use Rattle.std.proofs.Common.{ℕ, subst, sym, ap, arith, ◌-◌, ◌<◌, ◌≤◌, ◌≡◌, ◌∙◌, length, get_or, map}
+use Rattle.std.proofs.Common.{subst, ap, arith, ◌-◌, ◌<◌, ◌≤◌, ◌≡◌, ◌∙◌, length, get_or, map}
 use Rattle.std.proofs.lemmas.Result.{err_from_is_err_and}
 use Rattle.std.specs.List.{flat_map, range_with_len}
 use Rattle.gds_flatten.specs.Placements.{composed}
