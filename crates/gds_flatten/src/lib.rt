@@ -12,6 +12,7 @@ mod graph;
 mod heights;
 pub mod laws;
 mod link;
+mod pieces;
 mod placement;
 mod reference;
 mod search;

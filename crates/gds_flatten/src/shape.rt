@@ -1,8 +1,9 @@
 //! A shape of the layer, filled.
 
+ghost use Rattle.gds_flatten.specs.steps.Pieces.{rects_in};
 ghost use Rattle.gds_flatten.specs.steps.Prepared.{IsPrepared};
 
-use fill_base::Rect;
+use crate::pieces::Pieces;
 use gds_grammar::Element;
 use gds_shape::Bounds;
 
@@ -14,8 +15,8 @@ pub struct Shape<'a> {
     pub element: &'a Element,
     /// What it covers, moved so that its extent begins at the least coordinates; nothing of one that's
     /// wider or taller than all coordinates, which no placement carries into range.
-    pub pieces: Vec<Rect>,
+    pub pieces: Pieces,
     /// The extent of its points or segments, in database units; `None` for a path that covers nothing.
     pub extent: Option<Bounds>,
-    pub ghost prepared: { IsPrepared element.now pieces.items extent },
+    pub ghost prepared: { IsPrepared element.now (rects_in pieces) extent },
 }

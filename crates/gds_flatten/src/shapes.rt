@@ -11,6 +11,7 @@ ghost use Rattle.gds_flatten.specs.steps.Prepared.{edges_of, way_back};
 ghost use Rattle.gds_flatten.specs.steps.Ranges.{IsWithin};
 
 use crate::error::FlattenError;
+use crate::pieces::Pieces;
 use crate::placement::Placement;
 use crate::shape::Shape;
 use fill_base::Rect;
@@ -66,7 +67,7 @@ fn boundary_shape<'a>(
     let extent = put_boundary_at_corner(alloc, &mut pieces, &boundary.points)?;
     Ok(Shape {
         element,
-        pieces,
+        pieces: Pieces::new(pieces),
         extent: Some(extent),
     })
 }
@@ -86,7 +87,7 @@ fn path_shape<'a>(
     let extent = put_path_at_corner(alloc, &mut pieces, path)?;
     Ok(Shape {
         element,
-        pieces,
+        pieces: Pieces::new(pieces),
         extent,
     })
 }
@@ -209,6 +210,6 @@ pub fn carry_shape(
     if !is_in_range(&carried_bounds(at, &extent)) {
         return Err(FlattenError::OutOfRange);
     }
-    carry_pieces(&shape.pieces, &from_corner(at, &extent), out)?;
+    carry_pieces(shape.pieces.as_slice(), &from_corner(at, &extent), out)?;
     Ok(())
 }

@@ -1,4 +1,5 @@
-use Rattle.std.proofs.Common.{inr}
+use Rattle.std.proofs.Common.{inr, subst, sym, Some}
+use Rattle.gds_flatten.specs.steps.Prepared.{IsPrepared}
 use Rattle.gds_flatten.proofs.Filling.{boundary_is_slanted, boundary_is_fine, boundary_prepared}
 use Rattle.gds_flatten.proofs.shapes.boundary_shape.Goals as goal
 
@@ -14,6 +15,7 @@ pub invariant_of-result : goal.invariant_of-result
 invariant_of-result c =
     let e = c.in_ok-extent.ensures in
     record {
-      prepared = boundary_prepared c.args.element.now c.args.boundary.now c.deref-2.result.now c.put_boundary_at_corner.new.out.items c.new-pieces.result.items c.in_ok-extent.extent
-          c.requires c.deref-2.ensures.value c.new-pieces.ensures.items e.extent e.near e.inside e.added;
+      prepared = subst (λ rs. IsPrepared c.args.element.now rs (Some c.in_ok-extent.extent)) (sym c.new.ensures)
+          (boundary_prepared c.args.element.now c.args.boundary.now c.deref-2.result.now c.put_boundary_at_corner.new.out.items c.new-pieces.result.items c.in_ok-extent.extent
+          c.requires c.deref-2.ensures.value c.new-pieces.ensures.items e.extent e.near e.inside e.added);
     }
