@@ -73,6 +73,7 @@ pub fn take_metal<D: Read>(
 {
     let bytes = read_input(alloc, tap, MOST_BYTES)?;
     let library = read_library(alloc, &bytes)?;
+    drop(bytes);
     let metal = flatten(
         alloc,
         &library,
