@@ -1,0 +1,4 @@
+pub mod Searches
+pub mod Plans
+pub mod ReadSets
+pub mod Laws
