@@ -42,7 +42,7 @@ some_within_decides p left bottom right top wide tall = (
 some_wide : (b n : ℤ) → IsLength n → b <ℤ (b +ℤ n)
 some_wide b n long = let l : pos 1 ≤ℤ n = long.least in omega (arith, ints)
 
-grown_le : (b e s : ℤ) → b <ℤ e → pos 0 ≤ℤ s → (b -ℤ s) ≤ℤ (e +ℤ s)
+pub grown_le : (b e s : ℤ) → b <ℤ e → pos 0 ≤ℤ s → (b -ℤ s) ≤ℤ (e +ℤ s)
 grown_le b e s lt some = omega (arith, ints)
 
 low_end : (x u lo s : ℤ) → lo ≤ℤ x → (x -ℤ u) ≤ℤ s → (lo -ℤ s) ≤ℤ u

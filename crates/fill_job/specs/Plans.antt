@@ -63,6 +63,10 @@ holds_box plan a b i j = (int_le (window_left plan.windows a) (box_begin plan.ra
 unfoldable pub in_window_of : Plan → WindowSet → ℤ → ℤ → Bool
 in_window_of plan low i j = some_pair (λ a b. low a b && holds_box plan a b i j) plan.windows.across.count plan.windows.up.count
 
+-- the box of the place keeps the spacing to the metal, and lies wholly in a low window
+abbrev pub is_suitable : Plan → PointSet → WindowSet → ℤ → ℤ → Bool
+is_suitable plan metal low i j = not (conflicts plan metal i j) && in_window_of plan low i j
+
 -- the place is wanted in its tile: it may be filled, and its box lies wholly in a low window
 abbrev pub wanted : Plan → PointSet → WindowSet → ℕ → ℤ → ℤ → Bool
-wanted plan metal low tile i j = in_tile plan.raster tile i j && (not (conflicts plan metal i j) && in_window_of plan low i j)
+wanted plan metal low tile i j = in_tile plan.raster tile i j && is_suitable plan metal low i j

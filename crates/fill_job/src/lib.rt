@@ -2,4 +2,11 @@
 //! layers above rely on this: the wanted places of a tile depend on its read set alone.
 #![tactic(auto)]
 
+mod basis;
+mod job;
 pub mod laws;
+mod proposal;
+mod wanted;
+
+pub use job::Job;
+pub use proposal::Proposal;
