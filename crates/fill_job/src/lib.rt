@@ -10,3 +10,6 @@ mod wanted;
 
 pub use job::Job;
 pub use proposal::Proposal;
+
+#[cfg(test)]
+mod tests;
