@@ -1,5 +1,5 @@
 ghost use Rattle.std.specs.Prelude.{◌≡◌, true, false, pos};
-ghost use Rattle.fill_job.specs.Plans.{conflicts, in_window_of, low_windows};
+ghost use Rattle.fill_job.specs.Plans.{conflicts, in_window_of};
 ghost use Rattle.fill_job.specs.ReadSets.{touches};
 ghost use Rattle.fill_job.specs.steps.Worked.{worked, one_square, one_window};
 
