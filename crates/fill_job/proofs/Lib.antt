@@ -1,0 +1,5 @@
+pub mod Searching
+pub mod ReadSets
+pub mod Conflicts
+pub mod Marking
+pub mod LowWindows

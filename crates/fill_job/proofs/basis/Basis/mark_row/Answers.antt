@@ -1,0 +1,64 @@
+use Rattle.std.proofs.Common.{◌≡◌, refl, ap, sym, ◌∙◌, pos, ◌+ℤ◌}
+use Rattle.fill_base.proofs.Between.{is_between_true}
+use Rattle.fill_base.proofs.Signed.{read, read_is, is_lt}
+use Rattle.fill_region.specs.Bands.{holds}
+use Rattle.fill_raster.specs.Marks.{is_marked}
+use Rattle.fill_job.specs.Basis.{plan_by, windows_in}
+use Rattle.fill_job.specs.Plans.{is_suitable}
+use Rattle.fill_job.proofs.Marking.{row_begins, column_marked, column_passed, row_ends, next_within, first_within, next_fits, not_lt}
+use Rattle.fill_job.proofs.basis.Basis.mark_row.Goals as goal
+use Rattle.fill_job.proofs.basis.Basis.mark_row.Goals.{then-is_suitable, else-is_suitable}
+
+pub loop-i-init : goal.loop-i-init
+loop-i-init c =
+    let s = is_suitable (plan_by c.args.self.now) (holds c.args.self.now.metal) (windows_in c.args.self.now.low) in
+    let at = first_within c.args.left c.args.right in
+    rw (read_is c.args.left c.ranges.left, read_is c.args.right c.ranges.right) (record {
+      from = at.0;
+      to = at.1;
+      block = refl;
+      marked = λ k m. row_begins (is_marked c.args.marks.now) s c.args.left (read c.args.j) k m;
+    })
+
+pub is_suitable-requires : goal.is_suitable-requires
+is_suitable-requires c =
+    let from = rw (c.loop-i.i-is, read_is c.args.left c.ranges.left) at c.loop-i.invariant.from in
+    let lt = is_lt c.loop-i.i c.args.right (rw (c.loop-i.i-is, read_is c.args.right c.ranges.right) at c.loop-i-test.true) in
+    rw (c.loop-i.i-is, read_is c.args.j c.ranges.j) (c.requires.places c.loop-i.i (is_between_true c.args.left c.args.right c.loop-i.i from lt))
+
+pub set-requires : goal.set-requires
+set-requires c =
+    let from = rw (c.loop-i.i-is, read_is c.args.left c.ranges.left) at c.loop-i.invariant.from in
+    let lt = is_lt c.loop-i.i c.args.right (rw (c.loop-i.i-is, read_is c.args.right c.ranges.right) at c.loop-i-test.true) in
+    rw (c.loop-i.i-is, read_is c.args.j c.ranges.j, c.loop-i.invariant.block) (c.requires.block c.loop-i.i (is_between_true c.args.left c.args.right c.loop-i.i from lt))
+
+pub loop-i-preserved : goal.loop-i-preserved
+loop-i-preserved c =
+    let s = is_suitable (plan_by c.args.self.now) (holds c.args.self.now.metal) (windows_in c.args.self.now.low) in
+    let o = is_marked c.args.marks.now in
+    let b = is_marked c.loop-i.marks in
+    let i = c.loop-i.i in let j = read c.args.j in
+    let inv = rw (c.loop-i.i-is, read_is c.args.left c.ranges.left, read_is c.args.right c.ranges.right) at c.loop-i.invariant in
+    let lt = is_lt i c.args.right (rw (c.loop-i.i-is, read_is c.args.right c.ranges.right) at c.loop-i-test.true) in
+    let step = next_within c.args.left c.args.right i inv.from lt in
+    let next : read (i +ℤ pos 1) ≡ i +ℤ pos 1 = read_is (i +ℤ pos 1) (next_fits c.args.left c.args.right i c.ranges.left c.ranges.right inv.from lt) in
+    let suits : c.is_suitable.result ≡ s i j = rw c.loop-i.i-is at c.is_suitable.ensures in
+    rw (c.loop-i.i-is, read_is c.args.left c.ranges.left, read_is c.args.right c.ranges.right, next) (record {
+      from = step.0;
+      to = step.1;
+      block = elim c.if-is_suitable.branch [
+        | then-is_suitable w ↦ ap (λ m. m.block) w.marks-is ∙ (w.set.ensures.block ∙ inv.block)
+        | else-is_suitable w ↦ ap (λ m. m.block) w.marks-is ∙ inv.block
+      ];
+      marked = λ k m. elim c.if-is_suitable.branch [
+        | then-is_suitable w ↦ ap (λ q. is_marked q k m) w.marks-is ∙ column_marked o b (is_marked w.set.new.self) s c.args.left i j inv.from (sym suits ∙ w.if-is_suitable.true) inv.marked (rw c.loop-i.i-is at w.set.ensures.marked) k m
+        | else-is_suitable w ↦ ap (λ q. is_marked q k m) w.marks-is ∙ column_passed o b s c.args.left i j inv.from (sym suits ∙ w.if-is_suitable.false) inv.marked k m
+      ];
+    })
+
+pub returns : goal.returns
+returns c =
+    let s = is_suitable (plan_by c.args.self.now) (holds c.args.self.now.metal) (windows_in c.args.self.now.low) in
+    let inv = rw (c.loop-i.i-is, read_is c.args.left c.ranges.left, read_is c.args.right c.ranges.right, read_is c.args.j c.ranges.j) at c.loop-i.invariant in
+    let past = not_lt c.loop-i.i c.args.right (rw (c.loop-i.i-is, read_is c.args.right c.ranges.right) at c.loop-i-test.false) in
+    record { block = inv.block; marked = row_ends (is_marked c.args.marks.now) (is_marked c.loop-i.marks) s c.args.left c.args.right c.loop-i.i c.args.j inv.from inv.to past inv.marked }

@@ -1,0 +1,40 @@
+use Rattle.std.proofs.Common.{◌∙◌, sym, rules, FitsSigned, w64}
+use Rattle.std.proofs.lemmas.Bool.{and_parts}
+use Rattle.fill_base.specs.Counts.{is_between}
+use Rattle.fill_base.proofs.Signed.{read_is}
+use Rattle.fill_region.specs.Bands.{holds}
+use Rattle.fill_raster.specs.Lattice.{in_tile}
+use Rattle.fill_job.specs.Basis.{plan_by, windows_in}
+use Rattle.fill_job.specs.Plans.{is_suitable}
+use Rattle.fill_job.proofs.Marking.{tile_marked}
+use Rattle.fill_job.proofs.basis.Basis.mark_tile.Goals as goal
+
+pub mark_rows-requires-clause-places : goal.mark_rows-requires-clause-places
+mark_rows-requires-clause-places c =
+    let left : FitsSigned w64 c.places.result.0.start = search rules in
+    let right : FitsSigned w64 c.places.result.0.end = search rules in
+    let bottom : FitsSigned w64 c.places.result.1.start = search rules in
+    let top : FitsSigned w64 c.places.result.1.end = search rules in
+    let places = rw c.raster.ensures.raster at c.places.ensures.places in
+    rw (read_is _ left, read_is _ right, read_is _ bottom, read_is _ top) (λ i j h. (and_parts _ _ (sym (places i j) ∙ h)).0)
+
+pub mark_rows-requires-clause-block : goal.mark_rows-requires-clause-block
+mark_rows-requires-clause-block c =
+    let left : FitsSigned w64 c.places.result.0.start = search rules in
+    let right : FitsSigned w64 c.places.result.0.end = search rules in
+    let bottom : FitsSigned w64 c.places.result.1.start = search rules in
+    let top : FitsSigned w64 c.places.result.1.end = search rules in
+    let places = rw c.raster.ensures.raster at c.places.ensures.places in
+    rw (read_is _ left, read_is _ right, read_is _ bottom, read_is _ top) (λ i j h. c.requires.block i j ∙ (sym (places i j) ∙ h))
+
+pub returns : goal.returns
+returns c =
+    let left : FitsSigned w64 c.places.result.0.start = search rules in
+    let right : FitsSigned w64 c.places.result.0.end = search rules in
+    let bottom : FitsSigned w64 c.places.result.1.start = search rules in
+    let top : FitsSigned w64 c.places.result.1.end = search rules in
+    let places = rw c.raster.ensures.raster at c.places.ensures.places in
+    let marked = rw (read_is _ left, read_is _ right, read_is _ bottom, read_is _ top) at c.mark_rows.ensures in
+    λ i j. marked i j ∙ tile_marked (in_tile (plan_by c.args.self.now).raster c.args.tile i j)
+    (is_between c.places.result.0.start c.places.result.0.end i) (is_between c.places.result.1.start c.places.result.1.end j)
+    (is_suitable (plan_by c.args.self.now) (holds c.args.self.now.metal) (windows_in c.args.self.now.low) i j) (places i j)
