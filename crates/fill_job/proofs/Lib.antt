@@ -3,3 +3,4 @@ pub mod ReadSets
 pub mod Conflicts
 pub mod Marking
 pub mod LowWindows
+pub mod TileReads

@@ -6,6 +6,7 @@ mod basis;
 mod job;
 pub mod laws;
 mod proposal;
+mod reading;
 mod wanted;
 
 pub use job::Job;

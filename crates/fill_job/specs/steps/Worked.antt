@@ -1,5 +1,5 @@
 -- A plan of small numbers, by which the definitions are computed.
-use Rattle.std.specs.Prelude.{ℕ, ℤ, pos, Bool, ◌&&◌, ◌==◌}
+use Rattle.std.specs.Prelude.{ℕ, ℤ, pos, ◌&&◌, ◌==◌}
 use Rattle.std.specs.Ordering.{int_eq}
 use Rattle.fill_job.specs.Plans.{Plan, PointSet, WindowSet}
 

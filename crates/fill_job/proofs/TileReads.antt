@@ -1,0 +1,115 @@
+-- What is read for a tile is its read set.
+use Rattle.std.proofs.Common.{◌≡◌, refl, sym, ◌∙◌, ℕ, ◌<◌, ℤ, pos, ◌+ℤ◌, ◌-ℤ◌, ◌≤ℤ◌, ◌<ℤ◌, arith, List, Bool, true, false, ◌&&◌, ◌↔◌}
+use Rattle.std.specs.Prelude.{int_lt, nat_lt}
+use Rattle.std.specs.Int.{int_max, int_min}
+use Rattle.std.proofs.lemmas.Bool.{and_from, and_parts}
+use Rattle.std.proofs.lemmas.Bool.Decides.{nat_tests}
+use Rattle.std.proofs.lemmas.Int.{ints, clamps}
+use Rattle.fill_base.specs.Coordinates.{lowest, highest, IsInRange}
+use Rattle.fill_base.specs.Counts.{is_between}
+use Rattle.fill_base.specs.Squares.{squares}
+use Rattle.fill_base.specs.declared.rect.Rect.{Rect}
+use Rattle.fill_base.proofs.Between.{is_between_true, is_between_bounds}
+use Rattle.fill_area.specs.Axes.{IsAxis, IsIndex, IsTouching, IsExtent, axis_begin, axis_end}
+use Rattle.fill_area.specs.Grid.{IsGrid}
+use Rattle.fill_area.specs.declared.axis.Axis.{Axis}
+use Rattle.fill_area.proofs.Axes as axes
+use Rattle.fill_region.specs.Bands.{Band, holds}
+use Rattle.fill_raster.specs.Lattice.{in_halo, tile_left, tile_right, tile_bottom, tile_top}
+use Rattle.fill_text.specs.Rules.{Values}
+use Rattle.fill_job.specs.Basis.{windows_in}
+use Rattle.fill_job.specs.Plans.{Plan, PointSet, WindowSet, plan_of}
+use Rattle.fill_job.specs.ReadSets.{ReadSet, read_set, touches}
+use Rattle.fill_job.proofs.LowWindows.{both_or_none}
+
+lt_is : (a b : ℤ) → a <ℤ b → int_lt a b ≡ true
+lt_is a b h = grind (arith, ints)
+
+is_lt : (a b : ℤ) → int_lt a b ≡ true → a <ℤ b
+is_lt a b h = grind (arith, ints)
+
+nat_lt_is : (a b : ℕ) → a < b → nat_lt a b ≡ true
+nat_lt_is a b h = grind (arith, nat_tests)
+
+is_nat_lt : (a b : ℕ) → nat_lt a b ≡ true → a < b
+is_nat_lt a b h = grind (arith, nat_tests)
+
+-- ---- windows that touch a tile
+
+-- a span within the coordinates touches a range where it touches the part of the range within them
+clamped : (lo hi l h b e : ℤ) → l ≡ int_max (lo -ℤ pos 0) lowest → h ≡ int_min (hi +ℤ pos 0) highest → b <ℤ e → lowest ≤ℤ b → e ≤ℤ highest
+    → ((b <ℤ h) × (l <ℤ e)) ↔ ((b <ℤ hi) × (lo <ℤ e))
+clamped lo hi l h b e le he some low high = (
+  (λ t. let x = t.0 in let y = t.1 in (omega (arith, ints, clamps), omega (arith, ints, clamps))),
+  (λ t. let x = t.0 in let y = t.1 in (omega (arith, ints, clamps), omega (arith, ints, clamps))),
+)
+
+index_between : (c d a : ℕ) → IsIndex c d a → is_between (pos c) (pos d) (pos a) ≡ true
+index_between c d a is = let x = is.0 in let y = is.1 in is_between_true (pos c) (pos d) (pos a) (omega (arith, ints)) (omega (arith, ints))
+
+between_index : (c d a : ℕ) → is_between (pos c) (pos d) (pos a) ≡ true → IsIndex c d a
+between_index c d a h = let b = is_between_bounds (pos c) (pos d) (pos a) h in let x = b.0 in let y = b.1 in (omega (arith, ints), omega (arith, ints))
+
+axis_touched : (axis : Axis) (lo hi l h : ℤ) (c0 c1 a : ℕ) → IsAxis axis → l ≡ int_max (lo -ℤ pos 0) lowest → h ≡ int_min (hi +ℤ pos 0) highest → (IsIndex c0 c1 a ↔ IsTouching axis l h a)
+    → is_between (pos c0) (pos c1) (pos a) ≡ nat_lt a axis.count && (int_lt (axis_begin axis a) hi && int_lt lo (axis_end axis a))
+axis_touched axis lo hi l h c0 c1 a is le he range =
+    both_or_none (is_between (pos c0) (pos c1) (pos a)) (nat_lt a axis.count && (int_lt (axis_begin axis a) hi && int_lt lo (axis_end axis a)))
+    (λ t.
+    let at = range.0 (between_index c0 c1 a t) in
+    let free = (same at.0).0 (at.1, at.2) in
+    and_from _ _ (nat_lt_is a axis.count at.0) (and_from _ _ (lt_is _ _ free.0) (lt_is _ _ free.1)))
+    (λ t.
+    let parts = and_parts _ _ t in
+    let sides = and_parts _ _ parts.1 in
+    let lt = is_nat_lt a axis.count parts.0 in
+    let at = (same lt).1 (is_lt _ _ sides.0, is_lt _ _ sides.1) in
+    index_between c0 c1 a (range.1 (lt, at.0, at.1)))
+  where
+    same : a < axis.count → ((axis_begin axis a <ℤ h) × (l <ℤ axis_end axis a)) ↔ ((axis_begin axis a <ℤ hi) × (lo <ℤ axis_end axis a))
+    same lt =
+        let e : IsExtent axis a (axis_begin axis a) (axis_end axis a) = axes.extent axis.first axis.length axis.step axis.count a is lt in
+        clamped lo hi l h (axis_begin axis a) (axis_end axis a) le he e.some e.low e.high
+
+pub part_touched : (plan : Plan) (tile : ℕ) (low part : List Band) (r : Rect) (c0 c1 r0 r1 : ℕ) → IsGrid plan.windows
+    → r.x1 ≡ int_max (tile_left plan.raster tile -ℤ pos 0) lowest → r.y1 ≡ int_max (tile_bottom plan.raster tile -ℤ pos 0) lowest
+    → r.x2 ≡ int_min (tile_right plan.raster tile +ℤ pos 0) highest → r.y2 ≡ int_min (tile_top plan.raster tile +ℤ pos 0) highest
+    → ((a : ℕ) → IsIndex c0 c1 a ↔ IsTouching plan.windows.across r.x1 r.x2 a) → ((b : ℕ) → IsIndex r0 r1 b ↔ IsTouching plan.windows.up r.y1 r.y2 b)
+    → ((x y : ℤ) → holds part x y ≡ (holds low x y && (is_between (pos c0) (pos c1) x && is_between (pos r0) (pos r1) y)))
+    → (a b : ℕ) → windows_in part a b ≡ (windows_in low a b && touches plan tile a b)
+part_touched plan tile low part r c0 c1 r0 r1 grid e1 e2 e3 e4 across up is a b =
+    let x = axis_touched plan.windows.across (tile_left plan.raster tile) (tile_right plan.raster tile) r.x1 r.x2 c0 c1 a grid.across e1 e3 (across a) in
+    let y = axis_touched plan.windows.up (tile_bottom plan.raster tile) (tile_top plan.raster tile) r.y1 r.y2 r0 r1 b grid.up e2 e4 (up b) in
+    is (pos a) (pos b) ∙ rw (x, y) refl
+
+pub part_inside : (low part : List Band) (c0 c1 r0 r1 : ℕ) → ((x y : ℤ) → holds part x y ≡ (holds low x y && (is_between (pos c0) (pos c1) x && is_between (pos r0) (pos r1) y)))
+    → (x y : ℤ) → holds part x y ≡ true → (pos 0 ≤ℤ x) × (pos 0 ≤ℤ y)
+part_inside low part c0 c1 r0 r1 is x y h =
+    let parts = and_parts (holds low x y) (is_between (pos c0) (pos c1) x && is_between (pos r0) (pos r1) y) (sym (is x y) ∙ h) in
+    let sides = and_parts (is_between (pos c0) (pos c1) x) (is_between (pos r0) (pos r1) y) parts.1 in
+    let across = (is_between_bounds (pos c0) (pos c1) x sides.0).0 in
+    let up = (is_between_bounds (pos r0) (pos r1) y sides.1).0 in
+    (omega (arith, ints), omega (arith, ints))
+
+-- ---- the read set
+
+and_when : (a b c : Bool) → (a ≡ true → b ≡ c) → a && b ≡ a && c
+and_when true b c h = h refl
+and_when false b c h = refl
+
+abbrev pub set_of : Values → PointSet → WindowSet → ReadSet
+set_of rules metal low = record { rules = rules; metal = metal; low = low }
+
+-- the metal within the halo
+pub metal_near : (plan : Plan) (metal clipped : List Band) (halo : Rect) (tile : ℕ) → ((x y : ℤ) → holds metal x y ≡ true → IsInRange x y)
+    → ((x y : ℤ) → IsInRange x y → squares halo x y ≡ in_halo plan.raster tile plan.spacing x y)
+    → ((x y : ℤ) → holds clipped x y ≡ (holds metal x y && squares halo x y))
+    → (x y : ℤ) → holds clipped x y ≡ (holds metal x y && in_halo plan.raster tile plan.spacing x y)
+metal_near plan metal clipped halo tile in_range bounds clip x y =
+    clip x y ∙ and_when (holds metal x y) (squares halo x y) (in_halo plan.raster tile plan.spacing x y) (λ h. bounds x y (in_range x y h))
+
+-- a copy of the rules, the metal within the halo, and the windows that touch the tile are its read set
+pub read_is_set : (rules copied : Values) (metal clipped low part : List Band) (tile : ℕ) → copied ≡ rules
+    → ((x y : ℤ) → holds clipped x y ≡ (holds metal x y && in_halo (plan_of rules).raster tile (plan_of rules).spacing x y))
+    → ((a b : ℕ) → windows_in part a b ≡ (windows_in low a b && touches (plan_of rules) tile a b))
+    → set_of copied (holds clipped) (windows_in part) ≡ read_set rules (holds metal) (windows_in low) tile
+read_is_set rules copied metal clipped low part tile same clip touched = λ k. record { rules = same k; metal = λ x y. clip x y k; low = λ a b. touched a b k }
