@@ -3,6 +3,12 @@ ghost use Rattle.fill_job.specs.Plans.{conflicts, in_window_of};
 ghost use Rattle.fill_job.specs.ReadSets.{touches};
 ghost use Rattle.fill_job.specs.steps.Worked.{worked, one_square, one_window};
 
+use crate::{Job, Proposal};
+use fill_base::{Place, Rect};
+use fill_region::Region;
+use fill_text::{Rules, read_rules};
+use std::alloc::{AllocError, Global};
+use std::process::Abort;
 use std::test::Fail;
 
 /// The box of place (0, 0) is that from (3, 3) to (7, 7): a square at (8, 8) is a gap of one away, one at (9, 9) a gap of two.
@@ -33,5 +39,185 @@ fn definitions_on_small_numbers(_rt: HostRuntime) -> Result<(), Fail> {
     corner_gaps();
     boxes_of_the_first_window();
     windows_of_tiles();
+    Ok(())
+}
+
+/// The rules but for the least gap to metal: boxes of 4 by 4 at steps of 10 in a frame of 100 by 100, and windows of 50 by 50
+/// at steps of 25.
+const OTHER_RULES: &str = "frame_x1,0
+frame_y1,0
+frame_x2,100
+frame_y2,100
+box_w,4
+box_h,4
+step_x,10
+step_y,10
+origin_x,3
+origin_y,3
+fill_spacing,2
+win_w,50
+win_h,50
+win_step_x,25
+win_step_y,25
+win_x,0
+win_y,0
+win_nx,3
+win_ny,3
+min,300000
+max,800000
+tile_nx,4
+tile_ny,4
+layer,7
+datatype,0
+fill_layer,10
+fill_datatype,1
+top,TOP
+fill_lib,FILL
+fill_cell,BOX4
+fill_top,FILLTOP
+";
+
+/// The rules with this least gap to metal.
+fn rules_with(alloc: Global, spacing: u32) -> Result<Rules, Fail> {
+    let text = format!(in alloc; "{OTHER_RULES}spacing,{spacing}\n")?;
+    Ok(read_rules(alloc, text.as_bytes())?)
+}
+
+/// The windows of these columns and rows.
+fn windows(alloc: Global, left: i64, bottom: i64, right: i64, top: i64) -> Result<Region, Fail> {
+    Ok(Region::one(alloc, &Rect::new(left, bottom, right, top)?)?)
+}
+
+/// The job of a tile that the rules have.
+fn job_at(
+    rt: &impl Abort,
+    alloc: Global,
+    version: u64,
+    tile: u32,
+    rules: &Rules,
+    metal: &Region,
+    low: &Region,
+) -> Result<Job, AllocError> {
+    if tile >= rules.raster().tiles() {
+        panic!(rt; "no tile {tile}");
+    }
+    Job::new(alloc, version, tile, rules, metal, low)
+}
+
+/// What the job proposes.
+fn proposed(rt: &impl Abort, alloc: Global, job: Job) -> Proposal {
+    let (version, tile) = (job.version(), job.tile());
+    let Ok(proposal) = job.propose(alloc) else {
+        panic!(rt; "memory was refused");
+    };
+    assert_eq!(rt; (proposal.version(), proposal.tile()), (version, tile));
+    assert_eq!(rt; proposal.marks().count(), proposal.count());
+    proposal
+}
+
+/// How many places of a tile are wanted.
+fn count_wanted(
+    rt: &impl Abort,
+    alloc: Global,
+    tile: u32,
+    rules: &Rules,
+    metal: &Region,
+    low: &Region,
+) -> Result<u32, AllocError> {
+    let job = job_at(rt, alloc, 7, tile, rules, metal, low)?;
+    Ok(proposed(rt, alloc, job).count())
+}
+
+/// Metal at both sides leaves the windows of the middle column low.
+#[test]
+fn partly_low_places(rt: HostRuntime) -> Result<(), Fail> {
+    let alloc = rt.alloc();
+    let rules = rules_with(alloc, 2)?;
+    let sides = [Rect::new(0, 0, 18, 100)?, Rect::new(82, 0, 100, 100)?];
+    let metal = Region::from_rects(alloc, &sides)?;
+    let low = windows(alloc, 1, 0, 2, 3)?;
+    for (tile, count) in [(0, 4), (1, 12), (2, 0)] {
+        let wanted = count_wanted(&rt, alloc, tile, &rules, &metal, &low)?;
+        assert_eq!(rt; wanted, count, "tile {tile}");
+    }
+    Ok(())
+}
+
+#[test]
+fn last_tile_of_an_empty_design(rt: HostRuntime) -> Result<(), Fail> {
+    let alloc = rt.alloc();
+    let rules = rules_with(alloc, 2)?;
+    let metal = Region::empty(alloc);
+    let all = windows(alloc, 0, 0, 3, 3)?;
+    let job = job_at(&rt, alloc, 0, 8, &rules, &metal, &all)?;
+    let proposal = proposed(&rt, alloc, job);
+    assert_eq!(rt; proposal.count(), 4);
+    for (i, j, wanted) in [
+        (8, 8, true),
+        (9, 8, true),
+        (8, 9, true),
+        (9, 9, true),
+        (7, 8, false),
+        (8, 7, false),
+        (10, 9, false),
+    ] {
+        assert_eq!(rt; proposal.has(Place { i, j }), wanted, "place {i}, {j}");
+        assert_eq!(rt;
+            proposal.marks().has(Place { i, j }),
+            wanted,
+            "mark {i}, {j}"
+        );
+    }
+    let none = Region::empty(alloc);
+    assert_eq!(rt; count_wanted(&rt, alloc, 8, &rules, &metal, &none)?, 0);
+    Ok(())
+}
+
+/// The box of place (0, 0) ends at 7, so a square at (7, 7) meets its corner, and one at (8, 8) is a gap of one away.
+#[test]
+fn metal_at_a_corner(rt: HostRuntime) -> Result<(), Fail> {
+    let alloc = rt.alloc();
+    let all = windows(alloc, 0, 0, 3, 3)?;
+    for (spacing, x, end, count) in [
+        (0, 7, 8, 16),
+        (0, 6, 7, 15),
+        (1, 7, 8, 15),
+        (1, 8, 9, 16),
+        (2, 8, 9, 15),
+        (2, 9, 10, 16),
+    ] {
+        let rules = rules_with(alloc, spacing)?;
+        let metal = Region::one(alloc, &Rect::new(x, x, end, end)?)?;
+        let wanted = count_wanted(&rt, alloc, 0, &rules, &metal, &all)?;
+        assert_eq!(rt; wanted, count, "spacing {spacing}, square at {x}");
+    }
+    Ok(())
+}
+
+/// The halo of tile 0 is that from 1 to 39, and the windows of column 2 begin at 50, to the right of its boxes.
+#[test]
+fn proposals_match_equal_read_sets(rt: HostRuntime) -> Result<(), Fail> {
+    let alloc = rt.alloc();
+    let rules = rules_with(alloc, 2)?;
+    let closer = rules_with(alloc, 1)?;
+    let metal = Region::one(alloc, &Rect::new(10, 10, 21, 20)?)?;
+    let far = Region::from_rects(
+        alloc,
+        &[Rect::new(10, 10, 21, 20)?, Rect::new(39, 0, 50, 50)?],
+    )?;
+    let near = Region::from_rects(
+        alloc,
+        &[Rect::new(10, 10, 21, 20)?, Rect::new(38, 0, 50, 50)?],
+    )?;
+    let all = windows(alloc, 0, 0, 3, 3)?;
+    let left = windows(alloc, 0, 0, 2, 2)?;
+    let first = windows(alloc, 0, 0, 1, 2)?;
+    let proposal = proposed(&rt, alloc, job_at(&rt, alloc, 4, 0, &rules, &metal, &all)?);
+    assert!(rt; proposal.matches(&job_at(&rt, alloc, 5, 0, &rules, &metal, &all)?));
+    assert!(rt; proposal.matches(&job_at(&rt, alloc, 5, 0, &rules, &far, &all)?));
+    assert!(rt; proposal.matches(&job_at(&rt, alloc, 5, 0, &rules, &metal, &left)?));
+    assert!(rt; !proposal.matches(&job_at(&rt, alloc, 4, 0, &rules, &near, &all)?));
+    assert!(rt; !proposal.matches(&job_at(&rt, alloc, 4, 0, &rules, &metal, &first)?));
+    assert!(rt; !proposal.matches(&job_at(&rt, alloc, 4, 0, &closer, &metal, &all)?));
     Ok(())
 }
