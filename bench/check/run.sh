@@ -1,5 +1,5 @@
 #!/usr/bin/env bash
-# Times the whole of `densfill check` on generated designs of 100,000, 1,000,000 and 4,000,000 copies of shapes, flat and
+# Times the whole of `densfill check` on generated designs of 100,000, 1,000,000 and 3,900,000 copies of shapes, flat and
 # in five levels, over 10,000 windows, beside the same algorithms in plain Rust (plain.rs), on one processor and on all.
 # Seconds are the best of three runs, peaks in MB those of the whole process. Where two reports differ in a byte, the run
 # fails; so the report of a flat design is compared with that of the deep one, too.
@@ -35,7 +35,7 @@ measure() {
 
 all=$(nproc)
 printf '%-6s %10s %10s %12s %8s %6s %12s %9s\n' form copies processors "densfill s" "plain s" ratio "densfill MB" "plain MB"
-[ $# -gt 0 ] || set -- 100000 1000000 4000000
+[ $# -gt 0 ] || set -- 100000 1000000 3900000
 for count in "$@"; do
     for form in flat deep; do
         python3 "$here/generate.py" "$count" "$form" "$work"
