@@ -9,3 +9,5 @@ pub mod Setting
 pub mod Points
 pub mod Marking
 pub mod RasterLaws
+pub mod Nearness
+pub mod Clearing

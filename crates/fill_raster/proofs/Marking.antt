@@ -131,7 +131,7 @@ none_marked b words n is n_is words_is = record {
     no_mark i j = rw (get_or-replicate-zero n (index_in b i j / 64), bit_at-zero (index_in b i j % 64)) (and_no (in_block b i j))
 
 -- the place where two numbers of each pair are equal
-int_both : (x y i j : ℤ) → int_eq x i && int_eq y j ≡ true → (x ≡ i) × (y ≡ j)
+pub int_both : (x y i j : ℤ) → int_eq x i && int_eq y j ≡ true → (x ≡ i) × (y ≡ j)
 int_both x y i j h = let p = and_parts _ _ h in ((Decides-int_eq x i).0 p.0, (Decides-int_eq y j).0 p.1)
 
 -- a place more is marked

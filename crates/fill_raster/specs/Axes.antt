@@ -1,6 +1,6 @@
 -- The places of a raster along one axis. Place `i`, any whole number, has a box of one length that begins `i` steps after the
 -- origin; the raster's places are those whose box lies within the frame.
-use Rattle.std.specs.Prelude.{ℕ, ◌*◌, ◌/◌, ◌≤◌, ℤ, pos, neg_ℤ, ◌+ℤ◌, ◌-ℤ◌, ◌*ℤ◌, ◌≤ℤ◌, ◌<ℤ◌, Bool, ◌&&◌, int_le}
+use Rattle.std.specs.Prelude.{ℕ, ◌*◌, ◌/◌, ◌≤◌, ℤ, pos, neg_ℤ, ◌+ℤ◌, ◌-ℤ◌, ◌*ℤ◌, ◌≤ℤ◌, ◌<ℤ◌, Bool, ◌&&◌, int_le, int_lt}
 use Rattle.std.specs.Int.{int_max, int_min, int_div_euclid, div_ceil}
 use Rattle.fill_base.specs.Coordinates.{lowest, highest, IsCoordinate}
 use Rattle.fill_base.specs.Counts.{span_len}
@@ -17,6 +17,10 @@ box_end a i = box_begin a i +ℤ a.length
 -- the box of the place lies within the frame
 abbrev pub is_on : Axis → ℤ → Bool
 is_on a i = int_le a.low (box_begin a i) && int_le (box_end a i) a.high
+
+-- and it shares a number with the range from `low` on and below `high`
+abbrev pub is_on_within : Axis → ℤ → ℤ → ℤ → Bool
+is_on_within a low high i = is_on a i && (int_lt low (box_end a i) && int_lt (box_begin a i) high)
 
 -- the least place of the raster, and the one past the last: the same where there is none
 unfoldable pub first : Axis → ℤ

@@ -3,7 +3,7 @@ use Rattle.std.specs.Prelude.{ℕ, ◌+◌, ◌*◌, ◌/◌, ◌%◌, ◌≤◌
 use Rattle.fill_base.specs.Counts.{is_between}
 use Rattle.fill_base.specs.declared.place.Point.{Point}
 use Rattle.fill_base.specs.declared.rect.Rect.{Rect}
-use Rattle.fill_raster.specs.Axes.{box_begin, box_end, is_on, extent, groups, group_of, group_begin, group_end, IsAxis, IsPitch}
+use Rattle.fill_raster.specs.Axes.{box_begin, box_end, is_on, is_on_within, extent, groups, group_of, group_begin, group_end, IsAxis, IsPitch}
 use Rattle.fill_raster.specs.declared.axis.Axis.{Axis}
 
 -- the columns of the places from left to right, and their rows upwards
@@ -22,6 +22,10 @@ lattice_of frame size step origin tile = record {
 -- the place is on the raster: its box lies within the frame
 abbrev pub in_raster : Lattice → ℤ → ℤ → Bool
 in_raster r i j = is_on r.across i && is_on r.up j
+
+-- the place is on the raster, and its box shares a square with the rectangle, grown by the spacing on all sides
+abbrev pub is_near : Lattice → Rect → ℤ → ℤ → ℤ → Bool
+is_near r rect spacing i j = is_on_within r.across (rect.x1 -ℤ spacing) (rect.x2 +ℤ spacing) i && is_on_within r.up (rect.y1 -ℤ spacing) (rect.y2 +ℤ spacing) j
 
 -- the box of the place holds the square
 abbrev pub box_squares : Lattice → ℤ → ℤ → ℤ → ℤ → Bool

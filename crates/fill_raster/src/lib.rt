@@ -8,6 +8,7 @@ mod bits;
 mod block;
 pub mod laws;
 mod marks;
+mod near;
 mod raster;
 
 pub use axis::Axis;

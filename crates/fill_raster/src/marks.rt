@@ -1,11 +1,11 @@
 //! Marks for the places of one tile.
-ghost use Rattle.std.specs.Prelude.{◌≡◌, ◌&&◌, ◌||◌, ◌<◌, ◌*◌, ◌≤◌, ℤ, true, false, IfOk};
+ghost use Rattle.std.specs.Prelude.{◌≡◌, ◌&&◌, ◌||◌, ◌<◌, ◌*◌, ◌≤◌, ℤ, true, false, not, IfOk};
 ghost use Rattle.std.specs.Ordering.{int_eq};
 ghost use Rattle.fill_raster.specs.Lattice as lattice;
 ghost use Rattle.fill_raster.specs.Lattice.{in_tile};
 ghost use Rattle.fill_raster.specs.Marks.{Marked, AreMarks, in_block, is_marked, count_marked};
 
-use crate::bits::{WORD, has_bit, set_bit};
+use crate::bits::{WORD, clear_bit, has_bit, set_bit};
 use crate::block::Block;
 use crate::raster::Raster;
 use fill_base::Place;
@@ -64,6 +64,19 @@ impl Marks {
         if !has_bit(&self.words, k) {
             set_bit(&mut self.words, k);
             self.count += 1;
+        }
+    }
+
+    /// Takes the mark off a place of the tile.
+    pub fn clear(&mut self, place: Place)
+        requires { in_block self.old.block place.i place.j ≡ true }
+        ensures block { self.new.block ≡ self.old.block }
+        ensures marked { (i j : ℤ) → is_marked self.new i j ≡ is_marked self.old i j && not (int_eq i place.i && int_eq j place.j) }
+    {
+        let k = self.block.index(place);
+        if has_bit(&self.words, k) {
+            clear_bit(&mut self.words, k);
+            self.count -= 1;
         }
     }
 

@@ -136,6 +136,22 @@ impl Raster {
         Ok(Raster { across, up })
     }
 
+    /// The columns of the places, from left to right.
+    pub(crate) fn across(&self) -> Axis
+        ensures value { result ≡ self.now.across }
+        ensures axis { IsAxis result }
+    {
+        self.across
+    }
+
+    /// The rows of the places, upwards.
+    pub(crate) fn up(&self) -> Axis
+        ensures value { result ≡ self.now.up }
+        ensures axis { IsAxis result }
+    {
+        self.up
+    }
+
     /// Whether a place is on the raster.
     pub fn has(&self, place: Place) -> bool
         ensures { result ≡ in_raster self.now place.i place.j }

@@ -106,6 +106,38 @@ fn halo_is_the_bounding_rectangle_grown_by_the_spacing(rt: HostRuntime) -> Resul
     Ok(())
 }
 
+/// Asserts the columns and the rows of the places near a rectangle.
+fn assert_near(
+    rt: &impl Abort,
+    raster: &Raster,
+    rect: &Rect,
+    spacing: i64,
+    columns: [i64; 2],
+    rows: [i64; 2],
+)
+    requires { IsSpacing spacing }
+{
+    let (i, j) = raster.near(rect, spacing);
+    assert_eq!(rt; [i.start, i.end], columns, "columns near {rect:?}");
+    assert_eq!(rt; [j.start, j.end], rows, "rows near {rect:?}");
+}
+
+/// A box begins at 23 and the one before ends at 17: a gap of two to 21 is far enough, one to 22 is not.
+#[test]
+fn places_near_a_rectangle(rt: HostRuntime) -> Result<(), Fail> {
+    let raster = full_raster(&rt);
+    let wire = Rect::new(10, 10, 21, 20)?;
+    assert_near(&rt, &raster, &wire, 2, [1, 2], [1, 2]);
+    let wider = Rect::new(10, 10, 22, 20)?;
+    assert_near(&rt, &raster, &wider, 2, [1, 3], [1, 2]);
+    assert_near(&rt, &raster, &wider, 0, [1, 2], [1, 2]);
+    let all = Rect::new(LOWEST, LOWEST, HIGHEST, HIGHEST)?;
+    assert_near(&rt, &raster, &all, 1_048_576, [0, 10], [0, 10]);
+    let (columns, _) = raster.near(&Rect::new(7, 0, 13, 9)?, 0);
+    assert!(rt; columns.is_empty());
+    Ok(())
+}
+
 #[test]
 fn zero_spacing_lets_boxes_touch(rt: HostRuntime) -> Result<(), Fail> {
     let frame = Rect::new(0, 0, 100, 100)?;
@@ -249,6 +281,15 @@ fn mark(rt: &impl Abort, marks: &mut Marks, i: i64, j: i64) {
     marks.set(place);
 }
 
+/// Takes the mark off a place of the tile.
+fn unmark(rt: &impl Abort, marks: &mut Marks, i: i64, j: i64) {
+    let place = Place { i, j };
+    if !marks.has_place(place) {
+        panic!(rt; "{place:?} is not of the tile");
+    }
+    marks.clear(place);
+}
+
 /// No place of a tile that the raster has.
 fn no_marks(
     rt: &impl Abort,
@@ -279,6 +320,11 @@ fn marks_of_the_last_tile(rt: HostRuntime) -> Result<(), Fail> {
     mark(&rt, &mut marks, 9, 9);
     mark(&rt, &mut marks, 8, 8);
     assert_eq!(rt; marks.count(), 4);
+    unmark(&rt, &mut marks, 9, 8);
+    unmark(&rt, &mut marks, 9, 8);
+    assert_eq!(rt; marks.count(), 3);
+    assert!(rt; !marks.has(Place { i: 9, j: 8 }));
+    assert!(rt; marks.has(Place { i: 8, j: 9 }));
     Ok(())
 }
 
