@@ -1,5 +1,5 @@
 //! The places of a raster whose boxes are near a rectangle.
-ghost use Rattle.std.specs.Prelude.{◌≡◌, ◌↔◌, ◌&&◌, ◌≤ℤ◌, ◌<ℤ◌, ◌+ℤ◌, ◌-ℤ◌, ℤ, pos, negsuc, int_lt};
+ghost use Rattle.std.specs.Prelude.{◌≡◌, ◌↔◌, ◌&&◌, ◌≤ℤ◌, ◌<ℤ◌, ◌+ℤ◌, ◌-ℤ◌, ℤ, pos, negsuc};
 ghost use Rattle.fill_base.specs.Counts.{is_between};
 ghost use Rattle.fill_base.specs.Limits.{IsSpacing};
 ghost use Rattle.fill_raster.specs.Axes.{IsAxis, box_begin, is_on_within};
