@@ -1,7 +1,8 @@
 //! The places of one tile that a job proposes to fill.
-ghost use Rattle.std.specs.Prelude.{◌≡◌, ◌↔◌, ℤ, IsTrue};
+ghost use Rattle.std.specs.Prelude.{◌≡◌, ◌↔◌, ◌<◌, ℤ, IsTrue};
+ghost use Rattle.fill_raster.specs.Lattice.{tiles};
 ghost use Rattle.fill_raster.specs.Marks.{count_marked, is_marked};
-ghost use Rattle.fill_job.specs.Basis.{read_by};
+ghost use Rattle.fill_job.specs.Basis.{plan_by, read_by};
 ghost use Rattle.fill_job.specs.ReadSets.{wanted_of};
 
 use crate::basis::Basis;
@@ -16,6 +17,7 @@ pub struct Proposal {
     pub(crate) tile: u32,
     pub(crate) basis: Basis,
     pub(crate) marks: Marks,
+    pub ghost exists: { tile < tiles (plan_by basis).raster },
     pub ghost marked: { (i j : ℤ) → is_marked marks i j ≡ wanted_of (read_by basis) tile i j },
 }
 

@@ -1,0 +1,6 @@
+pub mod Searches
+pub mod Keeping
+pub mod Replays
+pub mod Counts
+pub mod Sound
+pub mod Written

@@ -1,0 +1,101 @@
+-- What holds of every fill, whatever events came.
+use Rattle.std.specs.Prelude.{◌≡◌, ◌⊎◌, ◌↔◌, ℕ, ◌+◌, ◌*◌, ◌^◌, ◌≤◌, ℤ, ◌≤ℤ◌, true, ◌&&◌, ◌||◌, List, length, IsTrue, ⊤}
+use Rattle.fill_base.specs.Counts.{is_between}
+use Rattle.fill_base.specs.Squares.{area_between}
+use Rattle.fill_raster.specs.Lattice.{in_raster, box_squares}
+use Rattle.fill_size.specs.Distance.{InConflict}
+use Rattle.fill_job.specs.Plans.{Plan, IsPlan, PointSet, allowed, in_window_of, low_windows, plan_of, wanted}
+use Rattle.fill_core.specs.Accounts.{Account, IsKeeping, IsLegal, state_of, with_entry}
+use Rattle.fill_core.specs.Boxes.{count_places, total_in, with_boxes}
+use Rattle.fill_core.specs.Histories.{edits_in, placed_in, withdrawn_in}
+use Rattle.fill_core.specs.Machine.{State, IsComplete, opening, step, reply_of, replay, replies}
+use Rattle.fill_core.specs.Soundness.{IsSound}
+use Rattle.fill_core.specs.declared.event.Event.{Event}
+use Rattle.fill_core.specs.declared.event.Reply.{Reply}
+use Rattle.fill_core.specs.declared.event.Reply.TheVariants.{Placed, Stale, Already, Foreign, Withdrawn}
+
+-- every filled place may be filled
+abbrev pub FilledPlacesAreAllowed : Type 0
+FilledPlacesAreAllowed = (plan : Plan) (metal : PointSet) (events : List Event) (i j : ℤ) → let s = replay plan metal events in
+    s.fill i j ≡ true → (in_raster plan.raster i j ≡ true) × (allowed plan s.metal i j ≡ true)
+
+-- the boxes of two different places keep the fill spacing
+abbrev pub BoxesKeepTheFillSpacing : Type 0
+BoxesKeepTheFillSpacing = (plan : Plan) → IsPlan plan → (i j k l : ℤ) → ¬ ((i ≡ k) × (j ≡ l)) → ¬ InConflict (box_squares plan.raster i j) (box_squares plan.raster k l) plan.fill_spacing
+
+-- after any events the fill is sound
+abbrev pub ReplayIsSound : Type 0
+ReplayIsSound = (plan : Plan) (metal : PointSet) (events : List Event) → IsPlan plan → let s = replay plan metal events in IsSound plan s.metal s.fill (total_in plan s.metal s.fill)
+
+-- the replies that refuse
+abbrev pub IsRefusal : Reply → Type 0
+IsRefusal (Placed n) = ⊥
+IsRefusal (Stale at) = ⊤
+IsRefusal Already = ⊤
+IsRefusal Foreign = ⊤
+IsRefusal (Withdrawn n) = ⊥
+
+-- what is refused changes nothing, in any state
+abbrev pub RefusedChangesNothing : Type 0
+RefusedChangesNothing = (plan : Plan) (s : State) (e : Event) → IsRefusal (reply_of plan s e) → step plan s e ≡ s
+
+-- the filled places are those of the version's opening and the wanted ones of the tiles that are in
+abbrev pub FillIsThatOfItsTiles : Type 0
+FillIsThatOfItsTiles = (plan : Plan) (metal : PointSet) (events : List Event) (i j : ℤ) → let s = replay plan metal events in
+    (s.fill i j ≡ true) ↔ ((s.base i j ≡ true) ⊎ ((t : ℕ) × (s.tiles_in t ≡ true) × (wanted plan s.metal s.low t i j ≡ true)))
+
+-- the low windows are those of the version's opening, whatever has risen since
+abbrev pub LowIsThatOfTheOpening : Type 0
+LowIsThatOfTheOpening = (plan : Plan) (metal : PointSet) (events : List Event) → let s = replay plan metal events in s.low ≡ low_windows plan (with_boxes plan s.metal s.base)
+
+-- the first version's are those of the metal
+abbrev pub OpeningIsLowOfTheMetal : Type 0
+OpeningIsLowOfTheMetal = (plan : Plan) (metal : PointSet) → (opening plan metal).low ≡ low_windows plan metal
+
+-- once every tile is in, the fill is that of the version's opening and all allowed places wholly in a window that was low then
+abbrev pub CompleteFill : Type 0
+CompleteFill = (plan : Plan) (metal : PointSet) (events : List Event) → IsPlan plan → let s = replay plan metal events in
+    IsComplete plan s → s.fill ≡ (λ i j. s.base i j || (allowed plan s.metal i j && in_window_of plan s.low i j))
+
+-- the filled places are as many as were placed, less those taken out
+abbrev pub CountIsPlacedLessWithdrawn : Type 0
+CountIsPlacedLessWithdrawn = (plan : Plan) (metal : PointSet) (events : List Event) → let rs = replies plan metal events in
+    count_places plan.raster (replay plan metal events).fill + withdrawn_in rs ≡ placed_in rs
+
+-- no event places or takes out more places than a raster may have
+abbrev pub SumsAreBounded : Type 0
+SumsAreBounded = (plan : Plan) (metal : PointSet) (events : List Event) → IsPlan plan → let rs = replies plan metal events in
+    (placed_in rs ≤ 16777216 * length events) × (withdrawn_in rs ≤ 16777216 * length events)
+
+-- the version is the number of edits
+abbrev pub VersionCountsEdits : Type 0
+VersionCountsEdits = (plan : Plan) (metal : PointSet) (events : List Event) → (replay plan metal events).version ≡ length (edits_in events)
+
+-- metal with boxes is the metal and the squares of the boxes of filled places
+abbrev pub BoxesAreOfPlaces : Type 0
+BoxesAreOfPlaces = (plan : Plan) (metal fill : PointSet) → IsPlan plan → ((i j : ℤ) → fill i j ≡ true → in_raster plan.raster i j ≡ true)
+    → (x y : ℤ) → IsTrue (with_boxes plan metal fill x y) ↔ ((metal x y ≡ true) ⊎ ((i j : ℤ) × (fill i j ≡ true) × (box_squares plan.raster i j x y ≡ true)))
+
+-- a set that lies in a part of a rectangle may be counted in the part
+pub record IsPart (left bottom right top a b c d : ℤ) : Type 0 where
+  pub from_left : left ≤ℤ a
+  pub columns : a ≤ℤ c
+  pub to_right : c ≤ℤ right
+  pub from_bottom : bottom ≤ℤ b
+  pub rows : b ≤ℤ d
+  pub to_top : d ≤ℤ top
+
+abbrev pub CountedInAPart : Type 0
+CountedInAPart = (p : PointSet) (left bottom right top a b c d : ℤ) → IsPart left bottom right top a b c d
+    → ((x y : ℤ) → p x y ≡ true → is_between a c x && is_between b d y ≡ true) → area_between p left bottom right top ≡ area_between p a b c d
+
+-- one more entry is one more step, and where its reply is that of its event the replies stay those of the replay
+abbrev pub EntryIsAStep : Type 0
+EntryIsAStep = (a : Account) (e : Event) (reply : Reply) → state_of (with_entry a e reply) ≡ step (plan_of a.rules) (state_of a) e
+
+abbrev pub AnswersStayLegal : Type 0
+AnswersStayLegal = (a : Account) (e : Event) (reply : Reply) → IsLegal a → reply ≡ reply_of (plan_of a.rules) (state_of a) e → IsLegal (with_entry a e reply)
+
+-- an account keeps all that is said of every book, where its replies are those of the replay and its history has room
+abbrev pub LegalAccountsKeep : Type 0
+LegalAccountsKeep = (a : Account) → IsPlan (plan_of a.rules) → IsLegal a → length a.history ≤ a.most → a.most ≤ 2 ^ 32 → IsKeeping a

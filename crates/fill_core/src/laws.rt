@@ -1,0 +1,83 @@
+//! What holds of every fill, whatever events came. Each function's contract is the law.
+ghost use Rattle.fill_core.specs.Laws.{AnswersStayLegal, BoxesAreOfPlaces, BoxesKeepTheFillSpacing, CompleteFill, CountIsPlacedLessWithdrawn, CountedInAPart, EntryIsAStep, FillIsThatOfItsTiles, FilledPlacesAreAllowed, LegalAccountsKeep, LowIsThatOfTheOpening, OpeningIsLowOfTheMetal, RefusedChangesNothing, ReplayIsSound, SumsAreBounded, VersionCountsEdits};
+
+/// After any events each filled place is on the raster and its box keeps the spacing to the metal.
+pub fn filled_places_are_allowed()
+    ensures { FilledPlacesAreAllowed }
+{}
+
+/// The boxes of two different places keep the fill spacing to one another.
+pub fn boxes_keep_the_fill_spacing()
+    ensures { BoxesKeepTheFillSpacing }
+{}
+
+/// After any events the fill is sound, with the totals of the definition.
+pub fn replay_is_sound()
+    ensures { ReplayIsSound }
+{}
+
+/// `Stale`, `Already` and `Foreign` change nothing, in any state.
+pub fn refused_changes_nothing()
+    ensures { RefusedChangesNothing }
+{}
+
+/// After any events the filled places are those of the version's opening and the wanted ones of the tiles that are in.
+pub fn fill_is_that_of_its_tiles()
+    ensures { FillIsThatOfItsTiles }
+{}
+
+/// The low windows stay those of the version's opening, also where they have risen since.
+pub fn low_is_that_of_the_opening()
+    ensures { LowIsThatOfTheOpening }
+{}
+
+/// The low windows of the first version are those of the metal alone.
+pub fn opening_is_low_of_the_metal()
+    ensures { OpeningIsLowOfTheMetal }
+{}
+
+/// Once every tile is in, the fill is that of the version's opening and exactly all places that may be filled and whose box
+/// lies wholly in a window that was low then.
+pub fn complete_fill()
+    ensures { CompleteFill }
+{}
+
+/// There are as many filled places as were placed, less those that were taken out.
+pub fn count_is_placed_less_withdrawn()
+    ensures { CountIsPlacedLessWithdrawn }
+{}
+
+/// No event places or takes out more than 2^24 places.
+pub fn sums_are_bounded()
+    ensures { SumsAreBounded }
+{}
+
+/// The version is the number of edits.
+pub fn version_counts_edits()
+    ensures { VersionCountsEdits }
+{}
+
+/// Metal with boxes is the metal and the squares of the boxes of filled places, and nothing else.
+pub fn boxes_are_of_places()
+    ensures { BoxesAreOfPlaces }
+{}
+
+/// A set that lies in a part of a rectangle may be counted in the part, as the places of one tile.
+pub fn counted_in_a_part()
+    ensures { CountedInAPart }
+{}
+
+/// A book's state after one more entry of its history is the next one.
+pub fn entry_is_a_step()
+    ensures { EntryIsAStep }
+{}
+
+/// A history whose replies are those of its replay stays so, where each reply is written that its event gives.
+pub fn answers_stay_legal()
+    ensures { AnswersStayLegal }
+{}
+
+/// Whatever has a legal history under rules that make a plan keeps all that is said of every book.
+pub fn legal_accounts_keep()
+    ensures { LegalAccountsKeep }
+{}
