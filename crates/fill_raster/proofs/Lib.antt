@@ -9,3 +9,4 @@ pub mod Setting
 pub mod Points
 pub mod Marking
 pub mod RasterLaws
+pub mod Searching
