@@ -11,3 +11,4 @@ pub mod Marking
 pub mod RasterLaws
 pub mod Nearness
 pub mod Clearing
+pub mod Searching

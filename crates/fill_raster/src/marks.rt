@@ -1,5 +1,5 @@
 //! Marks for the places of one tile.
-ghost use Rattle.std.specs.Prelude.{◌≡◌, ◌&&◌, ◌||◌, ◌<◌, ◌*◌, ◌≤◌, ℤ, true, false, not, IfOk};
+ghost use Rattle.std.specs.Prelude.{◌≡◌, ◌&&◌, ◌||◌, ◌<◌, ◌*◌, ◌≤◌, ℤ, ◌≤ℤ◌, ◌<ℤ◌, true, false, not, IfOk, IfSome, IfNone};
 ghost use Rattle.std.specs.Ordering.{int_eq};
 ghost use Rattle.fill_raster.specs.Lattice as lattice;
 ghost use Rattle.fill_raster.specs.Lattice.{in_tile};
@@ -85,6 +85,21 @@ impl Marks {
         ensures { result ≡ is_marked self.now place.i place.j }
     {
         self.block.has(place) && has_bit(&self.words, self.block.index(place))
+    }
+
+    /// The first column from the place's on, in the place's row of the tile, that is marked, or that is not, as `marked` asks.
+    pub fn first_from(&self, place: Place, marked: bool) -> Option<i64>
+        requires { in_block self.now.block place.i place.j ≡ true }
+        ensures found { IfSome result (λ i. place.i ≤ℤ i × (in_block self.now.block i place.j ≡ true) × (is_marked self.now i place.j ≡ marked)) }
+        ensures before { IfSome result (λ i. (k : ℤ) → place.i ≤ℤ k → k <ℤ i → is_marked self.now k place.j ≡ not marked) }
+        ensures none { IfNone result ((k : ℤ) → place.i ≤ℤ k → in_block self.now.block k place.j ≡ true → is_marked self.now k place.j ≡ not marked) }
+    {
+        for i in place.i..self.block.right {
+            if self.has(Place { i, j: place.j }) == marked {
+                return Some(i);
+            }
+        }
+        None
     }
 
     /// How many places are marked.

@@ -5,7 +5,7 @@ ghost use Rattle.fill_base.specs.Coordinates.{lowest, highest, IsCoordinate, IsI
 ghost use Rattle.fill_base.specs.Counts.{is_between};
 ghost use Rattle.fill_base.specs.Limits.{IsLength, IsSpacing};
 ghost use Rattle.fill_base.specs.Squares.{squares};
-ghost use Rattle.fill_raster.specs.Axes.{IsAxis, IsGroup, box_begin, box_end, groups};
+ghost use Rattle.fill_raster.specs.Axes.{IsAxis, IsGroup, box_begin, box_end, first, past, groups};
 ghost use Rattle.fill_raster.specs.Lattice as spec;
 ghost use Rattle.fill_raster.specs.Marks.{IsBlock, in_block};
 ghost use Rattle.fill_raster.specs.Lattice.{Lattice, IsLattice, KeepsPitch, HasFewPlaces, lattice_of, in_raster, in_tile, in_halo, box_squares, tile_left, tile_bottom, tile_right, tile_top};
@@ -136,7 +136,7 @@ impl Raster {
         Ok(Raster { across, up })
     }
 
-    /// The columns of the places, from left to right.
+    /// The axis of the columns.
     pub(crate) fn across(&self) -> Axis
         ensures value { result ≡ self.now.across }
         ensures axis { IsAxis result }
@@ -144,12 +144,28 @@ impl Raster {
         self.across
     }
 
-    /// The rows of the places, upwards.
+    /// The axis of the rows.
     pub(crate) fn up(&self) -> Axis
         ensures value { result ≡ self.now.up }
         ensures axis { IsAxis result }
     {
         self.up
+    }
+
+    /// The columns of the places, from left to right.
+    pub fn columns(&self) -> Range<i64>
+        ensures first { result.start ≡ first self.now.across }
+        ensures past { result.end ≡ past self.now.across }
+    {
+        self.across.first()..self.across.past()
+    }
+
+    /// The rows of the places, upwards.
+    pub fn rows(&self) -> Range<i64>
+        ensures first { result.start ≡ first self.now.up }
+        ensures past { result.end ≡ past self.now.up }
+    {
+        self.up.first()..self.up.past()
     }
 
     /// Whether a place is on the raster.

@@ -328,6 +328,34 @@ fn marks_of_the_last_tile(rt: HostRuntime) -> Result<(), Fail> {
     Ok(())
 }
 
+/// The first column from this place on, in its row of the tile, that is marked or not, as asked.
+fn column_from(rt: &impl Abort, marks: &Marks, i: i64, j: i64, marked: bool) -> Option<i64> {
+    let place = Place { i, j };
+    if !marks.has_place(place) {
+        panic!(rt; "no place {place:?} of the tile");
+    }
+    marks.first_from(place, marked)
+}
+
+#[test]
+fn marked_and_unmarked_columns_of_a_row(rt: HostRuntime) -> Result<(), Fail> {
+    let raster = full_raster(&rt);
+    assert_eq!(rt; [raster.columns().start, raster.columns().end], [0, 10]);
+    assert_eq!(rt; [raster.rows().start, raster.rows().end], [0, 10]);
+    // Tile 4 has columns and rows 4 to 7.
+    let mut marks = no_marks(&rt, rt.alloc(), &raster, 4)?;
+    assert_eq!(rt; column_from(&rt, &marks, 4, 5, true), None);
+    mark(&rt, &mut marks, 5, 5);
+    mark(&rt, &mut marks, 6, 5);
+    mark(&rt, &mut marks, 4, 6);
+    assert_eq!(rt; column_from(&rt, &marks, 4, 5, true), Some(5));
+    assert_eq!(rt; column_from(&rt, &marks, 6, 5, true), Some(6));
+    assert_eq!(rt; column_from(&rt, &marks, 7, 5, true), None);
+    assert_eq!(rt; column_from(&rt, &marks, 4, 5, false), Some(4));
+    assert_eq!(rt; column_from(&rt, &marks, 5, 5, false), Some(7));
+    Ok(())
+}
+
 #[test]
 fn marks_of_more_places_than_a_word_has_bits(rt: HostRuntime) -> Result<(), Fail> {
     let frame = Rect::new(0, 0, 13, 5)?;

@@ -1,5 +1,5 @@
 -- The numbers make a grid of windows exactly where the test of them says so.
-use Rattle.std.proofs.Common.{negsuc, Fits, w32, if◌then◌else◌, ◌↔◌, ◌≡◌, ◌≤◌, ◌*◌, ◌-◌, ℕ, ℤ, pos, ◌+ℤ◌, ◌*ℤ◌, ◌≤ℤ◌, Bool, true, false, Result, Ok, Err, Some, None, IsOk, IfOk, arith, refl, inl, inr}
+use Rattle.std.proofs.Common.{negsuc, Fits, w32, if◌then◌else◌, ◌↔◌, ◌≡◌, ◌≤◌, ◌*◌, ◌-◌, ℕ, ℤ, pos, ◌≤ℤ◌, Bool, true, false, Result, Ok, Err, Some, None, IsOk, IfOk, arith, refl, inl, inr}
 use Rattle.std.specs.Prelude.{int_le, nat_le, unsigned_abs}
 use Rattle.std.specs.Int.{IsNonNegative}
 use Rattle.std.specs.Result.{result_ok}

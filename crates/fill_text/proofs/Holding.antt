@@ -1,7 +1,8 @@
 -- The entries hold what the records that were read give each key, and a record adds its own.
-use Rattle.std.proofs.Common.{◌≡◌, ◌∙◌, ◌<◌, ◌+◌, ◌==◌, ℕ, ℤ, Bool, true, false, List, [], ◌∷◌, ◌++◌, length, get_or, set, cond, Option, Some, None, option_map, Result, Ok, Err, ap, sym, subst, refl, lit<}
-use Rattle.std.specs.Prelude.{bytes_eq, find, is_some, ok_or, if◌then◌else◌}
+use Rattle.std.proofs.Common.{◌≡◌, ◌⊎◌, inl, inr, ◌∙◌, ◌<◌, ◌+◌, ◌==◌, ℕ, ℤ, Bool, true, false, List, [], ◌∷◌, ◌++◌, length, get_or, set, cond, Option, Some, None, option_map, Result, Ok, Err, ap, sym, subst, refl, lit<}
+use Rattle.std.specs.Prelude.{IfSome, bytes_eq, find, is_some, ok_or, if◌then◌else◌}
 use Rattle.std.specs.Option.{option_or}
+use Rattle.std.proofs.lemmas.Bool.{cases_eq}
 use Rattle.std.proofs.lemmas.List.{get_or-set_same, get_or-set_other, length-set}
 use Rattle.std.proofs.lemmas.List.Folds.{find-append}
 use Rattle.fill_base.specs.Sequence.{◌>>=◌}
@@ -16,7 +17,7 @@ use Rattle.fill_text.specs.declared.keys.TextKey.{TextKey}
 use Rattle.fill_text.specs.declared.keys.TextKey.TheVariants as text
 use Rattle.fill_text.specs.declared.rule_error.RuleError.{RuleError}
 use Rattle.fill_text.specs.declared.rule_error.RuleError.TheVariants.{BadNumber, BadRow, BadRule}
-use Rattle.fill_text.specs.steps.Entries.{AreRanged, Found, is_found, new_key, nothing_found, number_found, ranged_number, take_number, take_row, take_text, take_value, text_found, text_index}
+use Rattle.fill_text.specs.steps.Entries.{AreAllowed, AreRanged, Found, is_found, new_key, nothing_found, number_found, ranged_number, take_number, take_row, take_text, take_value, text_found, text_index}
 use Rattle.fill_text.proofs.Names.{another_name, its_name, same_key}
 use Rattle.fill_text.proofs.KeyNames.{index_below, same_index}
 use Rattle.fill_text.proofs.Ranges.{in_range_facts, nothing_here, set_ranged}
@@ -31,6 +32,7 @@ pub record Holds (found : Found) (before : List (List (List ℕ))) : Type 0 wher
   pub numbers : Hold Number (λ key. (number_rule key).index) number_of found.numbers before
   pub texts : Hold Text text_index Some found.texts before
   pub ranged : AreRanged found.numbers
+  pub allowed : AreAllowed found.texts
 
 pub nothing_held : Holds nothing_found []
 nothing_held = record {
@@ -39,8 +41,15 @@ nothing_held = record {
   numbers = λ key. let none = nothing_here key in rw none refl;
   texts = λ key. nothing key;
   ranged = λ key. let none = nothing_here key in rw none tt;
+  allowed = λ key. none_allowed key;
 }
   where
+    none_allowed : (key : TextKey) → IfSome (text_found nothing_found.texts key) (λ word. is_text key word ≡ true)
+    none_allowed text.Top = tt
+    none_allowed text.FillLib = tt
+    none_allowed text.FillCell = tt
+    none_allowed text.FillTop = tt
+
     nothing : (key : TextKey) → option_map Some (word_for (Text key) []) ≡ option_map Some (text_found nothing_found.texts key)
     nothing text.Top = refl
     nothing text.FillLib = refl
@@ -119,22 +128,24 @@ number_held found before fields key n held named fresh written within = record {
       (subst (λ count. (number_rule key).index < count) (sym held.many) (index_below key)) (λ a b e. cc e) same_index;
   texts = still_hold Text text_index Some found.texts before fields (Number key) held.texts named (λ k e. cc e);
   ranged = set_ranged found.numbers key n held.ranged (in_range_facts key n within);
+  allowed = held.allowed;
 }
 
 text_at : ℕ → TextKey
 text_at i = get_or all_text_keys i text.Top
 
 text_held : (found : Found) (before : List (List (List ℕ))) (fields : List (List ℕ)) (key : TextKey)
-    → Holds found before → key_named (get_or fields 0 []) ≡ Some (Text key) → word_for (Text key) before ≡ None
+    → Holds found before → key_named (get_or fields 0 []) ≡ Some (Text key) → word_for (Text key) before ≡ None → is_text key (get_or fields 1 []) ≡ true
     → Holds (record found { texts = set found.texts (text_index key) (Some (get_or fields 1 [])) }) (before ++ fields ∷ [])
 unfolding text_at
-text_held found before fields key held named fresh = record {
+text_held found before fields key held named fresh this = record {
   many = held.many;
   four = length-set found.texts (text_index key) (Some (get_or fields 1 [])) ∙ held.four;
   numbers = still_hold Number (λ key. (number_rule key).index) number_of found.numbers before fields (Text key) held.numbers named (λ k e. cc e);
   texts = one_more_held Text text_index Some found.texts before fields key (get_or fields 1 []) held.texts named fresh refl
-      (subst (λ count. text_index key < count) (sym held.four) (below key)) (λ a b e. cc e) (λ a b e. sym (at a) ∙ ap text_at e ∙ at b);
+      (subst (λ count. text_index key < count) (sym held.four) (below key)) (λ a b e. cc e) same_text;
   ranged = held.ranged;
+  allowed = λ other. by other (cases_eq (text_index other) (text_index key));
 }
   where
     at : (key : TextKey) → text_at (text_index key) ≡ key
@@ -148,6 +159,14 @@ text_held found before fields key held named fresh = record {
     below text.FillLib = lit< tt
     below text.FillCell = lit< tt
     below text.FillTop = lit< tt
+
+    same_text : (a b : TextKey) → text_index a ≡ text_index b → a ≡ b
+    same_text a b e = sym (at a) ∙ ap text_at e ∙ at b
+
+    by : (other : TextKey) → (text_index other ≡ text_index key) ⊎ (text_index other ≡ text_index key → ⊥)
+        → IfSome (text_found (set found.texts (text_index key) (Some (get_or fields 1 []))) other) (λ word. is_text other word ≡ true)
+    by other (inl e) = rw (same_text other key e, get_or-set_same found.texts (text_index key) (Some (get_or fields 1 [])) None (subst (λ count. text_index key < count) (sym held.four) (below key))) this
+    by other (inr differ) = rw (get_or-set_other found.texts (text_index key) (text_index other) (Some (get_or fields 1 [])) None differ) (held.allowed other)
 
 -- a step that is refused with this fault, or takes the records so far
 abbrev pub Takes : Option RuleError → Result Found RuleError → List (List (List ℕ)) → Type 0
@@ -179,7 +198,7 @@ value_taken found before fields line (Text key) held named fresh = by (is_text k
   where
     by : (b : Bool) → is_text key (get_or fields 1 []) ≡ b
         → Takes (fault_unless b (BadRule (Text key))) (if b then Ok (record found { texts = set found.texts (text_index key) (Some (get_or fields 1 [])) }) else Err (BadRule (Text key))) (before ++ fields ∷ [])
-    by true allowed = (record found { texts = set found.texts (text_index key) (Some (get_or fields 1 [])) }, refl, text_held found before fields key held named fresh)
+    by true allowed = (record found { texts = set found.texts (text_index key) (Some (get_or fields 1 [])) }, refl, text_held found before fields key held named fresh allowed)
     by false allowed = refl
 
 -- what taking a record does: it is refused with its fault, or adds its word

@@ -1,6 +1,6 @@
 -- The numbers make a raster exactly where the tests of them say so.
-use Rattle.std.proofs.Common.{negsuc, Fits, FitsSigned, w32, w64, ◌↔◌, ◌≡◌, ◌≤◌, ◌+◌, ℕ, ℤ, pos, ◌+ℤ◌, ◌≤ℤ◌, Bool, true, false, Result, Ok, Err, IsOk, IfOk, if◌then◌else◌, arith, refl, inl, inr, sym, ◌∙◌, ap}
-use Rattle.std.specs.Prelude.{int_le, nat_le, unsigned_abs}
+use Rattle.std.proofs.Common.{negsuc, Fits, FitsSigned, w32, w64, ◌≡◌, ℕ, ℤ, pos, ◌≤ℤ◌, Bool, true, false, Ok, Err, if◌then◌else◌, arith, refl, inl, inr, sym}
+use Rattle.std.specs.Prelude.{unsigned_abs}
 use Rattle.std.specs.Int.{IsNonNegative}
 use Rattle.std.proofs.lemmas.Bool.{cases_Bool}
 use Rattle.std.proofs.lemmas.Int.{ints}
@@ -10,10 +10,7 @@ use Rattle.fill_base.specs.Sides.{Sides}
 use Rattle.fill_base.proofs.Signed.{read, read_is, coordinate_fits}
 use Rattle.fill_raster.specs.Axes.{IsGroup}
 use Rattle.fill_raster.specs.Lattice.{Lattice, KeepsPitch, HasFewPlaces, places}
-use Rattle.fill_raster.specs.declared.raster.RasterError.{RasterError}
-use Rattle.fill_raster.specs.declared.raster.RasterError.TheVariants as raster
 use Rattle.fill_text.specs.Rasters.{keeps_pitch, has_few_places, raster_with}
-use Rattle.fill_text.specs.declared.rule_error.RuleError.{RuleError}
 use Rattle.fill_text.specs.declared.rule_error.RuleError.TheVariants.{BadPitch, TooManyPlaces}
 use Rattle.fill_text.proofs.GridTests.{int_le_true, int_le_facts, nat_le_true, nat_le_facts}
 use Rattle.fill_text.proofs.Rectangles.{both}

@@ -1,5 +1,5 @@
 -- The density windows that the rules ask for.
-use Rattle.std.specs.Prelude.{ℕ, ◌-◌, ◌*◌, ℤ, pos, ◌+ℤ◌, ◌*ℤ◌, ◌&&◌, Bool, Option, Some, None, int_le, nat_le, if◌then◌else◌}
+use Rattle.std.specs.Prelude.{ℕ, ◌-◌, ◌*◌, ℤ, pos, ◌&&◌, Bool, Option, Some, None, int_le, nat_le, if◌then◌else◌}
 use Rattle.fill_area.specs.Axes.{axis_end}
 use Rattle.fill_area.specs.Grid.{Grid}
 use Rattle.fill_area.specs.declared.axis.Axis.{Axis}

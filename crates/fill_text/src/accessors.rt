@@ -1,5 +1,5 @@
 //! The value of each rule. Lengths, gaps and coordinates are in database units.
-ghost use Rattle.std.specs.Prelude.{◌≡◌};
+ghost use Rattle.std.specs.Prelude.{◌≡◌, true};
 ghost use Rattle.fill_base.specs.Sides.{sides_of};
 ghost use Rattle.fill_raster.specs.Lattice.{KeepsPitch};
 ghost use Rattle.fill_text.specs.Keys.{IsWithin};
@@ -269,21 +269,24 @@ impl Rules {
 
     /// The name of the fill library, 1 to 32 of A-Z a-z 0-9 _ ? $.
     pub fn fill_lib(&self) -> &[u8]
-        ensures { result.now ≡ (values_of self.now).fill_lib }
+        ensures value { result.now ≡ (values_of self.now).fill_lib }
+        ensures allowed { spec.is_fill_name result.now ≡ true }
     {
         &self.texts.fill_lib
     }
 
     /// The name of the cell of one fill box, 1 to 32 of A-Z a-z 0-9 _ ? $.
     pub fn fill_cell(&self) -> &[u8]
-        ensures { result.now ≡ (values_of self.now).fill_cell }
+        ensures value { result.now ≡ (values_of self.now).fill_cell }
+        ensures allowed { spec.is_fill_name result.now ≡ true }
     {
         &self.texts.fill_cell
     }
 
     /// The name of the fill library's top cell, another one, 1 to 32 of A-Z a-z 0-9 _ ? $.
     pub fn fill_top(&self) -> &[u8]
-        ensures { result.now ≡ (values_of self.now).fill_top }
+        ensures value { result.now ≡ (values_of self.now).fill_top }
+        ensures allowed { spec.is_fill_name result.now ≡ true }
     {
         &self.texts.fill_top
     }

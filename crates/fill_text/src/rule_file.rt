@@ -109,7 +109,8 @@ fn checked(numbers: Numbers, texts: Texts) -> Result<Rules, RuleError>
 /// The rules that were found, none of which may miss.
 #[tactic(auto, unfolding(crate::specs::steps::Entries::all_values))]
 fn rules_found(entries: Entries) -> Result<Rules, RuleError>
-    requires { step.AreRanged (found_in entries).numbers }
+    requires numbers { step.AreRanged (found_in entries).numbers }
+    requires texts { step.AreAllowed (found_in entries).texts }
     ensures { seen values_of result ≡ step.rules_found (found_in entries) }
 {
     let numbers = Numbers::new(entries.all_numbers()?);

@@ -1,10 +1,11 @@
 //! The rules that a rule file gives: a number or a text for each key.
-ghost use Rattle.std.specs.Prelude.{◌≡◌, ◌≤ℤ◌, ◌↔◌, IfOk, IsTrue, unsigned_abs};
+ghost use Rattle.std.specs.Prelude.{◌≡◌, ◌≤ℤ◌, ◌↔◌, true, false, bytes_eq, IfOk, IsTrue, unsigned_abs};
 ghost use Rattle.fill_base.specs.Sides.{sides_of};
 ghost use Rattle.fill_raster.specs.Lattice.{KeepsPitch};
 ghost use Rattle.fill_text.specs.Keys.{number_rule};
 ghost use Rattle.fill_text.specs.Rules as spec;
 ghost use Rattle.fill_text.specs.declared.keys.NumberKey.{NumberKey};
+ghost use Rattle.fill_text.specs.declared.keys.TextKey.TheVariants as TextKey;
 
 use crate::keys::{NUMBER_COUNT, NumberKey};
 use fill_area::Windows;
@@ -77,6 +78,10 @@ pub struct Texts {
     pub fill_cell: Vec<u8>,
     /// The name of the fill library's top cell.
     pub fill_top: Vec<u8>,
+    pub ghost top_allowed: { spec.is_text TextKey.Top top.items ≡ true },
+    pub ghost fill_lib_allowed: { spec.is_text TextKey.FillLib fill_lib.items ≡ true },
+    pub ghost fill_cell_allowed: { spec.is_text TextKey.FillCell fill_cell.items ≡ true },
+    pub ghost fill_top_allowed: { spec.is_text TextKey.FillTop fill_top.items ≡ true },
 }
 
 /// The rules of a check and a fill: the value of each key of a rule file, and the frame, the windows and the raster that
@@ -96,6 +101,7 @@ pub struct Rules {
     pub ghost windowed: { windows ≡ spec.windows_of numbers.values },
     pub ghost placed: { raster ≡ spec.raster_of numbers.values },
     pub ghost pitched: { KeepsPitch (spec.raster_of numbers.values) (spec.number_in numbers.values NumberKey.FillSpacing) },
+    pub ghost apart: { bytes_eq texts.fill_top.items texts.fill_cell.items ≡ false },
     pub ghost framed: { sides_of frame ≡ spec.frame_of numbers.values },
 }
 

@@ -1,6 +1,6 @@
 -- How a rule file is read: what each record adds to the entries, and what the entries then give. This serves the private
 -- functions; what a rule file says is `rules_of`.
-use Rattle.std.specs.Prelude.{◌≤ℤ◌, IfSome, ℕ, ℤ, ◌==◌, Bool, List, [], ◌∷◌, ◌++◌, length, get_or, map, replicate, slice_set, Option, Some, None, option_map, ok_or, is_some, Result, Ok, Err, bytes_eq, int_lt, if◌then◌else◌}
+use Rattle.std.specs.Prelude.{◌≡◌, true, ◌≤ℤ◌, IfSome, ℕ, ℤ, ◌==◌, Bool, List, [], ◌∷◌, ◌++◌, length, get_or, map, replicate, slice_set, Option, Some, None, option_map, ok_or, is_some, Result, Ok, Err, bytes_eq, int_lt, if◌then◌else◌}
 use Rattle.fill_base.specs.Sequence.{◌>>=◌}
 use Rattle.fill_text.specs.RectTests.{rect_with}
 use Rattle.fill_text.specs.Grids.{grid_with}
@@ -45,6 +45,10 @@ number_found numbers key = get_or numbers (number_rule key).index None
 -- each number that was found is in its key's range
 abbrev pub AreRanged : List (Option ℤ) → Type 0
 AreRanged numbers = (key : NumberKey) → IfSome (number_found numbers key) (λ n. ((number_rule key).low ≤ℤ n) × (n ≤ℤ (number_rule key).high))
+
+-- each text that was found is one that its key allows
+abbrev pub AreAllowed : List (Option (List ℕ)) → Type 0
+AreAllowed texts = (key : TextKey) → IfSome (text_found texts key) (λ word. is_text key word ≡ true)
 
 -- the key has stood in a record
 abbrev pub is_found : Found → Key → Bool

@@ -10,6 +10,7 @@ pub invariant_of-result : goal.invariant_of-result
 invariant_of-result c = record {
   windowed = grid_with_same _ _ (rw c.in_ok-windows.ensures.ok_part at c.windows_in.ensures);
   placed = (raster_same _ _ _ (sym c.in_ok-raster.was ∙ c.raster_in.ensures)).0;
+  apart = sym c.eq.ensures ∙ c.if-eq.false;
   pitched = (raster_same _ _ _ (sym c.in_ok-raster.was ∙ c.raster_in.ensures)).1;
   framed = rect_with_same _ _ (rw c.in_ok-frame.ensures.ok_part at c.frame_in.ensures);
 }

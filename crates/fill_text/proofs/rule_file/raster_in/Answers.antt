@@ -1,6 +1,6 @@
 use Rattle.std.proofs.Common.{◌≡◌, ◌∙◌, Err, ap, refl, rules}
 use Rattle.fill_base.proofs.Signed.{read, read_is}
-use Rattle.fill_text.specs.Rules.{number_in, raster_of}
+use Rattle.fill_text.specs.Rules.{number_in}
 use Rattle.fill_text.specs.declared.keys.NumberKey.TheVariants.{BoxW, BoxH, StepX, StepY, OriginX, OriginY, FillSpacing, TileNx, TileNy}
 use Rattle.fill_text.proofs.RasterTests.{coordinate_in, is_group, kept_as, lattices_same, length_in, pitch_as, places_as, spacing_in}
 use Rattle.fill_text.proofs.rule_file.raster_in.Goals as goal

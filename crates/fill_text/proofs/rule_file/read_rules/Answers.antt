@@ -37,8 +37,11 @@ loop-row-preserved c =
     let (good, holds) = row_added _ _ before (fields_of c.in_ok-row.row) _ held count c.in_ok-take_row.ensures in
     (_, more, then, one_more record_fault _ before _ more (rw this at sound) good, holds, length_push before (fields_of c.in_ok-row.row) ∙ omega (arith, count), omega (arith, g.2, below))
 
-pub rules_found-requires : goal.rules_found-requires
-rules_found-requires c = c.loop-row.invariant.4.ranged
+pub rules_found-requires-clause-numbers : goal.rules_found-requires-clause-numbers
+rules_found-requires-clause-numbers c = c.loop-row.invariant.4.ranged
+
+pub rules_found-requires-clause-texts : goal.rules_found-requires-clause-texts
+rules_found-requires-clause-texts c = c.loop-row.invariant.4.allowed
 
 pub returns : goal.returns
 returns c =
