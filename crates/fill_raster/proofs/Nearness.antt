@@ -15,7 +15,7 @@ use Rattle.fill_raster.specs.Lattice.{Lattice, is_near}
 use Rattle.fill_raster.specs.Axes.{box_begin, box_end, is_on, is_on_within, first, past, IsAxis}
 use Rattle.fill_raster.specs.declared.axis.Axis.{Axis}
 use Rattle.fill_raster.proofs.Floors.{floor_within, within_floor, floor_bounds}
-use Rattle.fill_raster.proofs.Ranges.{on_range, both}
+use Rattle.fill_raster.proofs.Ranges.{on_range, both, first_past}
 use Rattle.fill_raster.proofs.Reading.{axis_read, first_read, past_read}
 
 -- the number of steps to `z`, rounded down
@@ -89,8 +89,26 @@ pub record Begins (a : Axis) (z n : ℤ) : Type 0 where
   pub below : (i : ℤ) → i <ℤ n → box_begin a i ≤ℤ z
   pub above : (i : ℤ) → box_begin a i ≤ℤ z → i <ℤ n
 
-pub near_range : (a : Axis) (low high m n : ℤ) → IsAxis a → Begins a (low -ℤ a.length) m → Begins a (high -ℤ pos 1) n
-    → (i : ℤ) → is_between (int_max (first a) m) (int_min (past a) n) i ≡ is_on_within a low high i
+-- the first place of the range, and the one past the last
+abbrev start_of : Axis → ℤ → ℤ
+start_of a m = int_min (past a) (int_max (first a) m)
+
+abbrev end_of : Axis → ℤ → ℤ → ℤ
+end_of a m n = int_max (start_of a m) (int_min (past a) n)
+
+pub record IsPartOf (a : Axis) (x y : ℤ) : Type 0 where
+  pub least : first a ≤ℤ x
+  pub ordered : x ≤ℤ y
+  pub most : y ≤ℤ past a
+
+near_part : (a : Axis) (m n : ℤ) → IsPartOf a (start_of a m) (end_of a m n)
+near_part a m n = let h = part (first a) (past a) m n (first_past a) in record { least = h.0; ordered = h.1; most = h.2 }
+  where
+    part : (f p m n : ℤ) → f ≤ℤ p → (f ≤ℤ int_min p (int_max f m)) × (int_min p (int_max f m) ≤ℤ int_max (int_min p (int_max f m)) (int_min p n)) × (int_max (int_min p (int_max f m)) (int_min p n) ≤ℤ p)
+    part f p m n h = (omega (arith, ints, clamps), omega (arith, ints, clamps), omega (arith, ints, clamps))
+
+near_range : (a : Axis) (low high m n : ℤ) → IsAxis a → Begins a (low -ℤ a.length) m → Begins a (high -ℤ pos 1) n
+    → (i : ℤ) → is_between (start_of a m) (end_of a m n) i ≡ is_on_within a low high i
 near_range a low high m n is before behind i = both _ _
     (λ h. let b = is_between_bounds _ _ i h in let p = parts (first a) (past a) m n i b.0 b.1 in
     and_from _ _ (on_range a i is.step_is.least ∙ is_between_true _ _ i p.0 p.1)
@@ -100,10 +118,10 @@ near_range a low high m n is before behind i = both _ _
     let q = whole (first a) (past a) m n i on.0 on.1 (from m i (λ k. not_ended (box_begin a i) low a.length (is_lt _ _ near.0) (before.below i k))) (behind.above i (begun_before _ high (is_lt _ _ near.1))) in
     is_between_true _ _ i q.0 q.1)
   where
-    parts : (f p m n i : ℤ) → int_max f m ≤ℤ i → i <ℤ int_min p n → (f ≤ℤ i) × (i <ℤ p) × (m ≤ℤ i) × (i <ℤ n)
+    parts : (f p m n i : ℤ) → int_min p (int_max f m) ≤ℤ i → i <ℤ int_max (int_min p (int_max f m)) (int_min p n) → (f ≤ℤ i) × (i <ℤ p) × (m ≤ℤ i) × (i <ℤ n)
     parts f p m n i h k = (omega (arith, ints, clamps), omega (arith, ints, clamps), omega (arith, ints, clamps), omega (arith, ints, clamps))
 
-    whole : (f p m n i : ℤ) → f ≤ℤ i → i <ℤ p → m ≤ℤ i → i <ℤ n → (int_max f m ≤ℤ i) × (i <ℤ int_min p n)
+    whole : (f p m n i : ℤ) → f ≤ℤ i → i <ℤ p → m ≤ℤ i → i <ℤ n → (int_min p (int_max f m) ≤ℤ i) × (i <ℤ int_max (int_min p (int_max f m)) (int_min p n))
     whole f p m n i a b c d = (omega (arith, ints, clamps), omega (arith, ints, clamps))
 
     not_below : (m i : ℤ) → m ≤ℤ i → i <ℤ m → ⊥
@@ -150,18 +168,25 @@ BeginsAt a z n = (i : ℤ) → (i <ℤ n → box_begin a i ≤ℤ z) × (box_beg
 begins_at : (a : Axis) (z y n : ℤ) → y ≡ z → BeginsAt a y n → Begins a z n
 begins_at a z y n e h = record { below = λ i k. rw e at ((h i).0 k); above = λ i k. (h i).1 (rw e k) }
 
-pub near_reckoned : (a : Axis) (low high f p m n x y : ℤ) → IsAxis a → negsuc 1074790399 ≤ℤ low → low <ℤ high → high ≤ℤ pos 1074790400 → FitsSigned w64 m → FitsSigned w64 n
+pub record IsNearRange (a : Axis) (low high x y : ℤ) : Type 0 where
+  pub part : IsPartOf a x y
+  pub places : (i : ℤ) → is_between x y i ≡ is_on_within a low high i
+
+pub near_reckoned : (a : Axis) (low high f p m n k x z y : ℤ) → IsAxis a → negsuc 1074790399 ≤ℤ low → low <ℤ high → high ≤ℤ pos 1074790400 → FitsSigned w64 m → FitsSigned w64 n
     → f ≡ first a → p ≡ past a → BeginsAt a (read (read low -ℤ read a.length)) m → BeginsAt a (read (read high -ℤ pos 1)) n
-    → x ≡ int_max (read f) (read m) → y ≡ int_min (read p) (read n) → FitsSigned w64 x → FitsSigned w64 y
-    → (i : ℤ) → is_between (read x) (read y) i ≡ is_on_within a low high i
-near_reckoned a low high f p m n x y is least ordered most m_fits n_fits f_is p_is before behind x_is y_is x_fits y_fits i =
+    → k ≡ int_max (read f) (read m) → x ≡ int_min (read p) (read k) → z ≡ int_min (read p) (read n) → y ≡ int_max (read x) (read z) → FitsSigned w64 k → FitsSigned w64 x → FitsSigned w64 z → FitsSigned w64 y
+    → IsNearRange a low high (read x) (read y)
+near_reckoned a low high f p m n k x z y is least ordered most m_fits n_fits f_is p_is before behind k_is x_is z_is y_is k_fits x_fits z_fits y_fits =
     let r = axis_read a is in
     let low_most = low_below low high ordered most in
     let high_least = high_above low high ordered least in
     let e : read (read low -ℤ read a.length) ≡ low -ℤ a.length = rw (read_is low (fits_edge low least low_most), r.length_is) (read_is _ (fits_below low a.length least low_most is.length_is)) in
     let g : read (read high -ℤ pos 1) ≡ high -ℤ pos 1 = rw (read_is high (fits_edge high high_least most)) (read_is _ (fits_before high high_least most)) in
-    let h = near_range a low high m n is (begins_at a (low -ℤ a.length) _ m e before) (begins_at a (high -ℤ pos 1) _ n g behind) i in
-    rw (read_is x x_fits, read_is y y_fits, x_is, y_is, read_is m m_fits, read_is n n_fits, f_is, p_is, first_read a is, past_read a is) h
+    let first_is : read f ≡ first a = rw f_is (first_read a is) in
+    let past_is : read p ≡ past a = rw p_is (past_read a is) in
+    let starts : read x ≡ start_of a m = read_is x x_fits ∙ (x_is ∙ rw (past_is, read_is k k_fits, k_is, first_is, read_is m m_fits) refl) in
+    let ends : read y ≡ end_of a m n = read_is y y_fits ∙ (y_is ∙ rw (starts, read_is z z_fits, z_is, past_is, read_is n n_fits) refl) in
+    rw (starts, ends) (record { part = near_part a m n; places = near_range a low high m n is (begins_at a (low -ℤ a.length) _ m e before) (begins_at a (high -ℤ pos 1) _ n g behind) })
 
 -- the edges of a rectangle, grown by a spacing
 pub record GrownRead (low high spacing : ℤ) : Type 0 where

@@ -2,7 +2,7 @@
 ghost use Rattle.std.specs.Prelude.{◌≡◌, ◌↔◌, ◌&&◌, ◌≤ℤ◌, ◌<ℤ◌, ◌+ℤ◌, ◌-ℤ◌, ℤ, pos, negsuc};
 ghost use Rattle.fill_base.specs.Counts.{is_between};
 ghost use Rattle.fill_base.specs.Limits.{IsSpacing};
-ghost use Rattle.fill_raster.specs.Axes.{IsAxis, box_begin, is_on_within};
+ghost use Rattle.fill_raster.specs.Axes.{IsAxis, box_begin, first, is_on_within, past};
 ghost use Rattle.fill_raster.specs.Lattice.{is_near};
 
 use crate::axis::Axis;
@@ -27,11 +27,15 @@ impl Axis {
         requires least { negsuc 1074790399 ≤ℤ low }
         requires ordered { low <ℤ high }
         requires most { high ≤ℤ pos 1074790400 }
-        ensures { (i : ℤ) → is_between result.start result.end i ≡ is_on_within self low high i }
+        ensures least { first self ≤ℤ result.start }
+        ensures ordered { result.start ≤ℤ result.end }
+        ensures most { result.end ≤ℤ past self }
+        ensures places { (i : ℤ) → is_between result.start result.end i ≡ is_on_within self low high i }
     {
         let before = self.begun(low - self.length);
-        let past = self.begun(high - 1);
-        self.first().max(before)..self.past().min(past)
+        let behind = self.begun(high - 1);
+        let start = self.past().min(self.first().max(before));
+        start..start.max(self.past().min(behind))
     }
 }
 
@@ -41,7 +45,10 @@ impl Raster {
     /// these are the places whose box shares a square with the rectangle.
     pub fn near(&self, rect: &Rect, spacing: i64) -> (Range<i64>, Range<i64>)
         requires { IsSpacing spacing }
-        ensures { (i j : ℤ) → (is_between result.0.start result.0.end i && is_between result.1.start result.1.end j) ≡ is_near self.now rect.now spacing i j }
+        ensures least { (first self.now.across ≤ℤ result.0.start) × (first self.now.up ≤ℤ result.1.start) }
+        ensures ordered { (result.0.start ≤ℤ result.0.end) × (result.1.start ≤ℤ result.1.end) }
+        ensures most { (result.0.end ≤ℤ past self.now.across) × (result.1.end ≤ℤ past self.now.up) }
+        ensures places { (i j : ℤ) → (is_between result.0.start result.0.end i && is_between result.1.start result.1.end j) ≡ is_near self.now rect.now spacing i j }
     {
         let columns = self.across().near(rect.x1() - spacing, rect.x2() + spacing);
         let rows = self.up().near(rect.y1() - spacing, rect.y2() + spacing);
