@@ -4,3 +4,4 @@ pub mod Replays
 pub mod Counts
 pub mod Sound
 pub mod Written
+pub mod Calling

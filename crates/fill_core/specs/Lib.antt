@@ -6,3 +6,5 @@ pub mod Accounts
 pub mod Shares
 pub mod Tiles
 pub mod Laws
+pub mod Callers
+pub mod RunLaws
