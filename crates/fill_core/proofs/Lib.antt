@@ -5,3 +5,4 @@ pub mod Counts
 pub mod Sound
 pub mod Written
 pub mod Calling
+pub mod Working

@@ -8,3 +8,4 @@ pub mod Tiles
 pub mod Laws
 pub mod Callers
 pub mod RunLaws
+pub mod steps
