@@ -4,3 +4,5 @@ pub mod Replays
 pub mod Counts
 pub mod Sound
 pub mod Written
+pub mod Calling
+pub mod Working

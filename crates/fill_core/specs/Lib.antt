@@ -6,3 +6,6 @@ pub mod Accounts
 pub mod Shares
 pub mod Tiles
 pub mod Laws
+pub mod Callers
+pub mod RunLaws
+pub mod steps

@@ -1,5 +1,6 @@
 //! What holds of every fill, whatever events came. Each function's contract is the law.
 ghost use Rattle.fill_core.specs.Laws.{AnswersStayLegal, BoxesAreOfPlaces, BoxesKeepTheFillSpacing, CompleteFill, CountIsPlacedLessWithdrawn, CountedInAPart, EntryIsAStep, FillIsThatOfItsTiles, FilledPlacesAreAllowed, LegalAccountsKeep, LowIsThatOfTheOpening, OpeningIsLowOfTheMetal, RefusedChangesNothing, ReplayIsSound, SumsAreBounded, VersionCountsEdits};
+ghost use Rattle.fill_core.specs.RunLaws.{AcceptedMarksAreWanted, OwnProposalIsPlaced, RefusedCommitChangesNothing, RunIsAReplay, RunIsSound, StaleChangesNothing};
 
 /// After any events each filled place is on the raster and its box keeps the spacing to the metal.
 pub fn filled_places_are_allowed()
@@ -80,4 +81,35 @@ pub fn answers_stay_legal()
 /// Whatever has a legal history under rules that make a plan keeps all that is said of every book.
 pub fn legal_accounts_keep()
     ensures { LegalAccountsKeep }
+{}
+
+/// In every interleaving of callers' steps the state is the replay of the commits and edits, so every law of replays holds.
+pub fn run_is_a_replay()
+    ensures { RunIsAReplay }
+{}
+
+/// In every interleaving the fill is sound after every step.
+pub fn run_is_sound()
+    ensures { RunIsSound }
+{}
+
+/// A proposal of another version than the book's is answered `Stale` and changes nothing, whatever the callers hold.
+pub fn stale_changes_nothing()
+    ensures { StaleChangesNothing }
+{}
+
+/// Nor does any other commit that is refused.
+pub fn refused_commit_changes_nothing()
+    ensures { RefusedCommitChangesNothing }
+{}
+
+/// In every interleaving a proposal that was looked up on this book and is committed at its version, while its tile isn't in, is
+/// answered `Placed`, and never `Foreign`.
+pub fn own_proposal_is_placed()
+    ensures { OwnProposalIsPlaced }
+{}
+
+/// In every interleaving the marks of an accepted proposal, also of one of another book, are the places wanted now.
+pub fn accepted_marks_are_wanted()
+    ensures { AcceptedMarksAreWanted }
 {}
