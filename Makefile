@@ -27,4 +27,5 @@ bench: build
 	bench/rects/run.sh
 	bench/gds/run.sh
 	bench/layer/run.sh
+	bench/job/run.sh
 	bench/check/run.sh

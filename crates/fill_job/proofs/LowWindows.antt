@@ -136,6 +136,14 @@ suitable_is plan metal low i j r a b is e1 e2 e3 e4 clear held =
     let within = both_or_none b (in_window_of plan (windows_in low) i j) (λ h. at.1 (held.0 h)) (λ h. held.1 (at.0 h)) in
     rw (free, within) refl
 
+-- and where the box is too near to the metal, whatever the windows are
+pub unsuitable_is : (plan : Plan) (metal low : List Band) (i j : ℤ) (r : Rect) (a : Bool) → IsSpacing plan.spacing
+    → r.x1 ≡ box_begin plan.raster.across i → r.y1 ≡ box_begin plan.raster.up j → r.x2 ≡ box_end plan.raster.across i → r.y2 ≡ box_end plan.raster.up j
+    → (IsTrue a ↔ ¬ InConflict (holds metal) (squares r) plan.spacing) → a ≡ false → a ≡ is_suitable plan (holds metal) (windows_in low) i j
+unsuitable_is plan metal low i j r a is e1 e2 e3 e4 clear off =
+    let free = opposite a (conflicts plan (holds metal) i j) clear (conflicts_is plan (holds metal) i j r is e1 e2 e3 e4) in
+    rw (← free, off) refl
+
 -- ---- equal read sets
 
 all_false : (low : List Band) (x y : ℤ) → (holds low x y ≡ true → (pos 0 ≤ℤ x) × (pos 0 ≤ℤ y)) → (x <ℤ pos 0 ⊎ y <ℤ pos 0) → holds low x y ≡ false

@@ -48,7 +48,7 @@ impl Basis {
         ensures { result ≡ is_suitable (plan_by self.now) (holds self.now.metal) (windows_in self.now.low) place.i place.j }
     {
         let rect = self.rules.raster().box_of(place);
-        is_clear(&self.metal, &rect, self.rules.spacing()) & self.is_in_low(&rect)
+        is_clear(&self.metal, &rect, self.rules.spacing()) && self.is_in_low(&rect)
     }
 
     /// Marks the suitable places of a part of a row of the raster.

@@ -1,0 +1,145 @@
+//! The same work as `job.rt.txt` without proofs, for the benchmark alone: each tile's job has the metal of its halo and the low
+//! windows near it, and marks the wanted places by a clearance search for each.
+#[path = "../sweep.rs"]
+mod sweep;
+
+use std::collections::HashMap;
+use std::sync::Mutex;
+use std::time::Instant;
+use sweep::{first_not, from_rects, is_clear, Bands, Rect};
+
+/// The numbers of the rules.
+struct Rules {
+    frame: i32,
+    side: i32,
+    step: i32,
+    spacing: i32,
+    tile: i32,
+    window: i32,
+    window_step: i32,
+    windows: i32,
+}
+
+impl Rules {
+    fn read(path: &str) -> Rules {
+        let text = std::fs::read_to_string(path).expect("the rules");
+        let pair = |line: &str| line.split_once(',').map(|(key, value)| (key.to_string(), value.to_string()));
+        let values: HashMap<String, String> = text.lines().filter_map(pair).collect();
+        let key = |name: &str| values[name].parse::<i32>().expect("a number");
+        Rules {
+            frame: key("frame_x2"),
+            side: key("box_w"),
+            step: key("step_x"),
+            spacing: key("spacing"),
+            tile: key("tile_nx"),
+            window: key("win_w"),
+            window_step: key("win_step_x"),
+            windows: key("win_nx"),
+        }
+    }
+
+    /// How many places a row has.
+    fn places(&self) -> i32 {
+        (self.frame - self.side) / self.step + 1
+    }
+
+    /// The windows of one axis that hold the range.
+    fn containing(&self, low: i32, high: i32) -> (i32, i32) {
+        let first = (high - self.window + self.window_step - 1).div_euclid(self.window_step);
+        (first.max(0), (low.div_euclid(self.window_step) + 1).min(self.windows))
+    }
+}
+
+/// The part of the region in a rectangle.
+fn clip(bands: &Bands, to: &Rect) -> Bands {
+    let mut part: Bands = Vec::new();
+    let first = first_not(bands, |band| band.0 <= to.y1).saturating_sub(1);
+    for band in bands[first..].iter().take_while(|band| band.0 < to.y2) {
+        let begin = first_not(&band.1, |edge| *edge <= to.x1);
+        let end = first_not(&band.1, |edge| *edge < to.x2);
+        let mut row = Vec::with_capacity(end - begin + 2);
+        row.extend((begin % 2 == 1).then_some(to.x1));
+        row.extend_from_slice(&band.1[begin..end]);
+        row.extend((end % 2 == 1).then_some(to.x2));
+        if part.last().map_or(!row.is_empty(), |last| last.1 != row) {
+            part.push((band.0.max(to.y1), row));
+        }
+    }
+    if part.last().is_some_and(|last| !last.1.is_empty()) {
+        part.push((to.y2, Vec::new()));
+    }
+    part
+}
+
+/// Marks the wanted places of a tile, and counts them.
+fn propose(rules: &Rules, metal: &Bands, low: &[bool], tile: i32) -> usize {
+    let across = (rules.places() + rules.tile - 1) / rules.tile;
+    let (left, bottom) = (tile % across * rules.tile, tile / across * rules.tile);
+    let right = rules.places().min(left + rules.tile);
+    let top = rules.places().min(bottom + rules.tile);
+    let edge = |k: i32| k * rules.step;
+    let halo = Rect {
+        x1: edge(left) - rules.spacing,
+        y1: edge(bottom) - rules.spacing,
+        x2: edge(right - 1) + rules.side + rules.spacing,
+        y2: edge(top - 1) + rules.side + rules.spacing,
+    };
+    let metal = clip(metal, &halo);
+    let places = ((right - left) * (top - bottom)) as usize;
+    let mut marks = vec![0u64; places.div_ceil(64)];
+    let mut count = 0;
+    for j in bottom..top {
+        for i in left..right {
+            let place = Rect { x1: edge(i), y1: edge(j), x2: edge(i) + rules.side, y2: edge(j) + rules.side };
+            if !is_clear(&metal, &place, rules.spacing) {
+                continue;
+            }
+            let (first, past) = rules.containing(place.x1, place.x2);
+            let (lowest, above) = rules.containing(place.y1, place.y2);
+            let mut rows = lowest..above;
+            if rows.any(|b| (first..past).any(|a| low[(b * rules.windows + a) as usize])) {
+                let k = ((j - bottom) * (right - left) + i - left) as usize;
+                marks[k / 64] |= 1 << (k % 64);
+                count += 1;
+            }
+        }
+    }
+    std::hint::black_box(&marks);
+    count
+}
+
+/// How many places are wanted: tiles are taken one by one by each processor.
+fn count_all(rules: &Rules, metal: &Bands) -> usize {
+    let low = vec![true; (rules.windows * rules.windows) as usize];
+    let across = (rules.places() + rules.tile - 1) / rules.tile;
+    let (tiles, total) = (Mutex::new(0..across * across), Mutex::new(0));
+    let threads = std::thread::available_parallelism().map_or(1, |n| n.get());
+    std::thread::scope(|scope| {
+        for _ in 0..threads {
+            scope.spawn(|| loop {
+                let Some(tile) = tiles.lock().unwrap().next() else { break };
+                let count = propose(rules, metal, &low, tile);
+                *total.lock().unwrap() += count;
+            });
+        }
+    });
+    total.into_inner().unwrap()
+}
+
+fn read(path: &str) -> Vec<Rect> {
+    let bytes = std::fs::read(path).expect("the file");
+    let number = |b: &[u8]| i32::from_le_bytes([b[0], b[1], b[2], b[3]]);
+    let rect = |b: &[u8]| Rect { x1: number(b), y1: number(&b[4..]), x2: number(&b[8..]), y2: number(&b[12..]) };
+    bytes.chunks_exact(16).map(rect).collect()
+}
+
+fn main() {
+    let paths: Vec<String> = std::env::args().skip(1).collect();
+    let metal = from_rects(&read(&paths[0]));
+    for path in &paths[1..] {
+        let rules = Rules::read(path);
+        let start = Instant::now();
+        let wanted = count_all(&rules, &metal);
+        println!("{path} {wanted} {}", start.elapsed().as_micros());
+    }
+}
