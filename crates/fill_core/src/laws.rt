@@ -1,5 +1,5 @@
 //! What holds of every fill, whatever events came. Each function's contract is the law.
-ghost use Rattle.fill_core.specs.Laws.{AnswersStayLegal, BoxesAreOfPlaces, BoxesKeepTheFillSpacing, CompleteFill, CountIsPlacedLessWithdrawn, CountedInAPart, EntryIsAStep, FillIsThatOfItsTiles, FilledPlacesAreAllowed, LegalAccountsKeep, LowIsThatOfTheOpening, OpeningIsLowOfTheMetal, RefusedChangesNothing, ReplayIsSound, SumsAreBounded, VersionCountsEdits};
+ghost use Rattle.fill_core.specs.Laws.{AnswersStayLegal, BoxesAreOfPlaces, BoxesKeepTheFillSpacing, CompleteFill, CountIsPlacedLessWithdrawn, CountedInAPart, EntryIsAStep, FillIsThatOfItsTiles, FilledPlacesAreAllowed, LegalAccountsKeep, LowIsThatOfTheOpening, NextTileIsFirst, NoNextTileWhereAllAreIn, OpeningIsLowOfTheMetal, RefusedChangesNothing, ReplayIsSound, SumsAreBounded, VersionCountsEdits};
 ghost use Rattle.fill_core.specs.RunLaws.{AcceptedMarksAreWanted, OwnProposalIsPlaced, RefusedCommitChangesNothing, RunIsAReplay, RunIsSound, StaleChangesNothing};
 
 /// After any events each filled place is on the raster and its box keeps the spacing to the metal.
@@ -112,4 +112,14 @@ pub fn own_proposal_is_placed()
 /// In every interleaving the marks of an accepted proposal, also of one of another book, are the places wanted now.
 pub fn accepted_marks_are_wanted()
     ensures { AcceptedMarksAreWanted }
+{}
+
+/// The next tile is the first one that isn't in, from a tile on and round past the last one.
+pub fn next_tile_is_first()
+    ensures { NextTileIsFirst }
+{}
+
+/// There is no next tile exactly where every tile is in.
+pub fn no_next_tile_where_all_are_in()
+    ensures { NoNextTileWhereAllAreIn }
 {}
