@@ -7,3 +7,4 @@ pub mod Written
 pub mod Calling
 pub mod Working
 pub mod Searched
+pub mod Unedited

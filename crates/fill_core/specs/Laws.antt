@@ -1,5 +1,5 @@
 -- What holds of every fill, whatever events came.
-use Rattle.std.specs.Prelude.{◌≡◌, ◌⊎◌, ◌↔◌, ℕ, ◌+◌, ◌*◌, ◌^◌, ◌<◌, ◌≤◌, ℤ, ◌≤ℤ◌, Bool, true, ◌&&◌, ◌||◌, List, length, IsTrue, ⊤, None, Some}
+use Rattle.std.specs.Prelude.{◌≡◌, ◌⊎◌, ◌↔◌, ℕ, ◌+◌, ◌*◌, ◌^◌, ◌<◌, ◌≤◌, ℤ, ◌≤ℤ◌, Bool, true, ◌&&◌, ◌||◌, List, [], length, IsTrue, ⊤, None, Some}
 use Rattle.fill_base.specs.Counts.{is_between}
 use Rattle.fill_base.specs.Squares.{area_between}
 use Rattle.fill_raster.specs.Lattice.{in_raster, box_squares}
@@ -57,6 +57,11 @@ OpeningIsLowOfTheMetal = (plan : Plan) (metal : PointSet) → (opening plan meta
 abbrev pub CompleteFill : Type 0
 CompleteFill = (plan : Plan) (metal : PointSet) (events : List Event) → IsPlan plan → let s = replay plan metal events in
     IsComplete plan s → s.fill ≡ (λ i j. s.base i j || (allowed plan s.metal i j && in_window_of plan s.low i j))
+
+-- without edits, that is what may be filled in windows that are low in the metal alone: the same in whatever order the tiles came
+abbrev pub CompleteFillWithoutEdits : Type 0
+CompleteFillWithoutEdits = (plan : Plan) (metal : PointSet) (events : List Event) → IsPlan plan → edits_in events ≡ [] → let s = replay plan metal events in
+    IsComplete plan s → s.fill ≡ (λ i j. allowed plan metal i j && in_window_of plan (low_windows plan metal) i j)
 
 -- the filled places are as many as were placed, less those taken out
 abbrev pub CountIsPlacedLessWithdrawn : Type 0

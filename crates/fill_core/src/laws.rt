@@ -1,5 +1,5 @@
 //! What holds of every fill, whatever events came. Each function's contract is the law.
-ghost use Rattle.fill_core.specs.Laws.{AnswersStayLegal, BoxesAreOfPlaces, BoxesKeepTheFillSpacing, CompleteFill, CountIsPlacedLessWithdrawn, CountedInAPart, EntryIsAStep, FillIsThatOfItsTiles, FilledPlacesAreAllowed, LegalAccountsKeep, LowIsThatOfTheOpening, NextTileIsFirst, NoNextTileWhereAllAreIn, OpeningIsLowOfTheMetal, RefusedChangesNothing, ReplayIsSound, SumsAreBounded, VersionCountsEdits};
+ghost use Rattle.fill_core.specs.Laws.{AnswersStayLegal, BoxesAreOfPlaces, BoxesKeepTheFillSpacing, CompleteFill, CompleteFillWithoutEdits, CountIsPlacedLessWithdrawn, CountedInAPart, EntryIsAStep, FillIsThatOfItsTiles, FilledPlacesAreAllowed, LegalAccountsKeep, LowIsThatOfTheOpening, NextTileIsFirst, NoNextTileWhereAllAreIn, OpeningIsLowOfTheMetal, RefusedChangesNothing, ReplayIsSound, SumsAreBounded, VersionCountsEdits};
 ghost use Rattle.fill_core.specs.RunLaws.{AcceptedMarksAreWanted, OwnProposalIsPlaced, RefusedCommitChangesNothing, RunIsAReplay, RunIsSound, StaleChangesNothing};
 
 /// After any events each filled place is on the raster and its box keeps the spacing to the metal.
@@ -41,6 +41,12 @@ pub fn opening_is_low_of_the_metal()
 /// lies wholly in a window that was low then.
 pub fn complete_fill()
     ensures { CompleteFill }
+{}
+
+/// Without edits, a complete fill is exactly the places that may be filled and whose box lies wholly in a window that is low in
+/// the metal: one set, in whatever order the tiles came.
+pub fn complete_fill_without_edits()
+    ensures { CompleteFillWithoutEdits }
 {}
 
 /// There are as many filled places as were placed, less those that were taken out.
