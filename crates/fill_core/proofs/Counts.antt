@@ -27,7 +27,7 @@ use Rattle.fill_core.specs.declared.event.Event.TheVariants as event
 -- ---- one event
 
 -- a set in two parts that share nothing
-count_parts : (r : Lattice) (p q h : PointSet) → ((i j : ℤ) → cond (h i j) 1 0 ≡ cond (p i j) 1 0 + cond (q i j) 1 0) → count_places r h ≡ count_places r p + count_places r q
+pub count_parts : (r : Lattice) (p q h : PointSet) → ((i j : ℤ) → cond (h i j) 1 0 ≡ cond (p i j) 1 0 + cond (q i j) 1 0) → count_places r h ≡ count_places r p + count_places r q
 count_parts r p q h each =
     sum_between_add (λ j. count_between (λ i. p i j) (first r.across) (past r.across)) (λ j. count_between (λ i. q i j) (first r.across) (past r.across)) (λ j. count_between (λ i. h i j) (first r.across) (past r.across))
     (first r.up) (past r.up)

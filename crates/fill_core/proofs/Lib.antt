@@ -6,3 +6,5 @@ pub mod Sound
 pub mod Written
 pub mod Calling
 pub mod Working
+pub mod Searched
+pub mod Unedited

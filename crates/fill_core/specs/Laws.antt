@@ -1,5 +1,5 @@
 -- What holds of every fill, whatever events came.
-use Rattle.std.specs.Prelude.{◌≡◌, ◌⊎◌, ◌↔◌, ℕ, ◌+◌, ◌*◌, ◌^◌, ◌≤◌, ℤ, ◌≤ℤ◌, true, ◌&&◌, ◌||◌, List, length, IsTrue, ⊤}
+use Rattle.std.specs.Prelude.{◌≡◌, ◌⊎◌, ◌↔◌, ℕ, ◌+◌, ◌*◌, ◌^◌, ◌<◌, ◌≤◌, ℤ, ◌≤ℤ◌, Bool, true, ◌&&◌, ◌||◌, List, [], length, IsTrue, ⊤, None, Some}
 use Rattle.fill_base.specs.Counts.{is_between}
 use Rattle.fill_base.specs.Squares.{area_between}
 use Rattle.fill_raster.specs.Lattice.{in_raster, box_squares}
@@ -10,6 +10,7 @@ use Rattle.fill_core.specs.Boxes.{count_places, total_in, with_boxes}
 use Rattle.fill_core.specs.Histories.{edits_in, placed_in, withdrawn_in}
 use Rattle.fill_core.specs.Machine.{State, IsComplete, opening, step, reply_of, replay, replies}
 use Rattle.fill_core.specs.Soundness.{IsSound}
+use Rattle.fill_core.specs.Tiles.{IsNext, next_tile}
 use Rattle.fill_core.specs.declared.event.Event.{Event}
 use Rattle.fill_core.specs.declared.event.Reply.{Reply}
 use Rattle.fill_core.specs.declared.event.Reply.TheVariants.{Placed, Stale, Already, Foreign, Withdrawn}
@@ -57,6 +58,11 @@ abbrev pub CompleteFill : Type 0
 CompleteFill = (plan : Plan) (metal : PointSet) (events : List Event) → IsPlan plan → let s = replay plan metal events in
     IsComplete plan s → s.fill ≡ (λ i j. s.base i j || (allowed plan s.metal i j && in_window_of plan s.low i j))
 
+-- without edits, that is what may be filled in windows that are low in the metal alone: the same in whatever order the tiles came
+abbrev pub CompleteFillWithoutEdits : Type 0
+CompleteFillWithoutEdits = (plan : Plan) (metal : PointSet) (events : List Event) → IsPlan plan → edits_in events ≡ [] → let s = replay plan metal events in
+    IsComplete plan s → s.fill ≡ (λ i j. allowed plan metal i j && in_window_of plan (low_windows plan metal) i j)
+
 -- the filled places are as many as were placed, less those taken out
 abbrev pub CountIsPlacedLessWithdrawn : Type 0
 CountIsPlacedLessWithdrawn = (plan : Plan) (metal : PointSet) (events : List Event) → let rs = replies plan metal events in
@@ -99,3 +105,10 @@ AnswersStayLegal = (a : Account) (e : Event) (reply : Reply) → IsLegal a → r
 -- an account keeps all that is said of every book, where its replies are those of the replay and its history has room
 abbrev pub LegalAccountsKeep : Type 0
 LegalAccountsKeep = (a : Account) → IsPlan (plan_of a.rules) → IsLegal a → length a.history ≤ a.most → a.most ≤ 2 ^ 32 → IsKeeping a
+
+-- the next tile is the first one that isn't in; there is none exactly where all are
+abbrev pub NextTileIsFirst : Type 0
+NextTileIsFirst = (count : ℕ) (tiles_in : ℕ → Bool) (from tile : ℕ) → next_tile count tiles_in from ≡ Some tile → IsNext count tiles_in from tile
+
+abbrev pub NoNextTileWhereAllAreIn : Type 0
+NoNextTileWhereAllAreIn = (count : ℕ) (tiles_in : ℕ → Bool) (from : ℕ) → (next_tile count tiles_in from ≡ None) ↔ ((tile : ℕ) → tile < count → tiles_in tile ≡ true)

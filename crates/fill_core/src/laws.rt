@@ -1,5 +1,5 @@
 //! What holds of every fill, whatever events came. Each function's contract is the law.
-ghost use Rattle.fill_core.specs.Laws.{AnswersStayLegal, BoxesAreOfPlaces, BoxesKeepTheFillSpacing, CompleteFill, CountIsPlacedLessWithdrawn, CountedInAPart, EntryIsAStep, FillIsThatOfItsTiles, FilledPlacesAreAllowed, LegalAccountsKeep, LowIsThatOfTheOpening, OpeningIsLowOfTheMetal, RefusedChangesNothing, ReplayIsSound, SumsAreBounded, VersionCountsEdits};
+ghost use Rattle.fill_core.specs.Laws.{AnswersStayLegal, BoxesAreOfPlaces, BoxesKeepTheFillSpacing, CompleteFill, CompleteFillWithoutEdits, CountIsPlacedLessWithdrawn, CountedInAPart, EntryIsAStep, FillIsThatOfItsTiles, FilledPlacesAreAllowed, LegalAccountsKeep, LowIsThatOfTheOpening, NextTileIsFirst, NoNextTileWhereAllAreIn, OpeningIsLowOfTheMetal, RefusedChangesNothing, ReplayIsSound, SumsAreBounded, VersionCountsEdits};
 ghost use Rattle.fill_core.specs.RunLaws.{AcceptedMarksAreWanted, OwnProposalIsPlaced, RefusedCommitChangesNothing, RunIsAReplay, RunIsSound, StaleChangesNothing};
 
 /// After any events each filled place is on the raster and its box keeps the spacing to the metal.
@@ -41,6 +41,12 @@ pub fn opening_is_low_of_the_metal()
 /// lies wholly in a window that was low then.
 pub fn complete_fill()
     ensures { CompleteFill }
+{}
+
+/// Without edits, a complete fill is exactly the places that may be filled and whose box lies wholly in a window that is low in
+/// the metal: one set, in whatever order the tiles came.
+pub fn complete_fill_without_edits()
+    ensures { CompleteFillWithoutEdits }
 {}
 
 /// There are as many filled places as were placed, less those that were taken out.
@@ -112,4 +118,14 @@ pub fn own_proposal_is_placed()
 /// In every interleaving the marks of an accepted proposal, also of one of another book, are the places wanted now.
 pub fn accepted_marks_are_wanted()
     ensures { AcceptedMarksAreWanted }
+{}
+
+/// The next tile is the first one that isn't in, from a tile on and round past the last one.
+pub fn next_tile_is_first()
+    ensures { NextTileIsFirst }
+{}
+
+/// There is no next tile exactly where every tile is in.
+pub fn no_next_tile_where_all_are_in()
+    ensures { NoNextTileWhereAllAreIn }
 {}

@@ -1,4 +1,4 @@
-ghost use Rattle.std.specs.Prelude.{◌≡◌, pos, length, None, Some};
+ghost use Rattle.std.specs.Prelude.{◌≡◌, pos, None, Some};
 ghost use Rattle.fill_core.specs.Boxes.{count_places, no_places, total_in};
 ghost use Rattle.fill_core.specs.Shares.{AllParts};
 ghost use Rattle.fill_core.specs.Tiles.{next_tile};
