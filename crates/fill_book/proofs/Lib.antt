@@ -1,0 +1,2 @@
+pub mod BoxAreas
+pub mod SharedAreas

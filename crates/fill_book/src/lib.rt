@@ -1,0 +1,4 @@
+//! Books of a fill.
+#![tactic(auto)]
+
+mod measure;
