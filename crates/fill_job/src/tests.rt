@@ -221,3 +221,55 @@ fn proposals_match_equal_read_sets(rt: HostRuntime) -> Result<(), Fail> {
     assert!(rt; !proposal.matches(&job_at(&rt, alloc, 4, 0, &closer, &metal, &all)?));
     Ok(())
 }
+
+/// Boxes of 2 by 2 at steps of 3 in a frame of 3,072 by 3,072: a tile of 1,024 by 1,024 places.
+const WIDE_RULES: &str = "frame_x1,0
+frame_y1,0
+frame_x2,3072
+frame_y2,3072
+box_w,2
+box_h,2
+step_x,3
+step_y,3
+origin_x,0
+origin_y,0
+spacing,1
+fill_spacing,1
+win_w,3072
+win_h,3072
+win_step_x,3072
+win_step_y,3072
+win_x,0
+win_y,0
+win_nx,1
+win_ny,1
+min,300000
+max,800000
+tile_nx,1024
+tile_ny,1024
+layer,7
+datatype,0
+fill_layer,10
+fill_datatype,1
+top,TOP
+fill_lib,FILL
+fill_cell,BOX2
+fill_top,FILLTOP
+";
+
+/// A bar between each tenth column and the next takes out both of them: 206 of 1,024 columns.
+#[test]
+fn a_tile_of_a_million_places(rt: HostRuntime) -> Result<(), Fail> {
+    let alloc = rt.alloc();
+    let rules = read_rules(alloc, WIDE_RULES.as_bytes())?;
+    let mut bars = Vec::new(alloc);
+    for m in 0..103i32 {
+        let x = 30 * i64::from(m) + 2;
+        bars.push(Rect::new(x, 0, x + 1, 3072)?)?;
+    }
+    let metal = Region::from_rects(alloc, &bars)?;
+    let low = windows(alloc, 0, 0, 1, 1)?;
+    let wanted = count_wanted(&rt, alloc, 0, &rules, &metal, &low)?;
+    assert_eq!(rt; wanted, 818 * 1024);
+    Ok(())
+}
