@@ -1,0 +1,6 @@
+pub mod Appending
+pub mod Cutting
+pub mod Corners
+pub mod Names
+pub mod Along
+pub mod RowTurns

@@ -1,0 +1,4 @@
+pub mod Runs
+pub mod Places
+pub mod FillText
+pub mod steps

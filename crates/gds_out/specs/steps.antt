@@ -1,0 +1,4 @@
+pub mod Writing
+pub mod Columns
+pub mod Ranges
+pub mod Rows
