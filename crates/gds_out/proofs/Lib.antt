@@ -4,3 +4,4 @@ pub mod Corners
 pub mod Names
 pub mod Along
 pub mod RowTurns
+pub mod TestMarks

@@ -2,3 +2,4 @@ pub mod Writing
 pub mod Columns
 pub mod Ranges
 pub mod Rows
+pub mod Tiles

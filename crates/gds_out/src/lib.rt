@@ -9,3 +9,6 @@ mod rows;
 mod writer;
 
 pub use library::fill_library;
+
+#[cfg(test)]
+mod tests;
