@@ -5,3 +5,4 @@ pub mod Names
 pub mod Along
 pub mod RowTurns
 pub mod TestMarks
+pub mod PieceLaws

@@ -4,6 +4,7 @@
 
 mod columns;
 mod elements;
+pub mod laws;
 mod library;
 mod rows;
 mod writer;
