@@ -6,3 +6,5 @@ pub mod Along
 pub mod RowTurns
 pub mod TestMarks
 pub mod PieceLaws
+pub mod Standing
+pub mod Boxed

@@ -1,9 +1,6 @@
 ghost use Rattle.std.specs.Prelude.{◌≡◌, ◌<◌, ℤ, map, IfOk};
 ghost use Rattle.fill_raster.specs.Lattice.{in_tile, tiles};
 ghost use Rattle.fill_raster.specs.Marks.{in_block};
-ghost use Rattle.fill_text.specs.Rules.{raster_of};
-ghost use Rattle.fill_text.specs.ValuesOfRules.{values_of};
-ghost use Rattle.gds_out.specs.Places.{AreOfTiles};
 ghost use Rattle.gds_out.specs.steps.Tiles.{OfTiles};
 
 use crate::fill_library;

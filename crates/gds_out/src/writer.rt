@@ -1,7 +1,6 @@
 //! Records that are written one behind another.
 
 ghost use Rattle.std.specs.Prelude.{◌≡◌, ◌≤◌, ◌++◌, ◌∷◌, [], map, length, FitsSigned, OnOk, All};
-ghost use Rattle.std.specs.List.{flat_map};
 ghost use Rattle.std.specs.Int.{w32};
 ghost use Rattle.gds_record.specs.Records.{IsEven};
 ghost use Rattle.gds_record.specs.Numbers.{IsStored};
