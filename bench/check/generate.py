@@ -150,7 +150,8 @@ def write_design(path_, library, placed, form):
 
 def write_rules(path_, width, height):
     """Some 10,000 windows that overlap by half."""
-    step_x, step_y = min(width // 101, LONGEST // 2), min(height // 101, LONGEST // 2)
+    # Even steps, so that half the overlap of two windows, which KLayout asks for, is a whole number of units.
+    step_x, step_y = (min(side // 101, LONGEST // 2) // 2 * 2 for side in (width, height))
     rules = dict(frame_x1=0, frame_y1=0, frame_x2=width, frame_y2=height, box_w=2000, box_h=2000, step_x=8000, step_y=8000,
                  origin_x=0, origin_y=0, spacing=200, fill_spacing=2000, win_w=2 * step_x, win_h=2 * step_y,
                  win_step_x=step_x, win_step_y=step_y, win_x=0, win_y=0, win_nx=100, win_ny=100, min=180000, max=210000,

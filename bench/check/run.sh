@@ -4,8 +4,12 @@
 # Seconds are the best of three runs, peaks in MB those of the whole process. Where two reports differ in a byte, the run
 # fails; so the report of a flat design is compared with that of the deep one, too.
 #
+# Where `klayout` is installed (Debian's package of that name), a second table has KLayout's own ways, run once each: the
+# areas of all windows by its tiling processor (areas.py), and the low windows by with_density (density.drc). Its areas and
+# its low windows must be those of the report.
+#
 # usage: bench/check/run.sh [COUNT ..]     (after make build; needs rustc, python3, taskset and GNU time; without COUNT
-#                                           some five minutes and 4 GB)
+#                                           some five minutes and 4 GB, and half an hour with KLayout)
 set -eu
 here=$(cd "$(dirname "$0")" && pwd)
 root=$(cd "$here/../.." && pwd)
@@ -19,15 +23,18 @@ run() {
     case $1 in
         densfill) "$root/bin/densfill" check "$work/rules.csv" "$work/design.gds" > "$2" ;;
         plain) "$work/plain" "$work/rules.csv" "$work/design.gds" > "$2" ;;
+        areas.py | density.drc)
+            QT_QPA_PLATFORM=offscreen klayout -b -r "$here/$1" -rd design="$work/design.gds" -rd rules="$work/rules.csv" \
+                -rd threads="$3" -rd out="$2" ;;
     esac
 }
 export -f run
-export root work
+export here root work
 
-# measure PROGRAM PROCESSORS: the least seconds and the peak of three runs; the report stays in WORK/PROGRAM.csv.
+# measure PROGRAM PROCESSORS ROUNDS: the least seconds and the peak of so many runs; what it says stays in WORK/PROGRAM.csv.
 measure() {
-    for _ in 1 2 3; do
-        /usr/bin/time -f '%e %M' -a -o "$work/cost" taskset -c "0-$(($2 - 1))" bash -c "run $1 $work/$1.csv"
+    for _ in $(seq "$3"); do
+        /usr/bin/time -f '%e %M' -a -o "$work/cost" taskset -c "0-$(($2 - 1))" bash -c "run $1 $work/$1.csv $2"
     done
     awk 'NR == 1 || $1 < best { best = $1 } $2 > peak { peak = $2 } END { printf "%.2f %.0f\n", best, peak / 1024 }' "$work/cost"
     rm "$work/cost"
@@ -40,14 +47,27 @@ for count in "$@"; do
     for form in flat deep; do
         python3 "$here/generate.py" "$count" "$form" "$work"
         for processors in $(printf '1\n%s\n' "$all" | sort -nu); do
-            ours=$(measure densfill "$processors")
-            theirs=$(measure plain "$processors")
+            ours=$(measure densfill "$processors" 3)
+            theirs=$(measure plain "$processors" 3)
             cmp "$work/densfill.csv" "$work/plain.csv"
             echo "$form $count $processors $ours $theirs" |
                 awk '{ printf "%-6s %10d %10d %12.2f %8.2f %6.2f %12d %9d\n", $1, $2, $3, $4, $6, ($6 > 0 ? $4 / $6 : 0), $5, $7 }'
+            command -v klayout > "$work/found" || continue
+            areas=$(measure areas.py "$processors" 1)
+            low=$(measure density.drc "$processors" 1)
+            cut -d, -f1,2,7 "$work/densfill.csv" | cmp - "$work/areas.py.csv"
+            awk -F, '/LOW/ { print "(" $3 "," $4 ";" $5 "," $6 ")" }' "$work/densfill.csv" | LC_ALL=C sort > "$work/low"
+            LC_ALL=C sort "$work/density.drc.csv" | cmp - "$work/low"
+            echo "$form $count $processors $areas $low $ours" >> "$work/klayout"
         done
         mv "$work/plain.csv" "$work/$form.csv"
     done
     cmp "$work/flat.csv" "$work/deep.csv"
 done
+[ ! -s "$work/klayout" ] || awk '
+    BEGIN {
+        printf "\n%-6s %10s %10s %12s %8s %14s %8s %12s %12s\n", "form", "copies", "processors", "areas s", "times", "with_density s", "times",
+            "areas MB", "density MB"
+    }
+    { printf "%-6s %10d %10d %12.1f %8.0f %14.1f %8.0f %12d %12d\n", $1, $2, $3, $4, $4 / $8, $6, $6 / $8, $5, $7 }' "$work/klayout"
 echo "processes that ran or waited, on average over 1, 5 and 15 minutes: $(cut -d' ' -f1-3 /proc/loadavg)"

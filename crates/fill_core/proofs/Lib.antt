@@ -8,3 +8,4 @@ pub mod Calling
 pub mod Working
 pub mod Searched
 pub mod Unedited
+pub mod Blocks

@@ -2,7 +2,9 @@
 use Rattle.std.specs.Prelude.{◌≡◌, ◌⊎◌, ◌↔◌, ℕ, ◌+◌, ◌*◌, ◌^◌, ◌<◌, ◌≤◌, ℤ, ◌≤ℤ◌, Bool, true, ◌&&◌, ◌||◌, List, [], length, IsTrue, ⊤, None, Some}
 use Rattle.fill_base.specs.Counts.{is_between}
 use Rattle.fill_base.specs.Squares.{area_between}
-use Rattle.fill_raster.specs.Lattice.{in_raster, box_squares}
+use Rattle.fill_raster.specs.Lattice.{Lattice, IsLattice, in_raster, in_tile, box_squares}
+use Rattle.fill_raster.specs.Marks.{IsBlock, in_block}
+use Rattle.fill_raster.specs.declared.block.Block.{Block}
 use Rattle.fill_size.specs.Distance.{InConflict}
 use Rattle.fill_job.specs.Plans.{Plan, IsPlan, PointSet, allowed, in_window_of, low_windows, plan_of, wanted}
 use Rattle.fill_core.specs.Accounts.{Account, IsKeeping, IsLegal, state_of, with_entry}
@@ -112,3 +114,8 @@ NextTileIsFirst = (count : ℕ) (tiles_in : ℕ → Bool) (from tile : ℕ) → 
 
 abbrev pub NoNextTileWhereAllAreIn : Type 0
 NoNextTileWhereAllAreIn = (count : ℕ) (tiles_in : ℕ → Bool) (from : ℕ) → (next_tile count tiles_in from ≡ None) ↔ ((tile : ℕ) → tile < count → tiles_in tile ≡ true)
+
+-- places of one tile may be counted over the tile's block of columns and rows, as the marks of a tile are
+abbrev pub CountedInABlock : Type 0
+CountedInABlock = (r : Lattice) (tile : ℕ) (b : Block) (p : PointSet) → IsLattice r → IsBlock b → ((i j : ℤ) → in_block b i j ≡ in_tile r tile i j)
+    → ((i j : ℤ) → p i j ≡ true → in_tile r tile i j ≡ true) → count_places r p ≡ area_between p b.left b.bottom b.right b.top

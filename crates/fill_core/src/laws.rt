@@ -1,5 +1,5 @@
 //! What holds of every fill, whatever events came. Each function's contract is the law.
-ghost use Rattle.fill_core.specs.Laws.{AnswersStayLegal, BoxesAreOfPlaces, BoxesKeepTheFillSpacing, CompleteFill, CompleteFillWithoutEdits, CountIsPlacedLessWithdrawn, CountedInAPart, EntryIsAStep, FillIsThatOfItsTiles, FilledPlacesAreAllowed, LegalAccountsKeep, LowIsThatOfTheOpening, NextTileIsFirst, NoNextTileWhereAllAreIn, OpeningIsLowOfTheMetal, RefusedChangesNothing, ReplayIsSound, SumsAreBounded, VersionCountsEdits};
+ghost use Rattle.fill_core.specs.Laws.{AnswersStayLegal, BoxesAreOfPlaces, BoxesKeepTheFillSpacing, CompleteFill, CompleteFillWithoutEdits, CountIsPlacedLessWithdrawn, CountedInABlock, CountedInAPart, EntryIsAStep, FillIsThatOfItsTiles, FilledPlacesAreAllowed, LegalAccountsKeep, LowIsThatOfTheOpening, NextTileIsFirst, NoNextTileWhereAllAreIn, OpeningIsLowOfTheMetal, RefusedChangesNothing, ReplayIsSound, SumsAreBounded, VersionCountsEdits};
 ghost use Rattle.fill_core.specs.RunLaws.{AcceptedMarksAreWanted, OwnProposalIsPlaced, RefusedCommitChangesNothing, RunIsAReplay, RunIsSound, StaleChangesNothing};
 
 /// After any events each filled place is on the raster and its box keeps the spacing to the metal.
@@ -128,4 +128,9 @@ pub fn next_tile_is_first()
 /// There is no next tile exactly where every tile is in.
 pub fn no_next_tile_where_all_are_in()
     ensures { NoNextTileWhereAllAreIn }
+{}
+
+/// The places of one tile may be counted over the tile's columns and rows, as `Marks::count` does.
+pub fn counted_in_a_block()
+    ensures { CountedInABlock }
 {}

@@ -194,30 +194,113 @@ fn metal_at_a_corner(rt: HostRuntime) -> Result<(), Fail> {
     Ok(())
 }
 
-/// The halo of tile 0 is that from 1 to 39, and the windows of column 2 begin at 50, to the right of its boxes.
+/// Asserts whether a proposal of tile 0 matches a job of it, whatever the job's version.
+fn assert_match(
+    rt: &impl Abort,
+    alloc: Global,
+    proposal: &Proposal,
+    rules: &Rules,
+    metal: &Region,
+    low: &Region,
+    same: bool,
+) -> Result<(), AllocError> {
+    let job = job_at(rt, alloc, 5, 0, rules, metal, low)?;
+    assert_eq!(rt; proposal.matches(&job), same);
+    Ok(())
+}
+
+/// The halo of tile 0 is that from 1 to 39: a square beyond it is not read, one on its last column is.
 #[test]
-fn proposals_match_equal_read_sets(rt: HostRuntime) -> Result<(), Fail> {
+fn proposals_match_equal_metal(rt: HostRuntime) -> Result<(), Fail> {
     let alloc = rt.alloc();
     let rules = rules_with(alloc, 2)?;
-    let closer = rules_with(alloc, 1)?;
-    let metal = Region::one(alloc, &Rect::new(10, 10, 21, 20)?)?;
-    let far = Region::from_rects(
-        alloc,
-        &[Rect::new(10, 10, 21, 20)?, Rect::new(39, 0, 50, 50)?],
-    )?;
-    let near = Region::from_rects(
-        alloc,
-        &[Rect::new(10, 10, 21, 20)?, Rect::new(38, 0, 50, 50)?],
-    )?;
+    let wire = Rect::new(10, 10, 21, 20)?;
+    let metal = Region::one(alloc, &wire)?;
+    let far = Region::from_rects(alloc, &[wire, Rect::new(39, 0, 50, 50)?])?;
+    let near = Region::from_rects(alloc, &[wire, Rect::new(38, 0, 50, 50)?])?;
+    let all = windows(alloc, 0, 0, 3, 3)?;
+    let proposal = proposed(&rt, alloc, job_at(&rt, alloc, 4, 0, &rules, &metal, &all)?);
+    assert_match(&rt, alloc, &proposal, &rules, &metal, &all, true)?;
+    assert_match(&rt, alloc, &proposal, &rules, &far, &all, true)?;
+    assert_match(&rt, alloc, &proposal, &rules, &near, &all, false)?;
+    Ok(())
+}
+
+/// The windows of column 2 begin at 50, to the right of the boxes of tile 0.
+#[test]
+fn proposals_match_equal_windows(rt: HostRuntime) -> Result<(), Fail> {
+    let alloc = rt.alloc();
+    let rules = rules_with(alloc, 2)?;
+    let metal = Region::empty(alloc);
     let all = windows(alloc, 0, 0, 3, 3)?;
     let left = windows(alloc, 0, 0, 2, 2)?;
     let first = windows(alloc, 0, 0, 1, 2)?;
     let proposal = proposed(&rt, alloc, job_at(&rt, alloc, 4, 0, &rules, &metal, &all)?);
-    assert!(rt; proposal.matches(&job_at(&rt, alloc, 5, 0, &rules, &metal, &all)?));
-    assert!(rt; proposal.matches(&job_at(&rt, alloc, 5, 0, &rules, &far, &all)?));
-    assert!(rt; proposal.matches(&job_at(&rt, alloc, 5, 0, &rules, &metal, &left)?));
-    assert!(rt; !proposal.matches(&job_at(&rt, alloc, 4, 0, &rules, &near, &all)?));
-    assert!(rt; !proposal.matches(&job_at(&rt, alloc, 4, 0, &rules, &metal, &first)?));
-    assert!(rt; !proposal.matches(&job_at(&rt, alloc, 4, 0, &closer, &metal, &all)?));
+    assert_match(&rt, alloc, &proposal, &rules, &metal, &left, true)?;
+    assert_match(&rt, alloc, &proposal, &rules, &metal, &first, false)?;
+    Ok(())
+}
+
+#[test]
+fn proposals_match_equal_rules(rt: HostRuntime) -> Result<(), Fail> {
+    let alloc = rt.alloc();
+    let rules = rules_with(alloc, 2)?;
+    let closer = rules_with(alloc, 1)?;
+    let metal = Region::empty(alloc);
+    let all = windows(alloc, 0, 0, 3, 3)?;
+    let proposal = proposed(&rt, alloc, job_at(&rt, alloc, 4, 0, &rules, &metal, &all)?);
+    assert_match(&rt, alloc, &proposal, &closer, &metal, &all, false)?;
+    Ok(())
+}
+
+/// Boxes of 2 by 2 at steps of 3 in a frame of 3,072 by 3,072, a tile of 1,024 by 1,024 places; the least gap to metal is left out.
+const WIDE_RULES: &str = "frame_x1,0
+frame_y1,0
+frame_x2,3072
+frame_y2,3072
+box_w,2
+box_h,2
+step_x,3
+step_y,3
+origin_x,0
+origin_y,0
+fill_spacing,1
+win_w,3072
+win_h,3072
+win_step_x,3072
+win_step_y,3072
+win_x,0
+win_y,0
+win_nx,1
+win_ny,1
+min,300000
+max,800000
+tile_nx,1024
+tile_ny,1024
+layer,7
+datatype,0
+fill_layer,10
+fill_datatype,1
+top,TOP
+fill_lib,FILL
+fill_cell,BOX2
+fill_top,FILLTOP
+";
+
+/// A bar between each tenth column and the next takes out both of them: 206 of 1,024 columns.
+#[test]
+fn a_tile_of_a_million_places(rt: HostRuntime) -> Result<(), Fail> {
+    let alloc = rt.alloc();
+    let text = format!(in alloc; "{WIDE_RULES}spacing,1\n")?;
+    let rules = read_rules(alloc, text.as_bytes())?;
+    let mut bars = Vec::new(alloc);
+    for m in 0..103i32 {
+        let x = 30 * i64::from(m) + 2;
+        bars.push(Rect::new(x, 0, x + 1, 3072)?)?;
+    }
+    let metal = Region::from_rects(alloc, &bars)?;
+    let low = windows(alloc, 0, 0, 1, 1)?;
+    let wanted = count_wanted(&rt, alloc, 0, &rules, &metal, &low)?;
+    assert_eq!(rt; wanted, 818 * 1024);
     Ok(())
 }

@@ -1,0 +1,259 @@
+-- Rows, run by run, and runs, piece by piece.
+use Rattle.std.proofs.Common.{◌≡◌, refl, ap, sym, subst, ◌∙◌, ℕ, zero, suc, min, ◌+◌, ◌-◌, ◌*◌, ◌<◌, ◌≤◌, ℤ, pos, negsuc, ◌+ℤ◌, ◌-ℤ◌, ◌≤ℤ◌, ◌<ℤ◌, arith, Bool, true, false, ◌⊎◌, inl, inr, List, [], ◌∷◌, ◌++◌, map, Fits, w32, w64, FitsSigned}
+use Rattle.std.specs.Int.{div_ceil}
+use Rattle.std.specs.List.{flat_map, filter, range_with_len}
+use Rattle.std.proofs.lemmas.Int.{ints}
+use Rattle.std.proofs.lemmas.Grind.{flat_map-append}
+use Rattle.std.proofs.lemmas.List.{append-nil, append_assoc}
+use Rattle.std.proofs.lemmas.List.FromFn.{map-range_with_len_more}
+use Rattle.fill_base.specs.Counts.{span_len}
+use Rattle.fill_base.proofs.Signed.{read, read_is}
+use Rattle.gds_record.specs.Records.{Rec, spelling}
+use Rattle.fill_raster.specs.Axes.{first, past, is_on}
+use Rattle.fill_raster.specs.Lattice.{Lattice, IsLattice}
+use Rattle.fill_raster.proofs.Groups.{starts_below}
+use Rattle.fill_raster.proofs.Ranges.{first_bounded, past_bounded, extent_bounded}
+use Rattle.gds_out.specs.Runs.{Run, run, runs, piece, numbers_from}
+use Rattle.gds_out.specs.steps.Columns.{IsNext}
+use Rattle.gds_out.specs.steps.Ranges.{IsRowPart}
+use Rattle.gds_out.proofs.Appending.{then}
+use Rattle.gds_out.proofs.Cutting.{one_turn, if_some}
+
+-- ---- pieces
+
+pub number_fits : (z : ℤ) → negsuc 2147483647 ≤ℤ z → z ≤ℤ pos 2147483648 → FitsSigned w64 z
+number_fits z low high = omega (arith, ints)
+
+pub number_read : (z : ℤ) → negsuc 2147483647 ≤ℤ z → z ≤ℤ pos 2147483648 → read z ≡ z
+number_read z low high = read_is z (number_fits z low high)
+
+pub record IsPart (r : Lattice) (i j : ℤ) (count d : ℕ) : Type 0 where
+  pub begins : read i ≡ i
+  pub offset : read (pos d) ≡ pos d
+  pub fits : FitsSigned w64 (i +ℤ pos d)
+  pub at : read (i +ℤ pos d) ≡ i +ℤ pos d
+  pub part : IsRowPart r (i +ℤ pos d) j (min (count - d) 32767)
+
+pub part_of : (r : Lattice) (i j : ℤ) (count k : ℕ) → IsLattice r → IsRowPart r i j count → k < div_ceil count 32767 → IsPart r i j count (k * 32767)
+part_of r i j count k is row lt =
+    let below : k * 32767 < count = starts_below count 32767 k (omega arith) lt in
+    let low = (first_bounded r.across is.across).least in
+    let high = (past_bounded r.across is.across).most in
+    let at_low = from_low (first r.across) i (k * 32767) low row.from in
+    let at_high = to_high i (past r.across) count (k * 32767) row.to high below in
+    let i_low = from_self (first r.across) i low row.from in
+    let i_high = to_self i (past r.across) count row.to high in
+    record {
+      begins = number_read i i_low i_high;
+      offset = read_is (pos (k * 32767)) (pos_high (first r.across) i (past r.across) count (k * 32767) low row.from row.to high below);
+      fits = number_fits (i +ℤ pos (k * 32767)) at_low at_high;
+      at = number_read (i +ℤ pos (k * 32767)) at_low at_high;
+      part = record {
+        from = later (first r.across) i (k * 32767) row.from;
+        to = within i (past r.across) count (k * 32767) row.to below;
+        row = row.row;
+      };
+    }
+  where
+    from_self : (f i : ℤ) → negsuc 2147483647 ≤ℤ f → f ≤ℤ i → negsuc 2147483647 ≤ℤ i
+    from_self f i h g = omega (arith, ints)
+
+    to_self : (i p : ℤ) (n : ℕ) → (i +ℤ pos n) ≤ℤ p → p ≤ℤ pos 2147483648 → i ≤ℤ pos 2147483648
+    to_self i p n h g = omega (arith, ints)
+
+    from_low : (f i : ℤ) (d : ℕ) → negsuc 2147483647 ≤ℤ f → f ≤ℤ i → negsuc 2147483647 ≤ℤ (i +ℤ pos d)
+    from_low f i d h g = omega (arith, ints)
+
+    to_high : (i p : ℤ) (n d : ℕ) → (i +ℤ pos n) ≤ℤ p → p ≤ℤ pos 2147483648 → d < n → (i +ℤ pos d) ≤ℤ pos 2147483648
+    to_high i p n d h g lt = omega (arith, ints)
+
+    pos_high : (f i p : ℤ) (n d : ℕ) → negsuc 2147483647 ≤ℤ f → f ≤ℤ i → (i +ℤ pos n) ≤ℤ p → p ≤ℤ pos 2147483648 → d < n → FitsSigned w64 (pos d)
+    pos_high f i p n d l fi h g lt = omega (arith, ints)
+
+    later : (f i : ℤ) (d : ℕ) → f ≤ℤ i → f ≤ℤ (i +ℤ pos d)
+    later f i d h = omega (arith, ints)
+
+    within : (i p : ℤ) (n d : ℕ) → (i +ℤ pos n) ≤ℤ p → d < n → ((i +ℤ pos d) +ℤ pos (min (n - d) 32767)) ≤ℤ p
+    within i p n d h lt = omega (arith, ints)
+
+-- one piece more
+pub piece_more : (f : Run → List Rec) (r : Run) (k : ℕ) (old mid new : List ℕ) → mid ≡ old ++ flat_map spelling (flat_map f (map (piece r) (range_with_len 0 k)))
+    → new ≡ mid ++ flat_map spelling (f (piece r k)) → new ≡ old ++ flat_map spelling (flat_map f (map (piece r) (range_with_len 0 (k + 1))))
+piece_more f r k old mid new before this =
+    then old mid new (flat_map f (map (piece r) (range_with_len 0 k))) (f (piece r k)) before this
+    ∙ ap (λ rs. old ++ flat_map spelling rs) (sym (ap (flat_map f) (map-range_with_len_more (piece r) 0 k k (omega arith))
+    ∙ (flat_map-append f (map (piece r) (range_with_len 0 k)) (piece r k ∷ []) ∙ ap (λ rs. flat_map f (map (piece r) (range_with_len 0 k)) ++ rs) (append-nil (f (piece r k))))))
+
+-- ---- runs
+
+pub record IsTurn (i s e q : ℤ) (p : ℤ → Bool) : Type 0 where
+  pub first_from : i ≤ℤ s
+  pub then_from : s ≤ℤ e
+  pub to : e ≤ℤ q
+  pub none : (m : ℤ) → i ≤ℤ m → m <ℤ s → p m ≡ false
+  pub starts : s <ℤ q → p s ≡ true
+  pub all : (m : ℤ) → s ≤ℤ m → m <ℤ e → p m ≡ true
+  pub ends : e <ℤ q → p e ≡ false
+
+pub run_turn : (f : Run → List Rec) (p : ℤ → Bool) (i s e q : ℤ) → IsTurn i s e q p → ((z : ℤ) → f (run z 0) ≡ [])
+    → flat_map f (runs (filter p (numbers_from i (span_len i q)))) ≡ f (run s (span_len s e)) ++ flat_map f (runs (filter p (numbers_from e (span_len e q))))
+run_turn f p i s e q t nothing =
+    let a = span_len i s in let k = span_len s e in let n = span_len e q in
+    let whole : span_len i q ≡ a + (k + n) = spans i s e q t.first_from t.then_from t.to in
+    let s_is : i +ℤ pos a ≡ s = behind i s t.first_from in
+    let e_is : s +ℤ pos k ≡ e = behind s e t.then_from in
+    let turned = one_turn p i a k n (λ m low high. t.none m low (subst (λ z. m <ℤ z) s_is high))
+    (λ m low high. t.all m (subst (λ z. z ≤ℤ m) s_is low) (subst (λ z. m <ℤ z) (ap (λ z. z +ℤ pos k) s_is ∙ e_is) high))
+    (elim (ended e q t.to) [ inl none ↦ inl none | inr lt ↦ inr (ap p (ap (λ z. z +ℤ pos k) s_is ∙ e_is) ∙ t.ends lt) ]) in
+    ap (λ m. flat_map f (runs (filter p (numbers_from i m)))) whole
+    ∙ (ap (flat_map f) turned
+    ∙ (ap (λ z. flat_map f (if_some z k ++ runs (filter p (numbers_from (z +ℤ pos k) n)))) s_is
+    ∙ (ap (λ z. flat_map f (if_some s k ++ runs (filter p (numbers_from z n)))) e_is
+    ∙ by k)))
+  where
+    spans : (i s e q : ℤ) → i ≤ℤ s → s ≤ℤ e → e ≤ℤ q → span_len i q ≡ span_len i s + (span_len s e + span_len e q)
+    spans i s e q a b c = omega (arith, ints)
+
+    behind : (i s : ℤ) → i ≤ℤ s → i +ℤ pos (span_len i s) ≡ s
+    behind i s h = omega (arith, ints)
+
+    ended : (e q : ℤ) → e ≤ℤ q → (span_len e q ≡ 0) ⊎ (e <ℤ q)
+    ended e q h = grind (arith, ints)
+
+    by : (k : ℕ) → flat_map f (if_some s k ++ runs (filter p (numbers_from e (span_len e q)))) ≡ f (run s k) ++ flat_map f (runs (filter p (numbers_from e (span_len e q))))
+    by zero = sym (ap (λ t. t ++ flat_map f (runs (filter p (numbers_from e (span_len e q))))) (nothing s))
+    by (suc k) = refl
+
+-- the text with one run more
+pub row_more : (f : Run → List Rec) (p : ℤ → Bool) (i s e q : ℤ) (old new whole : List ℕ) → IsTurn i s e q p → ((z : ℤ) → f (run z 0) ≡ [])
+    → new ≡ old ++ flat_map spelling (f (run s (span_len s e)))
+    → old ++ flat_map spelling (flat_map f (runs (filter p (numbers_from i (span_len i q))))) ≡ whole
+    → new ++ flat_map spelling (flat_map f (runs (filter p (numbers_from e (span_len e q))))) ≡ whole
+row_more f p i s e q old new whole t nothing new_is before =
+    ap (λ u. u ++ flat_map spelling (flat_map f (runs (filter p (numbers_from e (span_len e q)))))) new_is
+    ∙ (append_assoc old (flat_map spelling (f (run s (span_len s e)))) (flat_map spelling (flat_map f (runs (filter p (numbers_from e (span_len e q))))))
+    ∙ (ap (λ u. old ++ u) (sym (ap (flat_map spelling) (run_turn f p i s e q t nothing)
+    ∙ flat_map-append spelling (f (run s (span_len s e))) (flat_map f (runs (filter p (numbers_from e (span_len e q)))))))
+    ∙ before))
+
+-- nothing is left at the row's end
+pub row_done : (f : Run → List Rec) (p : ℤ → Bool) (i q : ℤ) (text whole : List ℕ) → i ≤ℤ q → q ≤ℤ i
+    → text ++ flat_map spelling (flat_map f (runs (filter p (numbers_from i (span_len i q))))) ≡ whole → text ≡ whole
+row_done f p i q text whole to over is =
+    sym (ap (λ n. text ++ flat_map spelling (flat_map f (runs (filter p (numbers_from i n))))) (none i q to over) ∙ append-nil text) ∙ is
+  where
+    none : (i q : ℤ) → i ≤ℤ q → q ≤ℤ i → span_len i q ≡ 0
+    none i q a b = omega (arith, ints)
+
+-- ---- rows
+
+numbers_more : (z : ℤ) (n : ℕ) → numbers_from z (n + 1) ≡ numbers_from z n ++ (z +ℤ pos n) ∷ []
+numbers_more z zero = let e : z +ℤ pos zero ≡ z = omega (arith, ints) in rw e refl
+numbers_more z (suc n) =
+    let e : suc n + 1 ≡ suc (n + 1) = omega arith in
+    let g : (z +ℤ pos 1) +ℤ pos n ≡ z +ℤ pos (suc n) = omega (arith, ints) in
+    rw e (ap (λ t. z ∷ t) (numbers_more (z +ℤ pos 1) n ∙ ap (λ y. numbers_from (z +ℤ pos 1) n ++ y ∷ []) g))
+
+pub rows_begin : (f : ℤ → List Rec) (z : ℤ) (text : List ℕ) → text ≡ text ++ flat_map spelling (flat_map f (numbers_from z (span_len z z)))
+rows_begin f z text = let e : span_len z z ≡ 0 = omega (arith, ints) in rw e (sym (append-nil text))
+
+pub rows_more : (f : ℤ → List Rec) (z j : ℤ) (old mid new : List ℕ) → z ≤ℤ j → mid ≡ old ++ flat_map spelling (flat_map f (numbers_from z (span_len z j)))
+    → new ≡ mid ++ flat_map spelling (f j) → new ≡ old ++ flat_map spelling (flat_map f (numbers_from z (span_len z (j +ℤ pos 1))))
+rows_more f z j old mid new from before this =
+    let e : span_len z (j +ℤ pos 1) ≡ span_len z j + 1 = omega (arith, ints) in
+    let g : z +ℤ pos (span_len z j) ≡ j = omega (arith, ints) in
+    then old mid new (flat_map f (numbers_from z (span_len z j))) (f j) before this
+    ∙ ap (λ rs. old ++ flat_map spelling rs) (sym (ap (λ n. flat_map f (numbers_from z n)) e ∙ (ap (flat_map f) (numbers_more z (span_len z j))
+    ∙ (flat_map-append f (numbers_from z (span_len z j)) ((z +ℤ pos (span_len z j)) ∷ [])
+    ∙ (ap (λ y. flat_map f (numbers_from z (span_len z j)) ++ flat_map f (y ∷ [])) g ∙ ap (λ rs. flat_map f (numbers_from z (span_len z j)) ++ rs) (append-nil (f j)))))))
+
+pub rows_done : (f : ℤ → List Rec) (z j q : ℤ) (old text : List ℕ) → j ≤ℤ q → q ≤ℤ j → text ≡ old ++ flat_map spelling (flat_map f (numbers_from z (span_len z j)))
+    → text ≡ old ++ flat_map spelling (flat_map f (numbers_from z (span_len z q)))
+rows_done f z j q old text to over is = subst (λ y. text ≡ old ++ flat_map spelling (flat_map f (numbers_from z (span_len z y)))) (same j q to over) is
+  where
+    same : (j q : ℤ) → j ≤ℤ q → q ≤ℤ j → j ≡ q
+    same j q a b = omega (arith, ints)
+
+-- ---- a run's length
+
+pub record IsLength (s e : ℤ) : Type 0 where
+  pub start : read s ≡ s
+  pub end : read e ≡ e
+  pub fits : FitsSigned w64 (e -ℤ s)
+  pub difference : read (e -ℤ s) ≡ pos (span_len s e)
+  pub small : Fits w32 (span_len s e)
+  pub behind : s +ℤ pos (span_len s e) ≡ e
+
+pub length_of : (f q s e : ℤ) → negsuc 2147483647 ≤ℤ f → q ≤ℤ pos 2147483648 → span_len f q ≤ 2147483648 → f ≤ℤ s → s ≤ℤ e → e ≤ℤ q → IsLength s e
+length_of f q s e low high few fs se eq = record {
+  start = number_read s (omega (arith, ints)) (omega (arith, ints));
+  end = number_read e (omega (arith, ints)) (omega (arith, ints));
+  fits = omega (arith, ints);
+  difference = read_is (e -ℤ s) (omega (arith, ints)) ∙ omega (arith, ints);
+  small = omega (arith, ints);
+  behind = omega (arith, ints);
+}
+
+-- ---- what the search for a run has found
+
+pub record Turned (r : Lattice) (filled : ℤ → ℤ → Bool) (j i s e : ℤ) : Type 0 where
+  pub turn : IsTurn i s e (past r.across) (λ k. filled k j)
+  pub on : i <ℤ e
+  pub low : first r.across ≤ℤ s
+  pub length : IsLength s e
+
+pub turn_of : (r : Lattice) (filled : ℤ → ℤ → Bool) (j i s e : ℤ) → IsLattice r → i <ℤ past r.across → first r.across ≤ℤ i
+    → IsNext r filled i j true s → IsNext r filled s j false e → Turned r filled j i s e
+turn_of r filled j i s e is lt low start end =
+    let s_low = chain (first r.across) i s low start.from in
+    record {
+      turn = record {
+        first_from = start.from;
+        then_from = end.from;
+        to = end.to;
+        none = start.between;
+        starts = start.found;
+        all = end.between;
+        ends = end.found;
+      };
+      on = elim (cases s (past r.across)) [
+        | inl under ↦ elim (cases s e) [
+          | inl before ↦ further i s e start.from before
+          | inr over ↦ absurd (never (filled s j) (start.found under) (ap (λ z. filled z j) (same s e end.from over) ∙ end.found (below s e (past r.across) over under)))
+        ]
+        | inr over ↦ last i s e (past r.across) lt over end.from
+      ];
+      low = s_low;
+      length = length_of (first r.across) (past r.across) s e (first_bounded r.across is.across).least (past_bounded r.across is.across).most (extent_bounded r.across is.across) s_low end.from end.to;
+    }
+  where
+    chain : (a b c : ℤ) → a ≤ℤ b → b ≤ℤ c → a ≤ℤ c
+    chain a b c h g = omega (arith, ints)
+
+    cases : (a b : ℤ) → (a <ℤ b) ⊎ (b ≤ℤ a)
+    cases a b = grind (arith, ints)
+
+    further : (i s e : ℤ) → i ≤ℤ s → s <ℤ e → i <ℤ e
+    further i s e h g = omega (arith, ints)
+
+    same : (s e : ℤ) → s ≤ℤ e → e ≤ℤ s → s ≡ e
+    same s e h g = omega (arith, ints)
+
+    below : (s e p : ℤ) → e ≤ℤ s → s <ℤ p → e <ℤ p
+    below s e p h g = omega (arith, ints)
+
+    last : (i s e p : ℤ) → i <ℤ p → p ≤ℤ s → s ≤ℤ e → i <ℤ e
+    last i s e p h g k = omega (arith, ints)
+
+    never : (b : Bool) → b ≡ true → b ≡ false → ⊥
+    never b h g = let e : true ≡ false = sym h ∙ g in cc e
+
+pub row_part : (r : Lattice) (filled : ℤ → ℤ → Bool) (j s e : ℤ) {j' i : ℤ} → Turned r filled j' i s e → is_on r.up j ≡ true → IsRowPart r s j (span_len s e)
+row_part r filled j s e t row = record {
+  from = t.low;
+  to = subst (λ z. z ≤ℤ past r.across) (sym t.length.behind) t.turn.to;
+  row = row;
+}
+
+pub next_to : (j q : ℤ) → j <ℤ q → (j +ℤ pos 1) ≤ℤ q
+next_to j q lt = omega (arith, ints)

@@ -1,0 +1,5 @@
+pub mod Runs
+pub mod Places
+pub mod FillText
+pub mod Laws
+pub mod steps

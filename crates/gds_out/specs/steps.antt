@@ -1,0 +1,5 @@
+pub mod Writing
+pub mod Columns
+pub mod Ranges
+pub mod Rows
+pub mod Tiles

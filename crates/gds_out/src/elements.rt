@@ -1,0 +1,122 @@
+//! The elements of a fill library: the boundary of one box, and references to its cell.
+
+ghost use Rattle.std.specs.Prelude.{◌≡◌, ◌≤◌, ◌<◌, ◌≤ℤ◌, pos, unsigned_abs, length, OnOk};
+ghost use Rattle.gds_record.specs.Numbers.{IsStored};
+ghost use Rattle.fill_text.specs.Rules.{raster_of};
+ghost use Rattle.fill_text.specs.ValuesOfRules.{values_of};
+ghost use Rattle.gds_out.specs.FillText.{cell_records, reference_records, array_records, piece_records};
+ghost use Rattle.gds_out.specs.Runs.{run};
+ghost use Rattle.gds_out.specs.steps.Ranges.{IsArray, IsRowPart};
+ghost use Rattle.gds_out.specs.steps.Writing.{Adds};
+
+use crate::writer::Writer;
+use fill_base::Point;
+use fill_raster::Place;
+use fill_text::Rules;
+use gds_record::{form, kind};
+use std::alloc::AllocError;
+
+/// Writes a reference to a cell, moved to a point.
+fn put_reference(writer: &mut Writer, cell: &[u8], corner: Point) -> Result<(), AllocError>
+    requires name { length cell.now ≤ 32 }
+    requires corner { IsStored corner }
+    ensures { OnOk result (Adds writer.old writer.new (reference_records cell.now corner.x corner.y)) }
+{
+    writer.put(kind::SREF, form::NONE, &[])?;
+    writer.put_name(kind::SNAME, cell)?;
+    writer.put_points(&[corner])?;
+    writer.put(kind::ENDEL, form::NONE, &[])?;
+    Ok(())
+}
+
+/// Writes an array of so many references to a cell in a row: the first moved to a point, each further one a step to the right.
+fn put_array(
+    writer: &mut Writer,
+    cell: &[u8],
+    corner: Point,
+    step: Point,
+    count: u16,
+) -> Result<(), AllocError>
+    requires name { length cell.now ≤ 32 }
+    requires array { IsArray corner step count }
+    ensures { OnOk result (Adds writer.old writer.new (array_records cell.now count step.x step.y corner.x corner.y)) }
+{
+    let behind = Point {
+        x: corner.x + i64::from(count) * step.x,
+        y: corner.y,
+    };
+    let above = Point {
+        x: corner.x,
+        y: corner.y + step.y,
+    };
+    writer.put(kind::AREF, form::NONE, &[])?;
+    writer.put_name(kind::SNAME, cell)?;
+    writer.put_words(kind::COLROW, count, 1)?;
+    writer.put_points(&[corner, behind, above])?;
+    writer.put(kind::ENDEL, form::NONE, &[])?;
+    Ok(())
+}
+
+/// Writes a reference, or for more than one box an array, for so many boxes in a row from a place on.
+pub(crate) fn put_piece(
+    writer: &mut Writer,
+    rules: &Rules,
+    place: Place,
+    count: u16,
+) -> Result<(), AllocError>
+    requires some { 0 < count }
+    requires part { IsRowPart (raster_of (values_of rules.now).numbers) place.i place.j count }
+    ensures { OnOk result (Adds writer.old writer.new (piece_records (values_of rules.now).fill_cell (raster_of (values_of rules.now).numbers) place.j (run place.i count))) }
+{
+    let rect = rules.raster().box_of(place);
+    let corner = Point {
+        x: rect.x1(),
+        y: rect.y1(),
+    };
+    if count == 1 {
+        return put_reference(writer, rules.fill_cell(), corner);
+    }
+    let step = Point {
+        x: rules.step_x(),
+        y: rules.step_y(),
+    };
+    put_array(writer, rules.fill_cell(), corner, step, count)
+}
+
+/// A layer or a data type as a word.
+fn word(number: i64) -> u16
+    requires low { pos 0 ≤ℤ number }
+    requires high { number ≤ℤ pos 65535 }
+    ensures { result ≡ unsigned_abs number }
+{
+    number as u16
+}
+
+/// Writes the cell of one box.
+pub(crate) fn put_cell(
+    writer: &mut Writer,
+    dates: &[u8; 24],
+    rules: &Rules,
+) -> Result<(), AllocError>
+    ensures { OnOk result (Adds writer.old writer.new (cell_records dates.now (values_of rules.now))) }
+{
+    let (width, height) = (rules.box_w(), rules.box_h());
+    writer.put(kind::BGNSTR, form::WORDS, dates)?;
+    writer.put_name(kind::STRNAME, rules.fill_cell())?;
+    writer.put(kind::BOUNDARY, form::NONE, &[])?;
+    writer.put_word(kind::LAYER, word(rules.fill_layer()))?;
+    writer.put_word(kind::DATATYPE, word(rules.fill_datatype()))?;
+    writer.put_points(&[
+        Point { x: 0, y: 0 },
+        Point { x: 0, y: height },
+        Point {
+            x: width,
+            y: height,
+        },
+        Point { x: width, y: 0 },
+        Point { x: 0, y: 0 },
+    ])?;
+    writer.put(kind::ENDEL, form::NONE, &[])?;
+    writer.put(kind::ENDSTR, form::NONE, &[])?;
+    Ok(())
+}

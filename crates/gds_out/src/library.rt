@@ -1,0 +1,73 @@
+//! The fill library as a text.
+
+ghost use Rattle.std.specs.Prelude.{◌≡◌, OnOk, IfOk};
+ghost use Rattle.fill_text.specs.Rules.{raster_of};
+ghost use Rattle.fill_text.specs.ValuesOfRules.{values_of};
+ghost use Rattle.gds_out.specs.FillText.{fill_text, head_records, top_records};
+ghost use Rattle.gds_out.specs.Places.{AreOfTiles, marked_by};
+ghost use Rattle.gds_out.specs.steps.Writing.{Adds};
+
+use crate::elements::put_cell;
+use crate::rows::put_rows;
+use crate::writer::Writer;
+use fill_raster::Marks;
+use fill_text::Rules;
+use gds_record::{form, kind};
+use std::alloc::{AllocError, Global};
+
+/// Writes what stands before the cells.
+fn put_head(
+    writer: &mut Writer,
+    units: &[u8; 16],
+    dates: &[u8; 24],
+    rules: &Rules,
+) -> Result<(), AllocError>
+    ensures { OnOk result (Adds writer.old writer.new (head_records units.now dates.now (values_of rules.now))) }
+{
+    writer.put_word(kind::HEADER, 600)?;
+    writer.put(kind::BGNLIB, form::WORDS, dates)?;
+    writer.put_name(kind::LIBNAME, rules.fill_lib())?;
+    writer.put(kind::UNITS, form::REALS, units)?;
+    Ok(())
+}
+
+/// Writes the cell that refers to each box.
+fn put_top(
+    writer: &mut Writer,
+    dates: &[u8; 24],
+    rules: &Rules,
+    marks: &[&Marks],
+) -> Result<(), AllocError>
+    requires { AreOfTiles (raster_of (values_of rules.now).numbers) marks.now }
+    ensures { OnOk result (Adds writer.old writer.new (top_records dates.now (values_of rules.now) (marked_by marks.now))) }
+{
+    writer.put(kind::BGNSTR, form::WORDS, dates)?;
+    writer.put_name(kind::STRNAME, rules.fill_top())?;
+    put_rows(writer, rules, marks)?;
+    writer.put(kind::ENDSTR, form::NONE, &[])?;
+    Ok(())
+}
+
+/// The text of the fill library: a cell of one box, and a top cell that refers to it once for each marked place, by an array for
+/// boxes that stand in a row. Units and dates are those of the design (Calma GDSII Stream Format Manual, release 6.0, with this
+/// project's profile). The marks are those of each tile, in the order of the tiles, of the raster of these rules.
+///
+/// # Errors
+/// `AllocError` where memory is refused.
+pub fn fill_library(
+    alloc: Global,
+    units: &[u8; 16],
+    dates: &[u8; 24],
+    rules: &Rules,
+    marks: &[&Marks],
+) -> Result<Vec<u8>, AllocError>
+    requires { AreOfTiles (raster_of (values_of rules.now).numbers) marks.now }
+    ensures { IfOk result (λ text. text.items ≡ fill_text units.now dates.now (values_of rules.now) (marked_by marks.now)) }
+{
+    let mut writer = Writer::new(alloc);
+    put_head(&mut writer, units, dates, rules)?;
+    put_cell(&mut writer, dates, rules)?;
+    put_top(&mut writer, dates, rules, marks)?;
+    writer.put(kind::ENDLIB, form::NONE, &[])?;
+    Ok(writer.text)
+}
