@@ -8,3 +8,4 @@ pub mod TestMarks
 pub mod PieceLaws
 pub mod Standing
 pub mod Boxed
+pub mod Wells
