@@ -9,3 +9,4 @@ pub mod PieceLaws
 pub mod Standing
 pub mod Boxed
 pub mod Wells
+pub mod Grammatical
