@@ -1,6 +1,7 @@
 //! `densfill check` without proofs, for the benchmark alone: reads the rule file and the design, carries the shapes of
 //! the layer to their copies, joins them by a sweep over y, measures the windows row by row on all processors and
-//! prints the report. It takes sound inputs for granted.
+//! prints the report. It takes sound inputs for granted. With a third word it keeps the whole library as values before it
+//! fills a shape, as `densfill` does; without one it fills each shape of the layer as it is read.
 #[path = "../sweep.rs"]
 mod sweep;
 
@@ -60,6 +61,7 @@ impl Placement {
 
 // ---- the design
 
+#[derive(Clone)]
 struct Link {
     name: Vec<u8>,
     placement: Placement,
@@ -152,14 +154,22 @@ fn fill(points: &[Point], out: &mut Vec<Rect>) {
     }
 }
 
+/// The numbers of a path: its type, its width and its two extensions.
+#[derive(Clone, Copy)]
+struct Numbers {
+    path_type: u16,
+    width: i32,
+    begin: i32,
+    end: i32,
+}
+
 /// The rectangles of a path's segments; its points are corners.
-fn wire(draft: &Draft, out: &mut Vec<Rect>) {
-    let corners = points(draft.xy);
-    let half = i64::from(draft.width.abs() / 2);
-    let ends = match draft.path_type {
+fn wire(numbers: Numbers, corners: &[Point], out: &mut Vec<Rect>) {
+    let half = i64::from(numbers.width.abs() / 2);
+    let ends = match numbers.path_type {
         0 => (0, 0),
         2 => (half, half),
-        _ => (draft.begin.into(), draft.end.into()),
+        _ => (numbers.begin.into(), numbers.end.into()),
     };
     let last = corners.len() - 2;
     for (k, pair) in corners.windows(2).enumerate() {
@@ -190,7 +200,8 @@ fn link(draft: &Draft, array: bool) -> Link {
     Link { name: name(draft.cell), placement, columns, rows, column_step, row_step }
 }
 
-fn element(bytes: &[u8], at: &mut usize, kind: u8, layer: (u16, u16), cell: &mut Cell) {
+/// The records of an element up to its end.
+fn draft<'a>(bytes: &'a [u8], at: &mut usize) -> Draft<'a> {
     let mut draft = Draft::default();
     loop {
         let (record, body) = next(bytes, at);
@@ -206,36 +217,85 @@ fn element(bytes: &[u8], at: &mut usize, kind: u8, layer: (u16, u16), cell: &mut
             0x21 => draft.path_type = word(body),
             0x30 => draft.begin = number(body),
             0x31 => draft.end = number(body),
-            0x11 => break,
+            0x11 => return draft,
             _ => {}
         }
     }
-    match kind {
-        0x0a | 0x0b => cell.links.push(link(&draft, kind == 0x0b)),
-        0x08 | 0x09 if (draft.layer, draft.data_type) == layer => {
-            cell.shapes += 1;
-            if kind == 0x08 {
-                fill(&points(draft.xy), &mut cell.pieces);
-            } else {
-                wire(&draft, &mut cell.pieces);
-            }
-        }
-        _ => {}
+}
+
+impl Draft<'_> {
+    fn numbers(&self) -> Numbers {
+        Numbers { path_type: self.path_type, width: self.width, begin: self.begin, end: self.end }
     }
 }
 
-/// The cells and their names, in the order of the file.
-fn read(bytes: &[u8], layer: (u16, u16)) -> (Vec<Cell>, HashMap<Vec<u8>, usize>) {
+/// An element as a value of its own, as a library keeps it.
+enum Element {
+    Boundary { layer: u16, data_type: u16, points: Vec<Point> },
+    Path { layer: u16, data_type: u16, numbers: Numbers, points: Vec<Point> },
+    Link(Link),
+    Other,
+}
+
+impl Element {
+    fn of(kind: u8, draft: &Draft) -> Element {
+        let (layer, data_type) = (draft.layer, draft.data_type);
+        match kind {
+            0x08 => Element::Boundary { layer, data_type, points: points(draft.xy) },
+            0x09 => Element::Path { layer, data_type, numbers: draft.numbers(), points: points(draft.xy) },
+            0x0a | 0x0b => Element::Link(link(draft, kind == 0x0b)),
+            _ => Element::Other,
+        }
+    }
+}
+
+impl Cell {
+    fn put_boundary(&mut self, points: &[Point]) {
+        self.shapes += 1;
+        fill(points, &mut self.pieces);
+    }
+
+    fn put_path(&mut self, numbers: Numbers, points: &[Point]) {
+        self.shapes += 1;
+        wire(numbers, points, &mut self.pieces);
+    }
+
+    /// Puts an element into the cell as it is read.
+    fn put_draft(&mut self, kind: u8, draft: &Draft, wanted: (u16, u16)) {
+        let is_wanted = (draft.layer, draft.data_type) == wanted;
+        match kind {
+            0x08 if is_wanted => self.put_boundary(&points(draft.xy)),
+            0x09 if is_wanted => self.put_path(draft.numbers(), &points(draft.xy)),
+            0x0a | 0x0b => self.links.push(link(draft, kind == 0x0b)),
+            _ => {}
+        }
+    }
+
+    /// Puts an element of a library into the cell.
+    fn put_element(&mut self, element: &Element, wanted: (u16, u16)) {
+        match element {
+            Element::Boundary { layer, data_type, points } if (*layer, *data_type) == wanted => self.put_boundary(points),
+            Element::Path { layer, data_type, numbers, points } if (*layer, *data_type) == wanted => {
+                self.put_path(*numbers, points);
+            }
+            Element::Link(link) => self.links.push(link.clone()),
+            _ => {}
+        }
+    }
+}
+
+/// The cells, each by `take` of its elements, and their names, in the order of the file.
+fn read<'a, C: Default>(bytes: &'a [u8], take: impl Fn(&mut C, u8, Draft<'a>)) -> (Vec<C>, HashMap<Vec<u8>, usize>) {
     let (mut cells, mut indices, mut at) = (Vec::new(), HashMap::new(), 0);
     loop {
         match next(bytes, &mut at).0 {
             0x05 => {
                 indices.insert(name(next(bytes, &mut at).1), cells.len());
-                let mut cell = Cell::default();
+                let mut cell = C::default();
                 loop {
                     match next(bytes, &mut at).0 {
                         0x07 => break,
-                        kind => element(bytes, &mut at, kind, layer, &mut cell),
+                        kind => take(&mut cell, kind, draft(bytes, &mut at)),
                     }
                 }
                 cells.push(cell);
@@ -244,6 +304,24 @@ fn read(bytes: &[u8], layer: (u16, u16)) -> (Vec<Cell>, HashMap<Vec<u8>, usize>)
             _ => {}
         }
     }
+}
+
+/// The cells' rectangles of the layer and their references, filled as they are read.
+fn read_cells(bytes: &[u8], layer: (u16, u16)) -> (Vec<Cell>, HashMap<Vec<u8>, usize>) {
+    read(bytes, |cell: &mut Cell, kind, draft| cell.put_draft(kind, &draft, layer))
+}
+
+/// The same by way of a library: each element of each layer is a value before one shape is filled.
+fn read_library(bytes: Vec<u8>, layer: (u16, u16)) -> (Vec<Cell>, HashMap<Vec<u8>, usize>) {
+    let (library, indices) = read(&bytes, |cell: &mut Vec<Element>, kind, draft| cell.push(Element::of(kind, &draft)));
+    drop(bytes);
+    let filled = |elements: &Vec<Element>| -> Cell {
+        let mut cell = Cell::default();
+        elements.iter().for_each(|element| cell.put_element(element, layer));
+        cell
+    };
+    let cells = library.iter().map(filled).collect();
+    (cells, indices)
 }
 
 // ---- the copies
@@ -286,8 +364,7 @@ impl Design {
     }
 }
 
-fn flatten(bytes: &[u8], top: &[u8], layer: (u16, u16)) -> Vec<Rect> {
-    let (cells, indices) = read(bytes, layer);
+fn flatten((cells, indices): (Vec<Cell>, HashMap<Vec<u8>, usize>), top: &[u8]) -> Vec<Rect> {
     let targets = cells.iter().map(|cell| cell.links.iter().map(|link| indices[&link.name]).collect()).collect();
     let counts = vec![None; cells.len()];
     let mut design = Design { cells, targets, counts };
@@ -322,7 +399,7 @@ fn report(rules: &HashMap<String, String>, windows: &Windows, areas: &[i64]) -> 
 
 fn main() {
     let paths: Vec<String> = std::env::args().skip(1).collect();
-    let [rules, design] = paths.as_slice() else { panic!("usage: plain RULES DESIGN") };
+    let [rules, design, way @ ..] = paths.as_slice() else { panic!("usage: plain RULES DESIGN [library]") };
     let rules = std::fs::read_to_string(rules).expect("the rules");
     let pair = |line: &str| line.split_once(',').map(|(key, value)| (key.to_string(), value.to_string()));
     let rules: HashMap<String, String> = rules.lines().filter_map(pair).collect();
@@ -335,7 +412,9 @@ fn main() {
         rows: key("win_ny") as usize,
     };
     let bytes = std::fs::read(design).expect("the design");
-    let rects = flatten(&bytes, rules["top"].as_bytes(), (key("layer") as u16, key("datatype") as u16));
+    let layer = (key("layer") as u16, key("datatype") as u16);
+    let cells = if way.is_empty() { read_cells(&bytes, layer) } else { read_library(bytes, layer) };
+    let rects = flatten(cells, rules["top"].as_bytes());
     let areas = measure_all(&from_rects(&rects), &windows);
     std::io::stdout().write_all(&report(&rules, &windows, &areas)).expect("the report");
 }

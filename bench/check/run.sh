@@ -1,6 +1,7 @@
 #!/usr/bin/env bash
 # Times the whole of `densfill check` on generated designs of 100,000, 1,000,000 and 3,900,000 copies of shapes, flat and
-# in five levels, over 10,000 windows, beside the same algorithms in plain Rust (plain.rs), on one processor and on all.
+# in five levels, over 10,000 windows, beside the same algorithms in plain Rust (plain.rs), on one processor and on all: `plain`
+# keeps the whole library as values before it fills a shape, as `densfill` does, and `direct` fills each shape as it is read.
 # Seconds are the best of three runs, peaks in MB those of the whole process. Where two reports differ in a byte, the run
 # fails; so the report of a flat design is compared with that of the deep one, too.
 #
@@ -22,7 +23,8 @@ rustc --edition 2021 -O -o "$work/plain" "$here/plain.rs"
 run() {
     case $1 in
         densfill) "$root/bin/densfill" check "$work/rules.csv" "$work/design.gds" > "$2" ;;
-        plain) "$work/plain" "$work/rules.csv" "$work/design.gds" > "$2" ;;
+        plain) "$work/plain" "$work/rules.csv" "$work/design.gds" library > "$2" ;;
+        direct) "$work/plain" "$work/rules.csv" "$work/design.gds" > "$2" ;;
         areas.py | density.drc)
             QT_QPA_PLATFORM=offscreen klayout -b -r "$here/$1" -rd design="$work/design.gds" -rd rules="$work/rules.csv" \
                 -rd threads="$3" -rd out="$2" ;;
@@ -41,7 +43,8 @@ measure() {
 }
 
 all=$(nproc)
-printf '%-6s %10s %10s %12s %8s %6s %12s %9s\n' form copies processors "densfill s" "plain s" ratio "densfill MB" "plain MB"
+printf '%-6s %10s %10s %12s %8s %6s %9s %12s %9s %10s\n' \
+    form copies processors "densfill s" "plain s" ratio "direct s" "densfill MB" "plain MB" "direct MB"
 [ $# -gt 0 ] || set -- 100000 1000000 3900000
 for count in "$@"; do
     for form in flat deep; do
@@ -49,9 +52,11 @@ for count in "$@"; do
         for processors in $(printf '1\n%s\n' "$all" | sort -nu); do
             ours=$(measure densfill "$processors" 3)
             theirs=$(measure plain "$processors" 3)
+            direct=$(measure direct "$processors" 3)
             cmp "$work/densfill.csv" "$work/plain.csv"
-            echo "$form $count $processors $ours $theirs" |
-                awk '{ printf "%-6s %10d %10d %12.2f %8.2f %6.2f %12d %9d\n", $1, $2, $3, $4, $6, ($6 > 0 ? $4 / $6 : 0), $5, $7 }'
+            cmp "$work/densfill.csv" "$work/direct.csv"
+            echo "$form $count $processors $ours $theirs $direct" |
+                awk '{ printf "%-6s %10d %10d %12.2f %8.2f %6.2f %9.2f %12d %9d %10d\n", $1, $2, $3, $4, $6, ($6 > 0 ? $4 / $6 : 0), $8, $5, $7, $9 }'
             command -v klayout > "$work/found" || continue
             areas=$(measure areas.py "$processors" 1)
             low=$(measure density.drc "$processors" 1)

@@ -8,3 +8,5 @@ pub mod TestMarks
 pub mod PieceLaws
 pub mod Standing
 pub mod Boxed
+pub mod Wells
+pub mod Grammatical

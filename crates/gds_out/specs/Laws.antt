@@ -1,12 +1,18 @@
 -- What holds of runs and pieces, and of where the references of a fill library stand.
-use Rattle.std.specs.Prelude.{◌≡◌, ◌*◌, ◌/◌, ◌%◌, ◌==◌, ℤ, pos, ◌+ℤ◌, ◌*ℤ◌, if◌then◌else◌, List, [], ◌∷◌, map}
+use Rattle.std.specs.Prelude.{◌≡◌, ℕ, length, ◌*◌, ◌/◌, ◌%◌, ◌==◌, ℤ, pos, ◌+ℤ◌, ◌*ℤ◌, if◌then◌else◌, List, [], ◌∷◌, map}
 use Rattle.std.specs.List.{flat_map, range_with_len}
 use Rattle.fill_base.specs.declared.place.Point.{Point}
 use Rattle.fill_raster.specs.Axes.{box_begin}
 use Rattle.fill_raster.specs.Lattice.{Lattice, IsLattice, box_squares}
 use Rattle.gds_flatten.specs.Placements.{carried, shift}
 use Rattle.gds_flatten.specs.References.{grid_point}
+use Rattle.gds_grammar.specs.Grammar.{AreWell}
+use Rattle.gds_grammar.specs.Outcomes.{Spells}
+use Rattle.gds_grammar.specs.Values.{Contents}
 use Rattle.gds_shape.specs.Winding.{covers}
+use Rattle.fill_text.specs.ValuesOfRules.{values_of}
+use Rattle.fill_text.specs.declared.rules.Rules.{Rules}
+use Rattle.gds_out.specs.FillText.{fill_records, fill_text}
 use Rattle.gds_out.specs.Places.{PlaceSet, places_along, filled_columns, filled_places}
 use Rattle.gds_out.specs.Runs.{Run, runs, pieces, numbers_from}
 
@@ -57,3 +63,13 @@ box_points r =
 abbrev pub MovedBoxIsThePlaces : Type 0
 MovedBoxIsThePlaces = (r : Lattice) → IsLattice r → (i j x y : ℤ)
     → carried (shift (box_begin r.across i) (box_begin r.up j)) (covers (box_points r)) x y ≡ box_squares r i j x y
+
+-- each record of the text fits its bytes, and has the data type and the size of its kind, for any rules
+abbrev pub RecordsAreTheManuals : Type 0
+RecordsAreTheManuals = (rules : Rules) (units dates : List ℕ) (filled : PlaceSet) → length units ≡ 16 → length dates ≡ 24
+    → AreWell (fill_records units dates (values_of rules) filled)
+
+-- the text is in the library grammar, for any rules
+abbrev pub TextIsALibrary : Type 0
+TextIsALibrary = (rules : Rules) (units dates : List ℕ) (filled : PlaceSet) → length units ≡ 16 → length dates ≡ 24
+    → (value : Contents) × Spells (fill_text units dates (values_of rules) filled) value
