@@ -1,16 +1,17 @@
 -- The area of boxes in a rectangle is the sum of what each takes of it.
-use Rattle.std.proofs.Common.{◌≡◌, refl, sym, ap, ◌∙◌, ℕ, zero, suc, ◌+◌, ◌*◌, ◌<◌, ℤ, pos, ◌+ℤ◌, ◌≤ℤ◌, ◌<ℤ◌, arith, Bool, true, false, cond, ◌&&◌, ◌||◌}
-use Rattle.std.proofs.lemmas.Bool.{and_parts, cases_Bool}
+use Rattle.std.proofs.Common.{◌≡◌, refl, sym, ap, ◌∙◌, ℕ, zero, suc, ◌+◌, ◌*◌, ◌<◌, ℤ, pos, ◌+ℤ◌, ◌≤ℤ◌, arith, Bool, true, false, cond, ◌&&◌, ◌||◌}
+use Rattle.std.proofs.lemmas.Bool.{and_parts}
 use Rattle.std.proofs.lemmas.Int.{ints}
 use Rattle.fill_base.specs.Counts.{is_between, sum_from, sum_between, count_between, span_len}
 use Rattle.fill_base.specs.Squares.{area_between}
 use Rattle.fill_base.proofs.Between.{is_between_above, is_between_below}
-use Rattle.fill_base.proofs.Counting.{sum_from_add, sum_from_const, sum_from_same, sum_between_add, sum_between_split, sum_between_const, sum_between_same}
+use Rattle.fill_base.proofs.Counting.{sum_from_add, sum_from_const, sum_from_same, sum_between_add, sum_between_split, sum_between_const}
 use Rattle.fill_raster.proofs.Points.{area_none}
 use Rattle.fill_raster.specs.Lattice.{Lattice, box_squares}
 use Rattle.fill_job.specs.Plans.{PointSet}
 use Rattle.fill_job.specs.Searches.{some_below, some_pair, some_within}
 use Rattle.fill_job.proofs.Searching.{some_below_finds}
+use Rattle.fill_book.specs.steps.Taken.{AreApart}
 
 -- ---- sets that share no square
 
@@ -82,10 +83,6 @@ taken r fill left bottom right top i j = cond (fill i j) (area_between (box_squa
 filled_area : (fill : Bool) (p : PointSet) (left bottom right top : ℤ) → left ≤ℤ right → bottom ≤ℤ top → area_between (λ x y. fill && p x y) left bottom right top ≡ cond fill (area_between p left bottom right top) 0
 filled_area true p left bottom right top wide tall = refl
 filled_area false p left bottom right top wide tall = area_none (λ x y. false) left bottom right top wide tall (λ x y. refl)
-
-pub record AreApart (r : Lattice) (fill : PointSet) : Type 0 where
-  pub columns : (i j k l x y : ℤ) → fill i j ≡ true → fill k l ≡ true → box_squares r i j x y ≡ true → box_squares r k l x y ≡ true → i ≡ k
-  pub rows : (i j k l x y : ℤ) → fill i j ≡ true → fill k l ≡ true → box_squares r i j x y ≡ true → box_squares r k l x y ≡ true → j ≡ l
 
 -- boxes of places between two columns and two rows
 pub boxes_area : (r : Lattice) (fill : PointSet) (first_column first_row past_column past_row left bottom right top : ℤ) → left ≤ℤ right → bottom ≤ℤ top → AreApart r fill

@@ -1,2 +1,5 @@
 pub mod BoxAreas
 pub mod SharedAreas
+pub mod BoxSums
+pub mod Nearby
+pub mod Totals

@@ -1,8 +1,8 @@
 -- What two rectangles share.
-use Rattle.std.proofs.Common.{◌≡◌, refl, sym, ap, ◌∙◌, ℤ, pos, ◌-ℤ◌, ◌≤ℤ◌, ◌<ℤ◌, arith, Bool, true, false, cond, ◌&&◌}
+use Rattle.std.proofs.Common.{◌≡◌, refl, sym, ◌∙◌, ℤ, pos, ◌-ℤ◌, ◌≤ℤ◌, ◌<ℤ◌, arith, Bool, true, false, ◌&&◌}
 use Rattle.std.proofs.lemmas.Bool.{and_from, and_parts}
 use Rattle.std.proofs.lemmas.Int.{ints}
-use Rattle.fill_base.specs.Counts.{is_between, count_between}
+use Rattle.fill_base.specs.Counts.{count_between}
 use Rattle.fill_base.specs.Squares.{area_of, squares}
 use Rattle.fill_base.specs.declared.rect.Rect.{Rect}
 use Rattle.fill_base.proofs.Between.{is_between_true, is_between_bounds}
@@ -55,7 +55,10 @@ shared_part r w part each =
           to_top = reached _ _ (is_between_bounds w.y1 w.y2 (part.y2 -ℤ pos 1) high.1).1;
         }
 
+pub none_within : (p : PointSet) (w : Rect) → ((x y : ℤ) → p x y && squares w x y ≡ false) → area_of p w ≡ 0
+none_within p w none =
+    within_window p (λ x y. p x y && squares w x y) w (λ x y. refl)
+    ∙ area_none (λ x y. p x y && squares w x y) w.x1 w.y1 w.x2 w.y2 (lt_le _ _ w.wide) (lt_le _ _ w.tall) none
+
 pub shared_none : (r w : Rect) → ((x y : ℤ) → squares r x y && squares w x y ≡ false) → area_of (squares r) w ≡ 0
-shared_none r w none =
-    within_window (squares r) (λ x y. squares r x y && squares w x y) w (λ x y. refl)
-    ∙ area_none (λ x y. squares r x y && squares w x y) w.x1 w.y1 w.x2 w.y2 (lt_le _ _ w.wide) (lt_le _ _ w.tall) none
+shared_none r w none = none_within (squares r) w none

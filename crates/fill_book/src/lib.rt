@@ -1,4 +1,5 @@
 //! Books of a fill.
 #![tactic(auto)]
 
+mod filled;
 mod measure;

@@ -1,0 +1,96 @@
+//! The filled places of a raster, tile by tile, and what their boxes take of a window.
+ghost use Rattle.std.specs.Prelude.{◌≡◌, ◌&&◌, ◌≤ℤ◌, ℤ, pos, true};
+ghost use Rattle.fill_base.specs.Counts.{is_between};
+ghost use Rattle.fill_base.specs.Squares.{area_of};
+ghost use Rattle.fill_raster.specs.Lattice.{in_raster};
+ghost use Rattle.fill_region.specs.Bands.{holds};
+ghost use Rattle.fill_book.specs.Filling.{Filling, IsFilling, KeepsClear, boxes_of, is_filled, metal_or_box};
+ghost use Rattle.fill_book.specs.steps.Taken.{AreApart, taken_in, taken_by_row, taken_by_rows};
+
+use crate::measure::shared_area;
+use fill_area::area_in;
+use fill_base::{Place, Rect};
+use fill_raster::{Marks, Raster};
+use fill_region::Region;
+use std::marker::Model;
+
+/// A raster, and the filled places of each of its tiles.
+#[derive(Drop)]
+pub(crate) struct Filled {
+    raster: Raster,
+    tiles: Vec<Marks>,
+}
+
+impl Model for Filled {
+    ghost Value = { Filling };
+
+    ghost view = { λ f. record { raster = f.raster; marks = f.tiles.items } };
+
+    ghost invariant = { λ f. IsFilling (record { raster = f.raster; marks = f.tiles.items }) };
+}
+
+impl Filled {
+    /// Whether a place is filled.
+    pub(crate) fn has(&self, place: Place) -> bool
+        ensures { result ≡ is_filled self.now place.i place.j }
+    {
+        self.raster.has(place) && self.tiles[self.raster.tile_of(place) as usize].has(place)
+    }
+
+    /// How many squares of a window the box of a place holds: none where it isn't filled.
+    fn taken(&self, place: Place, window: &Rect) -> i64
+        requires { in_raster self.now.raster place.i place.j ≡ true }
+        ensures { result ≡ pos (taken_in self.now.raster (is_filled self.now) window.now place.i place.j) }
+    {
+        if self.has(place) {
+            shared_area(&self.raster.box_of(place), window)
+        } else {
+            0
+        }
+    }
+
+    /// How many squares of a window the boxes of a row hold, from one column on and before another.
+    fn taken_by_row(&self, window: &Rect, left: i64, right: i64, j: i64) -> i64
+        requires ordered { left ≤ℤ right }
+        requires apart { AreApart self.now.raster (is_filled self.now) }
+        requires places { (i : ℤ) → is_between left right i ≡ true → in_raster self.now.raster i j ≡ true }
+        ensures { result ≡ pos (taken_by_row self.now.raster (is_filled self.now) window.now left right j) }
+    {
+        let mut area = 0;
+        for i in left..right {
+            area += self.taken(Place { i, j }, window);
+        }
+        area
+    }
+
+    /// How many squares of a window the boxes of some rows hold, between the same columns each.
+    fn taken_by_rows(&self, window: &Rect, left: i64, right: i64, bottom: i64, top: i64) -> i64
+        requires columns { left ≤ℤ right }
+        requires rows { bottom ≤ℤ top }
+        requires apart { AreApart self.now.raster (is_filled self.now) }
+        requires places { (i j : ℤ) → is_between left right i && is_between bottom top j ≡ true → in_raster self.now.raster i j ≡ true }
+        ensures { result ≡ pos (taken_by_rows self.now.raster (is_filled self.now) window.now left right bottom top) }
+    {
+        let mut area = 0;
+        for j in bottom..top {
+            area += self.taken_by_row(window, left, right, j);
+        }
+        area
+    }
+
+    /// How many squares of a window the boxes of the filled places hold.
+    pub(crate) fn boxes_in(&self, window: &Rect) -> i64
+        ensures { result ≡ pos (area_of (boxes_of self.now.raster (is_filled self.now)) window.now) }
+    {
+        let (columns, rows) = self.raster.near(window, 0);
+        self.taken_by_rows(window, columns.start, columns.end, rows.start, rows.end)
+    }
+
+    /// How many squares of a window are metal or in a box of a filled place, where no box shares a square with the metal.
+    pub(crate) fn total_in(&self, metal: &Region, window: &Rect) -> i64
+        requires { KeepsClear self.now (holds metal.now) }
+        ensures { result ≡ pos (area_of (metal_or_box self.now (holds metal.now)) window.now) }
+    {
+        area_in(metal, window) + self.boxes_in(window)
+    }
+}
