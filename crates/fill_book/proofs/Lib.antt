@@ -3,3 +3,4 @@ pub mod SharedAreas
 pub mod BoxSums
 pub mod Nearby
 pub mod Totals
+pub mod Placing

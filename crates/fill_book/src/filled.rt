@@ -1,5 +1,6 @@
 //! The filled places of a raster, tile by tile, and what their boxes take of a window.
-ghost use Rattle.std.specs.Prelude.{◌≡◌, ◌&&◌, ◌≤ℤ◌, ℤ, pos, true};
+ghost use Rattle.std.specs.Prelude.{◌≡◌, ◌&&◌, ◌||◌, not, ◌≤ℤ◌, ℤ, pos, true};
+ghost use Rattle.std.specs.Ordering.{int_eq};
 ghost use Rattle.fill_base.specs.Counts.{is_between};
 ghost use Rattle.fill_base.specs.Squares.{area_of};
 ghost use Rattle.fill_raster.specs.Lattice.{in_raster};
@@ -35,6 +36,26 @@ impl Filled {
         ensures { result ≡ is_filled self.now place.i place.j }
     {
         self.raster.has(place) && self.tiles[self.raster.tile_of(place) as usize].has(place)
+    }
+
+    /// Fills a place.
+    pub(crate) fn set(&mut self, place: Place)
+        requires { in_raster self.old.raster place.i place.j ≡ true }
+        ensures raster { self.new.raster ≡ self.old.raster }
+        ensures filled { (i j : ℤ) → is_filled self.new i j ≡ is_filled self.old i j || (int_eq i place.i && int_eq j place.j) }
+    {
+        let tile = self.raster.tile_of(place) as usize;
+        self.tiles[tile].set(place);
+    }
+
+    /// Empties a place.
+    pub(crate) fn clear(&mut self, place: Place)
+        requires { in_raster self.old.raster place.i place.j ≡ true }
+        ensures raster { self.new.raster ≡ self.old.raster }
+        ensures filled { (i j : ℤ) → is_filled self.new i j ≡ is_filled self.old i j && not (int_eq i place.i && int_eq j place.j) }
+    {
+        let tile = self.raster.tile_of(place) as usize;
+        self.tiles[tile].clear(place);
     }
 
     /// How many squares of a window the box of a place holds: none where it isn't filled.
