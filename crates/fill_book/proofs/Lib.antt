@@ -4,3 +4,4 @@ pub mod BoxSums
 pub mod Nearby
 pub mod Totals
 pub mod Placing
+pub mod OpenTiles

@@ -3,3 +3,4 @@
 
 mod filled;
 mod measure;
+mod tiles;

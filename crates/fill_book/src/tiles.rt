@@ -1,0 +1,88 @@
+//! Which tiles are in.
+ghost use Rattle.std.specs.Prelude.{◌≡◌, ◌<◌, ◌==◌, ◌||◌, ◌↔◌, true, false, ℕ, Bool, List, length, IfOk, IsTrue};
+ghost use Rattle.fill_core.specs.Tiles as spec;
+ghost use Rattle.fill_core.specs.Tiles.{next_tile};
+ghost use Rattle.fill_book.specs.Tiles.{is_in};
+
+use std::alloc::{AllocError, Global};
+use std::marker::Model;
+
+/// A set of tiles, by their numbers from 0 on.
+#[derive(Drop)]
+pub(crate) struct TileSet {
+    bits: Vec<bool>,
+}
+
+impl Model for TileSet {
+    ghost Value = { List Bool };
+
+    ghost view = { λ s. s.bits.items };
+}
+
+impl TileSet {
+    /// No tile, with the room for so many.
+    ///
+    /// # Errors
+    /// `AllocError` where memory is refused.
+    pub(crate) fn none(alloc: Global, count: u32) -> Result<TileSet, AllocError>
+        ensures room { IfOk result (λ s. length s ≡ count) }
+        ensures none { IfOk result (λ s. (tile : ℕ) → is_in s tile ≡ false) }
+    {
+        let bits = Vec::from_elem(alloc, false, count as usize)?;
+        Ok(TileSet { bits })
+    }
+
+    /// Whether a tile is in.
+    pub(crate) fn has(&self, tile: u32) -> bool
+        ensures { result ≡ is_in self.now tile }
+    {
+        let at = tile as usize;
+        at < self.bits.len() && self.bits[at]
+    }
+
+    /// Takes a tile in.
+    pub(crate) fn put(&mut self, tile: u32)
+        requires { tile < length self.old }
+        ensures room { length self.new ≡ length self.old }
+        ensures tiles { (t : ℕ) → is_in self.new t ≡ is_in self.old t || (t == tile) }
+    {
+        self.bits[tile as usize] = true;
+    }
+
+    /// The first tile that isn't in, from `from` on and before `past`.
+    fn first_open(&self, from: u32, past: u32) -> Option<u32>
+        ensures { result ≡ spec.first_open (is_in self.now) from past }
+    {
+        for tile in from..past {
+            if !self.has(tile) {
+                return Some(tile);
+            }
+        }
+        None
+    }
+
+    /// The first tile at or after `from` and below `count` that isn't in, else the first such tile of all.
+    pub(crate) fn next(&self, count: u32, from: u32) -> Option<u32>
+        ensures { result ≡ next_tile count (is_in self.now) from }
+    {
+        match self.first_open(from, count) {
+            Some(tile) => Some(tile),
+            None => self.first_open(0, count),
+        }
+    }
+
+    /// Whether every tile below `count` is in.
+    pub(crate) fn is_complete(&self, count: u32) -> bool
+        ensures { IsTrue result ↔ ((tile : ℕ) → tile < count → is_in self.now tile ≡ true) }
+    {
+        self.next(count, 0).is_none()
+    }
+
+    /// Takes all tiles out.
+    pub(crate) fn clear_all(&mut self)
+        ensures room { length self.new ≡ length self.old }
+        ensures none { (tile : ℕ) → is_in self.new tile ≡ false }
+    {
+        self.bits.fill(false);
+    }
+}
