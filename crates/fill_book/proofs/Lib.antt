@@ -5,3 +5,4 @@ pub mod Nearby
 pub mod Totals
 pub mod Placing
 pub mod OpenTiles
+pub mod FillRows

@@ -4,6 +4,7 @@ ghost use Rattle.std.specs.Ordering.{int_eq};
 ghost use Rattle.fill_base.specs.Counts.{is_between};
 ghost use Rattle.fill_base.specs.Squares.{area_of};
 ghost use Rattle.fill_raster.specs.Lattice.{in_raster};
+ghost use Rattle.fill_raster.specs.Marks.{is_marked};
 ghost use Rattle.fill_region.specs.Bands.{holds};
 ghost use Rattle.fill_book.specs.Filling.{Filling, IsFilling, KeepsClear, boxes_of, is_filled, metal_or_box};
 ghost use Rattle.fill_book.specs.steps.Taken.{AreApart, taken_in, taken_by_row, taken_by_rows};
@@ -56,6 +57,31 @@ impl Filled {
     {
         let tile = self.raster.tile_of(place) as usize;
         self.tiles[tile].clear(place);
+    }
+
+    /// Fills the marked places of a row, from one column on and before another.
+    fn fill_row(&mut self, marks: &Marks, left: i64, right: i64, j: i64)
+        requires { (i : ℤ) → is_between left right i ≡ true → in_raster self.old.raster i j ≡ true }
+        ensures raster { self.new.raster ≡ self.old.raster }
+        ensures filled { (k m : ℤ) → is_filled self.new k m ≡ is_filled self.old k m || (int_eq m j && (is_between left right k && is_marked marks.now k m)) }
+    {
+        for i in left..right {
+            let place = Place { i, j };
+            if marks.has(place) {
+                self.set(place);
+            }
+        }
+    }
+
+    /// Fills the marked places of some rows, between the same columns each.
+    fn fill_rows(&mut self, marks: &Marks, left: i64, right: i64, bottom: i64, top: i64)
+        requires { (i j : ℤ) → is_between left right i && is_between bottom top j ≡ true → in_raster self.old.raster i j ≡ true }
+        ensures raster { self.new.raster ≡ self.old.raster }
+        ensures filled { (k m : ℤ) → is_filled self.new k m ≡ is_filled self.old k m || (is_between bottom top m && (is_between left right k && is_marked marks.now k m)) }
+    {
+        for j in bottom..top {
+            self.fill_row(marks, left, right, j);
+        }
     }
 
     /// How many squares of a window the box of a place holds: none where it isn't filled.
