@@ -1,5 +1,5 @@
 -- Places that are filled row by row.
-use Rattle.std.proofs.Common.{◌≡◌, refl, ◌∙◌, ℤ, pos, ◌+ℤ◌, ◌≤ℤ◌, arith, Bool, true, false, ◌&&◌, ◌||◌}
+use Rattle.std.proofs.Common.{◌≡◌, refl, sym, ◌∙◌, ℤ, pos, ◌+ℤ◌, ◌≤ℤ◌, arith, Bool, true, false, ◌&&◌, ◌||◌}
 use Rattle.std.specs.Int.{int_max}
 use Rattle.std.specs.Ordering.{int_eq}
 use Rattle.std.proofs.lemmas.Int.{ints}
@@ -35,3 +35,10 @@ rows_more o b a x bottom j le before after k m = after k m ∙ rw (before k m, b
 pub rows_end : (o a x : PointSet) (bottom top j : ℤ) → bottom ≤ℤ j → j ≤ℤ int_max bottom top → top ≤ℤ j → ((k m : ℤ) → a k m ≡ o k m || (is_between bottom j m && x k m))
     → (k m : ℤ) → a k m ≡ o k m || (is_between bottom top m && x k m)
 rows_end o a x bottom top j low high past is k m = is k m ∙ rw (between_all bottom top j m low high past) refl
+
+-- the marks of a tile lie within its columns and rows
+pub all_marked : (b p x y t : Bool) → x && y ≡ p → b ≡ p → y && (x && (b && t)) ≡ b && t
+all_marked b p true true t h k = refl
+all_marked b p true false t h k = rw (k, sym h) refl
+all_marked b p false true t h k = rw (k, sym h) refl
+all_marked b p false false t h k = rw (k, sym h) refl

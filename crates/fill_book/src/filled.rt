@@ -1,10 +1,10 @@
 //! The filled places of a raster, tile by tile, and what their boxes take of a window.
-ghost use Rattle.std.specs.Prelude.{◌≡◌, ◌&&◌, ◌||◌, not, ◌≤ℤ◌, ℤ, pos, true};
+ghost use Rattle.std.specs.Prelude.{◌≡◌, ◌&&◌, ◌||◌, not, ◌<◌, ◌≤ℤ◌, ℤ, pos, true};
 ghost use Rattle.std.specs.Ordering.{int_eq};
 ghost use Rattle.fill_base.specs.Counts.{is_between};
 ghost use Rattle.fill_base.specs.Squares.{area_of};
-ghost use Rattle.fill_raster.specs.Lattice.{in_raster};
-ghost use Rattle.fill_raster.specs.Marks.{is_marked};
+ghost use Rattle.fill_raster.specs.Lattice.{in_raster, in_tile, tiles};
+ghost use Rattle.fill_raster.specs.Marks.{in_block, is_marked};
 ghost use Rattle.fill_region.specs.Bands.{holds};
 ghost use Rattle.fill_book.specs.Filling.{Filling, IsFilling, KeepsClear, boxes_of, is_filled, metal_or_box};
 ghost use Rattle.fill_book.specs.steps.Taken.{AreApart, taken_in, taken_by_row, taken_by_rows};
@@ -82,6 +82,17 @@ impl Filled {
         for j in bottom..top {
             self.fill_row(marks, left, right, j);
         }
+    }
+
+    /// Fills the marked places of a tile.
+    pub(crate) fn take_in(&mut self, tile: u32, marks: &Marks)
+        requires tile { tile < tiles self.old.raster }
+        requires places { (i j : ℤ) → in_block marks.now.block i j ≡ in_tile self.old.raster tile i j }
+        ensures raster { self.new.raster ≡ self.old.raster }
+        ensures filled { (i j : ℤ) → is_filled self.new i j ≡ is_filled self.old i j || is_marked marks.now i j }
+    {
+        let (columns, rows) = self.raster.places(tile);
+        self.fill_rows(marks, columns.start, columns.end, rows.start, rows.end);
     }
 
     /// How many squares of a window the box of a place holds: none where it isn't filled.
