@@ -1,4 +1,5 @@
-//! Books of a fill.
+//! The ground of the books of a fill: which places are filled, what metal and boxes take of a window, and which tiles are in. The
+//! book itself is to come, so nothing is public yet.
 #![tactic(auto)]
 
 mod filled;
