@@ -201,3 +201,11 @@ pub fn is_clear(bands: &Bands, place: &Rect, spacing: i32) -> bool {
     let near = bands[above.saturating_sub(1)..].iter().take_while(|band| band.0 < y2);
     near.into_iter().all(|band| !meets(&band.1, x1, x2))
 }
+
+/// The rectangles of a layer's file: the left, lower, right and upper edge of each, in four bytes each.
+pub fn read(path: &str) -> Vec<Rect> {
+    let bytes = std::fs::read(path).expect("the file");
+    let number = |b: &[u8]| i32::from_le_bytes([b[0], b[1], b[2], b[3]]);
+    let rect = |b: &[u8]| Rect { x1: number(b), y1: number(&b[4..]), x2: number(&b[8..]), y2: number(&b[12..]) };
+    bytes.chunks_exact(16).map(rect).collect()
+}

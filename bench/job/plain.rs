@@ -6,7 +6,7 @@ mod sweep;
 use std::collections::HashMap;
 use std::sync::Mutex;
 use std::time::Instant;
-use sweep::{first_not, from_rects, is_clear, Bands, Rect};
+use sweep::{first_not, from_rects, is_clear, read, Bands, Rect};
 
 /// The numbers of the rules.
 struct Rules {
@@ -124,13 +124,6 @@ fn count_all(rules: &Rules, metal: &Bands) -> usize {
         }
     });
     total.into_inner().unwrap()
-}
-
-fn read(path: &str) -> Vec<Rect> {
-    let bytes = std::fs::read(path).expect("the file");
-    let number = |b: &[u8]| i32::from_le_bytes([b[0], b[1], b[2], b[3]]);
-    let rect = |b: &[u8]| Rect { x1: number(b), y1: number(&b[4..]), x2: number(&b[8..]), y2: number(&b[12..]) };
-    bytes.chunks_exact(16).map(rect).collect()
 }
 
 fn main() {

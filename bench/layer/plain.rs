@@ -4,7 +4,7 @@
 mod sweep;
 
 use std::time::{Duration, Instant};
-use sweep::{from_rects, is_clear, measure_all, Bands, Rect, Windows};
+use sweep::{from_rects, is_clear, measure_all, read, Bands, Rect, Windows};
 
 /// The greatest size and step of windows.
 const LONGEST: i32 = 1 << 20;
@@ -37,13 +37,6 @@ fn time_windows(what: &str, bands: &Bands, windows: &Windows) {
     let start = Instant::now();
     let areas = measure_all(bands, windows);
     say(what, areas.iter().sum(), start.elapsed());
-}
-
-fn read(path: &str) -> Vec<Rect> {
-    let bytes = std::fs::read(path).expect("the file");
-    let number = |b: &[u8]| i32::from_le_bytes([b[0], b[1], b[2], b[3]]);
-    let rect = |b: &[u8]| Rect { x1: number(b), y1: number(&b[4..]), x2: number(&b[8..]), y2: number(&b[12..]) };
-    bytes.chunks_exact(16).map(rect).collect()
 }
 
 fn main() {
