@@ -4,11 +4,12 @@
 
 pub mod error;
 pub mod line;
-pub mod report;
+pub mod metal;
+mod window;
 
 pub use error::OutOfMemory;
 pub use line::{Density, Measures};
-pub use report::report_of;
+pub use metal::report_of;
 
 #[cfg(test)]
 mod tests;

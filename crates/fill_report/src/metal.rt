@@ -1,16 +1,16 @@
-//! The report of all windows.
-ghost use Rattle.std.specs.Prelude.{◌≡◌, ◌++◌, ◌*◌, ◌/◌, ◌%◌, ◌<◌, length, ℕ, List, ℤ, pos, ◌≤ℤ◌, Some, IfOk, OnOk, All};
+//! The report of metal alone.
+ghost use Rattle.std.specs.Prelude.{◌≡◌, ◌*◌, length, IfOk, All};
 ghost use Rattle.fill_region.specs.Bands.{holds};
 ghost use Rattle.fill_text.specs.ValuesOfRules.{values_of};
 ghost use Rattle.fill_area.specs.Density.{IsArea, IsShare};
-ghost use Rattle.fill_report.specs.Report.{density_of, share_of, window_line, windows_text, report_text, drawn_only, nothing};
+ghost use Rattle.fill_report.specs.Report.{windows_text, report_text, drawn_only, nothing};
 ghost use Rattle.fill_report.specs.RulesReport.{metal_report};
-ghost use Rattle.fill_report.specs.Writing.{IsReady, written};
 
 use crate::error::OutOfMemory;
-use crate::line::{Density, Measures, put_line};
+use crate::line::Measures;
+use crate::window::put_window;
 use csv::{ByteRecord, Writer};
-use fill_area::{Windows, is_high, is_low, measure_all};
+use fill_area::{Windows, measure_all};
 use fill_region::Region;
 use fill_text::Rules;
 use std::alloc::Global;
@@ -79,72 +79,4 @@ fn drawn_lines(
     }
     let text = writer.into_inner()?;
     Ok(text)
-}
-
-/// Writes the line of the window at place `k`.
-fn put_window(
-    writer: &mut Writer<Vec<u8>>,
-    row: &mut ByteRecord,
-    windows: &Windows,
-    k: usize,
-    measures: Measures,
-    least: i64,
-    most: i64,
-) -> Result<(), OutOfMemory>
-    requires ready { IsReady writer.old }
-    requires within { k < windows.now.across.count * windows.now.up.count }
-    requires total { IsArea measures.total }
-    requires least { IsShare least }
-    requires most { IsShare most }
-    ensures ready { OnOk result (IsReady writer.new) }
-    ensures text { (front : List ℕ) → written writer.old ≡ Some front
-        → OnOk result (written writer.new ≡ Some (front ++ window_line windows.now least most measures (k % windows.now.across.count) (k / windows.now.across.count))) }
-{
-    let (a, b) = windows.column_and_row(k);
-    let window = windows.rect(a, b);
-    let size = windows.window_size();
-    let numbers = [
-        i64::from(a),
-        i64::from(b),
-        window.x1(),
-        window.y1(),
-        window.x2(),
-        window.y2(),
-        measures.drawn,
-        measures.fill,
-        measures.total,
-        share(measures.total, size),
-    ];
-    put_line(
-        writer,
-        row,
-        &numbers,
-        density(measures.total, least, most, size),
-    )
-}
-
-/// A total in parts of a million of a window's size, rounded down.
-fn share(total: i64, size: i64) -> i64
-    requires total { IsArea total }
-    requires some { pos 1 ≤ℤ size }
-    ensures { result ≡ share_of total size }
-{
-    total * 1_000_000 / size
-}
-
-/// Whether a total is below the minimum of a window's size, above the maximum, or neither.
-fn density(total: i64, least: i64, most: i64, size: i64) -> Density
-    requires total { IsArea total }
-    requires least { IsShare least }
-    requires most { IsShare most }
-    requires size { IsArea size }
-    ensures { result ≡ density_of total least most size }
-{
-    if is_low(total, least, size) {
-        Density::Low
-    } else if is_high(total, most, size) {
-        Density::High
-    } else {
-        Density::Within
-    }
 }

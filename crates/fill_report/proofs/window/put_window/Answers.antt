@@ -3,7 +3,7 @@ use Rattle.fill_base.proofs.Signed.{read, read_is}
 use Rattle.fill_area.specs.Grid.{window_left, window_right, window_bottom, window_top}
 use Rattle.fill_report.specs.Report.{density_of, share_of, window_size}
 use Rattle.fill_report.proofs.Lines.{read_at}
-use Rattle.fill_report.proofs.report.put_window.Goals as goal
+use Rattle.fill_report.proofs.window.put_window.Goals as goal
 
 pub returns-clause-text : goal.returns-clause-text
 returns-clause-text c front so_far =

@@ -1,5 +1,5 @@
 use Rattle.fill_report.proofs.Densities.{is_high, is_within}
-use Rattle.fill_report.proofs.report.density.Goals as goal
+use Rattle.fill_report.proofs.window.density.Goals as goal
 
 pub returns-then-is_high : goal.returns-then-is_high
 returns-then-is_high c = is_high c.args.total c.args.least c.args.most c.args.size c.is_low.result c.is_high.result c.ranges.total c.ranges.least c.ranges.most c.ranges.size c.is_low.ensures c.if-is_low.false c.is_high.ensures c.if-is_high.true

@@ -1,7 +1,7 @@
 use Rattle.std.proofs.Common.{◌≡◌, Some}
 use Rattle.fill_report.specs.Report.{first_lines, drawn_only}
 use Rattle.fill_report.specs.Writing.{IsReady, written}
-use Rattle.fill_report.proofs.report.drawn_lines.Given as goal
+use Rattle.fill_report.proofs.metal.drawn_lines.Given as goal
 
 abbrev pub invariant-loop-k : goal.invariant-loop-k
 invariant-loop-k l = record {

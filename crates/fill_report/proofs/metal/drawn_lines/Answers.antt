@@ -1,5 +1,5 @@
 use Rattle.fill_report.proofs.Lines.{lines_more}
-use Rattle.fill_report.proofs.report.drawn_lines.Goals as goal
+use Rattle.fill_report.proofs.metal.drawn_lines.Goals as goal
 
 pub loop-k-preserved : goal.loop-k-preserved
 loop-k-preserved c = record {

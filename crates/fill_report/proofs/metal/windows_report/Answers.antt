@@ -3,7 +3,7 @@ use Rattle.std.proofs.lemmas.Result.{IfOk-weaker}
 use Rattle.fill_base.proofs.Signed.{read_is}
 use Rattle.fill_region.specs.Bands.{holds}
 use Rattle.fill_report.proofs.Lines.{report_is}
-use Rattle.fill_report.proofs.report.windows_report.Goals as goal
+use Rattle.fill_report.proofs.metal.windows_report.Goals as goal
 
 pub returns : goal.returns
 returns g c = IfOk-weaker c.drawn_lines.result _ _ (λ v is. is ∙ report_is (holds c.args.region.now) c.args.windows.now c.args.least c.args.most _ c.in_ok-totals.ensures.areas)
