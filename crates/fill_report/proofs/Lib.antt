@@ -1,3 +1,4 @@
 pub mod Plain
 pub mod Densities
 pub mod Lines
+pub mod BookMeasures

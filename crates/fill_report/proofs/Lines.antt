@@ -28,17 +28,34 @@ measures_at g totals k lt areas =
     let is : read (get_or totals k (pos 0)) ≡ get_or totals (k / g.across.count * g.across.count + k % g.across.count) (pos 0) = area_read _ (areas k (pos 0) lt) ∙ ap (λ i. get_or totals i (pos 0)) (sym place) in
     ap (λ (z : ℤ). let m : Measures = record { drawn = z; fill = pos 0; total = z } in m) is
 
+-- the lines so far, and behind them the next one
+pub next_line : (g : Grid) (least most : ℤ) (measures : ℕ → ℕ → Measures) (m : Measures) (k : ℕ) (w new : Lines) → m ≡ measures (k % g.across.count) (k / g.across.count)
+    → written w ≡ Some (first_lines g least most measures k)
+    → ((front : List ℕ) → written w ≡ Some front → written new ≡ Some (front ++ window_line g least most m (k % g.across.count) (k / g.across.count)))
+    → written new ≡ Some (first_lines g least most measures (k + 1))
+next_line g least most measures m k w new is so_far put =
+    put (first_lines g least most measures k) so_far
+    ∙ ap (λ (t : List ℕ). Some t) (ap (λ n. first_lines g least most measures k ++ window_line g least most n (k % g.across.count) (k / g.across.count)) is
+    ∙ sym (one_more (line_at g least most measures) 0 k ∙ ap (λ i. first_lines g least most measures k ++ line_at g least most measures i) (from_zero k)))
+  where
+    from_zero : (k : ℕ) → 0 + k ≡ k
+    from_zero k = omega arith
+
 pub lines_more : (g : Grid) (least most : ℤ) (totals : List ℤ) (k : ℕ) (w new : Lines) → k < length totals → All IsArea totals
     → written w ≡ Some (first_lines g least most (drawn_only g totals) k)
     → ((front : List ℕ) → written w ≡ Some front → written new ≡ Some (front ++ window_line g least most (record { drawn = read (get_or totals k (pos 0)); fill = pos 0; total = read (get_or totals k (pos 0)) }) (k % g.across.count) (k / g.across.count)))
     → written new ≡ Some (first_lines g least most (drawn_only g totals) (k + 1))
-lines_more g least most totals k w new lt areas so_far put =
-    put (first_lines g least most (drawn_only g totals) k) so_far
-    ∙ ap (λ (t : List ℕ). Some t) (ap (λ m. first_lines g least most (drawn_only g totals) k ++ window_line g least most m (k % g.across.count) (k / g.across.count)) (measures_at g totals k lt areas)
-    ∙ sym (one_more (line_at g least most (drawn_only g totals)) 0 k ∙ ap (λ i. first_lines g least most (drawn_only g totals) k ++ line_at g least most (drawn_only g totals) i) (from_zero k)))
+lines_more g least most totals k w new lt areas so_far put = next_line g least most (drawn_only g totals) _ k w new (measures_at g totals k lt areas) so_far put
+
+-- the lines of all windows are the whole text
+pub all_lines : (g : Grid) (least most : ℤ) (measures : ℕ → ℕ → Measures) (k n : ℕ) (text so_far : List ℕ) → n ≤ k → k ≤ n → n ≡ g.across.count * g.up.count → text ≡ so_far
+    → Some so_far ≡ Some (first_lines g least most measures k) → text ≡ windows_text g least most measures
+all_lines g least most measures k n text so_far above below count is lines =
+    let same : so_far ≡ first_lines g least most measures k = cc in
+    is ∙ (same ∙ ap (first_lines g least most measures) (last k n (g.across.count * g.up.count) above below count))
   where
-    from_zero : (k : ℕ) → 0 + k ≡ k
-    from_zero k = omega arith
+    last : (k n m : ℕ) → n ≤ k → k ≤ n → n ≡ m → k ≡ m
+    last k n m above below count = omega (arith, above, below, count)
 
 -- lines that agree make the same text
 same_lines : (f h : ℕ → List ℕ) (a n : ℕ) → ((k : ℕ) → a ≤ k → k < a + n → f k ≡ h k) → flat_map f (range_with_len a n) ≡ flat_map h (range_with_len a n)

@@ -1,3 +1,4 @@
 pub mod Report
 pub mod Writing
 pub mod RulesReport
+pub mod BookReport

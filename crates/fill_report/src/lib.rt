@@ -2,11 +2,13 @@
 //! too high. The layers above rely on the bytes being the text of the squares, each line and digit.
 #![tactic(auto)]
 
+pub mod book;
 pub mod error;
 pub mod line;
 pub mod metal;
 mod window;
 
+pub use book::report;
 pub use error::OutOfMemory;
 pub use line::{Density, Measures};
 pub use metal::report_of;

@@ -1,0 +1,124 @@
+-- What metal and boxes of a sound fill take of a window.
+use Rattle.std.proofs.Common.{◌≡◌, refl, sym, ap, ◌∙◌, ℕ, ◌+◌, ◌*◌, ◌^◌, ◌≤◌, ℤ, pos, ◌+ℤ◌, ◌-ℤ◌, ◌≤ℤ◌, arith, inl, inr, Bool, true, false, cond, ◌||◌, w64, FitsSigned}
+use Rattle.std.proofs.lemmas.Int.{ints}
+use Rattle.std.proofs.Math.Nat.{mul-le-mul}
+use Rattle.fill_base.specs.Counts.{count_between, span_len}
+use Rattle.fill_base.specs.Limits.{IsLength}
+use Rattle.fill_base.specs.Squares.{area_between}
+use Rattle.fill_base.proofs.Counting.{sum_between_add}
+use Rattle.fill_base.proofs.Signed.{read, read_is, pos_fits}
+use Rattle.fill_area.specs.Density.{IsArea, window_area}
+use Rattle.fill_area.specs.Grid.{Grid, IsGrid, window_left, window_right, window_bottom, window_top}
+use Rattle.fill_raster.proofs.Points.{area_few}
+use Rattle.fill_size.specs.Distance.{IsNear}
+use Rattle.fill_job.specs.Plans.{IsPlan, Plan, PointSet, plan_of}
+use Rattle.fill_core.specs.Accounts.{Account, state_of}
+use Rattle.fill_core.specs.Boxes.{total_in, with_boxes}
+use Rattle.fill_core.specs.Histories.{events_in}
+use Rattle.fill_core.specs.Soundness.{IsSound}
+use Rattle.fill_core.proofs.Sound.{boxes_of_places, replay_sound}
+use Rattle.fill_region.specs.Bands.{holds}
+use Rattle.fill_report.specs.BookReport.{boxes_of}
+use Rattle.fill_report.specs.Report.{measures_of, nothing}
+use Rattle.fill_report.specs.declared.line.Measures.{Measures}
+
+-- ---- areas
+
+-- the areas of two sets that share no square add up
+area_either : (p q : PointSet) (left bottom right top : ℤ) → ((x y : ℤ) → p x y ≡ true → q x y ≡ true → ⊥)
+    → area_between (λ x y. p x y || q x y) left bottom right top ≡ area_between p left bottom right top + area_between q left bottom right top
+area_either p q left bottom right top apart =
+    sum_between_add (λ y. count_between (λ x. p x y) left right) (λ y. count_between (λ x. q x y) left right) (λ y. count_between (λ x. p x y || q x y) left right) bottom top
+    (λ y. sum_between_add (λ x. cond (p x y) 1 0) (λ x. cond (q x y) 1 0) (λ x. cond (p x y || q x y) 1 0) left right (λ x. one (p x y) (q x y) (apart x y)))
+  where
+    one : (a b : Bool) → (a ≡ true → b ≡ true → ⊥) → cond (a || b) 1 0 ≡ cond a 1 0 + cond b 1 0
+    one true true h = absurd (h refl refl)
+    one true false h = refl
+    one false true h = refl
+    one false false h = refl
+
+-- a number is near to itself
+near_itself : (d x : ℤ) → pos 0 ≤ℤ d → IsNear d x x
+near_itself d x some = record { above = omega (arith, ints, some); below = omega (arith, ints, some) }
+
+-- no square of a sound fill's boxes is metal
+no_shared : (plan : Plan) (metal fill : PointSet) (totals : ℕ → ℕ → ℕ) → IsPlan plan → IsSound plan metal fill totals
+    → (x y : ℤ) → metal x y ≡ true → boxes_of plan fill x y ≡ true → ⊥
+no_shared plan metal fill totals is sound x y drawn boxed =
+    elim ((boxes_of_places plan nothing fill is sound.on_raster x y).0 boxed) [
+      | inl none ↦ let e : false ≡ true = none in cc
+      | inr box ↦ sound.clear box.0 box.1 box.2 (record {
+        x = x;
+        y = y;
+        square = box.3;
+        reached = record { u = x; v = y; square = drawn; across = near_itself plan.spacing x is.spacing.least; up = near_itself plan.spacing y is.spacing.least };
+      })
+    ]
+
+-- metal and boxes together have the area of the one and of the other
+total_adds : (a : Account) (column row : ℕ) → IsPlan (plan_of a.rules) → let plan = plan_of a.rules in let s = state_of a in
+    total_in plan s.metal s.fill column row ≡ window_area s.metal plan.windows column row + window_area (boxes_of plan s.fill) plan.windows column row
+total_adds a column row is =
+    let plan = plan_of a.rules in
+    let s = state_of a in
+    let g = plan.windows in
+    area_either s.metal (boxes_of plan s.fill) (window_left g column) (window_bottom g row) (window_right g column) (window_top g row)
+    (no_shared plan s.metal s.fill (total_in plan s.metal s.fill) is (replay_sound plan (holds a.opening) (events_in a.history) is))
+
+-- ---- the numbers of a line
+
+-- a window has at most 2^40 squares of a set
+area_small : (p : PointSet) (g : Grid) (column row : ℕ) → IsGrid g → window_area p g column row ≤ 2 ^ 40
+area_small p g column row grid =
+    let wide = short (window_left g column) g.across.length grid.across.length_is in
+    let tall = short (window_bottom g row) g.up.length grid.up.length_is in
+    few (window_area p g column row) (span_len (window_bottom g row) (window_top g row) * span_len (window_left g column) (window_right g column))
+    (area_few p (window_left g column) (window_bottom g row) (window_right g column) (window_top g row)) (mul-le-mul tall wide)
+  where
+    short : (lo length : ℤ) → IsLength length → span_len lo (lo +ℤ length) ≤ 1048576
+    short lo length is = let least : pos 1 ≤ℤ length = is.least in let most : length ≤ℤ pos 1048576 = is.most in omega (arith, ints)
+
+    few : (n m : ℕ) → n ≤ m → m ≤ 1048576 * 1048576 → n ≤ 2 ^ 40
+    few n m h k = omega (arith, h, k)
+
+small_fits : (n : ℕ) → n ≤ 2 ^ 40 → FitsSigned w64 (pos n)
+small_fits n small = pos_fits n (omega (arith, small))
+
+-- what the one has more than the other, as the code subtracts
+rest_is : (d f t : ℕ) → t ≡ d + f → t ≤ 2 ^ 40 → read (pos t) -ℤ read (pos d) ≡ pos f
+rest_is d f t adds small =
+    let few : d ≤ 2 ^ 40 = omega (arith, adds, small) in
+    rw (read_is (pos t) (small_fits t small), read_is (pos d) (small_fits d few)) (less d f t adds)
+  where
+    less : (d f t : ℕ) → t ≡ d + f → pos t -ℤ pos d ≡ pos f
+    less d f t adds = omega (arith, ints, adds)
+
+parts_are : (d f t : ℕ) → t ≡ d + f → t ≤ 2 ^ 40
+    → let m : Measures = record { drawn = read (pos d); fill = read (read (pos t) -ℤ read (pos d)); total = read (pos t) } in let n : Measures = record { drawn = pos d; fill = pos f; total = pos t } in m ≡ n
+parts_are d f t adds small =
+    let few : d ≤ 2 ^ 40 = omega (arith, adds, small) in
+    let rest : f ≤ 2 ^ 40 = omega (arith, adds, small) in
+    rw (rest_is d f t adds small, read_is (pos f) (small_fits f rest), read_is (pos t) (small_fits t small), read_is (pos d) (small_fits d few)) refl
+
+-- a window's numbers, as a book gives them
+pub record AreGiven (a : Account) (column row : ℕ) (drawn total : ℤ) : Type 0 where
+  pub plan : IsPlan (plan_of a.rules)
+  pub drawn_is : drawn ≡ pos (window_area (state_of a).metal (plan_of a.rules).windows column row)
+  pub total_is : total ≡ pos (total_in (plan_of a.rules) (state_of a).metal (state_of a).fill column row)
+
+pub total_is_area : (a : Account) (column row : ℕ) (drawn total : ℤ) → AreGiven a column row drawn total → IsArea (read total)
+total_is_area a column row drawn total given =
+    rw (given.total_is) (area (total_in (plan_of a.rules) (state_of a).metal (state_of a).fill column row) (area_small (with_boxes (plan_of a.rules) (state_of a).metal (state_of a).fill) (plan_of a.rules).windows column row given.plan.windows))
+  where
+    area : (n : ℕ) → n ≤ 2 ^ 40 → IsArea (read (pos n))
+    area n small = rw (read_is (pos n) (small_fits n small)) (record { least = omega (arith, ints); most = omega (arith, ints, small) })
+
+pub measures_are : (a : Account) (g : Grid) (column row : ℕ) (drawn total : ℤ) → g ≡ (plan_of a.rules).windows → AreGiven a column row drawn total
+    → let m : Measures = record { drawn = read drawn; fill = read (read total -ℤ read drawn); total = read total } in m ≡ measures_of (state_of a).metal (boxes_of (plan_of a.rules) (state_of a).fill) g column row
+measures_are a g column row drawn total windows given =
+    let metal = window_area (state_of a).metal (plan_of a.rules).windows column row in
+    let boxes = window_area (boxes_of (plan_of a.rules) (state_of a).fill) (plan_of a.rules).windows column row in
+    let both = total_in (plan_of a.rules) (state_of a).metal (state_of a).fill column row in
+    let adds = total_adds a column row given.plan in
+    let small = area_small (with_boxes (plan_of a.rules) (state_of a).metal (state_of a).fill) (plan_of a.rules).windows column row given.plan.windows in
+    rw (given.drawn_is, given.total_is) (parts_are metal boxes both adds small) ∙ ap (λ h. measures_of (state_of a).metal (boxes_of (plan_of a.rules) (state_of a).fill) h column row) (sym windows)

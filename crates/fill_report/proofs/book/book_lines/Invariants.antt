@@ -1,0 +1,16 @@
+use Rattle.std.proofs.Common.{◌≡◌, Some}
+use Rattle.fill_job.specs.Plans.{plan_of}
+use Rattle.fill_core.specs.Accounts.{state_of}
+use Rattle.fill_report.specs.BookReport.{boxes_of}
+use Rattle.fill_report.specs.Report.{first_lines, measures_of}
+use Rattle.fill_report.specs.Writing.{IsReady, written}
+use Rattle.fill_report.proofs.book.book_lines.Given as goal
+
+abbrev pub invariant-loop-k : goal.invariant-loop-k
+invariant-loop-k g l =
+    let a = g.B.FillBook.account l.book in
+    let s = state_of a in
+    record {
+      ready : IsReady l.writer;
+      text : written l.writer ≡ Some (first_lines l.windows l.least l.most (measures_of s.metal (boxes_of (plan_of a.rules) s.fill) l.windows) l.k);
+    }

@@ -1,0 +1,76 @@
+//! The report of a book's metal and fill.
+ghost use Rattle.std.specs.Prelude.{◌≡◌, ◌*◌, ◌/◌, ◌%◌, ◌<◌, IfOk};
+ghost use Rattle.fill_area.specs.Density.{IsArea, IsShare};
+ghost use Rattle.fill_job.specs.Plans.{IsPlan, plan_of};
+ghost use Rattle.fill_core.specs.Accounts.{state_of};
+ghost use Rattle.fill_report.specs.Report.{measures_of, report_text};
+ghost use Rattle.fill_report.specs.BookReport.{boxes_of, fill_report};
+
+use crate::error::OutOfMemory;
+use crate::line::Measures;
+use crate::window::put_window;
+use csv::{ByteRecord, Writer};
+use fill_area::Windows;
+use fill_core::FillBook;
+use fill_job::laws::rules_make_a_plan;
+use std::alloc::Global;
+
+/// The report of a book's metal and fill, over the windows of its rules: one line a window with its
+/// column and row, its edges, the areas of metal, of fill boxes and of both, the share of both in parts
+/// of a million rounded down, and `LOW`, `HIGH` or `OK` (this project's profile).
+///
+/// # Errors
+/// `OutOfMemory` where memory runs out.
+pub fn report<B: FillBook>(alloc: Global, book: &B) -> Result<Vec<u8>, OutOfMemory>
+    ensures { let a = B.account book.now in let s = state_of a in IfOk result (λ v. v.items ≡ fill_report a.rules s.metal s.fill) }
+{
+    let rules = book.rules();
+    // A law: the rules make a plan, and under a plan no box of a fill has a square of the metal.
+    rules_make_a_plan(rules);
+    let least = rules.min();
+    let most = rules.max();
+    book_lines(alloc, book, &rules.windows(), least, most)
+}
+
+/// The lines of a book's windows, row by row from the lowest, in a row from the left. A window is `LOW`
+/// below `least` parts in a million and `HIGH` above `most`.
+fn book_lines<B: FillBook>(
+    alloc: Global,
+    book: &B,
+    windows: &Windows,
+    least: i64,
+    most: i64,
+) -> Result<Vec<u8>, OutOfMemory>
+    requires plan { IsPlan (plan_of (B.account book.now).rules) }
+    requires windows { windows.now ≡ (plan_of (B.account book.now).rules).windows }
+    requires least { IsShare least }
+    requires most { IsShare most }
+    ensures { let a = B.account book.now in let s = state_of a in IfOk result (λ v. v.items ≡ report_text s.metal (boxes_of (plan_of a.rules) s.fill) windows.now least most) }
+{
+    let mut writer = Writer::from_writer(Vec::new(alloc));
+    let mut row = ByteRecord::new(alloc);
+    for k in 0..windows.len() {
+        let measures = measures_in(book, windows, k);
+        put_window(&mut writer, &mut row, windows, k, measures, least, most)?;
+    }
+    let text = writer.into_inner()?;
+    Ok(text)
+}
+
+/// How many squares of the window at place `k` are metal, in fill boxes, and either of both.
+fn measures_in<B: FillBook>(book: &B, windows: &Windows, k: usize) -> Measures
+    requires plan { IsPlan (plan_of (B.account book.now).rules) }
+    requires windows { windows.now ≡ (plan_of (B.account book.now).rules).windows }
+    requires within { k < windows.now.across.count * windows.now.up.count }
+    ensures measures { let a = B.account book.now in let s = state_of a in result ≡ measures_of s.metal (boxes_of (plan_of a.rules) s.fill) windows.now (k % windows.now.across.count) (k / windows.now.across.count) }
+    ensures total { IsArea result.total }
+{
+    let (a, b) = windows.column_and_row(k);
+    let drawn = book.drawn(a, b);
+    let total = book.total(a, b);
+    Measures {
+        drawn,
+        fill: total - drawn,
+        total,
+    }
+}
