@@ -6,3 +6,4 @@ pub mod Totals
 pub mod Placing
 pub mod OpenTiles
 pub mod FillRows
+pub mod ClearRows

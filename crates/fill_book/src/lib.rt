@@ -4,4 +4,5 @@
 
 mod filled;
 mod measure;
+mod places;
 mod tiles;
