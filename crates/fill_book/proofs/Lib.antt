@@ -7,3 +7,4 @@ pub mod Placing
 pub mod OpenTiles
 pub mod FillRows
 pub mod ClearRows
+pub mod Counted

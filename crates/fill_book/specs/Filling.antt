@@ -6,6 +6,7 @@ use Rattle.fill_raster.specs.Lattice.{Lattice, IsLattice, box_squares, KeepsPitc
 use Rattle.fill_raster.specs.Marks.{Marked, in_block, is_marked}
 use Rattle.fill_job.specs.Plans.{PointSet}
 use Rattle.fill_job.specs.Searches.{some_within}
+use Rattle.fill_core.specs.Boxes.{count_places}
 use Rattle.fill_book.specs.declared.places.Places.{Places}
 
 -- a raster with the marks of each of its tiles
@@ -35,6 +36,11 @@ pub record IsFilling (f : Filling) : Type 0 where
   pub pitch : KeepsPitch f.raster (pos 0)
   pub tiles_are : length f.marks ≡ tiles f.raster
   pub blocks : (tile : ℕ) → tile < tiles f.raster → (i j : ℤ) → in_block (marks_of f tile).block i j ≡ in_tile f.raster tile i j
+
+-- and so many places are filled
+pub record IsCounted (f : Filling) (count : ℕ) : Type 0 where
+  pub filling : IsFilling f
+  pub count_is : count ≡ count_places f.raster (is_filled f)
 
 -- the squares of the boxes of some places of the raster
 abbrev pub boxes_of : Lattice → PointSet → PointSet

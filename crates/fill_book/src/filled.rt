@@ -6,7 +6,8 @@ ghost use Rattle.fill_base.specs.Squares.{area_of};
 ghost use Rattle.fill_raster.specs.Lattice.{in_raster, in_tile, tiles};
 ghost use Rattle.fill_raster.specs.Marks.{in_block, is_marked};
 ghost use Rattle.fill_region.specs.Bands.{holds};
-ghost use Rattle.fill_book.specs.Filling.{Filling, IsFilling, KeepsClear, boxes_of, in_places, is_filled, left_by, metal_or_box};
+ghost use Rattle.fill_core.specs.Boxes.{count_places};
+ghost use Rattle.fill_book.specs.Filling.{Filling, IsCounted, KeepsClear, boxes_of, in_places, is_filled, left_by, metal_or_box};
 ghost use Rattle.fill_book.specs.steps.Taken.{AreApart, taken_in, taken_by_row, taken_by_rows};
 
 use crate::measure::shared_area;
@@ -17,11 +18,12 @@ use fill_raster::{Marks, Raster};
 use fill_region::Region;
 use std::marker::Model;
 
-/// A raster, and the filled places of each of its tiles.
+/// A raster, and the filled places of each of its tiles, with their number.
 #[derive(Drop)]
 pub(crate) struct Filled {
     raster: Raster,
     tiles: Vec<Marks>,
+    count: u32,
 }
 
 impl Model for Filled {
@@ -29,7 +31,7 @@ impl Model for Filled {
 
     ghost view = { λ f. record { raster = f.raster; marks = f.tiles.items } };
 
-    ghost invariant = { λ f. IsFilling (record { raster = f.raster; marks = f.tiles.items }) };
+    ghost invariant = { λ f. IsCounted (record { raster = f.raster; marks = f.tiles.items }) f.count };
 }
 
 impl Filled {
@@ -40,14 +42,24 @@ impl Filled {
         self.raster.has(place) && self.tiles[self.raster.tile_of(place) as usize].has(place)
     }
 
+    /// How many places are filled.
+    pub(crate) fn count(&self) -> u32
+        ensures { result ≡ count_places self.now.raster (is_filled self.now) }
+    {
+        self.count
+    }
+
     /// Fills a place.
     pub(crate) fn set(&mut self, place: Place)
         requires { in_raster self.old.raster place.i place.j ≡ true }
         ensures raster { self.new.raster ≡ self.old.raster }
         ensures filled { (i j : ℤ) → is_filled self.new i j ≡ is_filled self.old i j || (int_eq i place.i && int_eq j place.j) }
     {
-        let tile = self.raster.tile_of(place) as usize;
-        self.tiles[tile].set(place);
+        if !self.has(place) {
+            let tile = self.raster.tile_of(place) as usize;
+            self.tiles[tile].set(place);
+            self.count += 1;
+        }
     }
 
     /// Empties a place.
@@ -56,8 +68,11 @@ impl Filled {
         ensures raster { self.new.raster ≡ self.old.raster }
         ensures filled { (i j : ℤ) → is_filled self.new i j ≡ is_filled self.old i j && not (int_eq i place.i && int_eq j place.j) }
     {
-        let tile = self.raster.tile_of(place) as usize;
-        self.tiles[tile].clear(place);
+        if self.has(place) {
+            let tile = self.raster.tile_of(place) as usize;
+            self.tiles[tile].clear(place);
+            self.count -= 1;
+        }
     }
 
     /// Fills the marked places of a row, from one column on and before another.
