@@ -8,3 +8,4 @@ pub mod OpenTiles
 pub mod FillRows
 pub mod ClearRows
 pub mod Counted
+pub mod Making

@@ -1,9 +1,9 @@
 //! The filled places of a raster, tile by tile, and what their boxes take of a window.
-ghost use Rattle.std.specs.Prelude.{◌≡◌, ◌&&◌, ◌||◌, not, ◌<◌, ◌≤ℤ◌, ℤ, pos, true};
+ghost use Rattle.std.specs.Prelude.{◌≡◌, ◌&&◌, ◌||◌, not, ◌<◌, ◌≤ℤ◌, ℤ, pos, true, false, IfOk};
 ghost use Rattle.std.specs.Ordering.{int_eq};
 ghost use Rattle.fill_base.specs.Counts.{is_between};
 ghost use Rattle.fill_base.specs.Squares.{area_of};
-ghost use Rattle.fill_raster.specs.Lattice.{in_raster, in_tile, tiles};
+ghost use Rattle.fill_raster.specs.Lattice.{KeepsPitch, in_raster, in_tile, tiles};
 ghost use Rattle.fill_raster.specs.Marks.{in_block, is_marked};
 ghost use Rattle.fill_region.specs.Bands.{holds};
 ghost use Rattle.fill_core.specs.Boxes.{count_places};
@@ -16,6 +16,7 @@ use fill_area::area_in;
 use fill_base::{Place, Rect};
 use fill_raster::{Marks, Raster};
 use fill_region::Region;
+use std::alloc::{AllocError, Global};
 use std::marker::Model;
 
 /// A raster, and the filled places of each of its tiles, with their number.
@@ -35,6 +36,42 @@ impl Model for Filled {
 }
 
 impl Filled {
+    /// No place of a raster, with the room for all of them.
+    ///
+    /// # Errors
+    /// `AllocError` where memory is refused.
+    pub(crate) fn none(alloc: Global, raster: Raster) -> Result<Filled, AllocError>
+        requires { KeepsPitch raster (pos 0) }
+        ensures raster { IfOk result (λ f. f.raster ≡ raster) }
+        ensures none { IfOk result (λ f. (i j : ℤ) → is_filled f i j ≡ false) }
+    {
+        let mut tiles = Vec::new(alloc);
+        for tile in 0..raster.tiles() {
+            tiles.push(Marks::none(alloc, &raster, tile)?)?;
+        }
+        Ok(Filled {
+            raster,
+            tiles,
+            count: 0,
+        })
+    }
+
+    /// The raster.
+    pub(crate) fn raster(&self) -> Raster
+        ensures { result ≡ self.now.raster }
+    {
+        self.raster
+    }
+
+    /// The filled places of a tile.
+    pub(crate) fn marks(&self, tile: u32) -> &Marks
+        requires { tile < tiles self.now.raster }
+        ensures tile { (i j : ℤ) → in_block result.now.block i j ≡ in_tile self.now.raster tile i j }
+        ensures marked { (i j : ℤ) → is_marked result.now i j ≡ (in_tile self.now.raster tile i j && is_filled self.now i j) }
+    {
+        &self.tiles[tile as usize]
+    }
+
     /// Whether a place is filled.
     pub(crate) fn has(&self, place: Place) -> bool
         ensures { result ≡ is_filled self.now place.i place.j }
