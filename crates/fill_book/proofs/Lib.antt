@@ -9,3 +9,4 @@ pub mod FillRows
 pub mod ClearRows
 pub mod Counted
 pub mod Making
+pub mod LowSquares

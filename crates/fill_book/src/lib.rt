@@ -3,6 +3,7 @@
 #![tactic(auto)]
 
 mod filled;
+mod low;
 mod measure;
 mod places;
 mod tiles;
