@@ -10,3 +10,4 @@ pub mod ClearRows
 pub mod Counted
 pub mod Making
 pub mod LowSquares
+pub mod WindowTotals

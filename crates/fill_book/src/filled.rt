@@ -1,8 +1,9 @@
 //! The filled places of a raster, tile by tile, and what their boxes take of a window.
-ghost use Rattle.std.specs.Prelude.{◌≡◌, ◌&&◌, ◌||◌, not, ◌<◌, ◌≤ℤ◌, ℤ, pos, true, false, IfOk};
+ghost use Rattle.std.specs.Prelude.{◌≡◌, ◌&&◌, ◌||◌, not, ◌<◌, ◌≤ℤ◌, ℤ, pos, true, false, All, IfOk};
 ghost use Rattle.std.specs.Ordering.{int_eq};
 ghost use Rattle.fill_base.specs.Counts.{is_between};
 ghost use Rattle.fill_base.specs.Squares.{area_of};
+ghost use Rattle.fill_area.specs.Density.{AreMeasured, IsArea};
 ghost use Rattle.fill_raster.specs.Lattice.{KeepsPitch, in_raster, in_tile, tiles};
 ghost use Rattle.fill_raster.specs.Marks.{in_block, is_marked};
 ghost use Rattle.fill_region.specs.Bands.{holds};
@@ -12,7 +13,7 @@ ghost use Rattle.fill_book.specs.steps.Taken.{AreApart, taken_in, taken_by_row, 
 
 use crate::measure::shared_area;
 use crate::places::Places;
-use fill_area::area_in;
+use fill_area::{Windows, area_in};
 use fill_base::{Place, Rect};
 use fill_raster::{Marks, Raster};
 use fill_region::Region;
@@ -258,5 +259,28 @@ impl Filled {
         ensures { result ≡ pos (area_of (metal_or_box self.now.raster (left_by self.now out.now) (holds metal.now)) window.now) }
     {
         area_in(metal, window) + self.boxes_in(out, window)
+    }
+
+    /// How many squares of each window are metal or in a box of a filled place but for some: row by row, the window in column
+    /// `a` and row `b` at `b * columns + a`.
+    ///
+    /// # Errors
+    /// `AllocError` where memory is refused.
+    pub(crate) fn totals(
+        &self,
+        alloc: Global,
+        metal: &Region,
+        out: &Places,
+        windows: &Windows,
+    ) -> Result<Vec<i64>, AllocError>
+        requires { KeepsClear self.now.raster (left_by self.now out.now) (holds metal.now) }
+        ensures areas { IfOk result (λ v. AreMeasured (metal_or_box self.now.raster (left_by self.now out.now) (holds metal.now)) windows.now v.items) }
+        ensures bounded { IfOk result (λ v. All IsArea v.items) }
+    {
+        let mut totals = Vec::new(alloc);
+        for k in 0..windows.len() {
+            totals.push(self.total_in(metal, out, &windows.nth(k)))?;
+        }
+        Ok(totals)
     }
 }
