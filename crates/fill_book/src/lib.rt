@@ -6,4 +6,6 @@ mod filled;
 mod low;
 mod measure;
 mod places;
+#[cfg(test)]
+mod tests;
 mod tiles;
