@@ -11,3 +11,4 @@ pub mod Counted
 pub mod Making
 pub mod LowSquares
 pub mod WindowTotals
+pub mod TileWords

@@ -35,9 +35,9 @@ other_marks r marks m t count e lt ne =
     less : (t count : ℕ) → t < count + 1 → (t ≡ count → ⊥) → t < count
     less t count lt ne = elim (cases_eq t count) [ inl e ↦ absurd (ne e) | inr o ↦ grind (arith, lt, o) ]
 
-pub none_more : (r : Lattice) (marks : List Marked) (m : Marked) (count : ℕ) → AreNone (with_marks r marks) count → ((i j : ℤ) → in_block m.block i j ≡ in_tile r count i j) → ((i j : ℤ) → is_marked m i j ≡ false)
-    → AreNone (with_marks r (marks ++ m ∷ [])) (count + 1)
-none_more r marks m count are block none = record {
+pub none_more : (r : Lattice) (marks new : List Marked) (m : Marked) (count : ℕ) → new ≡ marks ++ m ∷ [] → AreNone (with_marks r marks) count → ((i j : ℤ) → in_block m.block i j ≡ in_tile r count i j) → ((i j : ℤ) → is_marked m i j ≡ false)
+    → AreNone (with_marks r new) (count + 1)
+none_more r marks new m count pushed are block none = rw pushed (record {
   count_is = length_push marks m ∙ ap (λ n. n + 1) are.count_is;
   blocks = λ t lt i j. elim (cases_eq t count) [
     | inl same ↦ rw (same, last_marks r marks m count are.count_is) (block i j)
@@ -47,7 +47,7 @@ none_more r marks m count are block none = record {
     | inl same ↦ rw (same, last_marks r marks m count are.count_is) (none i j)
     | inr other ↦ let o = other_marks r marks m t count are.count_is lt other in rw o.1 (are.none t o.0 i j)
   ];
-}
+})
 
 pub none_filled : (f : Filling) → IsLattice f.raster → AreNone f (tiles f.raster) → (i j : ℤ) → is_filled f i j ≡ false
 none_filled f is are i j = elim (cases_Bool (in_raster f.raster i j)) [

@@ -17,11 +17,11 @@ pub one_area : (p : PointSet) (g : Grid) (w : Rect) (k : ℕ) → w.x1 ≡ windo
     → pos (area_of p w) ≡ area_at p g k
 one_area p g w k left bottom right top = rw (left, bottom, right, top) refl
 
-pub areas_more : (p : PointSet) (g : Grid) (totals : List ℤ) (k : ℕ) (area : ℤ) → length totals ≡ k → ((i : ℕ) (d : ℤ) → i < k → get_or totals i d ≡ area_at p g i) → area ≡ area_at p g k → AreFirst p g (totals ++ area ∷ []) (k + 1)
-areas_more p g totals k area count each is = record {
+pub areas_more : (p : PointSet) (g : Grid) (totals new : List ℤ) (k : ℕ) (area : ℤ) → new ≡ totals ++ area ∷ [] → length totals ≡ k → ((i : ℕ) (d : ℤ) → i < k → get_or totals i d ≡ area_at p g i) → area ≡ area_at p g k → AreFirst p g new (k + 1)
+areas_more p g totals new k area pushed count each is = rw pushed (record {
   count = length_push totals area ∙ ap (λ n. n + 1) count;
   each = λ i d lt. elim (cases_eq i k) [
     | inl same ↦ rw same (get_or_push totals area d k count ∙ is)
     | inr other ↦ let below : i < k = grind (arith, lt, other) in get_or_append_left totals (area ∷ []) d i (rw count below) ∙ each i d below
   ];
-}
+})

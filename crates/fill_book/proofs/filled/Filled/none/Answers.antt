@@ -1,4 +1,4 @@
-use Rattle.std.proofs.Common.{◌≤◌, ◌+◌, ◌≡◌, sym, arith, rules, subst}
+use Rattle.std.proofs.Common.{◌≤◌, ◌+◌, ◌≡◌, arith, rules, subst}
 use Rattle.fill_raster.specs.Lattice.{IsLattice, tiles}
 use Rattle.fill_book.specs.steps.Empty.{AreNone}
 use Rattle.fill_book.proofs.Making.{none_counted, none_filled, none_more, with_marks}
@@ -8,8 +8,7 @@ pub loop-tile-preserved : goal.loop-tile-preserved
 loop-tile-preserved c =
     let next : c.loop-tile.tile + 1 ≤ tiles c.args.raster = grind (arith, rules) in record {
       to = next;
-      none = subst (λ items. AreNone (with_marks c.args.raster items) (c.loop-tile.tile + 1)) (sym c.in_ok-push.ensures.items)
-          (none_more c.args.raster c.loop-tile.tiles.items c.in_ok-none.field-0 c.loop-tile.tile c.loop-tile.invariant.none c.in_ok-none.ensures.tile c.in_ok-none.ensures.none);
+      none = none_more c.args.raster c.loop-tile.tiles.items c.push.new.self.items c.in_ok-none.field-0 c.loop-tile.tile c.in_ok-push.ensures.items c.loop-tile.invariant.none c.in_ok-none.ensures.tile c.in_ok-none.ensures.none;
     }
 
 all : (c : goal.After-loop-tile) → AreNone (with_marks c.args.raster c.loop-tile.tiles.items) (tiles c.args.raster)

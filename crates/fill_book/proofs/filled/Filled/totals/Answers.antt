@@ -1,9 +1,9 @@
-use Rattle.std.proofs.Common.{◌≡◌, ◌∙◌, ◌+◌, ◌*◌, arith, rules, subst, sym, w64, FitsSigned}
+use Rattle.std.proofs.Common.{◌≡◌, ◌∙◌, ◌*◌, arith, rules, w64, FitsSigned}
 use Rattle.fill_area.proofs.Measuring.{area_at, bounded, measured}
 use Rattle.fill_base.proofs.Signed.{read, read_is}
 use Rattle.fill_region.specs.Bands.{holds}
 use Rattle.fill_book.specs.Filling.{left_by, metal_or_box}
-use Rattle.fill_book.proofs.WindowTotals.{AreFirst, areas_more, one_area}
+use Rattle.fill_book.proofs.WindowTotals.{areas_more, one_area}
 use Rattle.fill_book.proofs.filled.Filled.totals.Goals as goal
 
 pub loop-k-preserved : goal.loop-k-preserved
@@ -12,7 +12,7 @@ loop-k-preserved c =
     let g = c.args.windows.now in let k = c.loop-k.k in
     let fits : FitsSigned w64 c.total_in.result = search rules in
     let area : c.total_in.result ≡ area_at p g k = c.total_in.ensures ∙ one_area p g c.nth.result k c.nth.ensures.left c.nth.ensures.bottom c.nth.ensures.right c.nth.ensures.top in
-    let all = subst (λ items. AreFirst p g items (k + 1)) (sym c.in_ok-push.ensures.items) (areas_more p g c.loop-k.totals.items k (read c.total_in.result) c.loop-k.invariant.count c.loop-k.invariant.each (read_is _ fits ∙ area)) in
+    let all = areas_more p g c.loop-k.totals.items c.push.new.self.items k (read c.total_in.result) c.in_ok-push.ensures.items c.loop-k.invariant.count c.loop-k.invariant.each (read_is _ fits ∙ area) in
     record { count = all.count; each = all.each }
 
 pub returns-clause-areas : goal.returns-clause-areas
