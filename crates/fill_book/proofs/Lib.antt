@@ -6,3 +6,9 @@ pub mod Totals
 pub mod Placing
 pub mod OpenTiles
 pub mod FillRows
+pub mod ClearRows
+pub mod Counted
+pub mod Making
+pub mod LowSquares
+pub mod WindowTotals
+pub mod TileWords

@@ -1,6 +1,6 @@
 -- Boxes that are not near a window take nothing of it, and boxes of filled places share no square.
 use Rattle.std.proofs.Common.{◌≡◌, refl, sym, ◌∙◌, ℕ, ℤ, pos, ◌+ℤ◌, ◌-ℤ◌, ◌≤ℤ◌, ◌<ℤ◌, arith, inl, inr, Bool, true, false, ◌&&◌}
-use Rattle.std.specs.Prelude.{int_lt}
+use Rattle.std.specs.Prelude.{int_lt, not}
 use Rattle.std.specs.Ordering.{int_eq}
 use Rattle.std.proofs.lemmas.Bool.{and_from, and_parts, cases_Bool}
 use Rattle.std.proofs.lemmas.Bool.Decides.{Decides-int_eq}
@@ -18,7 +18,8 @@ use Rattle.fill_raster.specs.declared.axis.Axis.{Axis}
 use Rattle.fill_raster.proofs.RasterLaws.{spacing_kept}
 use Rattle.fill_raster.proofs.Ranges.{first_past}
 use Rattle.fill_job.specs.Plans.{PointSet}
-use Rattle.fill_book.specs.Filling.{Filling, IsFilling, boxes_of, is_filled, marks_of}
+use Rattle.fill_book.specs.Filling.{Filling, IsFilling, boxes_of, in_places, is_filled, left_by, marks_of}
+use Rattle.fill_book.specs.declared.places.Places.{Places}
 use Rattle.fill_book.specs.steps.Taken.{AreApart, taken_in, taken_by_row, taken_by_rows}
 use Rattle.fill_book.proofs.BoxAreas.{sum_part}
 use Rattle.fill_book.proofs.BoxSums.{rows_are}
@@ -100,14 +101,17 @@ same_number i k h = elim (cases_Bool (int_eq i k)) [
   | inr other ↦ absurd (h (λ e. cc_no (int_eq i k) ((Decides-int_eq i k).1 e) other))
 ]
 
-pub filled_apart : (f : Filling) → IsFilling f → AreApart f.raster (is_filled f)
-filled_apart f is = record {
+pub left_apart : (f : Filling) (p : PointSet) → IsFilling f → AreApart f.raster p
+left_apart f p is = record {
   columns = λ i j k l x y _ _ at to. same_number i k (λ ne. one_place f is i j k l x y (λ e. ne e.0) at to);
   rows = λ i j k l x y _ _ at to. same_number j l (λ ne. one_place f is i j k l x y (λ e. ne e.1) at to);
 }
 
-pub filled_on : (f : Filling) (i j : ℤ) → is_filled f i j ≡ true → in_raster f.raster i j ≡ true
+filled_on : (f : Filling) (i j : ℤ) → is_filled f i j ≡ true → in_raster f.raster i j ≡ true
 filled_on f i j h = (and_parts (in_raster f.raster i j) (is_marked (marks_of f (tile_of f.raster i j)) i j) h).0
+
+pub left_on : (f : Filling) (out : Places) (i j : ℤ) → left_by f out i j ≡ true → in_raster f.raster i j ≡ true
+left_on f out i j h = filled_on f i j (and_parts (is_filled f i j) (not (in_places out i j)) h).0
 
 pub near_on : (r : Lattice) (w : Rect) (spacing i j : ℤ) → is_near r w spacing i j ≡ true → in_raster r i j ≡ true
 near_on r w spacing i j h =

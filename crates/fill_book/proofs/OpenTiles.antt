@@ -13,6 +13,12 @@ passed p i past lt h =
     let e : past - i ≡ suc (past - (i + 1)) = omega (arith, lt) in
     rw e (passed_one p i (past - (i + 1)) h)
 
+-- and ends at one that isn't
+pub found : (p : ℕ → Bool) (i past : ℕ) → i < past → p i ≡ true → Some i ≡ find p (range_with_len i (past - i))
+found p i past lt h =
+    let e : past - i ≡ suc (past - (i + 1)) = omega (arith, lt) in
+    rw (e, h) refl
+
 -- where no tile comes next, all are in
 pub none_open : (count : ℕ) (tiles_in : ℕ → Bool) (o : Option ℕ) (result : Bool) → o ≡ next_tile count tiles_in 0 → is_some o ≡ not result
     → IsTrue result ↔ ((tile : ℕ) → tile < count → tiles_in tile ≡ true)

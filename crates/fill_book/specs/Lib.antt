@@ -1,3 +1,4 @@
 pub mod Filling
+pub mod Low
 pub mod Tiles
 pub mod steps

@@ -1,26 +1,31 @@
 //! The filled places of a raster, tile by tile, and what their boxes take of a window.
-ghost use Rattle.std.specs.Prelude.{◌≡◌, ◌&&◌, ◌||◌, not, ◌<◌, ◌≤ℤ◌, ℤ, pos, true};
+ghost use Rattle.std.specs.Prelude.{◌≡◌, ◌&&◌, ◌||◌, not, ◌<◌, ◌≤ℤ◌, ℤ, pos, true, false, All, IfOk};
 ghost use Rattle.std.specs.Ordering.{int_eq};
 ghost use Rattle.fill_base.specs.Counts.{is_between};
 ghost use Rattle.fill_base.specs.Squares.{area_of};
-ghost use Rattle.fill_raster.specs.Lattice.{in_raster, in_tile, tiles};
+ghost use Rattle.fill_area.specs.Density.{AreMeasured, IsArea};
+ghost use Rattle.fill_raster.specs.Lattice.{KeepsPitch, in_raster, in_tile, tiles};
 ghost use Rattle.fill_raster.specs.Marks.{in_block, is_marked};
 ghost use Rattle.fill_region.specs.Bands.{holds};
-ghost use Rattle.fill_book.specs.Filling.{Filling, IsFilling, KeepsClear, boxes_of, is_filled, metal_or_box};
+ghost use Rattle.fill_core.specs.Boxes.{count_places};
+ghost use Rattle.fill_book.specs.Filling.{Filling, IsCounted, KeepsClear, boxes_of, in_places, is_filled, left_by, metal_or_box};
 ghost use Rattle.fill_book.specs.steps.Taken.{AreApart, taken_in, taken_by_row, taken_by_rows};
 
 use crate::measure::shared_area;
-use fill_area::area_in;
+use crate::places::Places;
+use fill_area::{Windows, area_in};
 use fill_base::{Place, Rect};
 use fill_raster::{Marks, Raster};
 use fill_region::Region;
+use std::alloc::{AllocError, Global};
 use std::marker::Model;
 
-/// A raster, and the filled places of each of its tiles.
+/// A raster, and the filled places of each of its tiles, with their number.
 #[derive(Drop)]
 pub(crate) struct Filled {
     raster: Raster,
     tiles: Vec<Marks>,
+    count: u32,
 }
 
 impl Model for Filled {
@@ -28,15 +33,58 @@ impl Model for Filled {
 
     ghost view = { λ f. record { raster = f.raster; marks = f.tiles.items } };
 
-    ghost invariant = { λ f. IsFilling (record { raster = f.raster; marks = f.tiles.items }) };
+    ghost invariant = { λ f. IsCounted (record { raster = f.raster; marks = f.tiles.items }) f.count };
 }
 
 impl Filled {
+    /// No place of a raster, with the room for all of them.
+    ///
+    /// # Errors
+    /// `AllocError` where memory is refused.
+    pub(crate) fn none(alloc: Global, raster: Raster) -> Result<Filled, AllocError>
+        requires { KeepsPitch raster (pos 0) }
+        ensures raster { IfOk result (λ f. f.raster ≡ raster) }
+        ensures none { IfOk result (λ f. (i j : ℤ) → is_filled f i j ≡ false) }
+    {
+        let mut tiles = Vec::new(alloc);
+        for tile in 0..raster.tiles() {
+            tiles.push(Marks::none(alloc, &raster, tile)?)?;
+        }
+        Ok(Filled {
+            raster,
+            tiles,
+            count: 0,
+        })
+    }
+
+    /// The raster.
+    pub(crate) fn raster(&self) -> Raster
+        ensures { result ≡ self.now.raster }
+    {
+        self.raster
+    }
+
+    /// The filled places of a tile.
+    pub(crate) fn marks(&self, tile: u32) -> &Marks
+        requires { tile < tiles self.now.raster }
+        ensures tile { (i j : ℤ) → in_block result.now.block i j ≡ in_tile self.now.raster tile i j }
+        ensures marked { (i j : ℤ) → is_marked result.now i j ≡ (in_tile self.now.raster tile i j && is_filled self.now i j) }
+    {
+        &self.tiles[tile as usize]
+    }
+
     /// Whether a place is filled.
     pub(crate) fn has(&self, place: Place) -> bool
         ensures { result ≡ is_filled self.now place.i place.j }
     {
         self.raster.has(place) && self.tiles[self.raster.tile_of(place) as usize].has(place)
+    }
+
+    /// How many places are filled.
+    pub(crate) fn count(&self) -> u32
+        ensures { result ≡ count_places self.now.raster (is_filled self.now) }
+    {
+        self.count
     }
 
     /// Fills a place.
@@ -45,8 +93,11 @@ impl Filled {
         ensures raster { self.new.raster ≡ self.old.raster }
         ensures filled { (i j : ℤ) → is_filled self.new i j ≡ is_filled self.old i j || (int_eq i place.i && int_eq j place.j) }
     {
-        let tile = self.raster.tile_of(place) as usize;
-        self.tiles[tile].set(place);
+        if !self.has(place) {
+            let tile = self.raster.tile_of(place) as usize;
+            self.tiles[tile].set(place);
+            self.count += 1;
+        }
     }
 
     /// Empties a place.
@@ -55,8 +106,11 @@ impl Filled {
         ensures raster { self.new.raster ≡ self.old.raster }
         ensures filled { (i j : ℤ) → is_filled self.new i j ≡ is_filled self.old i j && not (int_eq i place.i && int_eq j place.j) }
     {
-        let tile = self.raster.tile_of(place) as usize;
-        self.tiles[tile].clear(place);
+        if self.has(place) {
+            let tile = self.raster.tile_of(place) as usize;
+            self.tiles[tile].clear(place);
+            self.count -= 1;
+        }
     }
 
     /// Fills the marked places of a row, from one column on and before another.
@@ -95,60 +149,138 @@ impl Filled {
         self.fill_rows(marks, columns.start, columns.end, rows.start, rows.end);
     }
 
-    /// How many squares of a window the box of a place holds: none where it isn't filled.
-    fn taken(&self, place: Place, window: &Rect) -> i64
-        requires { in_raster self.now.raster place.i place.j ≡ true }
-        ensures { result ≡ pos (taken_in self.now.raster (is_filled self.now) window.now place.i place.j) }
+    /// Empties the places of a row, from one column on and before another.
+    fn clear_row(&mut self, left: i64, right: i64, j: i64)
+        requires { (i : ℤ) → is_between left right i ≡ true → in_raster self.old.raster i j ≡ true }
+        ensures raster { self.new.raster ≡ self.old.raster }
+        ensures filled { (k m : ℤ) → is_filled self.new k m ≡ is_filled self.old k m && not (is_between left right k && int_eq m j) }
     {
-        if self.has(place) {
+        for i in left..right {
+            self.clear(Place { i, j });
+        }
+    }
+
+    /// Empties the places of some rows, between the same columns each.
+    fn clear_rows(&mut self, left: i64, right: i64, bottom: i64, top: i64)
+        requires { (i j : ℤ) → is_between left right i && is_between bottom top j ≡ true → in_raster self.old.raster i j ≡ true }
+        ensures raster { self.new.raster ≡ self.old.raster }
+        ensures filled { (k m : ℤ) → is_filled self.new k m ≡ is_filled self.old k m && not (is_between left right k && is_between bottom top m) }
+    {
+        for j in bottom..top {
+            self.clear_row(left, right, j);
+        }
+    }
+
+    /// Empties some places of the raster.
+    pub(crate) fn clear_places(&mut self, places: &Places)
+        requires { (i j : ℤ) → in_places places.now i j ≡ true → in_raster self.old.raster i j ≡ true }
+        ensures raster { self.new.raster ≡ self.old.raster }
+        ensures filled { (i j : ℤ) → is_filled self.new i j ≡ is_filled self.old i j && not (in_places places.now i j) }
+    {
+        let (columns, rows) = (&places.columns, &places.rows);
+        self.clear_rows(columns.start, columns.end, rows.start, rows.end);
+    }
+
+    /// Whether a place is filled, and none of those that are left out.
+    fn is_left(&self, out: &Places, place: Place) -> bool
+        ensures { result ≡ left_by self.now out.now place.i place.j }
+    {
+        self.has(place) && !out.has(place)
+    }
+
+    /// How many squares of a window the box of a place holds: none where it isn't filled, or is left out.
+    fn taken(&self, out: &Places, place: Place, window: &Rect) -> i64
+        requires { in_raster self.now.raster place.i place.j ≡ true }
+        ensures { result ≡ pos (taken_in self.now.raster (left_by self.now out.now) window.now place.i place.j) }
+    {
+        if self.is_left(out, place) {
             shared_area(&self.raster.box_of(place), window)
         } else {
             0
         }
     }
 
-    /// How many squares of a window the boxes of a row hold, from one column on and before another.
-    fn taken_by_row(&self, window: &Rect, left: i64, right: i64, j: i64) -> i64
+    /// How many squares of a window the boxes of a row hold, from one column on and before another, but for some places.
+    fn taken_by_row(&self, out: &Places, window: &Rect, left: i64, right: i64, j: i64) -> i64
         requires ordered { left ≤ℤ right }
-        requires apart { AreApart self.now.raster (is_filled self.now) }
+        requires apart { AreApart self.now.raster (left_by self.now out.now) }
         requires places { (i : ℤ) → is_between left right i ≡ true → in_raster self.now.raster i j ≡ true }
-        ensures { result ≡ pos (taken_by_row self.now.raster (is_filled self.now) window.now left right j) }
+        ensures { result ≡ pos (taken_by_row self.now.raster (left_by self.now out.now) window.now left right j) }
     {
         let mut area = 0;
         for i in left..right {
-            area += self.taken(Place { i, j }, window);
+            area += self.taken(out, Place { i, j }, window);
         }
         area
     }
 
-    /// How many squares of a window the boxes of some rows hold, between the same columns each.
-    fn taken_by_rows(&self, window: &Rect, left: i64, right: i64, bottom: i64, top: i64) -> i64
+    /// How many squares of a window the boxes of some rows hold, between the same columns each, but for some places.
+    fn taken_by_rows(
+        &self,
+        out: &Places,
+        window: &Rect,
+        left: i64,
+        right: i64,
+        bottom: i64,
+        top: i64,
+    ) -> i64
         requires columns { left ≤ℤ right }
         requires rows { bottom ≤ℤ top }
-        requires apart { AreApart self.now.raster (is_filled self.now) }
+        requires apart { AreApart self.now.raster (left_by self.now out.now) }
         requires places { (i j : ℤ) → is_between left right i && is_between bottom top j ≡ true → in_raster self.now.raster i j ≡ true }
-        ensures { result ≡ pos (taken_by_rows self.now.raster (is_filled self.now) window.now left right bottom top) }
+        ensures { result ≡ pos (taken_by_rows self.now.raster (left_by self.now out.now) window.now left right bottom top) }
     {
         let mut area = 0;
         for j in bottom..top {
-            area += self.taken_by_row(window, left, right, j);
+            area += self.taken_by_row(out, window, left, right, j);
         }
         area
     }
 
-    /// How many squares of a window the boxes of the filled places hold.
-    pub(crate) fn boxes_in(&self, window: &Rect) -> i64
-        ensures { result ≡ pos (area_of (boxes_of self.now.raster (is_filled self.now)) window.now) }
+    /// How many squares of a window the boxes of the filled places hold, but for some places.
+    pub(crate) fn boxes_in(&self, out: &Places, window: &Rect) -> i64
+        ensures { result ≡ pos (area_of (boxes_of self.now.raster (left_by self.now out.now)) window.now) }
     {
         let (columns, rows) = self.raster.near(window, 0);
-        self.taken_by_rows(window, columns.start, columns.end, rows.start, rows.end)
+        self.taken_by_rows(
+            out,
+            window,
+            columns.start,
+            columns.end,
+            rows.start,
+            rows.end,
+        )
     }
 
-    /// How many squares of a window are metal or in a box of a filled place, where no box shares a square with the metal.
-    pub(crate) fn total_in(&self, metal: &Region, window: &Rect) -> i64
-        requires { KeepsClear self.now (holds metal.now) }
-        ensures { result ≡ pos (area_of (metal_or_box self.now (holds metal.now)) window.now) }
+    /// How many squares of a window are metal or in a box of a filled place but for some, where no such box shares a square
+    /// with the metal.
+    pub(crate) fn total_in(&self, metal: &Region, out: &Places, window: &Rect) -> i64
+        requires { KeepsClear self.now.raster (left_by self.now out.now) (holds metal.now) }
+        ensures { result ≡ pos (area_of (metal_or_box self.now.raster (left_by self.now out.now) (holds metal.now)) window.now) }
     {
-        area_in(metal, window) + self.boxes_in(window)
+        area_in(metal, window) + self.boxes_in(out, window)
+    }
+
+    /// How many squares of each window are metal or in a box of a filled place but for some: row by row, the window in column
+    /// `a` and row `b` at `b * columns + a`.
+    ///
+    /// # Errors
+    /// `AllocError` where memory is refused.
+    pub(crate) fn totals(
+        &self,
+        alloc: Global,
+        metal: &Region,
+        out: &Places,
+        windows: &Windows,
+    ) -> Result<Vec<i64>, AllocError>
+        requires { KeepsClear self.now.raster (left_by self.now out.now) (holds metal.now) }
+        ensures areas { IfOk result (λ v. AreMeasured (metal_or_box self.now.raster (left_by self.now out.now) (holds metal.now)) windows.now v.items) }
+        ensures bounded { IfOk result (λ v. All IsArea v.items) }
+    {
+        let mut totals = Vec::new(alloc);
+        for k in 0..windows.len() {
+            totals.push(self.total_in(metal, out, &windows.nth(k)))?;
+        }
+        Ok(totals)
     }
 }

@@ -3,5 +3,9 @@
 #![tactic(auto)]
 
 mod filled;
+mod low;
 mod measure;
+mod places;
+#[cfg(test)]
+mod tests;
 mod tiles;

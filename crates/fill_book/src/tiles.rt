@@ -1,22 +1,29 @@
 //! Which tiles are in.
-ghost use Rattle.std.specs.Prelude.{◌≡◌, ◌<◌, ◌==◌, ◌||◌, ◌↔◌, true, false, ℕ, Bool, List, length, IfOk, IsTrue};
+ghost use Rattle.std.specs.Prelude.{◌≡◌, ◌<◌, ◌≤◌, ◌^◌, ◌*◌, ◌+◌, ◌==◌, ◌||◌, ◌↔◌, true, false, ℕ, Bool, List, length, IfOk, IsTrue};
 ghost use Rattle.fill_core.specs.Tiles as spec;
 ghost use Rattle.fill_core.specs.Tiles.{next_tile};
-ghost use Rattle.fill_book.specs.Tiles.{is_in};
+ghost use Rattle.fill_book.specs.Tiles.{bits_of, is_in};
+ghost use Rattle.fill_book.specs.steps.Words.{IsFullFrom};
 
 use std::alloc::{AllocError, Global};
 use std::marker::Model;
 
-/// A set of tiles, by their numbers from 0 on.
+/// How many tiles share a word.
+const WORD: u32 = 64;
+
+/// A set of tiles, by their numbers from 0 on: one bit for each tile.
 #[derive(Drop)]
 pub(crate) struct TileSet {
-    bits: Vec<bool>,
+    words: Vec<u64>,
+    count: u32,
 }
 
 impl Model for TileSet {
     ghost Value = { List Bool };
 
-    ghost view = { λ s. s.bits.items };
+    ghost view = { λ s. bits_of s.count s.words.items };
+
+    ghost invariant = { λ s. s.count ≤ 64 * length s.words.items };
 }
 
 impl TileSet {
@@ -28,16 +35,15 @@ impl TileSet {
         ensures room { IfOk result (λ s. length s ≡ count) }
         ensures none { IfOk result (λ s. (tile : ℕ) → is_in s tile ≡ false) }
     {
-        let bits = Vec::from_elem(alloc, false, count as usize)?;
-        Ok(TileSet { bits })
+        let words = Vec::from_elem(alloc, 0, count.div_ceil(WORD) as usize)?;
+        Ok(TileSet { words, count })
     }
 
     /// Whether a tile is in.
     pub(crate) fn has(&self, tile: u32) -> bool
         ensures { result ≡ is_in self.now tile }
     {
-        let at = tile as usize;
-        at < self.bits.len() && self.bits[at]
+        tile < self.count && (self.words[(tile / WORD) as usize] >> (tile % WORD)) & 1 == 1
     }
 
     /// Takes a tile in.
@@ -46,15 +52,29 @@ impl TileSet {
         ensures room { length self.new ≡ length self.old }
         ensures tiles { (t : ℕ) → is_in self.new t ≡ is_in self.old t || (t == tile) }
     {
-        self.bits[tile as usize] = true;
+        self.words[(tile / WORD) as usize] |= 1 << (tile % WORD);
+    }
+
+    /// Whether a tile is the first of a word of tiles that are all in.
+    fn is_full_from(&self, tile: u32) -> bool
+        ensures full { IsTrue result ↔ IsFullFrom self.now tile }
+        ensures number { result ≡ true → tile + 64 < 2 ^ 32 }
+    {
+        let begins_a_word = (tile % WORD == 0) & (tile / WORD < self.count / WORD);
+        begins_a_word && self.words[(tile / WORD) as usize] == u64::MAX
     }
 
     /// The first tile that isn't in, from `from` on and before `past`.
     fn first_open(&self, from: u32, past: u32) -> Option<u32>
         ensures { result ≡ spec.first_open (is_in self.now) from past }
     {
-        for tile in from..past {
-            if !self.has(tile) {
+        let mut tile = from;
+        'tiles: while tile < past {
+            if self.is_full_from(tile) {
+                tile += WORD;
+            } else if self.has(tile) {
+                tile += 1;
+            } else {
                 return Some(tile);
             }
         }
@@ -83,6 +103,6 @@ impl TileSet {
         ensures room { length self.new ≡ length self.old }
         ensures none { (tile : ℕ) → is_in self.new tile ≡ false }
     {
-        self.bits.fill(false);
+        self.words.fill(0);
     }
 }

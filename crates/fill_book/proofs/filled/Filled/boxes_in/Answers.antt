@@ -1,11 +1,11 @@
 use Rattle.std.proofs.Common.{◌≡◌, sym, ap, pos, ◌∙◌, subst, rules, FitsSigned, w64}
 use Rattle.fill_base.proofs.Signed.{read_is}
-use Rattle.fill_book.specs.Filling.{Filling, IsFilling, is_filled}
-use Rattle.fill_book.proofs.Nearby.{filled_apart, filled_on, near_are_all, near_on}
+use Rattle.fill_book.specs.Filling.{Filling, IsFilling, left_by}
+use Rattle.fill_book.proofs.Nearby.{left_apart, left_on, near_are_all, near_on}
 use Rattle.fill_book.proofs.filled.Filled.boxes_in.Goals as goal
 
 pub taken_by_rows-requires-clause-apart : goal.taken_by_rows-requires-clause-apart
-taken_by_rows-requires-clause-apart c = filled_apart c.args.self.now (subst (λ (f : Filling). IsFilling f) c.self.view_is c.self.invariant)
+taken_by_rows-requires-clause-apart c = left_apart c.args.self.now (left_by c.args.self.now c.args.out.now) (subst (λ (f : Filling). IsFilling f) c.self.view_is c.self.invariant.filling)
 
 pub taken_by_rows-requires-clause-places : goal.taken_by_rows-requires-clause-places
 taken_by_rows-requires-clause-places c =
@@ -30,5 +30,5 @@ returns c =
     let most = rw r_is at c.near.ensures.most in
     let sum = rw (read_is _ left, read_is _ right, read_is _ bottom, read_is _ top) at c.taken_by_rows.ensures in
     let f = c.args.self.now in
-    read_is _ area ∙ (sum ∙ ap pos (near_are_all f.raster (is_filled f) c.args.window.now c.near.result.0.start c.near.result.0.end c.near.result.1.start c.near.result.1.end
-    (filled_apart f (subst (λ (f : Filling). IsFilling f) c.self.view_is c.self.invariant)) (filled_on f) least.0 c.near.ensures.ordered.0 most.0 least.1 c.near.ensures.ordered.1 most.1 near))
+    read_is _ area ∙ (sum ∙ ap pos (near_are_all f.raster (left_by f c.args.out.now) c.args.window.now c.near.result.0.start c.near.result.0.end c.near.result.1.start c.near.result.1.end
+    (left_apart f (left_by f c.args.out.now) (subst (λ (f : Filling). IsFilling f) c.self.view_is c.self.invariant.filling)) (left_on f c.args.out.now) least.0 c.near.ensures.ordered.0 most.0 least.1 c.near.ensures.ordered.1 most.1 near))

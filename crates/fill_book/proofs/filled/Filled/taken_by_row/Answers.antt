@@ -1,7 +1,7 @@
 use Rattle.std.proofs.Common.{ap, sym, pos, to_z, w64}
 use Rattle.fill_base.proofs.Between.{is_between_true}
 use Rattle.fill_base.proofs.Signed.{read, read_is, is_lt}
-use Rattle.fill_book.specs.Filling.{is_filled}
+use Rattle.fill_book.specs.Filling.{left_by}
 use Rattle.fill_book.specs.steps.Taken.{taken_in}
 use Rattle.fill_book.proofs.BoxSums.{Added, added, row_few, same_le, sum_first}
 use Rattle.fill_book.proofs.filled.Filled.taken_by_row.Goals as goal
@@ -10,7 +10,7 @@ pub loop-i-init : goal.loop-i-init
 loop-i-init c = record {
   from = same_le (read c.args.left);
   to = rw (read_is c.args.left c.ranges.left, read_is c.args.right c.ranges.right) c.requires.ordered;
-  area = ap pos (sym (sum_first (λ i. taken_in c.args.self.now.raster (is_filled c.args.self.now) c.args.window.now i (read c.args.j)) (read c.args.left)));
+  area = ap pos (sym (sum_first (λ i. taken_in c.args.self.now.raster (left_by c.args.self.now c.args.out.now) c.args.window.now i (read c.args.j)) (read c.args.left)));
 }
 
 pub taken-area-requires : goal.taken-area-requires
@@ -19,9 +19,9 @@ taken-area-requires c =
     let lt = is_lt (to_z w64 c.loop-i.i-bits) c.args.right (rw (read_is c.args.right c.ranges.right) at c.loop-i-test.true) in
     rw (read_is c.args.j c.ranges.j) (c.requires.places (to_z w64 c.loop-i.i-bits) (is_between_true c.args.left c.args.right (to_z w64 c.loop-i.i-bits) from lt))
 
-turn : (c : goal.After-taken-area) → Added (λ i. taken_in c.args.self.now.raster (is_filled c.args.self.now) c.args.window.now i (read c.args.j)) (read c.args.left) (read c.args.right) (to_z w64 c.loop-i.i-bits) (to_z w64 c.loop-i.area-bits) c.taken-area.result
+turn : (c : goal.After-taken-area) → Added (λ i. taken_in c.args.self.now.raster (left_by c.args.self.now c.args.out.now) c.args.window.now i (read c.args.j)) (read c.args.left) (read c.args.right) (to_z w64 c.loop-i.i-bits) (to_z w64 c.loop-i.area-bits) c.taken-area.result
 turn c = added _ _ _ _ _ _ (rw (read_is c.args.left c.ranges.left) c.ranges.left) (rw (read_is c.args.right c.ranges.right) c.ranges.right) c.loop-i.invariant.from c.loop-i-test.true c.loop-i.invariant.area c.taken-area.ensures
-    (λ k. row_few c.args.self.now.raster (is_filled c.args.self.now) c.args.window.now (read c.args.left) k (read c.args.j) c.requires.apart)
+    (λ k. row_few c.args.self.now.raster (left_by c.args.self.now c.args.out.now) c.args.window.now (read c.args.left) k (read c.args.j) c.requires.apart)
 
 pub overflow_add-area : goal.overflow_add-area
 overflow_add-area c = (turn c).fits

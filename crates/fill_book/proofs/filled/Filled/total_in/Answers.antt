@@ -1,10 +1,10 @@
 use Rattle.fill_region.specs.Bands.{holds}
-use Rattle.fill_book.specs.Filling.{boxes_of, is_filled}
+use Rattle.fill_book.specs.Filling.{boxes_of, left_by}
 use Rattle.fill_book.proofs.Totals.{Together, together}
 use Rattle.fill_book.proofs.filled.Filled.total_in.Goals as goal
 
-sum : (c : goal.After-boxes_in) → Together (holds c.args.metal.now) (boxes_of c.args.self.now.raster (is_filled c.args.self.now)) c.args.window.now c.area_in.result c.boxes_in.result
-sum c = together (holds c.args.metal.now) (boxes_of c.args.self.now.raster (is_filled c.args.self.now)) c.args.window.now c.area_in.result c.boxes_in.result c.area_in.ensures c.boxes_in.ensures c.requires
+sum : (c : goal.After-boxes_in) → Together (holds c.args.metal.now) (boxes_of c.args.self.now.raster (left_by c.args.self.now c.args.out.now)) c.args.window.now c.area_in.result c.boxes_in.result
+sum c = together (holds c.args.metal.now) (boxes_of c.args.self.now.raster (left_by c.args.self.now c.args.out.now)) c.args.window.now c.area_in.result c.boxes_in.result c.area_in.ensures c.boxes_in.ensures c.requires
 
 pub overflow_add-result : goal.overflow_add-result
 overflow_add-result c = (sum c).fits

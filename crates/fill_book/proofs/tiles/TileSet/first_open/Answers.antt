@@ -1,10 +1,17 @@
-use Rattle.std.proofs.Common.{ap, sym, rules, ◌∙◌, ◌<◌}
+use Rattle.std.proofs.Common.{ap, sym, ◌∙◌}
 use Rattle.std.specs.Prelude.{not}
 use Rattle.fill_book.specs.Tiles.{is_in}
-use Rattle.fill_book.proofs.OpenTiles.{passed}
+use Rattle.fill_book.proofs.OpenTiles.{found, passed}
+use Rattle.fill_book.proofs.TileWords.{passed_many}
 use Rattle.fill_book.proofs.tiles.TileSet.first_open.Goals as goal
 
-pub loop-tile-preserved : goal.loop-tile-preserved
-loop-tile-preserved c =
-    let lt : c.loop-tile.tile < c.args.past = grind rules in
-    c.loop-tile.invariant ∙ passed (λ t. not (is_in c.args.self.now t)) c.loop-tile.tile c.args.past lt (ap not (sym c.has.ensures ∙ c.if-not-has.false))
+pub tiles-preserved-then-is_full_from : goal.tiles-preserved-then-is_full_from
+tiles-preserved-then-is_full_from c =
+    let full = c.is_full_from.ensures.full.0 c.if-is_full_from.true in
+    c.tiles.invariant ∙ passed_many (λ t. not (is_in c.args.self.now t)) c.tiles.tile 64 c.args.past (λ t low high. ap not (full.full t low high))
+
+pub tiles-preserved : goal.tiles-preserved
+tiles-preserved c = c.tiles.invariant ∙ passed (λ t. not (is_in c.args.self.now t)) c.tiles.tile c.args.past c.tiles-test.true (ap not (sym c.has.ensures ∙ c.if-has.true))
+
+pub returns-else-has : goal.returns-else-has
+returns-else-has c = found (λ t. not (is_in c.args.self.now t)) c.tiles.tile c.args.past c.tiles-test.true (ap not (sym c.has.ensures ∙ c.if-has.false)) ∙ sym c.tiles.invariant

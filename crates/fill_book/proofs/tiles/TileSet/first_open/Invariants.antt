@@ -5,5 +5,8 @@ use Rattle.std.specs.List.{range_with_len}
 use Rattle.fill_book.specs.Tiles.{is_in}
 use Rattle.fill_book.proofs.tiles.TileSet.first_open.Given as goal
 
-abbrev pub invariant-loop-tile : goal.invariant-loop-tile
-invariant-loop-tile l = find (λ t. not (is_in l.self t)) (range_with_len l.from (l.past - l.from)) ≡ find (λ t. not (is_in l.self t)) (range_with_len l.tile (l.past - l.tile))
+abbrev pub invariant-tiles : goal.invariant-tiles
+invariant-tiles l = find (λ t. not (is_in l.self t)) (range_with_len l.from (l.past - l.from)) ≡ find (λ t. not (is_in l.self t)) (range_with_len l.tile (l.past - l.tile))
+
+abbrev pub decreases-tiles : goal.decreases-tiles
+decreases-tiles l = l.past - l.tile

@@ -1,0 +1,33 @@
+//! Places in a range of columns and a range of rows.
+ghost use Rattle.std.specs.Prelude.{◌≡◌, ℤ, false};
+ghost use Rattle.fill_book.specs.Filling.{in_places};
+
+use fill_base::Place;
+use std::ops::Range;
+
+/// Some columns and rows of places.
+#[derive(Drop)]
+pub(crate) struct Places {
+    pub(crate) columns: Range<i64>,
+    pub(crate) rows: Range<i64>,
+}
+
+impl Places {
+    /// No place.
+    pub(crate) fn none() -> Places
+        ensures { (i j : ℤ) → in_places result i j ≡ false }
+    {
+        Places {
+            columns: 0..0,
+            rows: 0..0,
+        }
+    }
+
+    /// Whether a place is one of them.
+    pub(crate) fn has(&self, place: Place) -> bool
+        ensures { result ≡ in_places self.now place.i place.j }
+    {
+        ((self.columns.start <= place.i) & (place.i < self.columns.end))
+            & ((self.rows.start <= place.j) & (place.j < self.rows.end))
+    }
+}
