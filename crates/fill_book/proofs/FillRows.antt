@@ -36,9 +36,12 @@ pub rows_end : (o a x : PointSet) (bottom top j : ℤ) → bottom ≤ℤ j → j
     → (k m : ℤ) → a k m ≡ o k m || (is_between bottom top m && x k m)
 rows_end o a x bottom top j low high past is k m = is k m ∙ rw (between_all bottom top j m low high past) refl
 
--- the marks of a tile lie within its columns and rows
-pub all_marked : (b p x y t : Bool) → x && y ≡ p → b ≡ p → y && (x && (b && t)) ≡ b && t
-all_marked b p true true t h k = refl
-all_marked b p true false t h k = rw (k, sym h) refl
-all_marked b p false true t h k = rw (k, sym h) refl
-all_marked b p false false t h k = rw (k, sym h) refl
+-- marks that are of a tile lie within its columns and rows
+pub all_marked : (p x y t : Bool) → x && y ≡ p → (t ≡ true → p ≡ true) → y && (x && t) ≡ t
+all_marked p true true t h of = refl
+all_marked p true false true h of = h ∙ of refl
+all_marked p false true true h of = h ∙ of refl
+all_marked p false false true h of = h ∙ of refl
+all_marked p true false false h of = refl
+all_marked p false true false h of = refl
+all_marked p false false false h of = refl

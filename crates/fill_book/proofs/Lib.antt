@@ -6,9 +6,14 @@ pub mod Totals
 pub mod Placing
 pub mod OpenTiles
 pub mod FillRows
+pub mod Kept
+pub mod TooNear
+pub mod Measured
+pub mod Grown
 pub mod ClearRows
 pub mod Counted
 pub mod Making
 pub mod LowSquares
 pub mod WindowTotals
+pub mod Accounted
 pub mod TileWords

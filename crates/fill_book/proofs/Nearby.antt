@@ -107,7 +107,7 @@ left_apart f p is = record {
   rows = λ i j k l x y _ _ at to. same_number j l (λ ne. one_place f is i j k l x y (λ e. ne e.1) at to);
 }
 
-filled_on : (f : Filling) (i j : ℤ) → is_filled f i j ≡ true → in_raster f.raster i j ≡ true
+pub filled_on : (f : Filling) (i j : ℤ) → is_filled f i j ≡ true → in_raster f.raster i j ≡ true
 filled_on f i j h = (and_parts (in_raster f.raster i j) (is_marked (marks_of f (tile_of f.raster i j)) i j) h).0
 
 pub left_on : (f : Filling) (out : Places) (i j : ℤ) → left_by f out i j ≡ true → in_raster f.raster i j ≡ true

@@ -1,4 +1,5 @@
 pub mod Filling
 pub mod Low
 pub mod Tiles
+pub mod Keeping
 pub mod steps

@@ -141,7 +141,7 @@ impl Filled {
     /// Fills the marked places of a tile.
     pub(crate) fn take_in(&mut self, tile: u32, marks: &Marks)
         requires tile { tile < tiles self.old.raster }
-        requires places { (i j : ℤ) → in_block marks.now.block i j ≡ in_tile self.old.raster tile i j }
+        requires marked { (i j : ℤ) → is_marked marks.now i j ≡ true → in_tile self.old.raster tile i j ≡ true }
         ensures raster { self.new.raster ≡ self.old.raster }
         ensures filled { (i j : ℤ) → is_filled self.new i j ≡ is_filled self.old i j || is_marked marks.now i j }
     {

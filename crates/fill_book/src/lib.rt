@@ -1,11 +1,18 @@
-//! The ground of the books of a fill: which places are filled, what metal and boxes take of a window, and which tiles are in. The
-//! book itself is to come, so nothing is public yet.
+//! The books of a fill: metal, placed boxes, low windows and tiles of a version, and the history of all that happened. The layers
+//! above rely on a book being the machine of `fill_core`, by the clauses of its trait `FillBook`.
 #![tactic(auto)]
 
+mod book;
 mod filled;
 mod low;
 mod measure;
 mod places;
+mod stored;
+mod tiles;
+
+pub use book::PlainBook;
+
+#[cfg(test)]
+mod book_tests;
 #[cfg(test)]
 mod tests;
-mod tiles;

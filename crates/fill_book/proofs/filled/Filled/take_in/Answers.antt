@@ -2,9 +2,8 @@ use Rattle.std.proofs.Common.{◌≡◌, ap, sym, ◌∙◌, ◌||◌, rules, Fi
 use Rattle.std.proofs.lemmas.Bool.{and_parts}
 use Rattle.fill_base.specs.Counts.{is_between}
 use Rattle.fill_base.proofs.Signed.{read_is}
-use Rattle.fill_raster.specs.Bits.{has_bit}
 use Rattle.fill_raster.specs.Lattice.{in_tile}
-use Rattle.fill_raster.specs.Marks.{in_block, index_in}
+use Rattle.fill_raster.specs.Marks.{is_marked}
 use Rattle.fill_book.specs.Filling.{is_filled}
 use Rattle.fill_book.proofs.FillRows.{all_marked}
 use Rattle.fill_book.proofs.filled.Filled.take_in.Goals as goal
@@ -30,5 +29,5 @@ returns-clause-filled c =
     let filled = rw (read_is _ left, read_is _ right, read_is _ bottom, read_is _ top) at c.fill_rows.ensures.filled in
     let m = c.args.marks.now in
     λ i j. filled i j ∙ ap (λ b. is_filled c.args.self.now i j || b)
-    (all_marked (in_block m.block i j) (in_tile c.args.self.now.raster c.args.tile i j) (is_between c.places.result.0.start c.places.result.0.end i) (is_between c.places.result.1.start c.places.result.1.end j)
-    (has_bit m.bits (index_in m.block i j)) (places i j) (c.requires.places i j))
+    (all_marked (in_tile c.args.self.now.raster c.args.tile i j) (is_between c.places.result.0.start c.places.result.0.end i) (is_between c.places.result.1.start c.places.result.1.end j)
+    (is_marked m i j) (places i j) (c.requires.marked i j))

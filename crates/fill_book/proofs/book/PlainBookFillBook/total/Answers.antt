@@ -1,0 +1,18 @@
+use Rattle.std.proofs.Common.{◌≡◌, ap, sym, ◌∙◌, pos}
+use Rattle.fill_base.proofs.Signed.{read_is}
+use Rattle.fill_text.specs.Rules.{Values, windows_of}
+use Rattle.fill_text.specs.ValuesOfRules.{values_of}
+use Rattle.fill_core.specs.Accounts.{Account}
+use Rattle.fill_book.proofs.Accounted.{at_view, clear_but_none, total_now}
+use Rattle.fill_book.proofs.book.PlainBookFillBook.total.Goals as goal
+
+pub total_in-requires : goal.total_in-requires
+total_in-requires g c = clear_but_none c.self.invariant c.none.result c.none.ensures
+
+pub returns : goal.returns
+returns g c =
+    let rules_is : values_of c.self.inside.rules ≡ c.args.self.now.rules = ap (λ (a : Account). a.rules) c.self.view_is in
+    let windows_is : c.windows.result ≡ windows_of c.args.self.now.rules.numbers = c.windows.ensures ∙ ap (λ (v : Values). windows_of v.numbers) rules_is in
+    let at = c.rect-window.ensures in
+    read_is c.total_in.result (record { sfits = c.total_in.type_inv }) ∙ (c.total_in.ensures ∙ ap pos (total_now (at_view c.self.invariant c.self.view_is) c.none.result c.rect-window.result c.args.a c.args.b c.none.ensures
+    (record { left = rw windows_is at at.left; bottom = rw windows_is at at.bottom; right = rw windows_is at at.right; top = rw windows_is at at.top })))

@@ -1,0 +1,40 @@
+-- What a book stores, and how that stands to its account.
+use Rattle.std.specs.Prelude.{◌≡◌, ℕ, ◌≤◌, ◌^◌, length}
+use Rattle.fill_region.specs.Bands.{holds}
+use Rattle.fill_raster.specs.Lattice.{tiles}
+use Rattle.fill_job.specs.Basis.{windows_in}
+use Rattle.fill_job.specs.Plans.{Plan, IsPlan, PointSet, plan_of}
+use Rattle.fill_core.specs.Accounts.{Account, IsLegal, state_of}
+use Rattle.fill_core.specs.Machine.{State}
+use Rattle.fill_core.specs.Shares.{Totals, totals_of}
+use Rattle.fill_book.specs.Filling.{is_filled}
+use Rattle.fill_book.specs.Tiles.{is_in}
+use Rattle.fill_book.specs.declared.stored.Stored.{Stored}
+
+-- what is stored, as a state; the places that were filled when the version opened are not stored
+abbrev pub state_by : PointSet → Stored → State
+state_by base s = record {
+  metal = holds s.metal;
+  fill = is_filled s.filled;
+  version = s.version;
+  low = windows_in s.low;
+  tiles_in = is_in s.tiles;
+  base = base;
+}
+
+-- the raster is the plan's, and there is a bit for each of its tiles
+pub record Fits (plan : Plan) (s : Stored) : Type 0 where
+  pub raster : s.filled.raster ≡ plan.raster
+  pub tiles : length s.tiles ≡ tiles plan.raster
+
+-- the state that is stored is the account's, its replies are those of the replay, its history has no more events than it may
+-- have, and the numbers of the ledgers are those of the history
+pub record Keeps (a : Account) (t : Totals) (s : Stored) : Type 0 where
+  pub plan : IsPlan (plan_of a.rules)
+  pub fits : Fits (plan_of a.rules) s
+  pub state : state_of a ≡ state_by (state_of a).base s
+  pub legal : IsLegal a
+  pub version : s.version ≤ length a.history
+  pub room : length a.history ≤ a.most
+  pub most : a.most ≤ 2 ^ 32
+  pub totals : t ≡ totals_of a.history
