@@ -12,4 +12,6 @@ pub use refusal::{DesignError, InputFault, Refusal, RunFault};
 pub use subcommands::{check, rects};
 
 #[cfg(test)]
+mod report_tests;
+#[cfg(test)]
 mod tests;
