@@ -119,10 +119,10 @@ impl<C: Ledger + Send + Sync, P: Ledger + Send + Sync, W: Ledger + Send + Sync> 
         pass: &mut Pass<C, P, W>,
         proposal: &Proposal,
     ) -> Result<Reply, BookError> {
+        let (version, tile) = (proposal.version(), proposal.tile());
         if self.is_full() {
             return Err(BookError::HistoryFull);
         }
-        let (version, tile) = (proposal.version(), proposal.tile());
         let same = self.stored.is_same(alloc, &self.rules, proposal)?;
         let refusal = self.stored.refusal(version, tile);
         self.history.reserve()?;
