@@ -28,4 +28,5 @@ bench: build
 	bench/gds/run.sh
 	bench/layer/run.sh
 	bench/job/run.sh
+	bench/book/run.sh
 	bench/check/run.sh
