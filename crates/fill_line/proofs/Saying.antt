@@ -1,11 +1,18 @@
 -- What the rows of a subcommand say, once it is known what they hold.
-use Rattle.std.proofs.Common.{◌≡◌, ◌≢◌, ◌⊎◌, List, Some, None, true, inl, inr, refl}
-use Rattle.std.specs.Prelude.{bytes_eq, codes}
-use Rattle.clap.specs.Words.{HasKind, Row, Text, fault_of, first_of, is_simple_and_free, kind_of}
+use Rattle.std.proofs.Common.{◌≡◌, ◌≢◌, ◌⊎◌, ◌<◌, ◌≤◌, ◌^◌, ◌∙◌, ℕ, Bool, List, Option, Some, None, true, false, inl, inr, refl, sym, ap, ap₂, subst, option_map, arith}
+use Rattle.std.specs.Prelude.{IsSome, bytes_eq, codes, find, slice_get, unwrap_or}
+use Rattle.std.specs.Option.{option_and_then}
+use Rattle.std.specs.Str.Parse.{IsNumeral, digits_value, without_leading_plus}
+use Rattle.clap.proofs.ValueTestLemmas.{Accepts-accepts, accepts-Accepts}
+use Rattle.clap.specs.ValueTests.{is_unsigned_in}
+use Rattle.clap.specs.Walk.{row_text}
+use Rattle.clap.specs.Words.{HasKind, Row, Text, fault_of, first_of, is_simple, is_simple_and_free, kind_of, one_of, read_as}
+use Rattle.clap.specs.declared.builder.value_parser.ValueParser.TheVariants.{Unsigned}
 use Rattle.clap.specs.declared.error.Error.{Error}
 use Rattle.clap.specs.declared.error.kind.ErrorKind.TheVariants.{MissingSubcommand, OutOfMemory}
-use Rattle.fill_line.specs.Grammar.{Said, both, program_words}
-use Rattle.fill_line.specs.Lines.{IsRefusalOf}
+use Rattle.fill_line.specs.Grammar.{Said, both, fill, filling, found_in, limit_by, program_words, said_by, said_in}
+use Rattle.fill_line.specs.Lines.{IsRefusalOf, text_of}
+use Rattle.fill_line.specs.declared.Line.{Line}
 use Rattle.fill_line.specs.declared.LineError.{LineError}
 use Rattle.fill_line.specs.declared.LineError.TheVariants.{Memory, Usage}
 
@@ -19,6 +26,72 @@ no_second make a b rows x some none = rw (some, none) refl
 pub both_found : (make : Text → Text → Said) (a b : Text) (rows : List Row) (x y : Text) → first_of a rows ≡ Some x → first_of b rows ≡ Some y
     → Some (make x y) ≡ both make a b rows
 both_found make a b rows x y some too = rw (some, too) refl
+
+-- where an argument has no value, it has none that is read as a number either
+pub no_number : (id : Text) (rows : List Row) → first_of id rows ≡ None → one_of id rows ≡ None
+no_number id rows none = by_row (find (λ r. bytes_eq r.id id) rows) none
+  where
+    by_row : (o : Option Row) → option_and_then (λ (r : Row). slice_get r.values 0) o ≡ None → option_and_then row_text o ≡ None
+    by_row None none = refl
+    by_row (Some r) none = rw none refl
+
+pub no_limit : (rows : List Row) → first_of (codes "limit") rows ≡ None → Some None ≡ limit_by (one_of (codes "limit") rows)
+no_limit rows none = rw (no_number (codes "limit") rows none) refl
+
+-- where it has one, there is a text that is read
+pub some_text : (id : Text) (rows : List Row) (x : Text) → first_of id rows ≡ Some x → (t : Text) × (one_of id rows ≡ Some t)
+some_text id rows x some = by_row (find (λ r. bytes_eq r.id id) rows) some
+  where
+    by_row : (o : Option Row) → option_and_then (λ (r : Row). slice_get r.values 0) o ≡ Some x → (t : Text) × (option_and_then row_text o ≡ Some t)
+    by_row None some = absurd (no some)
+      where
+        no : None ≡ Some x → ⊥
+        no h = grind (arith, h)
+    by_row (Some r) some = (read_as r.reading x, rw some refl)
+
+-- the test of a number below 2^32 is the one that `u32` makes
+number_test : (text : Text) → IsNumeral 10 (without_leading_plus text) → digits_value 10 (without_leading_plus text) < 2 ^ 32 → is_unsigned_in 0 4294967295 text ≡ true
+number_test text numeral few =
+    Accepts-accepts false (Unsigned 0 4294967295) text (numeral, omega (arith, few), omega arith, omega (arith, few))
+
+number_passed : (text : Text) → is_unsigned_in 0 4294967295 text ≡ true → IsNumeral 10 (without_leading_plus text) × (digits_value 10 (without_leading_plus text) < 2 ^ 32)
+number_passed text h =
+    let accepted = accepts-Accepts false (Unsigned 0 4294967295) text h in
+    let most : digits_value 10 (without_leading_plus text) ≤ 4294967295 = accepted.3 in
+    (accepted.0, omega (arith, most))
+
+-- the limit as it was read from its text
+pub limit_read : (o : Option Text) (t : Text) (n : ℕ) → o ≡ Some t → IsNumeral 10 (without_leading_plus t) × (digits_value 10 (without_leading_plus t) < 2 ^ 32) → n ≡ digits_value 10 (without_leading_plus t)
+    → Some (Some n) ≡ limit_by o
+limit_read o t n some numeral is = rw (some, number_test t numeral.0 numeral.1, is) refl
+
+pub limit_unread : (o : Option Text) (t : Text) → o ≡ Some t → (IsNumeral 10 (without_leading_plus t) × (digits_value 10 (without_leading_plus t) < 2 ^ 32) → ⊥) → None ≡ limit_by o
+limit_unread o t some none = rw (some, failed (is_unsigned_in 0 4294967295 t) refl) refl
+  where
+    failed : (b : Bool) → is_unsigned_in 0 4294967295 t ≡ b → is_unsigned_in 0 4294967295 t ≡ false
+    failed true h = absurd (none (number_passed t h))
+    failed false h = h
+
+-- what the rows of `fill` say, as far as they are found
+pub no_rules : (rows : List Row) → first_of (codes "RULES") rows ≡ None → None ≡ filling rows
+no_rules rows none = rw none refl
+
+pub no_design : (rows : List Row) (a : Text) → first_of (codes "RULES") rows ≡ Some a → first_of (codes "DESIGN") rows ≡ None → None ≡ filling rows
+no_design rows a rules none = rw (rules, none) refl
+
+pub no_script : (rows : List Row) (a b : Text) → first_of (codes "RULES") rows ≡ Some a → first_of (codes "DESIGN") rows ≡ Some b → first_of (codes "SCRIPT") rows ≡ None → None ≡ filling rows
+no_script rows a b rules design none = rw (rules, design, none) refl
+
+pub no_out : (rows : List Row) (a b c : Text) → first_of (codes "RULES") rows ≡ Some a → first_of (codes "DESIGN") rows ≡ Some b → first_of (codes "SCRIPT") rows ≡ Some c → first_of (codes "OUT") rows ≡ None → None ≡ filling rows
+no_out rows a b c rules design script none = rw (rules, design, script, none) refl
+
+pub bad_limit : (rows : List Row) (a b c d : Text) → first_of (codes "RULES") rows ≡ Some a → first_of (codes "DESIGN") rows ≡ Some b → first_of (codes "SCRIPT") rows ≡ Some c → first_of (codes "OUT") rows ≡ Some d
+    → None ≡ limit_by (one_of (codes "limit") rows) → None ≡ filling rows
+bad_limit rows a b c d rules design script out none = rw (rules, design, script, out, ← none) refl
+
+pub all_found : (rows : List Row) (a b c d : Text) (limit : Option ℕ) → first_of (codes "RULES") rows ≡ Some a → first_of (codes "DESIGN") rows ≡ Some b → first_of (codes "SCRIPT") rows ≡ Some c → first_of (codes "OUT") rows ≡ Some d
+    → Some limit ≡ limit_by (one_of (codes "limit") rows) → Some (fill a b c d limit) ≡ filling rows
+all_found rows a b c d limit rules design script out given = rw (rules, design, script, out, ← given) refl
 
 -- the program's grammar is one of those of which `clap` says which words it refuses
 pub program_is_plain : is_simple_and_free program_words ≡ true
@@ -40,3 +113,39 @@ told_fault words e told (inr (kind, is)) (inr among) = rw is (inl among)
 pub told_missing : (words : List Text) (e : Error) (told : LineError) → Told e told → kind_of e ≡ MissingSubcommand → IsRefusalOf words told
 told_missing words e told (inl (kind, is)) missing = rw is tt
 told_missing words e told (inr (kind, is)) missing = rw is (inr missing)
+
+-- the program's grammar is one of which `clap` says what it finds
+pub program_is_simple : is_simple program_words ≡ true
+program_is_simple = refl
+
+from_some : {A : Type 0} (a b : A) → Some a ≡ Some b → b ≡ a
+from_some a b h = sym (ap (λ o. unwrap_or o a) h)
+
+-- a subcommand's name and rows, told apart
+pub told_apart : {B : Type 0} (name : B → Text) (rows : B → List Row) (o : Option B) (n : Text) (rs : List Row) → Some n ≡ option_map name o → Some rs ≡ option_map (λ (p : Text × List Row). p.1) (option_map {U = Text × List Row} (λ b. (name b, rows b)) o)
+    → option_map {U = Text × List Row} (λ b. (name b, rows b)) o ≡ Some (n, rs)
+told_apart name rows None n rs first second = absurd (no first)
+  where
+    no : Some n ≡ None → ⊥
+    no h = grind (arith, h)
+told_apart name rows (Some b) n rs first second = ap₂ (λ x y. Some (x, y)) (from_some n (name b) first) (from_some rs (rows b) second)
+
+pub none_apart : {B : Type 0} (name : B → Text) (rows : B → List Row) (o : Option B) → None ≡ option_map name o → option_map {U = Text × List Row} (λ b. (name b, rows b)) o ≡ None
+none_apart name rows None none = refl
+none_apart name rows (Some b) none = absurd (no none)
+  where
+    no : None ≡ Some (name b) → ⊥
+    no h = grind (arith, h)
+
+-- the line of a subcommand that was found, and none where none was
+pub line_is : (words : List Text) (found : Option (Text × List Row)) (n : Text) (rows : List Row) (l : Option Line) → found ≡ found_in words → found ≡ Some (n, rows) → option_map text_of l ≡ said_by n rows → said_in words ≡ option_map text_of l
+line_is words found n rows l here is said = ap (option_and_then (λ f. said_by f.0 f.1)) (sym here ∙ is) ∙ sym said
+
+pub no_line_is : (words : List Text) (found : Option (Text × List Row)) → found ≡ found_in words → found ≡ None → said_in words ≡ None
+no_line_is words found here none = ap (option_and_then (λ f. said_by f.0 f.1)) (sym here ∙ none)
+
+pub none_said : (words : List Text) → said_in words ≡ None → IsSome (said_in words) → ⊥
+none_said words none some = no (subst IsSome none some)
+  where
+    no : false ≡ true → ⊥
+    no h = grind (arith, h)

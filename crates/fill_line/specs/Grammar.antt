@@ -1,7 +1,10 @@
 -- The command lines that the program takes, as `clap` reads them.
-use Rattle.std.specs.Prelude.{◌≡◌, List, [], Option, None, true, bytes_eq, codes, if◌then◌else◌, option_map}
+use Rattle.std.specs.Prelude.{◌≡◌, ℕ, ℤ, pos, List, [], Option, None, Some, true, bytes_eq, codes, if◌then◌else◌, option_map}
 use Rattle.std.specs.Option.{option_and_then}
-use Rattle.clap.specs.Words.{App, Row, Rule, Text, fault_of, first_of, new_app, new_rule, subcommand_of, takes, with_rule, with_subcommand}
+use Rattle.std.specs.Str.Parse.{digits_value, without_leading_plus}
+use Rattle.clap.specs.ValueTests.{is_unsigned_in}
+use Rattle.clap.specs.Words.{App, Row, Rule, Text, fault_of, first_of, new_app, new_rule, one_of, subcommand_of, takes, with_rule, with_subcommand}
+use Rattle.clap.specs.declared.builder.value_parser.ValueParser.TheVariants.{Signed}
 
 -- a required path
 abbrev pub path : Text → Rule
@@ -15,31 +18,58 @@ rects_words = with_rule (with_rule (new_app (codes "rects")) (path (codes "RULES
 abbrev pub check_words : App
 check_words = with_rule (with_rule (new_app (codes "check")) (path (codes "RULES"))) (path (codes "DESIGN"))
 
+-- an option that takes a whole number between two bounds
+abbrev pub option : Text → ℤ → ℤ → Rule
+option name least most = record (new_rule name) { long = Some name; value_names = 1; parser = Some (Signed least most) }
+
+-- `fill RULES DESIGN SCRIPT OUT --workers N [--limit L]`: one worker, for now
+abbrev pub fill_words : App
+fill_words =
+    with_rule (with_rule (with_rule (with_rule (with_rule (with_rule (new_app (codes "fill")) (path (codes "RULES"))) (path (codes "DESIGN"))) (path (codes "SCRIPT"))) (path (codes "OUT")))
+    (option (codes "workers") (pos 1) (pos 1))) (option (codes "limit") (pos 0) (pos 4294967295))
+
 -- the program's own words: a subcommand must be there
 abbrev pub own_words : App
 own_words = record (new_app (codes "densfill")) { top = record (new_app (codes "densfill")).top { subcommand_required = true } }
 
 abbrev pub program_words : App
-program_words = with_subcommand (with_subcommand own_words rects_words.top) check_words.top
+program_words = with_subcommand (with_subcommand (with_subcommand own_words rects_words.top) check_words.top) fill_words.top
 
 -- what `clap` finds in the words: the subcommand's name and a row for each of its arguments
 abbrev pub found_in : List Text → Option (Text × List Row)
 found_in words = subcommand_of program_words words
 
--- a line by its paths
+-- a line by its paths, and by the limit of turns where one is given
 pub data Said : Type 0 where
   rects : (rules script : Text) → Said
   check : (rules design : Text) → Said
+  fill : (rules design script out : Text) (limit : Option ℕ) → Said
 
 -- what the rows of two arguments make
 abbrev pub both : (Text → Text → Said) → Text → Text → List Row → Option Said
 both make first second rows = option_and_then (λ a. option_map (λ b. make a b) (first_of second rows)) (first_of first rows)
+
+-- the number below 2^32 that a text says
+abbrev pub number_of : Text → Option ℕ
+number_of text = if is_unsigned_in 0 4294967295 text then Some (digits_value 10 (without_leading_plus text)) else None
+
+-- the limit of turns, where there is one: a number
+abbrev pub limit_by : Option Text → Option (Option ℕ)
+limit_by None = Some None
+limit_by (Some text) = option_map Some (number_of text)
+
+-- what the rows of `fill` make
+abbrev pub filling : List Row → Option Said
+filling rows =
+    option_and_then (λ rules. option_and_then (λ design. option_and_then (λ script. option_and_then (λ out. option_map (λ limit. fill rules design script out limit)
+    (limit_by (one_of (codes "limit") rows))) (first_of (codes "OUT") rows)) (first_of (codes "SCRIPT") rows)) (first_of (codes "DESIGN") rows)) (first_of (codes "RULES") rows)
 
 -- what the rows of the subcommand of a name say
 abbrev pub said_by : Text → List Row → Option Said
 said_by name rows =
     if bytes_eq name (codes "rects") then both rects (codes "RULES") (codes "SCRIPT") rows
     else if bytes_eq name (codes "check") then both check (codes "RULES") (codes "DESIGN") rows
+    else if bytes_eq name (codes "fill") then filling rows
     else None
 
 -- the line that the words make, the program's own name first

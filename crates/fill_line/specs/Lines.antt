@@ -2,15 +2,16 @@
 use Rattle.std.specs.Prelude.{◌≡◌, ◌⊎◌, List}
 use Rattle.clap.specs.Words.{IsAmong, Text, fault_of, kind_of}
 use Rattle.clap.specs.declared.error.kind.ErrorKind.TheVariants.{MissingSubcommand}
-use Rattle.fill_line.specs.Grammar.{Said, rects, check, program_words}
+use Rattle.fill_line.specs.Grammar.{Said, rects, check, fill, program_words}
 use Rattle.fill_line.specs.declared.Line.{Line}
-use Rattle.fill_line.specs.declared.Line.TheVariants.{Rects, Check}
+use Rattle.fill_line.specs.declared.Line.TheVariants.{Rects, Check, Fill}
 use Rattle.fill_line.specs.declared.LineError.{LineError}
 use Rattle.fill_line.specs.declared.LineError.TheVariants.{Memory, Usage}
 
 abbrev pub text_of : Line → Said
 text_of (Rects rules script) = rects rules.now script.now
 text_of (Check rules design) = check rules.now design.now
+text_of (Fill rules design script out limit) = fill rules.now design.now script.now out.now limit
 
 -- a usage fault is one that `clap` finds in the words, or that they name no subcommand
 abbrev pub IsRefusalOf : List Text → LineError → Type 0

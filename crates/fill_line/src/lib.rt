@@ -5,15 +5,16 @@
 //! and a call for help is a usage fault too.
 #![tactic(auto)]
 
-ghost use Rattle.std.specs.Prelude.{◌≡◌, ◌≢◌, ◌⊎◌, false, Some, IfErr, IfOk, IsSome, OnOk, codes, map, option_map};
-ghost use Rattle.clap.specs.Words.{app_of, found_of, kind_of, rows_of, rule_of};
-ghost use Rattle.fill_line.specs.Grammar.{both, path, program_words, said_by, said_in, IsFaultless, IsTaken};
+ghost use Rattle.std.specs.Prelude.{◌≡◌, ◌≢◌, ◌⊎◌, ℤ, false, Some, IfErr, IfOk, IsSome, OnOk, codes, map, option_map};
+ghost use Rattle.clap.specs.Words.{app_of, found_of, kind_of, one_of, rows_of, rule_of, with_subcommand};
+ghost use Rattle.fill_line.specs.Grammar.{both, fill_words, filling, limit_by, path, program_words, said_by, said_in, IsFaultless, IsTaken};
 ghost use Rattle.fill_line.specs.Grammar as said;
 ghost use Rattle.fill_line.specs.Lines.{text_of, IsRefusalOf};
 ghost use Rattle.fill_line.specs.declared.LineError.TheVariants.{Memory};
 
+use clap::builder::ValueParser;
 use clap::error::ErrorKind;
-use clap::{Arg, ArgMatches, Command};
+use clap::{Arg, ArgMatches, Command, value_parser};
 use std::alloc::{AllocError, Global};
 use std::convert::AsStr;
 use thiserror::Error;
@@ -34,6 +35,19 @@ pub enum Line<'a> {
         rules: &'a str,
         /// The path of the design.
         design: &'a str,
+    },
+    /// To fill the windows of a design that are low, while a script changes it.
+    Fill {
+        /// The path of the rule file.
+        rules: &'a str,
+        /// The path of the design.
+        design: &'a str,
+        /// The path of the script.
+        script: &'a str,
+        /// The path of the fill library.
+        out: &'a str,
+        /// The most turns that may be taken; where it is left out, one more than there are tiles.
+        limit: Option<u32>,
     },
 }
 
@@ -64,6 +78,36 @@ fn path<'a>(alloc: Global, name: &'a str, help: &'a str) -> Arg<'a>
     Arg::new(alloc, name).help(help).required(true)
 }
 
+/// An option that takes a whole number.
+fn number<'a>(alloc: Global, name: &'a str, help: &'a str, parser: ValueParser<'a>) -> Arg<'a>
+    ensures rule { (least most : ℤ) → parser.entry ≡ ValueParser.Signed least most → rule_of result ≡ said.option name.now least most }
+    ensures local { result.global ≡ false }
+{
+    Arg::new(alloc, name)
+        .long(name)
+        .value_name("NUMBER")
+        .help(help)
+        .value_parser(parser)
+}
+
+/// The program's words with those of `fill`, which one worker does.
+fn with_fill<'a>(alloc: Global, program: Command<'a>) -> Result<Command<'a>, AllocError>
+    ensures { IfOk result (λ c. app_of c ≡ with_subcommand (app_of program.entry) fill_words.top) }
+{
+    let workers = value_parser!(u8).range(1..=1);
+    let limit = value_parser!(u32);
+    let fill = Command::new(alloc, "fill")
+        .about("Fills the windows of a design that have too little metal")
+        .arg(path(alloc, "RULES", "The rule file"))?
+        .arg(path(alloc, "DESIGN", "The design, a GDSII Stream library"))?
+        .arg(path(alloc, "SCRIPT", "The script of added and cut rectangles"))?
+        .arg(path(alloc, "OUT", "The fill library to write"))?
+        .arg(number(alloc, "workers", "How many workers: 1", workers))?
+        .arg(number(alloc, "limit", "How many turns at most", limit))?;
+    let program = program.subcommand(fill)?;
+    Ok(program)
+}
+
 /// Every line that the program takes.
 fn grammar<'a>(alloc: Global) -> Result<Command<'a>, AllocError>
     ensures { IfOk result (λ c. app_of c ≡ program_words) }
@@ -83,6 +127,7 @@ fn grammar<'a>(alloc: Global) -> Result<Command<'a>, AllocError>
         .subcommand_required(true)
         .subcommand(rects)?
         .subcommand(check)?;
+    let program = with_fill(alloc, program)?;
     Ok(program)
 }
 
@@ -104,6 +149,34 @@ fn check_in<'a>(found: &ArgMatches<'a>) -> Option<Line<'a>>
     Some(Line::Check { rules, design })
 }
 
+/// The limit of turns, where one was given, by what was found.
+fn limit_in(found: &ArgMatches) -> Option<Option<u32>>
+    ensures { result ≡ limit_by (one_of (codes "limit") (rows_of (found_of found.now))) }
+{
+    match found.get_str("limit") {
+        Some(_) => Some(Some(found.get_one::<u32>("limit")?)),
+        None => Some(None),
+    }
+}
+
+/// The line of `fill`, by what was found.
+fn fill_in<'a>(found: &ArgMatches<'a>) -> Option<Line<'a>>
+    ensures { option_map text_of result ≡ filling (rows_of (found_of found.now)) }
+{
+    let rules = found.get_str("RULES")?;
+    let design = found.get_str("DESIGN")?;
+    let script = found.get_str("SCRIPT")?;
+    let out = found.get_str("OUT")?;
+    let limit = limit_in(found)?;
+    Some(Line::Fill {
+        rules,
+        design,
+        script,
+        out,
+        limit,
+    })
+}
+
 /// The line of a subcommand that was found.
 fn line_in<'a>(name: &str, found: &ArgMatches<'a>) -> Option<Line<'a>>
     ensures { option_map text_of result ≡ said_by name.now (rows_of (found_of found.now)) }
@@ -113,6 +186,9 @@ fn line_in<'a>(name: &str, found: &ArgMatches<'a>) -> Option<Line<'a>>
     }
     if name == "check" {
         return check_in(found);
+    }
+    if name == "fill" {
+        return fill_in(found);
     }
     None
 }

@@ -35,6 +35,76 @@ fn check_takes_two_paths(rt: HostRuntime) -> Result<(), Fail> {
     Ok(())
 }
 
+/// The limit of a line of `fill` with these four paths.
+fn limit_of(line: Result<Line<'_>, LineError>) -> Option<Option<u32>> {
+    match line {
+        Ok(
+            Line::Fill {
+                rules: "rules.csv",
+                design: "chip.gds",
+                script: "edits.csv",
+                out: "fill.gds",
+                limit,
+            },
+        ) => Some(limit),
+        _ => None,
+    }
+}
+
+#[test]
+fn fill_takes_four_paths_and_a_limit(rt: HostRuntime) -> Result<(), Fail> {
+    let words = [
+        "densfill",
+        "fill",
+        "rules.csv",
+        "chip.gds",
+        "edits.csv",
+        "fill.gds",
+    ];
+    assert!(rt; limit_of(read_line(rt.alloc(), words.as_slice())) == Some(None));
+    let words = [
+        "densfill",
+        "fill",
+        "--limit",
+        "0",
+        "rules.csv",
+        "chip.gds",
+        "edits.csv",
+        "fill.gds",
+    ];
+    assert!(rt; limit_of(read_line(rt.alloc(), words.as_slice())) == Some(Some(0)));
+    let words = [
+        "densfill",
+        "fill",
+        "rules.csv",
+        "chip.gds",
+        "--workers=1",
+        "edits.csv",
+        "fill.gds",
+        "--limit=4294967295",
+    ];
+    assert!(rt; limit_of(read_line(rt.alloc(), words.as_slice())) == Some(Some(4_294_967_295)));
+    Ok(())
+}
+
+/// Whether `fill` with this option and four paths is a usage fault.
+fn is_fill_refused(rt: &impl AllocGlobal, option: &str) -> bool {
+    let words = ["densfill", "fill", option, "a", "b", "c", "d"];
+    is_usage(read_line(rt.alloc(), words.as_slice()))
+}
+
+#[test]
+fn numbers_out_of_range_are_usage_faults(rt: HostRuntime) {
+    assert!(rt; is_fill_refused(&rt, "--workers=0"));
+    assert!(rt; is_fill_refused(&rt, "--workers=2"));
+    assert!(rt; is_fill_refused(&rt, "--workers=x"));
+    assert!(rt; is_fill_refused(&rt, "--workers"));
+    assert!(rt; is_fill_refused(&rt, "--limit=4294967296"));
+    assert!(rt; is_fill_refused(&rt, "--limit=-1"));
+    assert!(rt; is_fill_refused(&rt, "--limit="));
+    assert!(rt; !is_fill_refused(&rt, "--limit=7"));
+}
+
 fn is_usage(line: Result<Line<'_>, LineError>) -> bool {
     matches!(line, Err(LineError::Usage(_)))
 }
@@ -55,12 +125,7 @@ fn other_lines_are_usage_faults(rt: HostRuntime) {
             ["densfill", "rects", "--workers", "4", "a", "b"].as_slice()
         ))
     );
-    assert!(rt;
-        is_usage(read_line(
-            rt.alloc(),
-            ["densfill", "fill", "a", "b", "c", "d"].as_slice()
-        ))
-    );
+    assert!(rt; is_usage(read_line(rt.alloc(), ["densfill", "fill", "a", "b", "c"].as_slice())));
 }
 
 /// Asserts the text of the refusal of these words.
@@ -90,8 +155,8 @@ For more information, try '--help'.
     )?;
     assert_text(
         &rt,
-        &["densfill", "fill"],
-        "error: unrecognized subcommand 'fill'
+        &["densfill", "dummy"],
+        "error: unrecognized subcommand 'dummy'
 
 Usage: densfill <COMMAND>
 
@@ -112,6 +177,7 @@ Usage: densfill <COMMAND>
 Commands:
   rects  Reports the density of the metal that a script leaves of nothing
   check  Reports the density of the metal that a design draws
+  fill   Fills the windows of a design that have too little metal
   help   Print this message or the help of the given subcommand(s)
 
 Options:
@@ -146,6 +212,29 @@ Arguments:
 
 Options:
   -h, --help  Print help
+",
+    )
+}
+
+#[test]
+fn help_tells_of_the_options_of_fill(rt: HostRuntime) -> Result<(), Fail> {
+    assert_text(
+        &rt,
+        &["densfill", "fill", "--help"],
+        "Fills the windows of a design that have too little metal
+
+Usage: densfill fill [OPTIONS] <RULES> <DESIGN> <SCRIPT> <OUT>
+
+Arguments:
+  <RULES>   The rule file
+  <DESIGN>  The design, a GDSII Stream library
+  <SCRIPT>  The script of added and cut rectangles
+  <OUT>     The fill library to write
+
+Options:
+      --workers <NUMBER>  How many workers: 1
+      --limit <NUMBER>    How many turns at most
+  -h, --help              Print help
 ",
     )
 }

@@ -1,6 +1,10 @@
-use Rattle.std.proofs.Common.{◌≡◌, ◌∙◌, [], ap, map, subst}
-use Rattle.clap.specs.Words.{App, HasKind, fault_of, is_simple_and_free, takes}
-use Rattle.fill_line.proofs.Saying.{program_is_plain, told_fault, told_memory}
+use Rattle.std.proofs.Common.{◌≡◌, ◌∙◌, [], None, Some, ap, arith, map, option_map, subst, sym}
+use Rattle.clap.specs.Words.{App, HasKind, fault_of, found_of, is_simple, is_simple_and_free, rows_of, subcommand_of, subcommand_rows_of, takes}
+use Rattle.fill_line.specs.Grammar.{found_in}
+use Rattle.fill_line.specs.Lines.{text_of}
+use Rattle.fill_line.specs.declared.Line.{Line}
+use Rattle.fill_line.proofs.Saying.{line_is, no_line_is, none_apart, none_said, program_is_plain, program_is_simple, told_apart, told_fault, told_memory}
+use Rattle.fill_line.proofs.read_line.Goals.{in-Some, in-None}
 use Rattle.fill_line.proofs.read_line.Goals as goal
 
 pub returns-in-Err-clause-usage : goal.returns-in-Err-clause-usage
@@ -17,3 +21,28 @@ pub returns-in-Some-line-clause-faultless : goal.returns-in-Some-line-clause-fau
 returns-in-Some-line-clause-faultless g c =
     subst (λ (a : App). fault_of a (map g.S.AsStr.text c.args.words.now) ≡ []) c.in_ok-grammar.ensures
     (c.in-Ok.ensures.kinds (ap is_simple_and_free c.in_ok-grammar.ensures ∙ program_is_plain))
+
+pub returns-in-Some-line-clause-line : goal.returns-in-Some-line-clause-line
+returns-in-Some-line-clause-line g c =
+    let words = map g.S.AsStr.text c.args.words.now in
+    let here : subcommand_rows_of c.in-Ok.matches ≡ found_in words =
+    (c.in-Ok.ensures.matches (ap is_simple c.in_ok-grammar.ensures ∙ program_is_simple)).1 ∙ ap (λ (a : App). subcommand_of a words) c.in_ok-grammar.ensures in
+    elim c.match-subcommand.branch [
+      | in-Some w ↦ line_is words _ w.in-Some.name.now (rows_of (found_of w.in-Some.found.now)) c.match-subcommand.line here (told_apart _ _ _ _ _ w.in-Some.ensures.name w.in-Some.ensures.rows) (ap (option_map text_of) w.line-is ∙ w.line_in-line.ensures)
+          ∙ ap (option_map text_of) c.in-Some-line.is
+      | in-None w ↦ absurd (no c.in-Some-line.line (sym w.line-is ∙ c.in-Some-line.is))
+    ]
+  where
+    no : (line : Line) → None ≡ Some line → ⊥
+    no line h = grind (arith, h)
+
+pub returns-clause-usage : goal.returns-clause-usage
+returns-clause-usage g c = λ taken said.
+    let words = map g.S.AsStr.text c.args.words.now in
+    let here : subcommand_rows_of c.in-Ok.matches ≡ found_in words =
+    (c.in-Ok.ensures.matches (ap is_simple c.in_ok-grammar.ensures ∙ program_is_simple)).1 ∙ ap (λ (a : App). subcommand_of a words) c.in_ok-grammar.ensures in
+    elim c.match-subcommand.branch [
+      | in-Some w ↦ absurd (none_said words (line_is words _ w.in-Some.name.now (rows_of (found_of w.in-Some.found.now)) c.match-subcommand.line here (told_apart _ _ _ _ _ w.in-Some.ensures.name w.in-Some.ensures.rows) (ap (option_map text_of) w.line-is ∙ w.line_in-line.ensures)
+          ∙ ap (option_map text_of) c.in-None-line.is) said)
+      | in-None w ↦ absurd (none_said words (no_line_is words _ here (none_apart _ _ _ w.in-None.ensures.name)) said)
+    ]
