@@ -113,7 +113,7 @@ begun_by_count first length step limit count c n r same_count le = rw r.step_is 
 under : {a b c : ℕ} → a < b → b ≤ c → a < c
 under h k = omega arith
 
-by_lt : {P : Type 0} (a b : ℕ) → (a < b → P) → (b ≤ a → P) → P
+pub by_lt : {P : Type 0} (a b : ℕ) → (a < b → P) → (b ≤ a → P) → P
 by_lt a b f g = by_lt_z (pos a) (pos b) (λ h. f (omega (arith, ints))) (λ h. g (omega (arith, ints)))
 
 -- on one axis: the windows that share a number with a range

@@ -97,7 +97,7 @@ pub record AreGathered (p : ℤ → ℤ → Bool) (g : Grid) (strips s : ℕ) (s
   pub first : (k : ℕ) (d : ℤ) → k < g.across.count * g.up.count → get_or sums k d ≡ pos (lines_area p g (window_bottom g (k / g.across.count)) (strip_begin g strips (k / g.across.count) s) (k % g.across.count))
   pub later : (t k : ℕ) (d : ℤ) → 1 ≤ t → t < strips → k < g.across.count * g.up.count → get_or sums (t * (g.across.count * g.up.count) + k) d ≡ pos (strip_area p g strips t k)
 
-row_ordered : (g : Grid) (b : ℕ) → IsGrid g → window_bottom g b ≤ℤ window_top g b
+pub row_ordered : (g : Grid) (b : ℕ) → IsGrid g → window_bottom g b ≤ℤ window_top g b
 row_ordered g b grid = longer (window_bottom g b) g.up.length grid.up.length_is
 
 pub gathering_starts : (p : ℤ → ℤ → Bool) (g : Grid) (strips : ℕ) (sums : List ℤ) → IsGrid g → 1 ≤ strips → AreStrips p g strips sums → AreGathered p g strips 1 sums

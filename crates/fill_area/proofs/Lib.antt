@@ -6,6 +6,7 @@ pub mod Walking
 pub mod Rows
 pub mod Summing
 pub mod Gathering
+pub mod RowByRow
 pub mod Shares
 pub mod Measuring
 pub mod Cutting

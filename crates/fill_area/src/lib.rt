@@ -10,7 +10,7 @@ mod windows;
 
 pub use area::{area_in, is_high, is_low};
 pub use axis::Axis;
-pub use measure::measure_all;
+pub use measure::{areas_in, measure_all};
 pub use windows::{BadWindows, Windows};
 
 #[cfg(test)]

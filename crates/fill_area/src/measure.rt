@@ -46,6 +46,25 @@ pub fn measure_all(
     Ok(sums)
 }
 
+/// How many squares of each window are in the region, as `measure_all` lists them, on the calling thread alone: one walk of
+/// the region's rows for each row of windows.
+///
+/// # Errors
+/// `AllocError` where memory is refused.
+pub fn areas_in(alloc: Global, region: &Region, windows: &Windows) -> Result<Vec<i64>, AllocError>
+    ensures areas { IfOk result (λ v. AreMeasured (holds region.now) windows.now v.items) }
+    ensures bounded { IfOk result (λ v. All IsArea v.items) }
+{
+    let columns = windows.columns() as usize;
+    let mut row = Vec::from_elem(alloc, 0, columns)?;
+    let mut areas = Vec::with_capacity(alloc, windows.len())?;
+    for b in 0..windows.rows() as usize {
+        measure_strip(region, windows, 1, b * columns, &mut row);
+        areas.extend_from_slice(&row)?;
+    }
+    Ok(areas)
+}
+
 /// The areas of all windows, at the front of a list that has room for all strips.
 fn measure_into(
     rt: &(impl Threads + Sync),

@@ -1,4 +1,4 @@
-use crate::{BadWindows, Windows, area_in, is_high, is_low, measure_all};
+use crate::{BadWindows, Windows, area_in, areas_in, is_high, is_low, measure_all};
 use fill_base::{Point, Rect};
 use fill_region::Region;
 use std::ops::Range;
@@ -39,6 +39,8 @@ fn few_windows_are_measured_in_strips(rt: HostRuntime) -> Result<(), Fail> {
     let totals = measure_all(&rt, alloc, &region, &windows)?;
     let wanted = [2979 + 2 * 597, 2 * 600, 2994 + 2 * 597, 2 * 600];
     assert_eq!(rt; totals.as_slice(), wanted.as_slice());
+    let alone = areas_in(alloc, &region, &windows)?;
+    assert_eq!(rt; alone.as_slice(), wanted.as_slice());
     Ok(())
 }
 

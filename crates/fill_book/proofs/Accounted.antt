@@ -1,11 +1,10 @@
 -- What a book's type says of its account: what is read of it, and that each event keeps it.
-use Rattle.std.proofs.Common.{◌≡◌, refl, ap, sym, subst, ◌∙◌, ℕ, ◌+◌, ◌≤◌, ◌<◌, ◌^◌, ℤ, pos, arith, inl, inr, List, [], length, Bool, true, false, ◌↔◌, cond, Option, None, Some, IfSome}
+use Rattle.std.proofs.Common.{◌≡◌, refl, ap, sym, subst, ◌∙◌, ℕ, ◌+◌, ◌≤◌, ◌<◌, ◌^◌, ℤ, arith, inl, inr, List, [], length, Bool, true, false, ◌↔◌, cond, Option, None, Some, IfSome}
 use Rattle.std.specs.Prelude.{IsTrue, ◌==◌}
 use Rattle.std.proofs.lemmas.Bool.{and_parts, cases_Bool}
 use Rattle.fill_base.specs.Squares.{area_of}
 use Rattle.fill_base.specs.declared.rect.Rect.{Rect}
 use Rattle.fill_region.specs.Bands.{Band, holds}
-use Rattle.fill_area.specs.Grid.{Grid}
 use Rattle.fill_raster.specs.Lattice.{in_tile}
 use Rattle.fill_raster.specs.Marks.{Marked, is_marked}
 use Rattle.fill_text.specs.Rules.{Values}
@@ -28,7 +27,7 @@ use Rattle.fill_book.specs.Keeping.{Fits, Keeps, state_by}
 use Rattle.fill_book.specs.declared.places.Places.{Places}
 use Rattle.fill_book.specs.declared.stored.Change.{Change}
 use Rattle.fill_book.specs.declared.stored.Stored.{Stored}
-use Rattle.fill_book.proofs.Kept.{IsChanged, IsNext, IsOf, IsTakenIn, answered, committed, edited, keeps_next, none_placed, withdrawn_is}
+use Rattle.fill_book.proofs.Kept.{IsChanged, IsOf, IsTakenIn, answered, committed, edited, keeps_next, none_placed, withdrawn_is}
 use Rattle.fill_book.proofs.Measured.{IsWindowOf, all_left, area_in_window, clear_after, clear_now, clear_same}
 
 -- ---- what is read

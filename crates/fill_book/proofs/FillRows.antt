@@ -1,5 +1,5 @@
 -- Places that are filled row by row.
-use Rattle.std.proofs.Common.{◌≡◌, refl, sym, ◌∙◌, ℤ, pos, ◌+ℤ◌, ◌≤ℤ◌, arith, Bool, true, false, ◌&&◌, ◌||◌}
+use Rattle.std.proofs.Common.{◌≡◌, refl, ◌∙◌, ℤ, pos, ◌+ℤ◌, ◌≤ℤ◌, arith, Bool, true, false, ◌&&◌, ◌||◌}
 use Rattle.std.specs.Int.{int_max}
 use Rattle.std.specs.Ordering.{int_eq}
 use Rattle.std.proofs.lemmas.Int.{ints}

@@ -1,5 +1,5 @@
 -- Counts of places before and after some are filled or emptied.
-use Rattle.std.proofs.Common.{◌≡◌, refl, sym, ap, ◌∙◌, ℕ, ◌+◌, ◌-◌, ◌≤◌, ℤ, arith, Bool, true, false, cond, ◌&&◌, ◌||◌, not}
+use Rattle.std.proofs.Common.{◌≡◌, refl, sym, ◌∙◌, ℕ, ◌+◌, ◌-◌, ◌≤◌, ℤ, arith, Bool, true, false, cond, ◌&&◌, ◌||◌, not}
 use Rattle.std.proofs.lemmas.Bool.{and_parts}
 use Rattle.fill_raster.specs.Lattice.{Lattice}
 use Rattle.fill_job.specs.Plans.{PointSet}

@@ -1,19 +1,18 @@
 -- What a book stores after an event, and that it keeps its account then.
-use Rattle.std.proofs.Common.{◌≡◌, refl, ap, sym, subst, ◌∙◌, ℕ, ◌+◌, ◌≤◌, ◌<◌, ◌^◌, ℤ, arith, inl, inr, List, [], ◌∷◌, ◌++◌, length, Bool, true, false, cond, ◌&&◌, ◌||◌, not}
+use Rattle.std.proofs.Common.{◌≡◌, refl, ap, sym, subst, ◌∙◌, ℕ, ◌+◌, ◌≤◌, ℤ, arith, [], ◌∷◌, ◌++◌, length, Bool, true, false, cond, ◌&&◌, ◌||◌, not}
 use Rattle.std.specs.Prelude.{◌==◌}
 use Rattle.std.proofs.Math.Path.{fun_ext}
-use Rattle.std.proofs.lemmas.Bool.{cases_Bool}
 use Rattle.std.proofs.lemmas.List.{length_push, map-append}
 use Rattle.std.proofs.lemmas.List.Sums.{sum_by_push}
 use Rattle.fill_region.specs.Bands.{holds}
-use Rattle.fill_raster.specs.Lattice.{Lattice, tiles}
+use Rattle.fill_raster.specs.Lattice.{Lattice}
 use Rattle.fill_raster.specs.Marks.{Marked, is_marked}
 use Rattle.fill_raster.proofs.Points.{or_no}
 use Rattle.fill_text.specs.Rules.{Values}
 use Rattle.fill_text.specs.declared.script.Edit.{Edit}
 use Rattle.fill_job.specs.Basis.{windows_in}
 use Rattle.fill_job.specs.Plans.{Plan, IsPlan, PointSet, low_windows, plan_of, wanted}
-use Rattle.fill_job.specs.ReadSets.{ReadSet, read_set, wanted_of}
+use Rattle.fill_job.specs.ReadSets.{ReadSet, wanted_of}
 use Rattle.fill_job.proofs.ReadSets.{same_wanted}
 use Rattle.fill_core.specs.Accounts.{Account, IsSame, state_of, with_entry}
 use Rattle.fill_core.specs.Boxes.{count_places, with_boxes}
@@ -29,7 +28,7 @@ use Rattle.fill_core.proofs.Counts.{balanced}
 use Rattle.fill_core.proofs.Replays.{same_state}
 use Rattle.fill_core.proofs.Written.{state_with, legal_with}
 use Rattle.fill_book.specs.Filling.{is_filled, left_by}
-use Rattle.fill_book.specs.Keeping.{Fits, Keeps, state_by}
+use Rattle.fill_book.specs.Keeping.{Keeps, state_by}
 use Rattle.fill_book.specs.Tiles.{is_in}
 use Rattle.fill_book.specs.declared.stored.Change.{Change}
 use Rattle.fill_book.specs.declared.stored.Stored.{Stored}

@@ -16,4 +16,5 @@ pub mod Making
 pub mod LowSquares
 pub mod WindowTotals
 pub mod Accounted
+pub mod Answering
 pub mod TileWords

@@ -1,6 +1,6 @@
 -- What is measured: windows that are low, the total of a window, and that boxes of a sound fill share no square with the metal.
-use Rattle.std.proofs.Common.{◌≡◌, refl, ap, sym, subst, ◌∙◌, ℕ, ◌+◌, ◌*◌, ◌<◌, ℤ, pos, ◌+ℤ◌, ◌-ℤ◌, ◌*ℤ◌, ◌≤ℤ◌, arith, inl, inr, List, [], ◌∷◌, ◌++◌, Bool, true, false, ◌&&◌, not}
-use Rattle.std.specs.Prelude.{nat_lt, int_lt, get_or}
+use Rattle.std.proofs.Common.{◌≡◌, refl, ap, sym, subst, ◌∙◌, ℕ, ◌<◌, ℤ, pos, ◌+ℤ◌, ◌-ℤ◌, ◌≤ℤ◌, arith, inl, inr, List, [], ◌∷◌, ◌++◌, Bool, true, false, ◌&&◌, not}
+use Rattle.std.specs.Prelude.{nat_lt}
 use Rattle.std.proofs.Math.Path.{fun_ext}
 use Rattle.std.proofs.lemmas.Bool.{and_parts, cases_Bool}
 use Rattle.std.proofs.lemmas.Bool.Decides.{nat_tests}
@@ -13,7 +13,6 @@ use Rattle.fill_area.specs.Grid.{Grid, window_left, window_right, window_bottom,
 use Rattle.fill_raster.specs.Axes.{first, past}
 use Rattle.fill_raster.specs.Lattice.{Lattice, box_squares, in_raster, KeepsPitch}
 use Rattle.fill_raster.proofs.Ranges.{first_past}
-use Rattle.fill_size.specs.Distance.{InConflict}
 use Rattle.fill_text.specs.declared.script.Edit.{Edit}
 use Rattle.fill_job.specs.Basis.{windows_in}
 use Rattle.fill_job.specs.Plans.{Plan, IsPlan, PointSet, low_windows, plan_of}
@@ -26,8 +25,8 @@ use Rattle.fill_core.specs.Soundness.{IsSound}
 use Rattle.fill_core.specs.declared.event.Event.TheVariants as event
 use Rattle.fill_core.proofs.Replays.{no_boxes, replay_push, same_state}
 use Rattle.fill_core.proofs.Sound.{replay_sound}
-use Rattle.fill_book.specs.Filling.{Filling, KeepsClear, boxes_of, in_places, is_filled, left_by, metal_or_box}
-use Rattle.fill_book.specs.Keeping.{Fits, Keeps, state_by}
+use Rattle.fill_book.specs.Filling.{Filling, KeepsClear, in_places, is_filled, left_by, metal_or_box}
+use Rattle.fill_book.specs.Keeping.{state_by}
 use Rattle.fill_book.specs.Low.{low_by}
 use Rattle.fill_book.specs.Tiles.{is_in}
 use Rattle.fill_book.proofs.Nearby.{filled_on}

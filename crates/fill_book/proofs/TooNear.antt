@@ -1,18 +1,17 @@
 -- The places near a rectangle are those that are in conflict with it.
-use Rattle.std.proofs.Common.{◌≡◌, refl, sym, ap, ◌∙◌, ℤ, pos, ◌+ℤ◌, ◌-ℤ◌, ◌≤ℤ◌, ◌<ℤ◌, arith, inl, inr, ◌⊎◌, Bool, true, false, ◌&&◌, not}
+use Rattle.std.proofs.Common.{◌≡◌, refl, ℤ, pos, ◌+ℤ◌, ◌-ℤ◌, ◌≤ℤ◌, ◌<ℤ◌, arith, inl, inr, ◌⊎◌, true, ◌&&◌, not}
 use Rattle.std.specs.Prelude.{int_lt}
 use Rattle.std.proofs.lemmas.Bool.{and_from, and_parts, cases_Bool}
 use Rattle.std.proofs.lemmas.Int.{ints}
 use Rattle.fill_base.specs.Counts.{is_between}
-use Rattle.fill_base.specs.Limits.{IsLength, IsSpacing}
+use Rattle.fill_base.specs.Limits.{IsLength}
 use Rattle.fill_base.specs.Squares.{squares}
 use Rattle.fill_base.specs.declared.rect.Rect.{Rect}
 use Rattle.fill_base.proofs.Between.{is_between_true, is_between_bounds}
 use Rattle.fill_raster.specs.Axes.{box_begin, box_end, is_on, is_on_within}
-use Rattle.fill_raster.specs.Lattice.{Lattice, in_raster, is_near}
+use Rattle.fill_raster.specs.Lattice.{in_raster, is_near}
 use Rattle.fill_raster.specs.declared.axis.Axis.{Axis}
 use Rattle.fill_raster.proofs.Ranges.{both}
-use Rattle.fill_size.specs.Distance.{HasSquare}
 use Rattle.fill_job.specs.Plans.{Plan, IsPlan, PointSet, conflicts}
 use Rattle.fill_job.proofs.Conflicts.{grown_le, some_within_decides}
 

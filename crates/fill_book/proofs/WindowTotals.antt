@@ -1,12 +1,16 @@
 -- A list of areas that grows by one.
-use Rattle.std.proofs.Common.{◌≡◌, refl, ap, ◌∙◌, ℕ, ◌+◌, ◌%◌, ◌/◌, ◌<◌, ℤ, pos, inl, inr, arith, List, [], ◌∷◌, ◌++◌, length, get_or}
+use Rattle.std.proofs.Common.{◌≡◌, refl, ap, sym, ◌∙◌, ℕ, ◌+◌, ◌*◌, ◌%◌, ◌/◌, ◌<◌, ◌≤◌, ℤ, pos, true, inl, inr, arith, List, [], ◌∷◌, ◌++◌, length, get_or}
+use Rattle.std.proofs.Math.Nat.{mod-add-div}
+use Rattle.std.proofs.lemmas.Nat.{div_below, mod_below}
 use Rattle.std.proofs.lemmas.Bool.{cases_eq}
-use Rattle.std.proofs.lemmas.List.{get_or_append_left, get_or_push, length_push}
+use Rattle.std.proofs.lemmas.List.{get_or_append_left, get_or_default, get_or_push, length_push}
 use Rattle.fill_base.specs.Squares.{area_of}
 use Rattle.fill_base.specs.declared.rect.Rect.{Rect}
 use Rattle.fill_area.proofs.Measuring.{area_at}
 use Rattle.fill_area.specs.Grid.{Grid, window_left, window_right, window_bottom, window_top}
+use Rattle.fill_area.specs.Density.{AreMeasured}
 use Rattle.fill_job.specs.Plans.{PointSet}
+use Rattle.fill_book.proofs.Totals.{Together, together}
 
 -- the first areas of a list
 pub record AreFirst (p : PointSet) (g : Grid) (totals : List ℤ) (k : ℕ) : Type 0 where
@@ -25,3 +29,21 @@ areas_more p g totals new k area pushed count each is = rw pushed (record {
     | inr other ↦ let below : i < k = grind (arith, lt, other) in get_or_append_left totals (area ∷ []) d i (rw count below) ∙ each i d below
   ];
 })
+
+-- the area at a place of a list of all windows' areas
+pub nth_area : (p : PointSet) (g : Grid) (areas : List ℤ) (k : ℕ) (d : ℤ) → AreMeasured p g areas → k < g.across.count * g.up.count → get_or areas k d ≡ area_at p g k
+nth_area p g areas k d are lt =
+    let columns : 1 ≤ g.across.count = are.grid.across.count_is.least in
+    let some : 0 < g.across.count = omega (arith, columns) in
+    let parts : k % g.across.count + g.across.count * (k / g.across.count) ≡ k = mod-add-div k g.across.count in
+    let place : (k / g.across.count) * g.across.count + k % g.across.count ≡ k = grind (arith, parts) in
+    get_or_default areas k d (pos 0) (rw are.count lt)
+    ∙ (ap (λ n. get_or areas n (pos 0)) (sym place)
+    ∙ are.each (k % g.across.count) (k / g.across.count) (mod_below k g.across.count some) (div_below k g.across.count g.up.count some (omega (arith, lt))))
+
+-- the total of a window, by the list of areas and by what the boxes take
+pub one_total : (p q : PointSet) (g : Grid) (w : Rect) (areas : List ℤ) (k : ℕ) (area boxes : ℤ) → AreMeasured p g areas → k < g.across.count * g.up.count → area ≡ get_or areas k area
+    → w.x1 ≡ window_left g (k % g.across.count) → w.y1 ≡ window_bottom g (k / g.across.count) → w.x2 ≡ window_right g (k % g.across.count) → w.y2 ≡ window_top g (k / g.across.count)
+    → boxes ≡ pos (area_of q w) → ((x y : ℤ) → p x y ≡ true → q x y ≡ true → ⊥) → Together p q w area boxes
+one_total p q g w areas k area boxes are lt is left bottom right top there apart =
+    together p q w area boxes (is ∙ (nth_area p g areas k area are lt ∙ sym (one_area p g w k left bottom right top))) there apart

@@ -1,5 +1,5 @@
 -- What a book stores, and how that stands to its account.
-use Rattle.std.specs.Prelude.{◌≡◌, ℕ, ◌≤◌, ◌^◌, length}
+use Rattle.std.specs.Prelude.{◌≡◌, ◌≤◌, ◌^◌, length}
 use Rattle.fill_region.specs.Bands.{holds}
 use Rattle.fill_raster.specs.Lattice.{tiles}
 use Rattle.fill_job.specs.Basis.{windows_in}

@@ -13,7 +13,7 @@ ghost use Rattle.fill_book.specs.steps.Taken.{AreApart, taken_in, taken_by_row, 
 
 use crate::measure::shared_area;
 use crate::places::Places;
-use fill_area::{Windows, area_in};
+use fill_area::{Windows, area_in, areas_in};
 use fill_base::{Place, Rect};
 use fill_raster::{Marks, Raster};
 use fill_region::Region;
@@ -277,9 +277,10 @@ impl Filled {
         ensures areas { IfOk result (λ v. AreMeasured (metal_or_box self.now.raster (left_by self.now out.now) (holds metal.now)) windows.now v.items) }
         ensures bounded { IfOk result (λ v. All IsArea v.items) }
     {
-        let mut totals = Vec::new(alloc);
+        let areas = areas_in(alloc, metal, windows)?;
+        let mut totals = Vec::with_capacity(alloc, areas.len())?;
         for k in 0..windows.len() {
-            totals.push(self.total_in(metal, out, &windows.nth(k)))?;
+            totals.push(areas[k] + self.boxes_in(out, &windows.nth(k)))?;
         }
         Ok(totals)
     }

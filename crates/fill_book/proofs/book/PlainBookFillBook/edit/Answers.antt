@@ -1,13 +1,12 @@
-use Rattle.std.proofs.Common.{◌≡◌, ap, sym, ◌∙◌, ℕ, ◌<◌, ◌^◌, List, [], ◌∷◌, ◌++◌, rules}
+use Rattle.std.proofs.Common.{ap, sym, ◌∙◌, ℕ, ◌<◌, ◌^◌, List, [], ◌∷◌, ◌++◌, rules}
 use Rattle.fill_text.specs.ValuesOfRules.{values_of}
 use Rattle.fill_job.specs.Plans.{plan_of}
 use Rattle.fill_core.specs.Accounts.{Account, with_entry}
-use Rattle.fill_core.specs.Histories.{entries_of}
-use Rattle.fill_core.specs.Shares.{Totals, counted, moved_by}
+use Rattle.fill_core.specs.Shares.{counted, moved_by}
 use Rattle.fill_core.specs.declared.event.Entry.{Entry}
 use Rattle.fill_core.specs.declared.event.Event.TheVariants as event
 use Rattle.fill_core.specs.declared.event.Reply.TheVariants.{Withdrawn}
-use Rattle.fill_book.proofs.Accounted.{at_view, clear_by_edit, edit_answer, keeps_edit, none_few, not_full, placed_room, withdrawn_room}
+use Rattle.fill_book.proofs.Accounted.{clear_by_edit, edit_answer, keeps_edit, none_few, not_full, placed_room, withdrawn_room}
 use Rattle.fill_book.proofs.Kept.{IsChanged, IsOf}
 use Rattle.fill_book.proofs.book.PlainBookFillBook.edit.Goals as goal
 

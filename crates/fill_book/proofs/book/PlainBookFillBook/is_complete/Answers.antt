@@ -1,4 +1,4 @@
-use Rattle.std.proofs.Common.{◌≡◌, ap, sym, ◌∙◌}
+use Rattle.std.proofs.Common.{◌≡◌, ap, ◌∙◌}
 use Rattle.fill_region.specs.Bands.{holds}
 use Rattle.fill_text.specs.Rules.{Values, raster_of}
 use Rattle.fill_text.specs.ValuesOfRules.{values_of}

@@ -1,4 +1,4 @@
-use Rattle.std.proofs.Common.{◌≡◌, ap, sym, ◌∙◌, pos}
+use Rattle.std.proofs.Common.{◌≡◌, ap, ◌∙◌, pos}
 use Rattle.fill_base.proofs.Signed.{read_is}
 use Rattle.fill_text.specs.Rules.{Values, windows_of}
 use Rattle.fill_text.specs.ValuesOfRules.{values_of}

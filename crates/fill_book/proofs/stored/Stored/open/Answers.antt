@@ -1,8 +1,6 @@
-use Rattle.std.proofs.Common.{◌≡◌, ap, sym, subst, refl, ◌∙◌, pos, ℕ}
+use Rattle.std.proofs.Common.{◌≡◌, sym, subst, refl, pos, ℕ}
 use Rattle.fill_base.proofs.Signed.{read_is}
-use Rattle.fill_area.specs.Density.{AreMeasured}
 use Rattle.fill_raster.specs.Lattice.{Lattice, KeepsPitch}
-use Rattle.fill_region.specs.Bands.{holds}
 use Rattle.fill_text.specs.ValuesOfRules.{values_of}
 use Rattle.fill_job.specs.Plans.{plan_of}
 use Rattle.fill_job.specs.Basis.{windows_in}

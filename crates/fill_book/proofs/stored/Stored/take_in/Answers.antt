@@ -1,4 +1,4 @@
-use Rattle.std.proofs.Common.{ap, sym, ◌∙◌}
+use Rattle.std.proofs.Common.{ap, ◌∙◌}
 use Rattle.fill_core.specs.Boxes.{count_places}
 use Rattle.fill_raster.specs.Marks.{is_marked}
 use Rattle.fill_book.specs.Filling.{is_filled}
