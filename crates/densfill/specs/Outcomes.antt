@@ -5,12 +5,13 @@ use Rattle.fill_device.specs.declared.input.InputError.TheVariants.{Device, Memo
 use Rattle.fill_line.specs.Grammar.{Said}
 use Rattle.fill_line.specs.Grammar as line
 use Rattle.fill_engine.specs.Checks.{IsChecked, IsCheckReason}
+use Rattle.fill_engine.specs.Fills.{IsFilled, IsFillReason}
 use Rattle.fill_engine.specs.Rects.{report_answer, IsReason}
 use Rattle.fill_engine.specs.Refusals.{refusal_status, refusal_text}
 use Rattle.fill_engine.specs.declared.refusal.InputFault.TheVariants.{Unread, Refused}
 use Rattle.fill_engine.specs.declared.refusal.RunFault.TheVariants as run
 use Rattle.fill_engine.specs.declared.refusal.Refusal.{Refusal}
-use Rattle.fill_engine.specs.declared.refusal.Refusal.TheVariants.{Rules, Design, Script, Run, Report}
+use Rattle.fill_engine.specs.declared.refusal.Refusal.TheVariants.{Rules, Design, Script, Run, Out, Report}
 
 -- what is written is the line: whole, or a prefix of it where the writer failed
 pub record IsTold (before after : Option (List ℕ)) (failed : Bool) (line : List ℕ) : Type 0 where
@@ -32,29 +33,39 @@ IsUnopened (Design (Refused error)) = ⊥
 IsUnopened (Script (Unread error)) = (error ≡ Device) ⊎ (error ≡ Memory)
 IsUnopened (Script (Refused error)) = ⊥
 IsUnopened (Run fault) = ⊥
+IsUnopened Out = ⊥
 IsUnopened Report = ⊥
 
--- of two opened files, whose bytes `remaining` tells, this is why there is no report of the line
-abbrev pub IsReasonOf : {F : Type 0} → (F → Option (List ℕ)) → Said → F → F → Refusal → Type 0
-IsReasonOf remaining (line.rects rules script) r s refusal = IfSome (remaining r) (λ r. IfSome (remaining s) (λ s. IsReason r s refusal))
-IsReasonOf remaining (line.check rules design) r d refusal = IfSome (remaining r) (λ r. IfSome (remaining d) (λ d. IsCheckReason r d refusal))
+-- there is a fill of inputs of these bytes, but no memory for its file's name, or one of its texts could not be written
+abbrev pub IsUndelivered : (rules design script : List ℕ) → Option ℕ → Refusal → Type 0
+IsUndelivered rules design script limit refusal =
+    ((library report : List ℕ) × IsFilled rules design script limit library report) × ((refusal ≡ Run run.Memory) ⊎ (refusal ≡ Out) ⊎ (refusal ≡ Report))
 
--- an input could not be opened, or this is why two opened files give no report of the line
+-- an input could not be opened, or this is why opened files, whose bytes `remaining` tells, give nothing of what the line asks for
 abbrev pub IsCause : {F : Type 0} → (F → Option (List ℕ)) → Option Said → Refusal → Type 0
-IsCause {F} remaining (Some said) refusal = IsUnopened refusal ⊎ ((first second : F) × IsReasonOf remaining said first second refusal)
+IsCause {F} remaining (Some (line.rects rules script)) refusal =
+    IsUnopened refusal ⊎ ((r s : F) × IfSome (remaining r) (λ r. IfSome (remaining s) (λ s. IsReason r s refusal)))
+IsCause {F} remaining (Some (line.check rules design)) refusal =
+    IsUnopened refusal ⊎ ((r d : F) × IfSome (remaining r) (λ r. IfSome (remaining d) (λ d. IsCheckReason r d refusal)))
+IsCause {F} remaining (Some (line.fill rules design script out limit)) refusal =
+    IsUnopened refusal ⊎ ((r d s : F) × IfSome (remaining r) (λ r. IfSome (remaining d) (λ d. IfSome (remaining s) (λ s.
+    IsFillReason r d s limit refusal ⊎ IsUndelivered r d s limit refusal))))
 IsCause remaining None refusal = ⊥
 
--- what is written is the line's report of two files
-abbrev pub IsReportOf : {F : Type 0} → (F → Option (List ℕ)) → Said → F → F → Option (List ℕ) → Option (List ℕ) → Type 0
-IsReportOf remaining (line.rects rules script) r s before after =
-    IfSome (remaining r) (λ r. IfSome (remaining s) (λ s. IsOkAnd (report_answer r s) (Appends before after)))
-IsReportOf remaining (line.check rules design) r d before after =
-    IfSome (remaining r) (λ r. IfSome (remaining d) (λ d. (text : List ℕ) × IsChecked r d text × Appends before after text))
+-- a text was written whole to a file
+abbrev pub IsFile : {F : Type 0} → (F → Option (List ℕ)) → List ℕ → Type 0
+IsFile {F} contents text = (old new : F) × Appends (contents old) (contents new) text
 
--- what is written is the line's report of two opened files
-abbrev pub IsReport : {F : Type 0} → (F → Option (List ℕ)) → Option Said → Option (List ℕ) → Option (List ℕ) → Type 0
-IsReport {F} remaining (Some said) before after = (first second : F) × IsReportOf remaining said first second before after
-IsReport remaining None before after = ⊥
+-- what is written is the line's report of opened files, and for a fill its library is written to another file
+abbrev pub IsReport : {F : Type 0} → (F → Option (List ℕ)) → (F → Option (List ℕ)) → Option Said → Option (List ℕ) → Option (List ℕ) → Type 0
+IsReport {F} remaining contents (Some (line.rects rules script)) before after =
+    (r s : F) × IfSome (remaining r) (λ r. IfSome (remaining s) (λ s. IsOkAnd (report_answer r s) (Appends before after)))
+IsReport {F} remaining contents (Some (line.check rules design)) before after =
+    (r d : F) × IfSome (remaining r) (λ r. IfSome (remaining d) (λ d. (text : List ℕ) × IsChecked r d text × Appends before after text))
+IsReport {F} remaining contents (Some (line.fill rules design script out limit)) before after =
+    (r d s : F) × IfSome (remaining r) (λ r. IfSome (remaining d) (λ d. IfSome (remaining s) (λ s.
+    (library report : List ℕ) × IsFilled r d s limit library report × IsFile contents library × Appends before after report)))
+IsReport remaining contents None before after = ⊥
 
 -- the run gave up for a cause, and told it; want of memory of the command line is told as that of the run
 abbrev pub GaveUp : {F : Type 0} → (F → Option (List ℕ)) → Option Said → Option (List ℕ) → Option (List ℕ) → Bool → ℕ → Type 0

@@ -1,24 +1,28 @@
 //! The program: it opens what the command line names, runs the engine and prints a fault.
 #![tactic(auto)]
 
-ghost use Rattle.std.specs.Prelude.{◌≡◌, ◌⊎◌, ◌↔◌, ◌<◌, false, true, Some, map, IfErr, IfOk, IsSome, OnErr, OnOk};
+ghost use Rattle.std.specs.Prelude.{◌≡◌, ◌⊎◌, ◌↔◌, ◌<◌, false, true, Some, map, IfErr, IfOk, IfSome, IsSome, OnErr, OnOk};
 ghost use Rattle.std.specs.IoError.{error_kind};
 ghost use Rattle.std.specs.Process.{exit_status};
 ghost use Rattle.fill_device.specs.Taps.{has_failed, under};
+ghost use Rattle.fill_engine.specs.Fills.{IsFilled, IsFillReason};
 ghost use Rattle.fill_engine.specs.Refusals.{refusal_status};
 ghost use Rattle.fill_line.specs.Lines.{text_of};
 ghost use Rattle.fill_line.specs.Grammar.{said_in, IsFaultless, IsTaken};
+ghost use Rattle.fill_line.specs.Grammar as said;
 ghost use Rattle.densfill.specs.Outcomes.{GaveUp, IsCause, IsReport, IsTold, IsToldOf, IsUnopened};
 
 use fill_device::{InputError, Tap, write_text};
-use fill_engine::{InputFault, Refusal, RunFault, check, rects};
+use fill_engine::{Filled, InputFault, Refusal, RunFault, check, deliver, prepare, rects};
 use fill_line::{Line, LineError, read_line};
 use std::alloc::Global;
 use std::convert::AsStr;
 use std::fs::File;
 use std::io::{ErrorKind, Write};
+use std::marker::Brand;
 use std::process::ExitCode;
 use std::rt::Files;
+use std::sync::ledger::Blank;
 use std::thread::Threads;
 use std::{env, io};
 
@@ -84,7 +88,86 @@ fn opened_design<R: Files>(rt: &R, path: &str) -> Result<Tap<R::File>, Refusal>
     }
 }
 
-/// Does what a line asks for, on the files that its two paths name. Both are opened before one is read.
+/// A file that a path names, created or emptied.
+fn created<R: Files>(rt: &R, path: &str) -> Result<Tap<R::File>, Refusal>
+    ensures whole { IfOk result (λ tap. has_failed tap ≡ false) }
+    ensures fault { IfErr result (λ e. (e ≡ Refusal.Out) ⊎ (e ≡ Refusal.Run RunFault.Memory)) }
+{
+    match File::create(rt, path) {
+        Ok(file) => Ok(Tap::new(file)),
+        Err(error) => match open_fault(&error) {
+            InputError::Memory => Err(OUT_OF_MEMORY),
+            _ => Err(Refusal::Out),
+        },
+    }
+}
+
+/// The limit of turns as the engine takes it.
+fn turns(limit: Option<u32>) -> Option<u64>
+    ensures { result ≡ limit }
+{
+    match limit {
+        Some(turns) => Some(u64::from(turns)),
+        None => None,
+    }
+}
+
+/// The texts of a fill of three opened inputs.
+fn prepared<R: Files + Threads + Sync>(
+    rt: &R,
+    alloc: Global,
+    rules: &mut Tap<R::File>,
+    design: &mut Tap<R::File>,
+    script: &mut Tap<R::File>,
+    limit: Option<u32>,
+) -> Result<Filled, Refusal>
+    requires rules { has_failed rules.old ≡ false }
+    requires design { has_failed design.old ≡ false }
+    requires script { has_failed script.old ≡ false }
+    ensures filled { IfOk result (λ f. IfSome (R.File.remaining (under rules.old)) (λ r. IfSome (R.File.remaining (under design.old)) (λ d.
+        IfSome (R.File.remaining (under script.old)) (λ s. IsFilled r d s limit f.library.items f.report.items)))) }
+    ensures refused { IfErr result (λ e. IfSome (R.File.remaining (under rules.old)) (λ r. IfSome (R.File.remaining (under design.old)) (λ d.
+        IfSome (R.File.remaining (under script.old)) (λ s. IsFillReason r d s limit e)))) }
+{
+    prepare::<Brand, Brand, Brand, _, _, _>(
+        rt,
+        alloc,
+        Blank::new(1024),
+        Blank::new(1024),
+        Blank::new(1024),
+        rules,
+        design,
+        script,
+        turns(limit),
+    )
+}
+
+/// Does what a line of `fill` asks for: the fill of the files that its first three paths name, all opened before one is read. The
+/// library's file is created only where there is a fill, and is written whole before the report begins.
+fn fill<R: Files + Threads + Sync, W: Write + Drop>(
+    rt: &R,
+    alloc: Global,
+    rules: &str,
+    design: &str,
+    script: &str,
+    library: &str,
+    limit: Option<u32>,
+    out: &mut Tap<W>,
+) -> Result<(), Refusal>
+    requires { has_failed out.old ≡ false }
+    ensures written { OnOk result (IsReport R.File.remaining R.File.contents (Some (said.fill rules.now design.now script.now library.now limit)) (W.contents (under out.old)) (W.contents (under out.new))) }
+    ensures refused { IfErr result (IsCause R.File.remaining (Some (said.fill rules.now design.now script.now library.now limit))) }
+    ensures silent { OnErr result ((has_failed out.new ≡ true) ⊎ (out.new ≡ out.old)) }
+{
+    let mut rules = opened_rules(rt, rules)?;
+    let mut design = opened_design(rt, design)?;
+    let mut script = opened_script(rt, script)?;
+    let filled = prepared(rt, alloc, &mut rules, &mut design, &mut script, limit)?;
+    let mut library = created(rt, library)?;
+    deliver(&filled, &mut library, out)
+}
+
+/// Does what a line asks for, on the files that its paths name. All inputs are opened before one is read.
 fn run<R: Files + Threads + Sync, W: Write + Drop>(
     rt: &R,
     alloc: Global,
@@ -92,7 +175,7 @@ fn run<R: Files + Threads + Sync, W: Write + Drop>(
     out: &mut Tap<W>,
 ) -> Result<(), Refusal>
     requires { has_failed out.old ≡ false }
-    ensures written { OnOk result (IsReport R.File.remaining (Some (text_of line.entry)) (W.contents (under out.old)) (W.contents (under out.new))) }
+    ensures written { OnOk result (IsReport R.File.remaining R.File.contents (Some (text_of line.entry)) (W.contents (under out.old)) (W.contents (under out.new))) }
     ensures refused { IfErr result (IsCause R.File.remaining (Some (text_of line.entry))) }
     ensures silent { OnErr result ((has_failed out.new ≡ true) ⊎ (out.new ≡ out.old)) }
 {
@@ -107,6 +190,13 @@ fn run<R: Files + Threads + Sync, W: Write + Drop>(
             let mut design = opened_design(rt, design)?;
             check(rt, alloc, &mut rules, &mut design, out)
         }
+        Line::Fill {
+            rules,
+            design,
+            script,
+            out: library,
+            limit,
+        } => fill(rt, alloc, rules, design, script, library, limit, out),
     }
 }
 
@@ -156,7 +246,7 @@ fn line_status<R: Files + Threads + Sync, W: Write + Drop, E: Write>(
 ) -> ExitCode
     requires out { has_failed out.old ≡ false }
     requires err { has_failed err.old ≡ false }
-    ensures done { exit_status result ≡ 0 → IsReport R.File.remaining (Some (text_of line.entry)) (W.contents (under out.old)) (W.contents (under out.new)) }
+    ensures done { exit_status result ≡ 0 → IsReport R.File.remaining R.File.contents (Some (text_of line.entry)) (W.contents (under out.old)) (W.contents (under out.new)) }
     ensures refused { (exit_status result ≡ 0) ⊎ GaveUp R.File.remaining (Some (text_of line.entry)) (E.contents (under err.old)) (E.contents (under err.new)) (has_failed err.new) (exit_status result) }
     ensures status { (exit_status result ≡ 0) ⊎ (1 < exit_status result) }
     ensures silent { (exit_status result ≡ 0) ⊎ (has_failed out.new ≡ true) ⊎ (out.new ≡ out.old) }
@@ -179,7 +269,7 @@ fn status_of<R: AllocGlobal + Files + Threads + Sync, S: AsStr, W: Write + Drop,
 
     // Status 0: clap finds no fault in the words, and the report of the line that they make, of two opened files, is written whole.
     ensures faultless { exit_status result ≡ 0 → IsFaultless (map S.text words.now) }
-    ensures done { exit_status result ≡ 0 → IsReport R.File.remaining (said_in (map S.text words.now)) (W.contents (under out.old)) (W.contents (under out.new)) }
+    ensures done { exit_status result ≡ 0 → IsReport R.File.remaining R.File.contents (said_in (map S.text words.now)) (W.contents (under out.old)) (W.contents (under out.new)) }
 
     // Status 1: words that make no line. Any other: a refusal, which is told.
     ensures usage { IsTaken (map S.text words.now) → IsSome (said_in (map S.text words.now)) → (exit_status result ≡ 0) ⊎ (1 < exit_status result) }
