@@ -7,6 +7,13 @@ pub mod RowTurns
 pub mod TestMarks
 pub mod PieceLaws
 pub mod Standing
+pub mod Listing
 pub mod Boxed
+pub mod Lists
 pub mod Wells
+pub mod RuleAxes
+pub mod ByPieces
+pub mod ReadBack
+pub mod Entries
 pub mod Grammatical
+pub mod Reread
