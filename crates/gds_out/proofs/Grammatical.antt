@@ -28,7 +28,7 @@ use Rattle.gds_out.proofs.ByPieces.{IsPiece, pieces_same, pieces_all}
 use Rattle.gds_out.proofs.Corners.{row_array}
 use Rattle.gds_out.proofs.ReadBack.{word_back, point_back, points_back}
 use Rattle.gds_out.proofs.RuleAxes.{across_is, up_is, layer_few, data_type_few}
-use Rattle.gds_out.proofs.Wells.{records_are_the_manuals}
+use Rattle.gds_out.proofs.Wells.{records_are_well}
 
 -- ---- names
 
@@ -188,7 +188,7 @@ is_a_library rules units dates filled size len =
       spelled = ap (λ t. rec 0x00 0x02 (0x02 ∷ 0x58 ∷ []) ∷ rec 0x01 0x02 dates ∷ rec 0x02 0x06 (padded v.fill_lib) ∷ rec 0x03 0x05 units
           ∷ (text.cell_records dates v ++ (rec 0x05 0x02 dates ∷ rec 0x06 0x06 (padded v.fill_top) ∷ (t ++ rec 0x04 0x00 [] ∷ []))))
           (sym (append-nil _ ∙ ap (λ t. t ++ rec 0x07 0x00 [] ∷ []) rows));
-      well = records_are_the_manuals rules units dates filled size len;
+      well = records_are_well rules units dates filled size len;
       is_library = record {
         header = refl;
         start = refl;

@@ -10,9 +10,9 @@ pub mod Standing
 pub mod Listing
 pub mod Boxed
 pub mod Lists
-pub mod Wells
 pub mod RuleAxes
 pub mod ByPieces
+pub mod Wells
 pub mod ReadBack
 pub mod Entries
 pub mod Grammatical

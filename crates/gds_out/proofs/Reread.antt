@@ -6,6 +6,7 @@ use Rattle.std.specs.Str.{bytes_eq}
 use Rattle.std.proofs.lemmas.Slice.Eq.{bytes_eq-Decides}
 use Rattle.std.proofs.lemmas.List.{append-nil}
 use Rattle.std.proofs.lemmas.List.Concat.{flat_map_single}
+use Rattle.std.proofs.lemmas.Simd.{map-map}
 use Rattle.fill_base.specs.declared.place.Point.{Point}
 use Rattle.gds_record.specs.Records.{Rec, spelling}
 use Rattle.gds_grammar.specs.Grammar.{all_rules, IsLibrary}
@@ -66,10 +67,6 @@ pieces_link cell r j p = by (p.count == 1)
     by true = (tt, tt)
     by false = (tt, tt)
 
-map_of_map : {A B C : Type 0} (g : B → C) (f : A → B) (xs : List A) → map g (map f xs) ≡ map (λ x. g (f x)) xs
-map_of_map g f [] = refl
-map_of_map g f (x ∷ xs) = ap (λ t. g (f x) ∷ t) (map_of_map g f xs)
-
 -- the reference to the box of a place
 abbrev placed_at : Lattice → ℤ × ℤ → Placement
 placed_at r q = shift (box_begin r.across q.0) (box_begin r.up q.1)
@@ -82,7 +79,7 @@ all_singles rules filled cells is =
     let carried_to = pieces_same r filled (λ c. moved_to c ∷ []) (piece_corners r) (λ j p. map moved_to (piece_corners r j p)) (up_is rules) (λ j p _. flat_map_single moved_to (piece_corners r j p)) in
     pieces_same r filled (singles_of cells) (piece_shapes v.fill_cell r) (λ j p. map moved_to (piece_corners r j p)) (up_is rules) (λ j p _. piece_singles cells v.fill_cell r j p is)
     ∙ (sym carried_to ∙ (flat_map_single moved_to (of_pieces (piece_corners r) filled r)
-    ∙ (ap (map moved_to) (stand_at_places r filled) ∙ map_of_map moved_to (λ (q : ℤ × ℤ). corner_of r q.0 q.1) (filled_places filled r))))
+    ∙ (ap (map moved_to) (stand_at_places r filled) ∙ map-map moved_to (λ (q : ℤ × ℤ). corner_of r q.0 q.1) (filled_places filled r))))
 
 -- the boxes of a library of these two cells
 module _ (rules : Rules) (filled : PlaceSet) (first second : Entry) (first_is : cell_of first ≡ box_cell (values_of rules)) (second_is : cell_of second ≡ top_cell (values_of rules) filled) where
@@ -117,7 +114,7 @@ module _ (rules : Rules) (filled : PlaceSet) (first second : Entry) (first_is : 
       (links_draw_nothing (layer_of v) (data_type_of v) second.1.items links) singles in
       ap (λ k. map copy_covers (copies (hierarchy_of cells (layer_of v) (data_type_of v)) 256 k)) top_index
       ∙ (ap (map copy_covers) all
-      ∙ (map_of_map copy_covers (λ q. carry_copy (placed_at r q) (own_copy box.element)) (filled_places filled r) ∙ (λ i. map (λ q. each q i) (filled_places filled r))))
+      ∙ (map-map copy_covers (λ q. carry_copy (placed_at r q) (own_copy box.element)) (filled_places filled r) ∙ (λ i. map (λ q. each q i) (filled_places filled r))))
 
 pub boxes_are_places : BoxesAreThePlaces
 boxes_are_places rules units dates filled library size len spelled =

@@ -13,10 +13,11 @@ use Rattle.fill_text.specs.Rules.{Values, is_fill_name, raster_of}
 use Rattle.fill_text.specs.ValuesOfRules.{values_of}
 use Rattle.fill_text.specs.declared.rules.Rules.{Rules}
 use Rattle.gds_grammar.specs.Grammar.{AreWell}
-use Rattle.gds_out.specs.FillText.{rec, padded, word_bytes, points_bytes, box_corners, cell_records, reference_records, array_records, piece_records, run_records, row_records, rows_records, top_records, head_records, fill_records}
-use Rattle.gds_out.specs.Places.{PlaceSet, places_along, filled_columns}
-use Rattle.gds_out.specs.Runs.{Run, runs, pieces}
-use Rattle.gds_out.proofs.Lists.{all_append, all_flat}
+use Rattle.gds_out.specs.FillText.{rec, padded, word_bytes, points_bytes, box_corners, cell_records, reference_records, array_records, piece_records, rows_records, top_records, head_records, fill_records}
+use Rattle.gds_out.specs.Places.{PlaceSet}
+use Rattle.gds_out.specs.Runs.{Run}
+use Rattle.gds_out.proofs.ByPieces.{pieces_all}
+use Rattle.gds_out.proofs.Lists.{all_append}
 use Rattle.gds_out.proofs.Names.{name_short}
 
 pub record IsGood (r : Rec) : Type 0 where
@@ -112,10 +113,7 @@ piece_good cell r j p is = by (p.count == 1)
     by false = array_good cell p.count r.across.step r.up.step (box_begin r.across p.start) (box_begin r.up j) is
 
 rows_good : (cell : List ℕ) (r : Lattice) (filled : PlaceSet) → is_fill_name cell ≡ true → AllByRecursion IsGood (rows_records cell r filled)
-rows_good cell r filled is =
-    all_flat IsGood (row_records cell r filled) (places_along r.up) (λ j.
-    all_flat IsGood (run_records cell r j) (runs (filled_columns filled r j)) (λ n.
-    all_flat IsGood (piece_records cell r j) (pieces n) (λ p. piece_good cell r j p is)))
+rows_good cell r filled is = pieces_all r filled IsGood (piece_records cell r) (λ j p. piece_good cell r j p is)
 
 cell_good : (dates : List ℕ) (v : Values) → length dates ≡ 24 → is_fill_name v.fill_cell ≡ true → AllByRecursion IsGood (cell_records dates v)
 unfolding has_form has_size has_name_if_asked
@@ -166,9 +164,9 @@ head_good units dates v size len is = (
   ),
 )
 
-pub records_are_the_manuals : (rules : Rules) (units dates : List ℕ) (filled : PlaceSet) → length units ≡ 16 → length dates ≡ 24 → AreWell (fill_records units dates (values_of rules) filled)
+pub records_are_well : (rules : Rules) (units dates : List ℕ) (filled : PlaceSet) → length units ≡ 16 → length dates ≡ 24 → AreWell (fill_records units dates (values_of rules) filled)
 unfolding has_form has_size has_name_if_asked
-records_are_the_manuals rules units dates filled size len =
+records_are_well rules units dates filled size len =
     let v = values_of rules in
     let stop : AllByRecursion IsGood (rec 0x04 0x00 [] ∷ []) = (good 0x04 0x00 [] (omega arith) (omega arith) refl (omega arith) refl, tt) in
     let tops : AllByRecursion IsGood (top_records dates v filled ++ rec 0x04 0x00 [] ∷ []) =
