@@ -7,10 +7,10 @@ pub mod RowTurns
 pub mod TestMarks
 pub mod PieceLaws
 pub mod Standing
-pub mod Listing
 pub mod Boxed
 pub mod Lists
 pub mod RuleAxes
+pub mod Listing
 pub mod ByPieces
 pub mod Wells
 pub mod ReadBack

@@ -12,9 +12,10 @@ use Rattle.fill_raster.specs.Axes.{first, past, extent, is_on}
 use Rattle.fill_raster.specs.Lattice.{Lattice}
 use Rattle.fill_raster.specs.declared.axis.Axis.{Axis}
 use Rattle.fill_raster.proofs.Ranges.{first_past, on_range}
-use Rattle.gds_out.specs.Laws.{is_place, EachPlaceStandsOnce}
+use Rattle.gds_out.specs.Laws.{is_place, raster_in, EachPlaceStandsOnce}
 use Rattle.gds_out.specs.Places.{PlaceSet, places_along, filled_columns}
 use Rattle.gds_out.specs.Runs.{numbers_from}
+use Rattle.gds_out.proofs.RuleAxes.{across_is, up_is}
 
 same : (i : ℤ) → int_eq i i ≡ true
 same i = grind (arith, ints)
@@ -98,8 +99,9 @@ module _ (filled : PlaceSet) (i j : ℤ) where
   other_column k is = rw is (nothing (filled k j))
 
 pub each_place_once : EachPlaceStandsOnce
-each_place_once r is filled i j =
+each_place_once rules filled i j =
+    let r = raster_in rules in
     rows filled i j r (places_along r.up)
-    ∙ (along_axis (λ l. flat_map (one filled i j l) (places_along r.across)) j r.up is.up.step_is.least (λ l apart. other_row filled i j l (places_along r.across) apart)
-    ∙ (ap (λ t. cond (is_on r.up j) t []) (along_axis (one filled i j j) i r.across is.across.step_is.least (λ k apart. other_column filled i j k apart))
+    ∙ (along_axis (λ l. flat_map (one filled i j l) (places_along r.across)) j r.up (up_is rules).step_is.least (λ l apart. other_row filled i j l (places_along r.across) apart)
+    ∙ (ap (λ t. cond (is_on r.up j) t []) (along_axis (one filled i j j) i r.across (across_is rules).step_is.least (λ k apart. other_column filled i j k apart))
     ∙ rw (same i, same j) (both ((i, j) ∷ []) (is_on r.across i) (is_on r.up j) (filled i j))))

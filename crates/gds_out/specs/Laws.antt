@@ -53,10 +53,14 @@ piece_corners r j p =
 abbrev pub is_place : ℤ → ℤ → ℤ × ℤ → Bool
 is_place i j p = int_eq p.0 i && int_eq p.1 j
 
+-- the raster of a rule file
+abbrev pub raster_in : Rules → Lattice
+raster_in rules = raster_of (values_of rules).numbers
+
 -- a place stands in the list of the filled places once where it is on the raster and filled, and else not at all
 abbrev pub EachPlaceStandsOnce : Type 0
-EachPlaceStandsOnce = (r : Lattice) → IsLattice r → (filled : PlaceSet) (i j : ℤ)
-    → filter (is_place i j) (filled_places filled r) ≡ (if in_raster r i j && filled i j then (i, j) ∷ [] else [])
+EachPlaceStandsOnce = (rules : Rules) (filled : PlaceSet) (i j : ℤ)
+    → filter (is_place i j) (filled_places filled (raster_in rules)) ≡ (if in_raster (raster_in rules) i j && filled i j then (i, j) ∷ [] else [])
 
 -- the single references of all rows stand at the corners of the filled places' boxes, at each once, and nowhere else
 abbrev pub ReferencesStandAtTheirPlaces : Type 0
@@ -82,4 +86,4 @@ abbrev pub BoxesAreThePlaces : Type 0
 BoxesAreThePlaces = (rules : Rules) (units dates : List ℕ) (filled : PlaceSet) (library : Library) → length units ≡ 16 → length dates ≡ 24
     → Spells (fill_text units dates (values_of rules) filled) (contents_of library)
     → boxes_of (values_of rules) library
-    ≡ map (λ p. box_squares (raster_of (values_of rules).numbers) p.0 p.1) (filled_places filled (raster_of (values_of rules).numbers))
+    ≡ map (λ p. box_squares (raster_in rules) p.0 p.1) (filled_places filled (raster_in rules))
