@@ -10,7 +10,7 @@ use Rattle.fill_engine.specs.Refusals.{refusal_status, refusal_text}
 use Rattle.fill_engine.specs.declared.refusal.InputFault.TheVariants.{Unread, Refused}
 use Rattle.fill_engine.specs.declared.refusal.RunFault.TheVariants as run
 use Rattle.fill_engine.specs.declared.refusal.Refusal.{Refusal}
-use Rattle.fill_engine.specs.declared.refusal.Refusal.TheVariants.{Rules, Design, Script, Run, Report}
+use Rattle.fill_engine.specs.declared.refusal.Refusal.TheVariants.{Rules, Design, Script, Run, Out, Report}
 
 -- what is written is the line: whole, or a prefix of it where the writer failed
 pub record IsTold (before after : Option (List ℕ)) (failed : Bool) (line : List ℕ) : Type 0 where
@@ -32,6 +32,7 @@ IsUnopened (Design (Refused error)) = ⊥
 IsUnopened (Script (Unread error)) = (error ≡ Device) ⊎ (error ≡ Memory)
 IsUnopened (Script (Refused error)) = ⊥
 IsUnopened (Run fault) = ⊥
+IsUnopened Out = ⊥
 IsUnopened Report = ⊥
 
 -- of two opened files, whose bytes `remaining` tells, this is why there is no report of the line

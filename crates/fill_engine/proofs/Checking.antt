@@ -8,7 +8,7 @@ use Rattle.gds_grammar.specs.declared.library.Library as libraries
 use Rattle.gds_flatten.specs.declared.error.FlattenError.{FlattenError}
 use Rattle.gds_flatten.specs.Copies.{drawn, AllStayInRange}
 use Rattle.gds_flatten.specs.Flattening.{IsCountable, IsRefused, copies_of}
-use Rattle.fill_engine.specs.Designs.{layer_in, data_type_in, IsRead, IsDrawn, IsUnflattened, IsDesignFault}
+use Rattle.fill_engine.specs.Designs.{layer_in, data_type_in, IsRead, IsDesign, IsDrawn, IsUnflattened, IsDesignFault}
 use Rattle.fill_engine.specs.Checks.{IsChecked, IsCheckReason}
 use Rattle.fill_engine.specs.Inputs.{rules_answer}
 use Rattle.fill_engine.specs.declared.refusal.DesignError.{DesignError}
@@ -32,12 +32,12 @@ is_read bytes xs n design same len short spelled = record {
 module _ (remaining : Option (List ℕ)) (bytes xs : List ℕ) (n : ℕ) (values : Values) (design : libraries.Library) (top : List ℕ) (layer data_type : ℕ)
     (given : IfSome remaining (λ b. bytes ≡ b)) (same : xs ≡ bytes) (len : n ≡ length bytes) (short : n ≤ 2147483648)
     (spelled : Spells xs (contents_of design)) (top_is : top ≡ values.top) (layer_is : layer ≡ layer_in values) (type_is : data_type ≡ data_type_in values) where
-  pub metal_taken : (m : ℤ → ℤ → Bool) → IsCountable design.cells.entries top layer data_type
+  pub design_taken : (m : ℤ → ℤ → Bool) (units dates : List ℕ) → units ≡ design.units → dates ≡ design.dates → IsCountable design.cells.entries top layer data_type
       → AllStayInRange (copies_of design.cells.entries top layer data_type)
-      → ((x y : ℤ) → m x y ≡ drawn (copies_of design.cells.entries top layer data_type) x y) → IfSome remaining (λ b. IsDrawn b values m)
-  metal_taken m countable inside squares = cases remaining given where
-    all : IsDrawn bytes values m
-    all = record {
+      → ((x y : ℤ) → m x y ≡ drawn (copies_of design.cells.entries top layer data_type) x y) → IfSome remaining (λ b. IsDesign b values m units dates)
+  design_taken m units dates units_are dates_are countable inside squares = cases remaining given where
+    metal : IsDrawn bytes values m
+    metal = record {
       design = design;
       read = is_read bytes xs n design same len short spelled;
       countable = subst (λ t. IsCountable design.cells.entries t (layer_in values) (data_type_in values)) top_is
@@ -51,9 +51,12 @@ module _ (remaining : Option (List ℕ)) (bytes xs : List ℕ) (n : ℕ) (values
           (subst (λ d. m ≡ drawn (copies_of design.cells.entries top layer d)) type_is (λ i x y. squares x y i)));
     }
 
-    cases : (o : Option (List ℕ)) → IfSome o (λ b. bytes ≡ b) → IfSome o (λ b. IsDrawn b values m)
+    all : IsDesign bytes values m units dates
+    all = record { drawn = metal; units_are = units_are; dates_are = dates_are }
+
+    cases : (o : Option (List ℕ)) → IfSome o (λ b. bytes ≡ b) → IfSome o (λ b. IsDesign b values m units dates)
     cases None known = tt
-    cases (Some b) known = subst (λ c. IsDrawn c values m) known all
+    cases (Some b) known = subst (λ c. IsDesign c values m units dates) known all
 
   pub not_flattened : (e : FlattenError) → IsRefused design.cells.entries top layer data_type e
       → IfSome remaining (λ b. IsDesignFault b values (Refused (Flatten e)))
@@ -83,20 +86,20 @@ is_checked : (r d : List ℕ) (values : Values) (m : ℤ → ℤ → Bool) → r
     → IsChecked r d (metal_report m values)
 is_checked r d values m read drawn_it = record { values = values; accepted = read; metal = m; drawn = drawn_it; report = refl }
 
-pub check_written : (rules design : Option (List ℕ)) (values : Values) (m : ℤ → ℤ → Bool) (P : List ℕ → Type 0) → IfSome rules (λ text. rules_answer text ≡ Ok values)
-    → IfSome design (λ bytes. IsDrawn bytes values m) → P (metal_report m values)
+pub check_written : (rules design : Option (List ℕ)) (values : Values) (m : ℤ → ℤ → Bool) (units dates : List ℕ) (P : List ℕ → Type 0) → IfSome rules (λ text. rules_answer text ≡ Ok values)
+    → IfSome design (λ bytes. IsDesign bytes values m units dates) → P (metal_report m values)
     → IfSome rules (λ r. IfSome design (λ d. (text : List ℕ) × IsChecked r d text × P text))
-check_written None design values m P read taken holds = tt
-check_written (Some r) None values m P read taken holds = tt
-check_written (Some r) (Some d) values m P read taken holds = (metal_report m values, is_checked r d values m read taken, holds)
+check_written None design values m units dates P read taken holds = tt
+check_written (Some r) None values m units dates P read taken holds = tt
+check_written (Some r) (Some d) values m units dates P read taken holds = (metal_report m values, is_checked r d values m read taken.drawn, holds)
 
-pub check_reason : (rules design : Option (List ℕ)) (values : Values) (m : ℤ → ℤ → Bool) (e : Refusal) → IfSome rules (λ text. rules_answer text ≡ Ok values)
-    → IfSome design (λ bytes. IsDrawn bytes values m) → ((e ≡ Report) ⊎ (e ≡ Run Memory))
+pub check_reason : (rules design : Option (List ℕ)) (values : Values) (m : ℤ → ℤ → Bool) (units dates : List ℕ) (e : Refusal) → IfSome rules (λ text. rules_answer text ≡ Ok values)
+    → IfSome design (λ bytes. IsDesign bytes values m units dates) → ((e ≡ Report) ⊎ (e ≡ Run Memory))
     → IfSome rules (λ r. IfSome design (λ d. IsCheckReason r d e))
-check_reason None design values m e read taken why = tt
-check_reason (Some r) None values m e read taken why = tt
-check_reason (Some r) (Some d) values m e read taken (inl is) = subst (λ x. IsCheckReason r d x) (sym is) (metal_report m values, is_checked r d values m read taken)
-check_reason (Some r) (Some d) values m e read taken (inr is) = subst (λ x. IsCheckReason r d x) (sym is) (metal_report m values, is_checked r d values m read taken)
+check_reason None design values m units dates e read taken why = tt
+check_reason (Some r) None values m units dates e read taken why = tt
+check_reason (Some r) (Some d) values m units dates e read taken (inl is) = subst (λ x. IsCheckReason r d x) (sym is) (metal_report m values, is_checked r d values m read taken.drawn)
+check_reason (Some r) (Some d) values m units dates e read taken (inr is) = subst (λ x. IsCheckReason r d x) (sym is) (metal_report m values, is_checked r d values m read taken.drawn)
 
 -- the error that a `?` passes on is the one that was met
 pub as_error : {T E : Type 0} (r : Result T E) (x y z : E) → r ≡ Err x → x ≡ y → r ≡ Err z → y ≡ z

@@ -33,6 +33,12 @@ pub record IsDrawn (bytes : List ℕ) (values : Values) (metal : ℤ → ℤ →
   pub inside : AllStayInRange (flatten.copies_of design.cells.entries values.top (layer_in values) (data_type_in values))
   pub metal_is : metal ≡ drawn (flatten.copies_of design.cells.entries values.top (layer_in values) (data_type_in values))
 
+-- that is the metal, and the library has these units and dates
+pub record IsDesign (bytes : List ℕ) (values : Values) (metal : ℤ → ℤ → Bool) (units dates : List ℕ) : Type 0 where
+  pub drawn : IsDrawn bytes values metal
+  pub units_are : units ≡ drawn.design.units
+  pub dates_are : dates ≡ drawn.design.dates
+
 -- why the top of a design of these bytes can't be flattened
 pub record IsUnflattened (bytes : List ℕ) (values : Values) (e : FlattenError) : Type 0 where
   pub design : libraries.Library

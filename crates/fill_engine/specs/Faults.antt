@@ -9,10 +9,14 @@ use Rattle.gds_grammar.specs.declared.error.LibraryError.{LibraryError}
 use Rattle.gds_grammar.specs.declared.error.LibraryError.TheVariants as library
 use Rattle.gds_flatten.specs.declared.error.FlattenError.{FlattenError}
 use Rattle.gds_flatten.specs.declared.error.FlattenError.TheVariants as flatten
+use Rattle.fill_core.specs.declared.book.BookError.{BookError}
+use Rattle.fill_core.specs.declared.book.BookError.TheVariants as book
 use Rattle.fill_device.specs.declared.input.InputError.{InputError}
 use Rattle.fill_device.specs.declared.input.InputError.TheVariants as input
 use Rattle.fill_engine.specs.declared.fault.Fault.{Fault}
-use Rattle.fill_engine.specs.declared.fault.Fault.TheVariants.{Truncated, BadLength, Unexpected, DuplicateCell, BadXY, NotClosed, BadArray, NotManhattan, RoundEnd, OddWidth, DoublesBack, BadExtension, NoTop, MissingCell, Cycle, TooDeep, TooManyShapes, OutOfRange, BadTransform, BadRow, BadNumber, BadRule, TooManyLines, BadRect, BadWindows, BadPitch, TooManyPlaces, TooLong, Device, Memory}
+use Rattle.fill_engine.specs.declared.fault.Fault.TheVariants.{Truncated, BadLength, Unexpected, DuplicateCell, BadXY, NotClosed, BadArray, NotManhattan, RoundEnd, OddWidth, DoublesBack, BadExtension, NoTop, MissingCell, Cycle, TooDeep, TooManyShapes, OutOfRange, BadTransform, BadRow, BadNumber, BadRule, TooManyLines, BadRect, BadWindows, BadPitch, TooManyPlaces, TooLong, Device, Memory, Unfinished}
+use Rattle.fill_engine.specs.declared.refusal.RunFault.{RunFault}
+use Rattle.fill_engine.specs.declared.refusal.RunFault.TheVariants as run
 
 abbrev pub fault_number : Fault → ℕ
 fault_number Truncated = 1
@@ -45,6 +49,7 @@ fault_number TooManyPlaces = 28
 fault_number TooLong = 29
 fault_number Device = 30
 fault_number Memory = 31
+fault_number Unfinished = 34
 
 abbrev pub fault_name : Fault → List ℕ
 fault_name Truncated = codes "Truncated"
@@ -77,6 +82,7 @@ fault_name TooManyPlaces = codes "TooManyPlaces"
 fault_name TooLong = codes "TooLong"
 fault_name Device = codes "Device"
 fault_name Memory = codes "Memory"
+fault_name Unfinished = codes "Unfinished"
 
 -- what follows the name: the record's number, the key, or the record's first byte
 abbrev pub fault_ending : Fault → List ℕ
@@ -110,10 +116,12 @@ fault_ending TooManyPlaces = []
 fault_ending TooLong = []
 fault_ending Device = []
 fault_ending Memory = []
+fault_ending Unfinished = []
 
--- the exit status of a fault's number: 4 for a device fault, 3 for want of memory, 2 for a refused input
+-- the exit status of a fault's number: 5 for a fill that is not complete, 4 for a device fault, 3 for want of memory, 2 for a
+-- refused input
 abbrev pub fault_status : ℕ → ℕ
-fault_status number = if number == 30 then 4 else if number == 31 then 3 else 2
+fault_status number = if number == 30 then 4 else if number == 31 then 3 else if number == 34 then 5 else 2
 
 -- the fault of a refused rule file
 abbrev pub rule_fault : RuleError → Fault
@@ -165,3 +173,8 @@ abbrev pub input_fault : InputError → Fault
 input_fault input.TooLong = TooLong
 input_fault input.Device = Device
 input_fault input.Memory = Memory
+
+-- the fault of a run whose book took no event: a full history ends it without a complete fill
+abbrev pub book_fault : BookError → RunFault
+book_fault book.HistoryFull = run.Unfinished
+book_fault book.Memory = run.Memory

@@ -6,3 +6,5 @@ pub mod Rects
 pub mod Designs
 pub mod Checks
 pub mod Refusals
+pub mod Runs
+pub mod Fills

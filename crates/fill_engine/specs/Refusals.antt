@@ -2,12 +2,12 @@
 use Rattle.std.specs.Prelude.{ℕ, List, ◌++◌, codes, decimal}
 use Rattle.fill_engine.specs.Faults.{fault_ending, fault_name, fault_number, fault_status, flatten_fault, input_fault, library_fault, rule_fault, script_fault}
 use Rattle.fill_engine.specs.declared.fault.Fault.{Fault}
-use Rattle.fill_engine.specs.declared.fault.Fault.TheVariants.{Device, Memory}
+use Rattle.fill_engine.specs.declared.fault.Fault.TheVariants.{Device, Memory, Unfinished}
 use Rattle.fill_engine.specs.declared.refusal.DesignError.TheVariants as design
 use Rattle.fill_engine.specs.declared.refusal.InputFault.TheVariants.{Unread, Refused}
 use Rattle.fill_engine.specs.declared.refusal.RunFault.TheVariants as run
 use Rattle.fill_engine.specs.declared.refusal.Refusal.{Refusal}
-use Rattle.fill_engine.specs.declared.refusal.Refusal.TheVariants.{Rules, Design, Script, Run, Report}
+use Rattle.fill_engine.specs.declared.refusal.Refusal.TheVariants.{Rules, Design, Script, Run, Out, Report}
 
 -- the part as the line names it
 abbrev pub part_name : Refusal → List ℕ
@@ -15,6 +15,7 @@ part_name (Rules fault) = codes "rules"
 part_name (Design fault) = codes "design"
 part_name (Script fault) = codes "script"
 part_name (Run fault) = codes "run"
+part_name Out = codes "out"
 part_name Report = codes "report"
 
 -- what is the matter, as a row of the table of faults
@@ -27,6 +28,8 @@ fault_of (Design (Refused (design.Flatten error))) = flatten_fault error
 fault_of (Script (Unread error)) = input_fault error
 fault_of (Script (Refused error)) = script_fault error
 fault_of (Run run.Memory) = Memory
+fault_of (Run run.Unfinished) = Unfinished
+fault_of Out = Device
 fault_of Report = Device
 
 abbrev pub refusal_status : Refusal → ℕ

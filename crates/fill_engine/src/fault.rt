@@ -72,6 +72,8 @@ pub(crate) enum Fault {
     Device,
     /// An allocation was refused.
     Memory,
+    /// A tile of the fill isn't in.
+    Unfinished,
 }
 
 impl Fault {
@@ -111,16 +113,19 @@ impl Fault {
             Fault::TooLong => (29, "TooLong"),
             Fault::Device => (30, "Device"),
             Fault::Memory => (31, "Memory"),
+            Fault::Unfinished => (34, "Unfinished"),
         }
     }
 
-    /// The exit status of the program: 4 for a device fault, 3 for want of memory, and 2 for a refused input.
+    /// The exit status of the program: 5 for a fill that is not complete, 4 for a device fault, 3 for want of memory, and 2
+    /// for a refused input.
     pub(crate) fn status(self) -> u8
         ensures { result ≡ fault_status (fault_number self) }
     {
         match self.row().0 {
             30 => 4,
             31 => 3,
+            34 => 5,
             _ => 2,
         }
     }

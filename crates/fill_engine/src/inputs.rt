@@ -4,7 +4,7 @@ ghost use Rattle.fill_device.specs.Taps.{has_failed, under};
 ghost use Rattle.fill_region.specs.Bands.{holds};
 ghost use Rattle.fill_text.specs.Script.{change_of};
 ghost use Rattle.fill_text.specs.ValuesOfRules.{values_of};
-ghost use Rattle.fill_engine.specs.Designs.{layer_in, data_type_in, IsDrawn, IsDesignFault};
+ghost use Rattle.fill_engine.specs.Designs.{layer_in, data_type_in, IsDesign, IsDesignFault};
 ghost use Rattle.fill_engine.specs.Inputs.{rules_answer, script_answer, IsFaultOf};
 
 use crate::refusal::{DesignError, InputFault};
@@ -60,15 +60,26 @@ fn data_type_of(rules: &Rules) -> u16
     rules.datatype() as u16
 }
 
-/// The metal that the design behind the tap draws on the rules' layer.
-pub fn take_metal<D: Read>(
+/// What a design gives to a fill.
+#[derive(Drop)]
+pub struct Design {
+    /// The metal that its top draws on the rules' layer.
+    pub metal: Region,
+    /// The data of its UNITS.
+    pub units: [u8; 16],
+    /// The data of its BGNLIB: the dates of its last change and access.
+    pub dates: [u8; 24],
+}
+
+/// What the design behind the tap draws on the rules' layer, with its units and dates.
+pub fn take_design<D: Read>(
     alloc: Global,
     tap: &mut Tap<D>,
     rules: &Rules,
-) -> Result<Region, InputFault<DesignError>>
+) -> Result<Design, InputFault<DesignError>>
     requires { has_failed tap.old ≡ false }
     ensures device { IsErrOf result (InputFault.Unread InputError.Device) ↔ (has_failed tap.new ≡ true) }
-    ensures metal { IfOk result (λ m. IfSome (D.remaining (under tap.old)) (λ bytes. IsDrawn bytes (values_of rules.now) (holds m))) }
+    ensures design { IfOk result (λ d. IfSome (D.remaining (under tap.old)) (λ bytes. IsDesign bytes (values_of rules.now) (holds d.metal) d.units d.dates)) }
     ensures refused { IfErr result (λ f. IfSome (D.remaining (under tap.old)) (λ bytes. IsDesignFault bytes (values_of rules.now) f)) }
 {
     let bytes = read_input(alloc, tap, MOST_BYTES)?;
@@ -81,5 +92,9 @@ pub fn take_metal<D: Read>(
         layer_of(rules),
         data_type_of(rules),
     )?;
-    Ok(metal)
+    Ok(Design {
+        metal,
+        units: library.units,
+        dates: library.dates,
+    })
 }

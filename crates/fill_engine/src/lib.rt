@@ -2,15 +2,22 @@
 #![tactic(auto)]
 
 mod fault;
+mod fill;
 mod inputs;
 mod metal;
 mod refusal;
 mod subcommands;
+mod texts;
+mod turns;
 
+pub use fill::{deliver, prepare};
 pub use metal::metal_left;
 pub use refusal::{DesignError, InputFault, Refusal, RunFault};
 pub use subcommands::{check, rects};
+pub use texts::Filled;
 
+#[cfg(test)]
+mod fill_tests;
 #[cfg(test)]
 mod report_tests;
 #[cfg(test)]

@@ -3,6 +3,7 @@ ghost use Rattle.std.specs.Prelude.{◌≡◌, IfOk, string_bytes};
 ghost use Rattle.fill_engine.specs.Refusals.{fault_of, part_name, refusal_status, refusal_text};
 
 use crate::fault::Fault;
+use fill_core::BookError;
 use fill_device::{DeviceError, InputError};
 use fill_report::OutOfMemory;
 use fill_text::{RuleError, ScriptError};
@@ -41,6 +42,9 @@ pub enum RunFault {
     /// An allocation was refused.
     #[error("out of memory")]
     Memory,
+    /// A tile is left that isn't in: the turns were used up, or the history is full.
+    #[error("the fill is not complete")]
+    Unfinished,
 }
 
 /// Why the program gave up: at which input or output, or in the run between them, and what is the matter there.
@@ -58,6 +62,9 @@ pub enum Refusal {
     /// The command line, or what comes after the inputs are interpreted and before an output is written.
     #[error("run: {0}")]
     Run(RunFault),
+    /// The fill library could not be written whole.
+    #[error("out: a write failed")]
+    Out,
     /// The report could not be written whole.
     #[error("report: a write failed")]
     Report,
@@ -156,6 +163,49 @@ impl From<OutOfMemory> for Refusal {
     }
 }
 
+impl From<RunFault> for Refusal {
+    ghost use Rattle.fill_engine.specs.declared.refusal.Refusal.TheVariants.{Run};
+
+    ghost from_gives = { λ fault refusal. refusal ≡ Run fault };
+
+    fn from(fault: RunFault) -> Refusal {
+        Refusal::Run(fault)
+    }
+}
+
+impl From<AllocError> for RunFault {
+    ghost use Rattle.fill_engine.specs.declared.refusal.RunFault.TheVariants.{Memory};
+
+    ghost from_gives = { λ _ fault. fault ≡ Memory };
+
+    fn from(_error: AllocError) -> RunFault {
+        RunFault::Memory
+    }
+}
+
+impl From<OutOfMemory> for RunFault {
+    ghost use Rattle.fill_engine.specs.declared.refusal.RunFault.TheVariants.{Memory};
+
+    ghost from_gives = { λ _ fault. fault ≡ Memory };
+
+    fn from(_error: OutOfMemory) -> RunFault {
+        RunFault::Memory
+    }
+}
+
+impl From<BookError> for RunFault {
+    ghost use Rattle.fill_engine.specs.Faults.{book_fault};
+
+    ghost from_gives = { λ error fault. fault ≡ book_fault error };
+
+    fn from(error: BookError) -> RunFault {
+        match error {
+            BookError::HistoryFull => RunFault::Unfinished,
+            BookError::Memory => RunFault::Memory,
+        }
+    }
+}
+
 impl From<DeviceError> for Refusal {
     ghost use Rattle.fill_engine.specs.declared.refusal.Refusal.TheVariants.{Report};
 
@@ -176,6 +226,7 @@ impl Refusal {
             Refusal::Design(_) => "design",
             Refusal::Script(_) => "script",
             Refusal::Run(_) => "run",
+            Refusal::Out => "out",
             Refusal::Report => "report",
         }
     }
@@ -193,12 +244,13 @@ impl Refusal {
             Refusal::Script(InputFault::Unread(error)) => error.into(),
             Refusal::Script(InputFault::Refused(error)) => error.into(),
             Refusal::Run(RunFault::Memory) => Fault::Memory,
-            Refusal::Report => Fault::Device,
+            Refusal::Run(RunFault::Unfinished) => Fault::Unfinished,
+            Refusal::Out | Refusal::Report => Fault::Device,
         }
     }
 
-    /// The exit status of the program: 4 where a file could not be opened, read or written, 3 where memory ran out, and
-    /// 2 for a refused input.
+    /// The exit status of the program: 5 where the fill is not complete, 4 where a file could not be opened, read or
+    /// written, 3 where memory ran out, and 2 for a refused input.
     pub fn status(self) -> u8
         ensures { result ≡ refusal_status self }
     {

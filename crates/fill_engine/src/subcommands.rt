@@ -11,7 +11,7 @@ ghost use Rattle.fill_engine.specs.Inputs.{is_of_rules, rules_answer};
 ghost use Rattle.fill_engine.specs.Rects.{report_answer, IsReason};
 ghost use Rattle.fill_engine.specs.Checks.{IsChecked, IsCheckReason};
 
-use crate::inputs::{take_edits, take_metal, take_rules};
+use crate::inputs::{take_design, take_edits, take_rules};
 use crate::metal::metal_left;
 use crate::refusal::{InputFault, Refusal, RunFault};
 use fill_device::{InputError, Tap, write_text};
@@ -134,7 +134,7 @@ pub fn check<R: Read, D: Read, W: Write>(
     ensures silent { OnErr result ((has_failed out.new ≡ true) ⊎ (out.new ≡ out.old)) }
 {
     let values = take_rules(alloc, rules)?;
-    let metal = take_metal(alloc, design, &values)?;
-    write_report(rt, alloc, &metal, &values, out)?;
+    let drawn = take_design(alloc, design, &values)?;
+    write_report(rt, alloc, &drawn.metal, &values, out)?;
     Ok(())
 }

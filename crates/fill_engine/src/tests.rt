@@ -16,7 +16,7 @@ fn of_rules(error: RuleError) -> Refusal {
 }
 
 /// The refusal of a script.
-fn of_script(error: ScriptError) -> Refusal {
+pub(crate) fn of_script(error: ScriptError) -> Refusal {
     Refusal::Script(InputFault::Refused(error))
 }
 
@@ -81,6 +81,12 @@ fn a_line_tells_part_number_and_name(rt: HostRuntime) -> Result<(), Fail> {
             4,
         ),
         (Refusal::Report, "densfill: report: 30 Device\n", 4),
+        (Refusal::Out, "densfill: out: 30 Device\n", 4),
+        (
+            Refusal::Run(RunFault::Unfinished),
+            "densfill: run: 34 Unfinished\n",
+            5,
+        ),
         (
             Refusal::Script(InputFault::Unread(InputError::Memory)),
             "densfill: script: 31 Memory\n",
@@ -99,7 +105,7 @@ fn a_line_tells_part_number_and_name(rt: HostRuntime) -> Result<(), Fail> {
     Ok(())
 }
 
-const RULES: &[u8] = b"frame_x1,0
+pub(crate) const RULES: &[u8] = b"frame_x1,0
 frame_y1,0
 frame_x2,100
 frame_y2,100
@@ -134,7 +140,7 @@ fill_top,FILLTOP
 ";
 
 /// The lines of the eight windows that no metal touches.
-const OTHER_LINES: &str = "1,0,25,0,75,50,0,0,0,0,LOW
+pub(crate) const OTHER_LINES: &str = "1,0,25,0,75,50,0,0,0,0,LOW
 2,0,50,0,100,50,0,0,0,0,LOW
 0,1,0,25,50,75,0,0,0,0,LOW
 1,1,25,25,75,75,0,0,0,0,LOW
@@ -146,7 +152,7 @@ const OTHER_LINES: &str = "1,0,25,0,75,50,0,0,0,0,LOW
 
 /// A reader that always fails.
 #[derive(Drop)]
-struct Broken;
+pub(crate) struct Broken;
 
 impl Read for Broken {
     fn read(&mut self, _buf: &mut [u8]) -> io::Result<usize> {
@@ -227,9 +233,9 @@ fn the_first_fault_is_answered_with_its_part(rt: HostRuntime) {
 
 /// A writer that takes so many bytes, one at a time, and then fails.
 #[derive(Drop)]
-struct Short {
-    taken: Vec<u8>,
-    room: usize,
+pub(crate) struct Short {
+    pub(crate) taken: Vec<u8>,
+    pub(crate) room: usize,
 }
 
 impl Write for Short {
@@ -343,7 +349,7 @@ fn a_line_tells_of_each_fault_of_a_design(rt: HostRuntime) -> Result<(), Fail> {
 }
 
 /// A design with one wire, 9,0 to 20,20, on the layer of the rules.
-const WIRE: &[u8] = &[
+pub(crate) const WIRE: &[u8] = &[
     0x00, 0x06, 0x00, 0x02, 0x02, 0x58, 0x00, 0x1c, 0x01, 0x02, 0x00, 0x00, 0x00, 0x00, 0x00, 0x00,
     0x00, 0x00, 0x00, 0x00, 0x00, 0x00, 0x00, 0x00, 0x00, 0x00, 0x00, 0x00, 0x00, 0x00, 0x00, 0x00,
     0x00, 0x00, 0x00, 0x08, 0x02, 0x06, 0x4c, 0x49, 0x42, 0x00, 0x00, 0x14, 0x03, 0x05, 0x41, 0x10,
@@ -358,7 +364,7 @@ const WIRE: &[u8] = &[
 ];
 
 /// A design whose top draws nothing.
-const EMPTY: &[u8] = &[
+pub(crate) const EMPTY: &[u8] = &[
     0x00, 0x06, 0x00, 0x02, 0x02, 0x58, 0x00, 0x1c, 0x01, 0x02, 0x00, 0x00, 0x00, 0x00, 0x00, 0x00,
     0x00, 0x00, 0x00, 0x00, 0x00, 0x00, 0x00, 0x00, 0x00, 0x00, 0x00, 0x00, 0x00, 0x00, 0x00, 0x00,
     0x00, 0x00, 0x00, 0x08, 0x02, 0x06, 0x4c, 0x49, 0x42, 0x00, 0x00, 0x14, 0x03, 0x05, 0x41, 0x10,
@@ -369,7 +375,7 @@ const EMPTY: &[u8] = &[
 ];
 
 /// A design whose top covers the whole frame.
-const SOLID: &[u8] = &[
+pub(crate) const SOLID: &[u8] = &[
     0x00, 0x06, 0x00, 0x02, 0x02, 0x58, 0x00, 0x1c, 0x01, 0x02, 0x00, 0x00, 0x00, 0x00, 0x00, 0x00,
     0x00, 0x00, 0x00, 0x00, 0x00, 0x00, 0x00, 0x00, 0x00, 0x00, 0x00, 0x00, 0x00, 0x00, 0x00, 0x00,
     0x00, 0x00, 0x00, 0x08, 0x02, 0x06, 0x4c, 0x49, 0x42, 0x00, 0x00, 0x14, 0x03, 0x05, 0x41, 0x10,
@@ -613,7 +619,7 @@ fn designs_are_reported(rt: HostRuntime) -> Result<(), Fail> {
 }
 
 /// The report of a layer that is all metal.
-const SOLID_REPORT: &[u8] = b"0,0,0,0,50,50,2500,0,2500,1000000,HIGH
+pub(crate) const SOLID_REPORT: &[u8] = b"0,0,0,0,50,50,2500,0,2500,1000000,HIGH
 1,0,25,0,75,50,2500,0,2500,1000000,HIGH
 2,0,50,0,100,50,2500,0,2500,1000000,HIGH
 0,1,0,25,50,75,2500,0,2500,1000000,HIGH

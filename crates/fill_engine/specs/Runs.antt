@@ -1,0 +1,34 @@
+-- What a run does with a book, and when it can't end.
+use Rattle.std.specs.Prelude.{◌≡◌, ◌⊎◌, ℕ, ◌+◌, ◌<◌, ◌≤◌, false, List, length, ◌++◌, Option, Some, None}
+use Rattle.fill_raster.specs.Lattice.{tiles}
+use Rattle.fill_text.specs.Rules.{Values}
+use Rattle.fill_text.specs.declared.script.Edit.{Edit}
+use Rattle.fill_job.specs.Plans.{plan_of}
+use Rattle.fill_core.specs.Accounts.{Account}
+use Rattle.fill_core.specs.Histories.{edits_in, events_in}
+use Rattle.fill_core.specs.Machine.{State}
+
+-- how many tiles the rules' raster has
+abbrev pub tile_count : Values → ℕ
+tile_count values = tiles (plan_of values).raster
+
+-- how many turns a run may take: as many as the limit says, and without one a turn for each tile and one more
+abbrev pub most_turns : Values → Option ℕ → ℕ
+most_turns values (Some limit) = limit
+most_turns values None = tile_count values + 1
+
+-- no tile is in
+abbrev pub IsFresh : State → Type 0
+IsFresh s = (tile : ℕ) → s.tiles_in tile ≡ false
+
+-- the same book, with these edits made in their order and at most so many commits
+pub record IsRun (old new : Account) (edits : List Edit) (turns : ℕ) : Type 0 where
+  pub rules : new.rules ≡ old.rules
+  pub opening : new.opening ≡ old.opening
+  pub most : new.most ≡ old.most
+  pub edited : edits_in (events_in new.history) ≡ edits_in (events_in old.history) ++ edits
+  pub brief : length new.history ≤ length old.history + (length edits + turns)
+
+-- there are fewer turns than tiles, or more edits and tiles than a history of so many events has room for
+abbrev pub IsTooShort : Values → Option ℕ → ℕ → ℕ → Type 0
+IsTooShort values limit edits most = (most_turns values limit < tile_count values) ⊎ (most < edits + tile_count values)

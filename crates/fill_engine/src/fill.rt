@@ -1,0 +1,162 @@
+//! The fill of a design: from the bytes of three inputs to its texts, and these to two outputs.
+ghost use Rattle.std.specs.Prelude.{◌≡◌, ◌↔◌, ◌⊎◌, ◌+◌, ◌^◌, ℕ, true, false, length, map, take, Ok, IfErr, IfOk, IfSome, IsOk, OnOk};
+ghost use Rattle.std.specs.Io.KnownBytes.{Appends};
+ghost use Rattle.fill_device.specs.Taps.{has_failed, under};
+ghost use Rattle.fill_region.specs.Bands.{holds};
+ghost use Rattle.fill_text.specs.Rules.{Values};
+ghost use Rattle.fill_text.specs.Script.{change_of};
+ghost use Rattle.fill_text.specs.ValuesOfRules.{values_of};
+ghost use Rattle.fill_core.specs.Shares.{AllParts};
+ghost use Rattle.fill_job.specs.Plans.{PointSet};
+ghost use Rattle.fill_engine.specs.Designs.{IsDrawn};
+ghost use Rattle.fill_engine.specs.Inputs.{is_before_script, is_of_rules, rules_answer};
+ghost use Rattle.fill_engine.specs.Fills.{IsFilled, IsFillOf, IsFillReason};
+ghost use Rattle.fill_engine.specs.Runs.{IsTooShort};
+
+use crate::inputs::{Design, take_design, take_edits, take_rules};
+use crate::refusal::{InputFault, Refusal, RunFault};
+use crate::texts::{Filled, texts_of};
+use crate::turns::{edit_all, fill_tiles};
+use fill_book::PlainBook;
+use fill_device::{InputError, Tap, write_text};
+use fill_text::{Edit, Rules};
+use std::alloc::Global;
+use std::io::{Read, Write};
+use std::sync::ledger::{Blank, Ledger};
+use std::thread::Threads;
+
+/// How many events the history of a run may have.
+const MOST_EVENTS: u64 = 4_294_967_296;
+
+/// The texts of a fill of the design, with the edits made first and in their order.
+fn fill_design<C: Ledger + Send + Sync, P: Ledger + Send + Sync, W: Ledger + Send + Sync>(
+    rt: &(impl Threads + Sync),
+    alloc: Global,
+    calls: Blank,
+    placed: Blank,
+    withdrawn: Blank,
+    rules: Rules,
+    design: Design,
+    edits: &[Edit],
+    limit: Option<u64>,
+) -> Result<Filled, RunFault>
+    requires names { (calls.name ≡ C.name) × (placed.name ≡ P.name) × (withdrawn.name ≡ W.name) }
+    requires parts { (calls.parts ≡ C.parts) × (placed.parts ≡ P.parts) × (withdrawn.parts ≡ W.parts) }
+    requires all { AllParts C.parts P.parts W.parts }
+    ensures filled { IfOk result (λ f. IsFillOf (values_of rules) (holds design.metal) design.units design.dates (map change_of edits.now) limit f.library.items f.report.items) }
+    ensures unfinished { result ≡ Err RunFault.Unfinished → IsTooShort (values_of rules) limit (length (map change_of edits.now)) (2 ^ 32) }
+{
+    let Design {
+        metal,
+        units,
+        dates,
+    } = design;
+    let (mut book, mut pass) = PlainBook::<C, P, W>::open(
+        rt,
+        alloc,
+        calls,
+        placed,
+        withdrawn,
+        metal,
+        rules,
+        MOST_EVENTS,
+    )?;
+    edit_all(alloc, &mut book, &mut pass, edits)?;
+    fill_tiles(alloc, &mut book, &mut pass, limit)?;
+    texts_of(alloc, &book, &units, &dates)
+}
+
+/// Fills a design: opens a book on the metal that it draws on the rules' layer, makes the script's edits in their order, and then
+/// brings tile after tile in at most `limit` turns, without a limit in a turn for each tile and one more. Each input is read to
+/// its end and interpreted before the next one is touched, and the design is flattened before the script is touched. The three
+/// blank ledgers are those that the book counts its calls with.
+///
+/// # Errors
+/// The first fault, with its part: `rules`, `design` and `script` for the inputs, and `run` once they are interpreted:
+/// `Memory`, or `Unfinished` where a tile is left that isn't in. An input of more than 2^31 bytes is `TooLong`.
+pub fn prepare<
+    C: Ledger + Send + Sync,
+    P: Ledger + Send + Sync,
+    W: Ledger + Send + Sync,
+    R: Read,
+    D: Read,
+    S: Read,
+>(
+    rt: &(impl Threads + Sync),
+    alloc: Global,
+    calls: Blank,
+    placed: Blank,
+    withdrawn: Blank,
+    rules: &mut Tap<R>,
+    design: &mut Tap<D>,
+    script: &mut Tap<S>,
+    limit: Option<u64>,
+) -> Result<Filled, Refusal>
+    requires names { (calls.name ≡ C.name) × (placed.name ≡ P.name) × (withdrawn.name ≡ W.name) }
+    requires parts { (calls.parts ≡ C.parts) × (placed.parts ≡ P.parts) × (withdrawn.parts ≡ W.parts) }
+    requires all { AllParts C.parts P.parts W.parts }
+    requires rules { has_failed rules.old ≡ false }
+    requires design { has_failed design.old ≡ false }
+    requires script { has_failed script.old ≡ false }
+
+    // A device fault is answered exactly where its tap has failed.
+    ensures rules_device { (result ≡ Err (Refusal.Rules (InputFault.Unread InputError.Device))) ↔ (has_failed rules.new ≡ true) }
+    ensures design_device { (result ≡ Err (Refusal.Design (InputFault.Unread InputError.Device))) ↔ (has_failed design.new ≡ true) }
+    ensures script_device { (result ≡ Err (Refusal.Script (InputFault.Unread InputError.Device))) ↔ (has_failed script.new ≡ true) }
+
+    // What is answered is what the bytes of the three inputs say.
+    ensures filled { IfOk result (λ f. IfSome (R.remaining (under rules.old)) (λ r. IfSome (D.remaining (under design.old)) (λ d.
+        IfSome (S.remaining (under script.old)) (λ s. IsFilled r d s limit f.library.items f.report.items)))) }
+    ensures refused { IfErr result (λ e. IfSome (R.remaining (under rules.old)) (λ r. IfSome (D.remaining (under design.old)) (λ d.
+        IfSome (S.remaining (under script.old)) (λ s. IsFillReason r d s limit e)))) }
+
+    // No input is touched before those before it are interpreted and accepted.
+    ensures in_turn { IfErr result (λ e. is_of_rules e ≡ false → IfSome (R.remaining (under rules.old)) (λ r. IsOk (rules_answer r))) }
+    ensures unread { IfErr result (λ e. is_of_rules e ≡ true → design.new ≡ design.old) }
+    ensures script_in_turn { IfErr result (λ e. is_before_script e ≡ false → IfSome (R.remaining (under rules.old)) (λ r. IfSome (D.remaining (under design.old)) (λ d.
+        (values : Values) × (rules_answer r ≡ Ok values) × ((metal : PointSet) × IsDrawn d values metal)))) }
+    ensures script_unread { IfErr result (λ e. is_before_script e ≡ true → script.new ≡ script.old) }
+{
+    let values = take_rules(alloc, rules)?;
+    let drawn = take_design(alloc, design, &values)?;
+    let edits = take_edits(alloc, script)?;
+    let filled = fill_design::<C, P, W>(
+        rt, alloc, calls, placed, withdrawn, values, drawn, &edits, limit,
+    )?;
+    Ok(filled)
+}
+
+/// Writes the fill library whole, and then the report.
+///
+/// # Errors
+/// `Out` where the library could not be written whole: nothing of the report is written then. `Report` where the report
+/// could not be.
+pub fn deliver<W: Write, V: Write>(
+    filled: &Filled,
+    out: &mut Tap<W>,
+    report_out: &mut Tap<V>,
+) -> Result<(), Refusal>
+    requires out { has_failed out.old ≡ false }
+    requires report { has_failed report_out.old ≡ false }
+
+    // A device fault is answered exactly where its tap has failed, and nothing else is.
+    ensures out_device { (result ≡ Err Refusal.Out) ↔ (has_failed out.new ≡ true) }
+    ensures report_device { (result ≡ Err Refusal.Report) ↔ (has_failed report_out.new ≡ true) }
+    ensures refused { IfErr result (λ e. (e ≡ Refusal.Out) ⊎ (e ≡ Refusal.Report)) }
+
+    // The library is written whole before the report begins.
+    ensures library { has_failed out.new ≡ false → Appends (W.contents (under out.old)) (W.contents (under out.new)) filled.now.library.items }
+    ensures report { OnOk result (Appends (V.contents (under report_out.old)) (V.contents (under report_out.new)) filled.now.report.items) }
+    ensures in_turn { has_failed out.new ≡ true → report_out.new ≡ report_out.old }
+
+    // Where a writer failed, it has a prefix.
+    ensures out_prefix { (k : ℕ) × Appends (W.contents (under out.old)) (W.contents (under out.new)) (take k filled.now.library.items) }
+    ensures report_prefix { result ≡ Err Refusal.Report
+        → (k : ℕ) × Appends (V.contents (under report_out.old)) (V.contents (under report_out.new)) (take k filled.now.report.items) }
+{
+    if write_text(out, &filled.library).is_err() {
+        return Err(Refusal::Out);
+    }
+    write_text(report_out, &filled.report)?;
+    Ok(())
+}
