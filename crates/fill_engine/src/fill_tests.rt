@@ -1,5 +1,7 @@
 //! Runs of `prepare` and `deliver` over readers and writers that tell their bytes or fail.
-use crate::tests::{Broken, EMPTY, RULES, SOLID, SOLID_REPORT, Short, WIRE, of_script};
+use crate::tests::{
+    Broken, EMPTY, OTHER_LINES, RULES, SOLID, SOLID_REPORT, Short, WIRE, of_script,
+};
 use crate::{Filled, InputFault, Refusal, RunFault, deliver, prepare};
 use fill_device::{InputError, Tap};
 use fill_text::ScriptError;
@@ -27,6 +29,41 @@ const NO_BOX: &[u8] = &[
     0x00, 0x00, 0x00, 0x0c, 0x06, 0x06, 0x46, 0x49, 0x4c, 0x4c, 0x54, 0x4f, 0x50, 0x00, 0x00, 0x04,
     0x07, 0x00, 0x00, 0x04, 0x04, 0x00,
 ];
+
+/// The same rules in a frame that has room for no box.
+const SMALL_RULES: &[u8] = b"frame_x1,0
+frame_y1,0
+frame_x2,5
+frame_y2,5
+box_w,4
+box_h,4
+step_x,10
+step_y,10
+origin_x,3
+origin_y,3
+spacing,2
+fill_spacing,2
+win_w,50
+win_h,50
+win_step_x,25
+win_step_y,25
+win_x,0
+win_y,0
+win_nx,3
+win_ny,3
+min,300000
+max,800000
+tile_nx,4
+tile_ny,4
+layer,7
+datatype,0
+fill_layer,10
+fill_datatype,1
+top,TOP
+fill_lib,FILL
+fill_cell,BOX4
+fill_top,FILLTOP
+";
 
 /// The lines of all windows but the first, where every place is filled: 20 by 20 squares of boxes in each.
 const FILLED_LINES: &str = "1,0,25,0,75,50,0,400,400,160000,LOW
@@ -137,6 +174,21 @@ fn too_few_turns_leave_a_fill_unfinished(rt: HostRuntime) {
         let done = fill_of(&rt, rt.alloc(), RULES, EMPTY, b"".as_slice(), Some(limit));
         assert_eq!(rt; done.err(), want);
     }
+}
+
+/// Without a place there is no tile, so the fill is complete at once.
+#[test]
+fn a_frame_without_room_takes_no_turn(rt: HostRuntime) -> Result<(), Fail> {
+    let alloc = rt.alloc();
+    let report = format!(in alloc; "0,0,0,0,50,50,0,0,0,0,LOW\n{OTHER_LINES}")?;
+    match fill_of(&rt, alloc, SMALL_RULES, EMPTY, b"".as_slice(), Some(0)) {
+        Ok(filled) => {
+            assert!(rt; filled.library.as_slice() == NO_BOX);
+            assert!(rt; filled.report.as_slice() == report.as_bytes());
+        }
+        Err(refusal) => assert_eq!(rt; Some(refusal), None),
+    }
+    Ok(())
 }
 
 #[test]

@@ -140,7 +140,7 @@ fill_top,FILLTOP
 ";
 
 /// The lines of the eight windows that no metal touches.
-const OTHER_LINES: &str = "1,0,25,0,75,50,0,0,0,0,LOW
+pub(crate) const OTHER_LINES: &str = "1,0,25,0,75,50,0,0,0,0,LOW
 2,0,50,0,100,50,0,0,0,0,LOW
 0,1,0,25,50,75,0,0,0,0,LOW
 1,1,25,25,75,75,0,0,0,0,LOW

@@ -110,15 +110,15 @@ low_more z s h is = let a = is.least in omega (arith, ints)
 high_more : (z s : ℤ) → z ≤ℤ highest → IsLength s → (z +ℤ s) ≤ℤ pos 2147483647
 high_more z s h is = let a = is.most in omega (arith, ints)
 
-pub part_array : (r : Lattice) (i j : ℤ) (n : ℕ) → IsLattice r → IsRowPart r i j n → 0 < n
+pub row_array : (r : Lattice) (i j : ℤ) (n : ℕ) → IsAxis r.across → IsAxis r.up → IsRowPart r i j n → 0 < n
     → IsArray (at (box_begin r.across i) (box_begin r.up j)) (at r.across.step r.up.step) n
-part_array r i j zero is part some = absurd (omega (arith, some))
-part_array r i j (suc k) is part some =
-    let first_on = on_axis r.across i is.across part.from (before_past i k (past r.across) part.to) in
-    let last_on = on_axis r.across (i +ℤ pos k) is.across (last_from (first r.across) i k part.from) (last_to i k (past r.across) part.to) in
-    let x = box_range r.across i is.across first_on in
-    let l = box_range r.across (i +ℤ pos k) is.across last_on in
-    let y = box_range r.up j is.up part.row in
+row_array r i j zero across up part some = absurd (omega (arith, some))
+row_array r i j (suc k) across up part some =
+    let first_on = on_axis r.across i across part.from (before_past i k (past r.across) part.to) in
+    let last_on = on_axis r.across (i +ℤ pos k) across (last_from (first r.across) i k part.from) (last_to i k (past r.across) part.to) in
+    let x = box_range r.across i across first_on in
+    let l = box_range r.across (i +ℤ pos k) across last_on in
+    let y = box_range r.up j up part.row in
     let corner : IsStored (at (box_begin r.across i) (box_begin r.up j)) = record {
       left = low_stored _ x.least;
       right = high_stored _ (begin_most r.across i x);
@@ -127,20 +127,20 @@ part_array r i j (suc k) is part some =
     } in
     let behind = behind_last r.across.origin i r.across.step k in
     record {
-      wide = is.across.step_is;
-      tall = is.up.step_is;
+      wide = across.step_is;
+      tall = up.step_is;
       corner = corner;
       behind = record {
-        left = subst (λ z. negsuc 2147483647 ≤ℤ z) (sym behind) (low_more (box_begin r.across (i +ℤ pos k)) r.across.step l.least is.across.step_is);
-        right = subst (λ z. z ≤ℤ pos 2147483647) (sym behind) (high_more (box_begin r.across (i +ℤ pos k)) r.across.step (begin_most r.across (i +ℤ pos k) l) is.across.step_is);
+        left = subst (λ z. negsuc 2147483647 ≤ℤ z) (sym behind) (low_more (box_begin r.across (i +ℤ pos k)) r.across.step l.least across.step_is);
+        right = subst (λ z. z ≤ℤ pos 2147483647) (sym behind) (high_more (box_begin r.across (i +ℤ pos k)) r.across.step (begin_most r.across (i +ℤ pos k) l) across.step_is);
         low = corner.low;
         high = corner.high;
       };
       above = record {
         left = corner.left;
         right = corner.right;
-        low = low_more _ r.up.step y.least is.up.step_is;
-        high = high_more _ r.up.step (begin_most r.up j y) is.up.step_is;
+        low = low_more _ r.up.step y.least up.step_is;
+        high = high_more _ r.up.step (begin_most r.up j y) up.step_is;
       };
     }
   where
@@ -152,6 +152,10 @@ part_array r i j (suc k) is part some =
 
     last_to : (i : ℤ) (k : ℕ) (p : ℤ) → (i +ℤ pos (suc k)) ≤ℤ p → (i +ℤ pos k) <ℤ p
     last_to i k p to = omega (arith, ints)
+
+pub part_array : (r : Lattice) (i j : ℤ) (n : ℕ) → IsLattice r → IsRowPart r i j n → 0 < n
+    → IsArray (at (box_begin r.across i) (box_begin r.up j)) (at r.across.step r.up.step) n
+part_array r i j n is = row_array r i j n is.across is.up
 
 -- the first place of a row part is the raster's
 pub part_on : (r : Lattice) (i j : ℤ) (n : ℕ) → IsLattice r → IsRowPart r i j n → 0 < n → in_raster r i j ≡ true

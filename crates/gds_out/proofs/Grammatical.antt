@@ -1,26 +1,34 @@
--- The records of the text stand in the order of the grammar.
-use Rattle.std.proofs.Common.{◌≡◌, refl, ap, sym, ◌∙◌, ℕ, zero, suc, ℤ, pos, ◌+ℤ◌, ◌*ℤ◌, Bool, true, false, ◌&&◌, List, [], ◌∷◌, ◌++◌, length, unsigned_abs}
+-- The text spells what a fill library is to say: its records stand in the order of the grammar, and their data is that of the contents.
+use Rattle.std.proofs.Common.{◌≡◌, refl, ap, sym, ◌∙◌, ℕ, zero, suc, ◌<◌, ◌≤◌, ℤ, pos, ◌≤ℤ◌, arith, Bool, true, false, ◌&&◌, List, [], ◌∷◌, ◌++◌, length, map}
 use Rattle.std.specs.Prelude.{◌==◌, ◌%◌, if◌then◌else◌, nat_lt, nat_le}
 use Rattle.std.specs.List.{flat_map, list_all, AllByRecursion}
 use Rattle.std.proofs.lemmas.Bool.{and_parts}
-use Rattle.std.proofs.lemmas.Grind.{flat_map-append}
+use Rattle.std.proofs.lemmas.Int.{ints}
 use Rattle.std.proofs.lemmas.List.{append-nil}
-use Rattle.gds_record.specs.Records.{Rec}
-use Rattle.gds_record.specs.Numbers.{trimmed}
+use Rattle.fill_base.specs.declared.place.Point.{Point}
+use Rattle.gds_record.specs.Numbers.{trimmed, point_of, IsStored}
 use Rattle.gds_grammar.specs.declared.element.ElementKind.TheVariants.{Boundary, Reference, Array}
 use Rattle.gds_grammar.specs.Elements.{opening}
-use Rattle.gds_grammar.specs.Grammar.{ElementPart, LibraryPart, element_records, IsElement, library_value, all_rules}
-use Rattle.fill_raster.specs.Axes.{box_begin}
+use Rattle.gds_grammar.specs.Grammar.{ElementPart, LibraryPart, element_records, element_shapes, IsElement, all_rules}
+use Rattle.gds_grammar.specs.Values.{Shape, Contents, boundary, reference, array}
+use Rattle.fill_base.specs.Limits.{IsLength}
+use Rattle.fill_raster.specs.Axes.{IsAxis, box_begin}
 use Rattle.fill_raster.specs.Lattice.{Lattice}
-use Rattle.fill_text.specs.Rules.{Values, is_fill_name, is_name_byte, value_of, raster_of}
+use Rattle.fill_text.specs.Rules.{Values, is_fill_name, is_name_byte, raster_of}
 use Rattle.fill_text.specs.ValuesOfRules.{values_of}
-use Rattle.fill_text.specs.declared.keys.NumberKey.TheVariants.{FillLayer, FillDatatype}
+use Rattle.fill_text.specs.declared.rules.Rules.{Rules}
 use Rattle.gds_out.specs.FillText as text
-use Rattle.gds_out.specs.FillText.{rec, padded, word_bytes, points_bytes, box_corners}
+use Rattle.gds_out.specs.FillText.{rec, padded, word_bytes, point_bytes, points_bytes, coordinates}
+use Rattle.gds_out.specs.FillContents.{layer_of, data_type_of, box_points, corner_of, array_points, plain, piece_shapes}
 use Rattle.gds_out.specs.Laws.{TextIsALibrary}
-use Rattle.gds_out.specs.Places.{PlaceSet, places_along, filled_columns}
-use Rattle.gds_out.specs.Runs.{Run, runs, pieces}
-use Rattle.gds_out.proofs.Wells.{records_are_the_manuals}
+use Rattle.gds_out.specs.Places.{PlaceSet, of_pieces}
+use Rattle.gds_out.specs.Runs.{Run}
+use Rattle.gds_out.specs.steps.Ranges.{at, IsArray}
+use Rattle.gds_out.proofs.ByPieces.{IsPiece, pieces_same, pieces_all}
+use Rattle.gds_out.proofs.Corners.{row_array}
+use Rattle.gds_out.proofs.ReadBack.{word_back, point_back, points_back}
+use Rattle.gds_out.proofs.RuleAxes.{across_is, up_is, layer_few, data_type_few}
+use Rattle.gds_out.proofs.Wells.{records_are_well}
 
 -- ---- names
 
@@ -43,108 +51,108 @@ name_kept name is = by (length name % 2 == 0)
 
 -- ---- elements
 
-reference_part : List ℕ → ℤ → ℤ → ElementPart
-reference_part cell x y = record {
+abbrev reference_part : List ℕ → Point → ElementPart
+reference_part cell p = record {
   element = Reference;
   start = rec 0x0a 0x00 [];
   before = rec 0x12 0x06 (padded cell) ∷ [];
-  xy = rec 0x10 0x03 (points_bytes ((x, y) ∷ []));
+  xy = rec 0x10 0x03 (points_bytes (coordinates p ∷ []));
   strings = [];
   properties = [];
   stop = rec 0x11 0x00 [];
 }
 
-array_part : List ℕ → ℕ → ℤ → ℤ → ℤ → ℤ → ElementPart
-array_part cell n s t x y = record {
+abbrev array_part : List ℕ → ℕ → List Point → ElementPart
+array_part cell n ps = record {
   element = Array;
   start = rec 0x0b 0x00 [];
   before = rec 0x12 0x06 (padded cell) ∷ rec 0x13 0x02 (word_bytes n ++ word_bytes 1) ∷ [];
-  xy = rec 0x10 0x03 (points_bytes ((x, y) ∷ (x +ℤ (pos n *ℤ s), y) ∷ (x, y +ℤ t) ∷ []));
+  xy = rec 0x10 0x03 (points_bytes (map coordinates ps));
   strings = [];
   properties = [];
   stop = rec 0x11 0x00 [];
 }
 
-box_part : Values → ElementPart
+abbrev box_part : Values → ElementPart
 box_part v = record {
   element = Boundary;
   start = rec 0x08 0x00 [];
-  before = rec 0x0d 0x02 (word_bytes (unsigned_abs (value_of v FillLayer))) ∷ rec 0x0e 0x02 (word_bytes (unsigned_abs (value_of v FillDatatype))) ∷ [];
-  xy = rec 0x10 0x03 (points_bytes (box_corners (raster_of v.numbers)));
+  before = rec 0x0d 0x02 (word_bytes (layer_of v)) ∷ rec 0x0e 0x02 (word_bytes (data_type_of v)) ∷ [];
+  xy = rec 0x10 0x03 (points_bytes (map coordinates (box_points (raster_of v.numbers))));
   strings = [];
   properties = [];
   stop = rec 0x11 0x00 [];
 }
 
-piece_part : List ℕ → Lattice → ℤ → Run → ElementPart
-piece_part cell r j p = if p.count == 1 then reference_part cell (box_begin r.across p.start) (box_begin r.up j)
-    else array_part cell p.count r.across.step r.up.step (box_begin r.across p.start) (box_begin r.up j)
-
-reference_is : (cell : List ℕ) (x y : ℤ) → IsElement all_rules (reference_part cell x y)
-unfolding opening reference_part
-reference_is cell x y = record { opens = refl; stand = (refl, tt); whole = refl; xy = refl; points = refl; closed = refl; strings = tt; properties = tt; stop = refl }
-
-array_is : (cell : List ℕ) (n : ℕ) (s t x y : ℤ) → IsElement all_rules (array_part cell n s t x y)
-unfolding opening array_part
-array_is cell n s t x y = record { opens = refl; stand = (refl, (refl, tt)); whole = refl; xy = refl; points = refl; closed = refl; strings = tt; properties = tt; stop = refl }
+abbrev piece_parts : List ℕ → Lattice → ℤ → Run → List ElementPart
+piece_parts cell r j p = if p.count == 1 then reference_part cell (corner_of r p.start j) ∷ [] else array_part cell p.count (array_points r j p) ∷ []
 
 box_is : (v : Values) → IsElement all_rules (box_part v)
-unfolding opening box_part
+unfolding opening
 box_is v = record { opens = refl; stand = (refl, (refl, tt)); whole = refl; xy = refl; points = refl; closed = refl; strings = tt; properties = tt; stop = refl }
 
-piece_is : (cell : List ℕ) (r : Lattice) (j : ℤ) (p : Run) → IsElement all_rules (piece_part cell r j p)
-unfolding piece_part
-piece_is cell r j p = by (p.count == 1)
+pieces_are : (cell : List ℕ) (r : Lattice) (j : ℤ) (p : Run) → AllByRecursion (IsElement all_rules) (piece_parts cell r j p)
+unfolding opening
+pieces_are cell r j p = by (p.count == 1)
   where
-    by : (b : Bool) → IsElement all_rules (if b then reference_part cell (box_begin r.across p.start) (box_begin r.up j)
-        else array_part cell p.count r.across.step r.up.step (box_begin r.across p.start) (box_begin r.up j))
-    by true = reference_is cell (box_begin r.across p.start) (box_begin r.up j)
-    by false = array_is cell p.count r.across.step r.up.step (box_begin r.across p.start) (box_begin r.up j)
+    by : (b : Bool) → AllByRecursion (IsElement all_rules) (if b then reference_part cell (corner_of r p.start j) ∷ [] else array_part cell p.count (array_points r j p) ∷ [])
+    by true = (record { opens = refl; stand = (refl, tt); whole = refl; xy = refl; points = refl; closed = refl; strings = tt; properties = tt; stop = refl }, tt)
+    by false = (record { opens = refl; stand = (refl, (refl, tt)); whole = refl; xy = refl; points = refl; closed = refl; strings = tt; properties = tt; stop = refl }, tt)
 
-piece_spelled : (cell : List ℕ) (r : Lattice) (j : ℤ) (p : Run) → element_records (piece_part cell r j p) ≡ text.piece_records cell r j p
-unfolding piece_part reference_part array_part
+piece_spelled : (cell : List ℕ) (r : Lattice) (j : ℤ) (p : Run) → flat_map element_records (piece_parts cell r j p) ≡ text.piece_records cell r j p
 piece_spelled cell r j p = by (p.count == 1)
   where
-    by : (b : Bool) → element_records (if b then reference_part cell (box_begin r.across p.start) (box_begin r.up j)
-        else array_part cell p.count r.across.step r.up.step (box_begin r.across p.start) (box_begin r.up j))
+    by : (b : Bool) → flat_map element_records (if b then reference_part cell (corner_of r p.start j) ∷ [] else array_part cell p.count (array_points r j p) ∷ [])
         ≡ (if b then text.reference_records cell (box_begin r.across p.start) (box_begin r.up j)
         else text.array_records cell p.count r.across.step r.up.step (box_begin r.across p.start) (box_begin r.up j))
     by true = refl
     by false = refl
 
--- ---- lists of elements
+-- ---- what the elements say
 
-all_append : (xs ys : List ElementPart) → AllByRecursion (IsElement all_rules) xs → AllByRecursion (IsElement all_rules) ys → AllByRecursion (IsElement all_rules) (xs ++ ys)
-all_append [] ys h k = k
-all_append (x ∷ xs) ys h k = (h.0, all_append xs ys h.1 k)
+reference_says : (cell : List ℕ) (p : Point) → is_fill_name cell ≡ true → IsStored p → element_shapes (reference_part cell p) ≡ reference cell plain p ∷ []
+reference_says cell p name stored =
+    ap (λ c. reference c plain (point_of (point_bytes (coordinates p))) ∷ []) (name_kept cell name) ∙ ap (λ q. reference cell plain q ∷ []) (point_back p stored)
 
-all_flat : {X : Type 0} (f : X → List ElementPart) (xs : List X) → ((x : X) → AllByRecursion (IsElement all_rules) (f x)) → AllByRecursion (IsElement all_rules) (flat_map f xs)
-all_flat f [] h = tt
-all_flat f (x ∷ xs) h = all_append (f x) (flat_map f xs) (h x) (all_flat f xs h)
+array_says : (cell : List ℕ) (n : ℕ) (ps : List Point) → is_fill_name cell ≡ true → n < 65536 → AllByRecursion IsStored ps → element_shapes (array_part cell n ps) ≡ array cell plain n 1 ps ∷ []
+array_says cell n ps name few stored = same (name_kept cell name) (word_back n few) (word_back 1 (omega arith)) (points_back ps stored)
+  where
+    same : {a b : List ℕ} {m n k l : ℕ} {ps qs : List Point} → a ≡ b → m ≡ n → k ≡ l → ps ≡ qs → array a plain m k ps ∷ [] ≡ array b plain n l qs ∷ []
+    same e f g h = cc
 
-spelled_flat : {X : Type 0} (f : X → List ElementPart) (g : X → List Rec) (xs : List X) → ((x : X) → flat_map element_records (f x) ≡ g x)
-    → flat_map element_records (flat_map f xs) ≡ flat_map g xs
-spelled_flat f g [] h = refl
-spelled_flat f g (x ∷ xs) h = flat_map-append element_records (f x) (flat_map f xs) ∙ (ap (λ t. t ++ flat_map element_records (flat_map f xs)) (h x) ∙ ap (λ t. g x ++ t) (spelled_flat f g xs h))
+box_says : (rules : Rules) → let v : Values = values_of rules in element_shapes (box_part v) ≡ boundary (layer_of v) (data_type_of v) (box_points (raster_of v.numbers)) ∷ []
+box_says rules =
+    let r = raster_of (values_of rules).numbers in
+    same (word_back _ (layer_few rules)) (word_back _ (data_type_few rules)) (points_back (box_points r) (stored r.across.length r.up.length (across_is rules).length_is (up_is rules).length_is))
+  where
+    same : {m n k l : ℕ} {ps qs : List Point} → m ≡ n → k ≡ l → ps ≡ qs → boundary m k ps ∷ [] ≡ boundary n l qs ∷ []
+    same f g h = cc
 
-run_parts : List ℕ → Lattice → ℤ → Run → List ElementPart
-run_parts cell r j n = flat_map (λ p. piece_part cell r j p ∷ []) (pieces n)
+    corner : (x y : ℤ) → pos 0 ≤ℤ x → x ≤ℤ pos 1048576 → pos 0 ≤ℤ y → y ≤ℤ pos 1048576 → let p : Point = record { x = x; y = y } in IsStored p
+    corner x y a b c d = record { left = omega (arith, ints); right = omega (arith, ints); low = omega (arith, ints); high = omega (arith, ints) }
 
-rows_parts : List ℕ → Lattice → PlaceSet → List ElementPart
-rows_parts cell r filled = flat_map (λ j. flat_map (run_parts cell r j) (runs (filled_columns filled r j))) (places_along r.up)
+    stored : (w h : ℤ) → IsLength w → IsLength h → let o : Point = record { x = pos 0; y = pos 0 } in let a : Point = record { x = pos 0; y = h } in
+        let b : Point = record { x = w; y = h } in let c : Point = record { x = w; y = pos 0 } in AllByRecursion IsStored (o ∷ a ∷ b ∷ c ∷ o ∷ [])
+    stored w h wide tall =
+        let w0 : pos 0 ≤ℤ w = omega (arith, ints) in
+        let h0 : pos 0 ≤ℤ h = omega (arith, ints) in
+        let z0 : pos 0 ≤ℤ pos 0 = omega (arith, ints) in
+        let z1 : pos 0 ≤ℤ pos 1048576 = omega (arith, ints) in
+        (corner _ _ z0 z1 z0 z1, (corner _ _ z0 z1 h0 tall.most, (corner _ _ w0 wide.most h0 tall.most, (corner _ _ w0 wide.most z0 z1, (corner _ _ z0 z1 z0 z1, tt)))))
 
-rows_are : (cell : List ℕ) (r : Lattice) (filled : PlaceSet) → AllByRecursion (IsElement all_rules) (rows_parts cell r filled)
-unfolding rows_parts run_parts
-rows_are cell r filled =
-    all_flat (λ j. flat_map (run_parts cell r j) (runs (filled_columns filled r j))) (places_along r.up) (λ j.
-    all_flat (run_parts cell r j) (runs (filled_columns filled r j)) (λ n. all_flat (λ p. piece_part cell r j p ∷ []) (pieces n) (λ p. (piece_is cell r j p, tt))))
+piece_says : (cell : List ℕ) (r : Lattice) (j : ℤ) (p : Run) → is_fill_name cell ≡ true → IsAxis r.across → IsAxis r.up → IsPiece r j p → flat_map element_shapes (piece_parts cell r j p) ≡ piece_shapes cell r j p
+piece_says cell r j p name across up is = by (p.count == 1)
+  where
+    a : IsArray (at (box_begin r.across p.start) (box_begin r.up j)) (at r.across.step r.up.step) p.count
+    a = row_array r p.start j p.count across up is.part is.some
 
-rows_spelled : (cell : List ℕ) (r : Lattice) (filled : PlaceSet) → flat_map element_records (rows_parts cell r filled) ≡ text.rows_records cell r filled
-unfolding rows_parts run_parts
-rows_spelled cell r filled =
-    spelled_flat (λ j. flat_map (run_parts cell r j) (runs (filled_columns filled r j))) (text.row_records cell r filled) (places_along r.up) (λ j.
-    spelled_flat (run_parts cell r j) (text.run_records cell r j) (runs (filled_columns filled r j)) (λ n.
-    spelled_flat (λ p. piece_part cell r j p ∷ []) (text.piece_records cell r j) (pieces n) (λ p. append-nil (element_records (piece_part cell r j p)) ∙ piece_spelled cell r j p)))
+    by : (b : Bool) → flat_map element_shapes (if b then reference_part cell (corner_of r p.start j) ∷ [] else array_part cell p.count (array_points r j p) ∷ [])
+        ≡ (if b then reference cell plain (corner_of r p.start j) ∷ [] else array cell plain p.count 1 (array_points r j p) ∷ [])
+    by true = append-nil _ ∙ reference_says cell (corner_of r p.start j) name a.corner
+    by false = append-nil _ ∙ array_says cell p.count (array_points r j p) name (below p.count is.few) (a.corner, (a.behind, (a.above, tt)))
+      where
+        below : (n : ℕ) → n ≤ 32767 → n < 65536
+        below n h = omega arith
 
 -- ---- the library
 
@@ -157,42 +165,43 @@ fill_part units dates v filled = record {
   after = [];
   units = rec 0x03 0x05 units;
   cells = record { start = rec 0x05 0x02 dates; name = rec 0x06 0x06 (padded v.fill_cell); class = []; elements = box_part v ∷ []; stop = rec 0x07 0x00 [] }
-      ∷ record { start = rec 0x05 0x02 dates; name = rec 0x06 0x06 (padded v.fill_top); class = []; elements = rows_parts v.fill_cell (raster_of v.numbers) filled; stop = rec 0x07 0x00 [] } ∷ [];
+      ∷ record { start = rec 0x05 0x02 dates; name = rec 0x06 0x06 (padded v.fill_top); class = []; elements = of_pieces (piece_parts v.fill_cell (raster_of v.numbers)) filled (raster_of v.numbers); stop = rec 0x07 0x00 [] } ∷ [];
   stop = rec 0x04 0x00 [];
 }
 
+said : {dates units a b c d : List ℕ} {s t u w : List Shape} → a ≡ b → s ≡ t → c ≡ d → u ≡ w
+    → let x : Contents = record { dates = dates; units = units; cells = record { name = a; shapes = s } ∷ record { name = c; shapes = u } ∷ [] } in
+    let y : Contents = record { dates = dates; units = units; cells = record { name = b; shapes = t } ∷ record { name = d; shapes = w } ∷ [] } in x ≡ y
+said e f g h = cc
+
 pub is_a_library : TextIsALibrary
-unfolding fill_part box_part
+unfolding fill_part
 is_a_library rules units dates filled size len =
     let v = values_of rules in
+    let r = raster_of v.numbers in
     let top = name_kept v.fill_top rules.texts.fill_top_allowed in
-    let cell = name_kept v.fill_cell rules.texts.fill_cell_allowed in (
-      library_value (fill_part units dates v filled),
-      record {
-        records = text.fill_records units dates v filled;
-        rest = [];
-        parts = sym (append-nil (text.fill_text units dates v filled));
-        library = record {
-          part = fill_part units dates v filled;
-          spelled = ap (λ t. rec 0x00 0x02 (0x02 ∷ 0x58 ∷ []) ∷ rec 0x01 0x02 dates ∷ rec 0x02 0x06 (padded v.fill_lib) ∷ rec 0x03 0x05 units
-              ∷ (text.cell_records dates v ++ (rec 0x05 0x02 dates ∷ rec 0x06 0x06 (padded v.fill_top) ∷ (t ++ rec 0x04 0x00 [] ∷ []))))
-              (sym (append-nil _ ∙ ap (λ t. t ++ rec 0x07 0x00 [] ∷ []) (rows_spelled v.fill_cell (raster_of v.numbers) filled)));
-          well = records_are_the_manuals rules units dates filled size len;
-          is_library = record {
-            header = refl;
-            start = refl;
-            before = tt;
-            name = refl;
-            after = tt;
-            units = refl;
-            cells = (
-              record { start = refl; name = refl; class = tt; elements = (box_is v, tt); stop = refl },
-              refl,
-              (record { start = refl; name = refl; class = tt; elements = rows_are v.fill_cell (raster_of v.numbers) filled; stop = refl }, rw (top, cell, rules.apart) refl, tt),
-            );
-            stop = refl;
-          };
-          says = refl;
-        };
-      },
-    )
+    let cell = name_kept v.fill_cell rules.texts.fill_cell_allowed in
+    let shapes = pieces_same r filled element_shapes (piece_parts v.fill_cell r) (piece_shapes v.fill_cell r) (up_is rules) (λ j p is. piece_says v.fill_cell r j p rules.texts.fill_cell_allowed (across_is rules) (up_is rules) is) in
+    let rows = pieces_same r filled element_records (piece_parts v.fill_cell r) (text.piece_records v.fill_cell r) (up_is rules) (λ j p is. piece_spelled v.fill_cell r j p) in
+    record {
+      part = fill_part units dates v filled;
+      spelled = ap (λ t. rec 0x00 0x02 (0x02 ∷ 0x58 ∷ []) ∷ rec 0x01 0x02 dates ∷ rec 0x02 0x06 (padded v.fill_lib) ∷ rec 0x03 0x05 units
+          ∷ (text.cell_records dates v ++ (rec 0x05 0x02 dates ∷ rec 0x06 0x06 (padded v.fill_top) ∷ (t ++ rec 0x04 0x00 [] ∷ []))))
+          (sym (append-nil _ ∙ ap (λ t. t ++ rec 0x07 0x00 [] ∷ []) rows));
+      well = records_are_well rules units dates filled size len;
+      is_library = record {
+        header = refl;
+        start = refl;
+        before = tt;
+        name = refl;
+        after = tt;
+        units = refl;
+        cells = (
+          record { start = refl; name = refl; class = tt; elements = (box_is v, tt); stop = refl },
+          refl,
+          (record { start = refl; name = refl; class = tt; elements = pieces_all r filled (IsElement all_rules) (piece_parts v.fill_cell r) (pieces_are v.fill_cell r); stop = refl }, rw (top, cell, rules.apart) refl, tt),
+        );
+        stop = refl;
+      };
+      says = sym (said cell (append-nil _ ∙ box_says rules) top shapes);
+    }

@@ -8,5 +8,12 @@ pub mod TestMarks
 pub mod PieceLaws
 pub mod Standing
 pub mod Boxed
+pub mod Lists
+pub mod RuleAxes
+pub mod Listing
+pub mod ByPieces
 pub mod Wells
+pub mod ReadBack
+pub mod Entries
 pub mod Grammatical
+pub mod Reread

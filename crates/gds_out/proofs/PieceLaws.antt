@@ -10,7 +10,28 @@ use Rattle.std.proofs.lemmas.Int.{ints}
 use Rattle.std.proofs.lemmas.List.{append-nil}
 use Rattle.std.proofs.lemmas.List.FromFn.{map-range_with_len_more}
 use Rattle.gds_out.specs.Runs.{Run, run, runs, joined, piece, pieces, numbers_from}
-use Rattle.gds_out.specs.Laws.{numbers_in, numbers_of_pieces, PiecesHoldEachOnce}
+use Rattle.gds_out.specs.Laws.{AreApart, RunsAreLongest, numbers_in, numbers_of_pieces, PiecesHoldEachOnce}
+
+-- ---- runs
+
+joined_apart : (z : ℤ) (rs : List Run) → AreApart rs → AreApart (joined z rs)
+joined_apart z [] apart = tt
+joined_apart z (r ∷ rs) apart = by (int_eq r.start (z +ℤ pos 1)) refl
+  where
+    further : (n : ℕ) (s : ℤ) → r.start ≡ z +ℤ pos 1 → (s ≡ r.start +ℤ pos n → ⊥) → s ≡ z +ℤ pos (suc n) → ⊥
+    further n s e other is = other (omega (arith, ints))
+
+    longer : (rs : List Run) → AreApart (r ∷ rs) → r.start ≡ z +ℤ pos 1 → AreApart (run z (suc r.count) ∷ rs)
+    longer [] apart e = tt
+    longer (s ∷ rs) apart e = (further r.count s.start e apart.0, apart.1)
+
+    by : (b : Bool) → int_eq r.start (z +ℤ pos 1) ≡ b → AreApart (if b then run z (suc r.count) ∷ rs else run z 1 ∷ r ∷ rs)
+    by true e = longer rs apart ((Decides-int_eq r.start (z +ℤ pos 1)).0 e)
+    by false e = ((λ is. let both = sym e ∙ (Decides-int_eq r.start (z +ℤ pos 1)).1 is in cc both), apart)
+
+pub longest : RunsAreLongest
+longest [] = tt
+longest (z ∷ zs) = joined_apart z (runs zs) (longest zs)
 
 -- a number before runs
 joined_numbers : (z : ℤ) (rs : List Run) → flat_map numbers_in (joined z rs) ≡ z ∷ flat_map numbers_in rs

@@ -12,8 +12,9 @@ use Rattle.fill_raster.specs.Axes.{box_begin}
 use Rattle.fill_raster.specs.Lattice.{Lattice}
 use Rattle.gds_flatten.specs.References.{grid_point, step_of}
 use Rattle.gds_flatten.proofs.Wholes.{steps_are_whole_lem}
-use Rattle.gds_out.specs.Laws.{numbers_in, numbers_of_pieces, corner_of, array_points, piece_corners, row_corners, ReferencesStandAtTheirPlaces}
-use Rattle.gds_out.specs.Places.{places_along, filled_columns}
+use Rattle.gds_out.specs.FillContents.{corner_of, array_points}
+use Rattle.gds_out.specs.Laws.{numbers_in, numbers_of_pieces, piece_corners, ReferencesStandAtTheirPlaces}
+use Rattle.gds_out.specs.Places.{PlaceSet, places_along, filled_columns}
 use Rattle.gds_out.specs.Runs.{Run, run, runs, pieces, numbers_from}
 use Rattle.gds_out.proofs.Corners.{steps_more}
 use Rattle.gds_out.proofs.PieceLaws.{each_once}
@@ -105,6 +106,9 @@ runs_same r j (n ∷ rs) =
 paired : (r : Lattice) (j : ℤ) (is : List ℤ) → map (λ i. corner_of r i j) is ≡ map (λ (p : ℤ × ℤ). corner_of r p.0 p.1) (map (λ i. (i, j)) is)
 paired r j [] = refl
 paired r j (i ∷ is) = ap (λ qs. corner_of r i j ∷ qs) (paired r j is)
+
+abbrev row_corners : Lattice → PlaceSet → ℤ → List Point
+row_corners r filled j = flat_map (λ n. flat_map (piece_corners r j) (pieces n)) (runs (filled_columns filled r j))
 
 pub stand_at_places : ReferencesStandAtTheirPlaces
 stand_at_places r filled = rows (places_along r.up)

@@ -1,7 +1,7 @@
 -- Each record of the text is one that the manual has, and fits its bytes.
 use Rattle.std.proofs.Common.{◌≡◌, refl, ap, ℕ, zero, suc, ◌+◌, ◌%◌, ◌≤◌, ◌<◌, ℤ, pos, ◌+ℤ◌, ◌*ℤ◌, arith, Bool, true, false, ◌&&◌, not, List, [], ◌∷◌, ◌++◌, length}
 use Rattle.std.specs.Prelude.{◌==◌, if◌then◌else◌, nat_lt, nat_le}
-use Rattle.std.specs.List.{flat_map, AllByRecursion}
+use Rattle.std.specs.List.{AllByRecursion}
 use Rattle.std.proofs.lemmas.Bool.{and_parts, eqb-true, ne_eqb}
 use Rattle.std.proofs.lemmas.List.{length-append}
 use Rattle.gds_record.specs.Records.{Rec, IsRecord}
@@ -11,23 +11,18 @@ use Rattle.fill_raster.specs.Axes.{box_begin}
 use Rattle.fill_raster.specs.Lattice.{Lattice}
 use Rattle.fill_text.specs.Rules.{Values, is_fill_name, raster_of}
 use Rattle.fill_text.specs.ValuesOfRules.{values_of}
-use Rattle.gds_out.specs.FillText.{rec, padded, word_bytes, points_bytes, box_corners, cell_records, reference_records, array_records, piece_records, run_records, row_records, rows_records, top_records, head_records, fill_records}
-use Rattle.gds_out.specs.Laws.{RecordsAreTheManuals}
-use Rattle.gds_out.specs.Places.{PlaceSet, places_along, filled_columns}
-use Rattle.gds_out.specs.Runs.{Run, runs, pieces}
+use Rattle.fill_text.specs.declared.rules.Rules.{Rules}
+use Rattle.gds_grammar.specs.Grammar.{AreWell}
+use Rattle.gds_out.specs.FillText.{rec, padded, word_bytes, points_bytes, box_corners, cell_records, reference_records, array_records, piece_records, rows_records, top_records, head_records, fill_records}
+use Rattle.gds_out.specs.Places.{PlaceSet}
+use Rattle.gds_out.specs.Runs.{Run}
+use Rattle.gds_out.proofs.ByPieces.{pieces_all}
+use Rattle.gds_out.proofs.Lists.{all_append}
 use Rattle.gds_out.proofs.Names.{name_short}
 
 pub record IsGood (r : Rec) : Type 0 where
   pub fits : IsRecord r
   pub well : IsWell r
-
-all_append : (xs ys : List Rec) → AllByRecursion IsGood xs → AllByRecursion IsGood ys → AllByRecursion IsGood (xs ++ ys)
-all_append [] ys h k = k
-all_append (x ∷ xs) ys h k = (h.0, all_append xs ys h.1 k)
-
-all_flat : {X : Type 0} (f : X → List Rec) (xs : List X) → ((x : X) → AllByRecursion IsGood (f x)) → AllByRecursion IsGood (flat_map f xs)
-all_flat f [] h = tt
-all_flat f (x ∷ xs) h = all_append (f x) (flat_map f xs) (h x) (all_flat f xs h)
 
 all_fit : (rs : List Rec) → AllByRecursion IsGood rs → AllByRecursion IsRecord rs
 all_fit [] h = tt
@@ -118,10 +113,7 @@ piece_good cell r j p is = by (p.count == 1)
     by false = array_good cell p.count r.across.step r.up.step (box_begin r.across p.start) (box_begin r.up j) is
 
 rows_good : (cell : List ℕ) (r : Lattice) (filled : PlaceSet) → is_fill_name cell ≡ true → AllByRecursion IsGood (rows_records cell r filled)
-rows_good cell r filled is =
-    all_flat (row_records cell r filled) (places_along r.up) (λ j.
-    all_flat (run_records cell r j) (runs (filled_columns filled r j)) (λ n.
-    all_flat (piece_records cell r j) (pieces n) (λ p. piece_good cell r j p is)))
+rows_good cell r filled is = pieces_all r filled IsGood (piece_records cell r) (λ j p. piece_good cell r j p is)
 
 cell_good : (dates : List ℕ) (v : Values) → length dates ≡ 24 → is_fill_name v.fill_cell ≡ true → AllByRecursion IsGood (cell_records dates v)
 unfolding has_form has_size has_name_if_asked
@@ -154,7 +146,7 @@ top_good dates v filled len cell top = (
   dated 0x05 dates len (omega arith) (rw len refl),
   (
     named 0x06 v.fill_top (omega arith) top (name_asked v.fill_top top),
-    all_append (rows_records v.fill_cell (raster_of v.numbers) filled) (rec 0x07 0x00 [] ∷ []) (rows_good v.fill_cell (raster_of v.numbers) filled cell)
+    all_append IsGood (rows_records v.fill_cell (raster_of v.numbers) filled) (rec 0x07 0x00 [] ∷ []) (rows_good v.fill_cell (raster_of v.numbers) filled cell)
         (good 0x07 0x00 [] (omega arith) (omega arith) refl (omega arith) refl, tt),
   ),
 )
@@ -172,15 +164,15 @@ head_good units dates v size len is = (
   ),
 )
 
-pub records_are_the_manuals : RecordsAreTheManuals
+pub records_are_well : (rules : Rules) (units dates : List ℕ) (filled : PlaceSet) → length units ≡ 16 → length dates ≡ 24 → AreWell (fill_records units dates (values_of rules) filled)
 unfolding has_form has_size has_name_if_asked
-records_are_the_manuals rules units dates filled size len =
+records_are_well rules units dates filled size len =
     let v = values_of rules in
     let stop : AllByRecursion IsGood (rec 0x04 0x00 [] ∷ []) = (good 0x04 0x00 [] (omega arith) (omega arith) refl (omega arith) refl, tt) in
     let tops : AllByRecursion IsGood (top_records dates v filled ++ rec 0x04 0x00 [] ∷ []) =
-    all_append (top_records dates v filled) (rec 0x04 0x00 [] ∷ []) (top_good dates v filled len rules.texts.fill_cell_allowed rules.texts.fill_top_allowed) stop in
+    all_append IsGood (top_records dates v filled) (rec 0x04 0x00 [] ∷ []) (top_good dates v filled len rules.texts.fill_cell_allowed rules.texts.fill_top_allowed) stop in
     let cells : AllByRecursion IsGood (cell_records dates v ++ (top_records dates v filled ++ rec 0x04 0x00 [] ∷ [])) =
-    all_append (cell_records dates v) (top_records dates v filled ++ rec 0x04 0x00 [] ∷ []) (cell_good dates v len rules.texts.fill_cell_allowed) tops in
+    all_append IsGood (cell_records dates v) (top_records dates v filled ++ rec 0x04 0x00 [] ∷ []) (cell_good dates v len rules.texts.fill_cell_allowed) tops in
     let all : AllByRecursion IsGood (fill_records units dates v filled) =
-    all_append (head_records units dates v) (cell_records dates v ++ (top_records dates v filled ++ rec 0x04 0x00 [] ∷ [])) (head_good units dates v size len rules.texts.fill_lib_allowed) cells in
+    all_append IsGood (head_records units dates v) (cell_records dates v ++ (top_records dates v filled ++ rec 0x04 0x00 [] ∷ [])) (head_good units dates v size len rules.texts.fill_lib_allowed) cells in
     record { fit = all_fit (fill_records units dates v filled) all; well = all_well (fill_records units dates v filled) all }

@@ -1,5 +1,6 @@
 pub mod Runs
 pub mod Places
 pub mod FillText
+pub mod FillContents
 pub mod Laws
 pub mod steps

@@ -6,7 +6,7 @@ use Rattle.fill_raster.specs.Axes.{first, extent}
 use Rattle.fill_raster.specs.Lattice.{Lattice, in_tile, tiles}
 use Rattle.fill_raster.specs.Marks.{Marked, in_block, is_marked}
 use Rattle.fill_raster.specs.declared.axis.Axis.{Axis}
-use Rattle.gds_out.specs.Runs.{numbers_from}
+use Rattle.gds_out.specs.Runs.{Run, runs, pieces, numbers_from}
 
 -- a set of places, as a test
 abbrev pub PlaceSet : Type 0
@@ -23,6 +23,10 @@ filled_columns filled r j = filter (λ i. filled i j) (places_along r.across)
 -- the filled places of a raster: row by row upwards, in a row from left to right
 abbrev pub filled_places : PlaceSet → Lattice → List (ℤ × ℤ)
 filled_places filled r = flat_map (λ j. map (λ i. (i, j)) (filled_columns filled r j)) (places_along r.up)
+
+-- what the pieces give that the filled places are written in: row by row upwards, in a row from left to right
+abbrev pub of_pieces : {A : Type 0} → (ℤ → Run → List A) → PlaceSet → Lattice → List A
+of_pieces give filled r = flat_map (λ j. flat_map (λ n. flat_map (give j) (pieces n)) (runs (filled_columns filled r j))) (places_along r.up)
 
 -- what some marks mark
 abbrev pub marked_by : List (Bor Marked) → PlaceSet

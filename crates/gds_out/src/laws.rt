@@ -1,10 +1,20 @@
 //! What holds of every fill library, whatever the code does. Each function's contract is the law.
 
-ghost use Rattle.gds_out.specs.Laws.{MovedBoxIsThePlaces, PiecesHoldEachOnce, RecordsAreTheManuals, ReferencesStandAtTheirPlaces, TextIsALibrary};
+ghost use Rattle.gds_out.specs.Laws.{BoxesAreThePlaces, EachPlaceStandsOnce, MovedBoxIsThePlaces, PiecesHoldEachOnce, ReferencesStandAtTheirPlaces, RunsAreLongest, TextIsALibrary};
+
+/// The runs that a row is written in are as long as can be: between two of them a column is free.
+pub fn runs_are_longest()
+    ensures { RunsAreLongest }
+{}
 
 /// The pieces that a row is written in hold each of its filled columns once, from left to right, and no other column.
 pub fn pieces_hold_each_once()
     ensures { PiecesHoldEachOnce }
+{}
+
+/// The list of the filled places holds each place of the raster that is filled once, and no other place.
+pub fn each_place_stands_once()
+    ensures { EachPlaceStandsOnce }
 {}
 
 /// The single references that the pieces of all rows stand for, an array's by its points as flattening takes them, are moved to
@@ -18,12 +28,14 @@ pub fn moved_box_is_the_places()
     ensures { MovedBoxIsThePlaces }
 {}
 
-/// Each record of the text of a fill library fits its bytes, and is as the manual has those of its kind.
-pub fn records_are_the_manuals()
-    ensures { RecordsAreTheManuals }
-{}
-
-/// The text of a fill library is in the library grammar.
+/// The text of a fill library is in the library grammar to its last record, each record as the manual has those of its kind, and
+/// says what it is to say: a cell of one boundary, and a top cell with a reference or an array of one row for each piece of a row.
 pub fn text_is_a_library()
     ensures { TextIsALibrary }
+{}
+
+/// Whatever library the text of a fill library is read as, its shape copies from the top cell on, as flattening defines them, cover
+/// the boxes of the filled places on the fill layer and data type: each box once, row by row upwards, and nothing else.
+pub fn boxes_are_the_places()
+    ensures { BoxesAreThePlaces }
 {}

@@ -5,11 +5,11 @@ ghost use Rattle.gds_out.specs.steps.Tiles.{OfTiles};
 
 use crate::fill_library;
 use fill_area::area_in;
-use fill_base::Rect;
+use fill_base::{Point, Rect};
 use fill_raster::{Marks, Place, Raster};
 use fill_text::{Rules, read_rules};
-use gds_flatten::flatten;
-use gds_grammar::read_library;
+use gds_flatten::{flatten, flatten_rects};
+use gds_grammar::{Element, read_library};
 use std::alloc::{AllocError, Global};
 use std::test::Fail;
 
@@ -261,6 +261,98 @@ fn the_library_is_read_again(rt: HostRuntime) -> Result<(), Fail> {
     assert!(rt; metal.has(3, 3));
     assert!(rt; !metal.has(13, 13));
     assert!(rt; metal.has(96, 96));
+    Ok(())
+}
+
+/// Two places that follow one another in the lowest row, and one in the third.
+const THREE: [Place; 3] = [
+    Place { i: 0, j: 0 },
+    Place { i: 1, j: 0 },
+    Place { i: 5, j: 2 },
+];
+
+#[test]
+fn a_cell_of_one_box(rt: HostRuntime) -> Result<(), Fail> {
+    let text = library(rt.alloc(), WORKED_RULES, &THREE, &[])?;
+    let read = read_library(rt.alloc(), &text)?;
+    let names: [&[u8]; 2] = [b"BOX4", b"FILLTOP"];
+    for (name, cell) in names.iter().zip(read.cells.keys()) {
+        assert_eq!(rt; *name, cell.as_slice());
+    }
+    assert_eq!(rt; read.cells.len(), 2);
+    let elements = read.cells.get(b"BOX4".as_slice()).ok_or("no cell BOX4")?;
+    assert_eq!(rt; elements.len(), 1);
+    for element in elements {
+        match element {
+            Element::Boundary(b) => {
+                assert_eq!(rt; (b.layer, b.data_type), (10, 1));
+                let points = [
+                    Point { x: 0, y: 0 },
+                    Point { x: 0, y: 4 },
+                    Point { x: 4, y: 4 },
+                    Point { x: 4, y: 0 },
+                    Point { x: 0, y: 0 },
+                ];
+                assert_eq!(rt; b.points.as_slice(), points.as_slice());
+            }
+            _ => assert!(rt; false, "no boundary"),
+        }
+    }
+    Ok(())
+}
+
+#[test]
+fn an_array_for_two_boxes_and_a_reference_for_one(rt: HostRuntime) -> Result<(), Fail> {
+    let text = library(rt.alloc(), WORKED_RULES, &THREE, &[])?;
+    let read = read_library(rt.alloc(), &text)?;
+    let elements = read
+        .cells
+        .get(b"FILLTOP".as_slice())
+        .ok_or("no cell FILLTOP")?;
+    assert_eq!(rt; elements.len(), 2);
+    let mut found = 0u32;
+    for element in elements {
+        match element {
+            Element::Array(a) => {
+                assert_eq!(rt; found, 0);
+                assert_eq!(rt; a.cell.as_slice(), b"BOX4".as_slice());
+                assert_eq!(rt; (a.columns, a.rows, a.transform.flags), (2, 1, 0));
+                let points = [
+                    Point { x: 3, y: 3 },
+                    Point { x: 23, y: 3 },
+                    Point { x: 3, y: 13 },
+                ];
+                assert_eq!(rt; a.points, points);
+                found += 1;
+            }
+            Element::Ref(r) => {
+                assert_eq!(rt; found, 1);
+                assert_eq!(rt; r.cell.as_slice(), b"BOX4".as_slice());
+                assert_eq!(rt; r.origin, Point { x: 53, y: 23 });
+                assert_eq!(rt; r.transform.angle, None);
+                found += 1;
+            }
+            _ => assert!(rt; false, "no reference"),
+        }
+    }
+    assert_eq!(rt; found, 2);
+    Ok(())
+}
+
+#[test]
+fn its_copies_are_the_boxes(rt: HostRuntime) -> Result<(), Fail> {
+    let alloc = rt.alloc();
+    let text = library(alloc, WORKED_RULES, &THREE, &[])?;
+    let boxes = flatten_rects(alloc, &read_library(alloc, &text)?, b"FILLTOP", 10, 1)?;
+    let places = [
+        Rect::new(3, 3, 7, 7)?,
+        Rect::new(13, 3, 17, 7)?,
+        Rect::new(53, 23, 57, 27)?,
+    ];
+    assert_eq!(rt; boxes.as_slice(), places.as_slice());
+    let empty = library(alloc, WORKED_RULES, &NOWHERE, &[])?;
+    let none = flatten_rects(alloc, &read_library(alloc, &empty)?, b"FILLTOP", 10, 1)?;
+    assert!(rt; none.is_empty());
     Ok(())
 }
 

@@ -1,0 +1,56 @@
+-- What a fill library says: the contents that its text spells.
+use Rattle.std.specs.Prelude.{ℕ, ◌==◌, ℤ, pos, ◌+ℤ◌, ◌*ℤ◌, unsigned_abs, if◌then◌else◌, List, [], ◌∷◌, None}
+use Rattle.fill_base.specs.declared.place.Point.{Point}
+use Rattle.fill_raster.specs.Axes.{box_begin}
+use Rattle.fill_raster.specs.Lattice.{Lattice}
+use Rattle.fill_text.specs.Rules.{Values, value_of, raster_of}
+use Rattle.fill_text.specs.declared.keys.NumberKey.TheVariants.{FillLayer, FillDatatype}
+use Rattle.gds_grammar.specs.declared.element.Transform.{Transform}
+use Rattle.gds_grammar.specs.Values.{Shape, Cell, Contents, boundary, reference, array}
+use Rattle.gds_out.specs.Places.{PlaceSet, of_pieces}
+use Rattle.gds_out.specs.Runs.{Run}
+
+-- the fill layer and the fill data type
+abbrev pub layer_of : Values → ℕ
+layer_of v = unsigned_abs (value_of v FillLayer)
+
+abbrev pub data_type_of : Values → ℕ
+data_type_of v = unsigned_abs (value_of v FillDatatype)
+
+-- the points of the boundary of the one box
+abbrev pub box_points : Lattice → List Point
+box_points r =
+    record { x = pos 0; y = pos 0 } ∷ record { x = pos 0; y = r.up.length } ∷ record { x = r.across.length; y = r.up.length }
+    ∷ record { x = r.across.length; y = pos 0 } ∷ record { x = pos 0; y = pos 0 } ∷ []
+
+-- the lower left corner of the box of a place
+abbrev pub corner_of : Lattice → ℤ → ℤ → Point
+corner_of r i j = record { x = box_begin r.across i; y = box_begin r.up j }
+
+-- the points of an array: the first corner, the one behind the last box, the one above the first
+abbrev pub array_points : Lattice → ℤ → Run → List Point
+array_points r j p =
+    corner_of r p.start j
+    ∷ record { x = box_begin r.across p.start +ℤ (pos p.count *ℤ r.across.step); y = box_begin r.up j }
+    ∷ record { x = box_begin r.across p.start; y = box_begin r.up j +ℤ r.up.step } ∷ []
+
+-- neither reflected nor turned nor magnified
+abbrev pub plain : Transform
+plain = record { flags = 0; magnification = None; angle = None }
+
+-- a piece of the row j: a reference for a box alone, an array of one row for more
+abbrev pub piece_shapes : List ℕ → Lattice → ℤ → Run → List Shape
+piece_shapes cell r j p =
+    if p.count == 1 then reference cell plain (corner_of r p.start j) ∷ []
+    else array cell plain p.count 1 (array_points r j p) ∷ []
+
+-- the cell of the one box
+abbrev pub box_cell : Values → Cell
+box_cell v = record { name = v.fill_cell; shapes = boundary (layer_of v) (data_type_of v) (box_points (raster_of v.numbers)) ∷ [] }
+
+-- the cell that refers to it
+abbrev pub top_cell : Values → PlaceSet → Cell
+top_cell v filled = record { name = v.fill_top; shapes = of_pieces (piece_shapes v.fill_cell (raster_of v.numbers)) filled (raster_of v.numbers) }
+
+abbrev pub fill_contents : List ℕ → List ℕ → Values → PlaceSet → Contents
+fill_contents units dates v filled = record { dates = dates; units = units; cells = box_cell v ∷ top_cell v filled ∷ [] }
