@@ -96,8 +96,8 @@ fn created<R: Files>(rt: &R, path: &str) -> Result<Tap<R::File>, Refusal>
     match File::create(rt, path) {
         Ok(file) => Ok(Tap::new(file)),
         Err(error) => match open_fault(&error) {
-            InputError::Memory => Err(OUT_OF_MEMORY),
-            _ => Err(Refusal::Out),
+            InputError::Device => Err(Refusal::Out),
+            _ => Err(OUT_OF_MEMORY),
         },
     }
 }

@@ -4,7 +4,9 @@ use fill_device::{InputError, Tap};
 use fill_engine::{InputFault, Refusal, RunFault};
 use fill_line::Line;
 use std::io::{self, ErrorKind};
-use std::process::ExitCode;
+use std::process::{Abort, ExitCode};
+use std::rt::Files;
+use std::thread::Threads;
 
 /// No file has this path.
 const NO_FILE: &str = "/dev/null/none";
@@ -107,6 +109,44 @@ fn a_missing_file_is_a_device_fault_at_its_part(rt: HostRuntime) {
         };
         assert_eq!(rt; run(&rt, rt.alloc(), line, &mut out), Err(of_design));
     }
+}
+
+/// Asserts the status of `fill` on these paths, and what it tells.
+fn assert_fill(
+    rt: &(impl Abort + AllocGlobal + Files + Threads + Sync),
+    paths: [&str; 4],
+    option: &str,
+    want: u8,
+    line: &str,
+) {
+    let [rules, design, script, out] = paths;
+    let mut written = Vec::new(rt.alloc());
+    let mut told = Vec::new(rt.alloc());
+    let words = ["densfill", "fill", rules, design, script, out, option];
+    let status = status_of(
+        rt,
+        words.as_slice(),
+        &mut Tap::new(&mut written),
+        &mut Tap::new(&mut told),
+    );
+    assert_eq!(rt; status, ExitCode::from(want));
+    assert!(rt;
+        written.is_empty() && told.as_slice() == line.as_bytes(),
+        "{line}"
+    );
+}
+
+#[test]
+fn a_fill_opens_its_inputs_before_it_reads_one(rt: HostRuntime) {
+    let limit = "--limit=9";
+    let line = "densfill: rules: 30 Device\n";
+    assert_fill(&rt, [NO_FILE, NO_FILE, EMPTY, EMPTY], limit, 4, line);
+    let line = "densfill: design: 30 Device\n";
+    assert_fill(&rt, [EMPTY, NO_FILE, NO_FILE, EMPTY], limit, 4, line);
+    let line = "densfill: script: 30 Device\n";
+    assert_fill(&rt, [EMPTY, EMPTY, NO_FILE, EMPTY], limit, 4, line);
+    let line = "densfill: rules: 23 BadRule key frame_x1\n";
+    assert_fill(&rt, [EMPTY, EMPTY, EMPTY, NO_FILE], limit, 2, line);
 }
 
 #[test]
