@@ -33,3 +33,4 @@ bench: build
 	bench/job/run.sh
 	bench/book/run.sh
 	bench/check/run.sh
+	bench/fill/run.sh
