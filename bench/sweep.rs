@@ -121,6 +121,7 @@ impl Walk {
 }
 
 /// Windows of one size, in columns and rows.
+#[derive(Clone, Copy)]
 pub struct Windows {
     pub origin: (i32, i32),
     pub size: (i32, i32),
@@ -185,6 +186,27 @@ pub fn measure_all(bands: &Bands, windows: &Windows) -> Vec<i64> {
     }
     sums.truncate(count);
     sums
+}
+
+/// The part of the region in a rectangle.
+pub fn clip(bands: &Bands, to: &Rect) -> Bands {
+    let mut part: Bands = Vec::new();
+    let first = first_not(bands, |band| band.0 <= to.y1).saturating_sub(1);
+    for band in bands[first..].iter().take_while(|band| band.0 < to.y2) {
+        let begin = first_not(&band.1, |edge| *edge <= to.x1);
+        let end = first_not(&band.1, |edge| *edge < to.x2);
+        let mut row = Vec::with_capacity(end - begin + 2);
+        row.extend((begin % 2 == 1).then_some(to.x1));
+        row.extend_from_slice(&band.1[begin..end]);
+        row.extend((end % 2 == 1).then_some(to.x2));
+        if part.last().map_or(!row.is_empty(), |last| last.1 != row) {
+            part.push((band.0.max(to.y1), row));
+        }
+    }
+    if part.last().is_some_and(|last| !last.1.is_empty()) {
+        part.push((to.y2, Vec::new()));
+    }
+    part
 }
 
 /// Whether some number from `x1` on and below `x2` is in the row.

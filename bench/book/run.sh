@@ -16,20 +16,12 @@
 # usage: bench/book/run.sh      (needs rt, python3, taskset, GNU time and 2 GB; some ten minutes, and more where the crates were
 #                                not proved before)
 set -eu
-here=$(cd "$(dirname "$0")" && pwd)
-work=$(mktemp -d)
-trap 'rm -rf "$work"' EXIT
+. "$(dirname "$0")/../common.sh"
 
-python3 "$here/../layer/generate.py" 1000 "$work/first"
-"$here/../build.sh" "$here" book "$work" "$work/first" \
-    "fill_base fill_spans fill_region fill_size fill_area fill_raster fill_text fill_job fill_core fill_book" \
-    "rayon csv thiserror anyhow"
-python3 "$here/../layer/generate.py" 1000000 "$work/layer"
-mkdir "$work/rules"
-python3 "$here/plans.py" "$work/layer" "$work/rules"
+build_over_layer book plans.py \
+    "fill_base fill_spans fill_region fill_size fill_area fill_raster fill_text fill_job fill_core fill_book"
 
-all=$(nproc)
-for processors in $(printf '1\n%s\n' "$all" | sort -nu); do
+for processors in $(one_and_all); do
     for round in 1 2 3; do
         for rules in 0-32 0-130 2000-32 2000-130; do
             (cd "$work/rules" && /usr/bin/time -f %M -o "$work/peak" taskset -c "0-$((processors - 1))" \
@@ -63,4 +55,4 @@ awk -F';' '
                 peak[part[1] ";" part[3]] / 1024
         }
     }' "$work/measured"
-echo "processes that ran or waited, on average over 1, 5 and 15 minutes: $(cut -d' ' -f1-3 /proc/loadavg)"
+say_load

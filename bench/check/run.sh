@@ -12,44 +12,32 @@
 # usage: bench/check/run.sh [COUNT ..]     (after make build; needs rustc, python3, taskset and GNU time; without COUNT
 #                                           some five minutes and 4 GB, and half an hour with KLayout)
 set -eu
-here=$(cd "$(dirname "$0")" && pwd)
-root=$(cd "$here/../.." && pwd)
-work=$(mktemp -d)
-trap 'rm -rf "$work"' EXIT
+. "$(dirname "$0")/../common.sh"
 
 rustc --edition 2021 -O -o "$work/plain" "$here/plain.rs"
 
-# run PROGRAM OUT: prints the report of the design into OUT.
+# run PROGRAM PROCESSORS: the report of the design to WORK/PROGRAM.csv.
 run() {
+    local out=$work/$1.csv
     case $1 in
-        densfill) "$root/bin/densfill" check "$work/rules.csv" "$work/design.gds" > "$2" ;;
-        plain) "$work/plain" "$work/rules.csv" "$work/design.gds" library > "$2" ;;
-        direct) "$work/plain" "$work/rules.csv" "$work/design.gds" > "$2" ;;
+        densfill) "$root/bin/densfill" check "$work/rules.csv" "$work/design.gds" > "$out" ;;
+        plain) "$work/plain" "$work/rules.csv" "$work/design.gds" library > "$out" ;;
+        direct) "$work/plain" "$work/rules.csv" "$work/design.gds" > "$out" ;;
         areas.py | density.drc)
             QT_QPA_PLATFORM=offscreen klayout -b -r "$here/$1" -rd design="$work/design.gds" -rd rules="$work/rules.csv" \
-                -rd threads="$3" -rd out="$2" ;;
+                -rd threads="$2" -rd out="$out" ;;
     esac
 }
 export -f run
 export here root work
 
-# measure PROGRAM PROCESSORS ROUNDS: the least seconds and the peak of so many runs; what it says stays in WORK/PROGRAM.csv.
-measure() {
-    for _ in $(seq "$3"); do
-        /usr/bin/time -f '%e %M' -a -o "$work/cost" taskset -c "0-$(($2 - 1))" bash -c "run $1 $work/$1.csv $2"
-    done
-    awk 'NR == 1 || $1 < best { best = $1 } $2 > peak { peak = $2 } END { printf "%.2f %.0f\n", best, peak / 1024 }' "$work/cost"
-    rm "$work/cost"
-}
-
-all=$(nproc)
 printf '%-6s %10s %10s %12s %8s %6s %9s %12s %9s %10s\n' \
     form copies processors "densfill s" "plain s" ratio "direct s" "densfill MB" "plain MB" "direct MB"
 [ $# -gt 0 ] || set -- 100000 1000000 3900000
 for count in "$@"; do
     for form in flat deep; do
         python3 "$here/generate.py" "$count" "$form" "$work"
-        for processors in $(printf '1\n%s\n' "$all" | sort -nu); do
+        for processors in $(one_and_all); do
             ours=$(measure densfill "$processors" 3)
             theirs=$(measure plain "$processors" 3)
             direct=$(measure direct "$processors" 3)
@@ -75,4 +63,4 @@ done
             "areas MB", "density MB"
     }
     { printf "%-6s %10d %10d %12.1f %8.0f %14.1f %8.0f %12d %12d\n", $1, $2, $3, $4, $4 / $8, $6, $6 / $8, $5, $7 }' "$work/klayout"
-echo "processes that ran or waited, on average over 1, 5 and 15 minutes: $(cut -d' ' -f1-3 /proc/loadavg)"
+say_load

@@ -4,9 +4,7 @@
 #
 # usage: bench/gds/run.sh        (needs rt, rustc, python3 and GNU time; some two minutes)
 set -eu
-here=$(cd "$(dirname "$0")" && pwd)
-work=$(mktemp -d)
-trap 'rm -rf "$work"' EXIT
+. "$(dirname "$0")/../common.sh"
 
 python3 "$here/generate.py" 1000 "$work/first.gds"
 "$here/../build.sh" "$here" read_design "$work" "$work/first.gds" "fill_base gds_record gds_grammar" anyhow

@@ -1,12 +1,13 @@
 //! The same work as `job.rt.txt` without proofs, for the benchmark alone: each tile's job has the metal of its halo and the low
 //! windows near it, and marks the wanted places by a clearance search for each.
+#[path = "../rules.rs"]
+mod rules;
 #[path = "../sweep.rs"]
 mod sweep;
 
-use std::collections::HashMap;
 use std::sync::Mutex;
 use std::time::Instant;
-use sweep::{first_not, from_rects, is_clear, read, Bands, Rect};
+use sweep::{clip, from_rects, is_clear, read, Bands, Rect};
 
 /// The numbers of the rules.
 struct Rules {
@@ -22,10 +23,8 @@ struct Rules {
 
 impl Rules {
     fn read(path: &str) -> Rules {
-        let text = std::fs::read_to_string(path).expect("the rules");
-        let pair = |line: &str| line.split_once(',').map(|(key, value)| (key.to_string(), value.to_string()));
-        let values: HashMap<String, String> = text.lines().filter_map(pair).collect();
-        let key = |name: &str| values[name].parse::<i32>().expect("a number");
+        let rules = rules::Rules::read(path);
+        let key = |name: &str| rules.key(name);
         Rules {
             frame: key("frame_x2"),
             side: key("box_w"),
@@ -48,27 +47,6 @@ impl Rules {
         let first = (high - self.window + self.window_step - 1).div_euclid(self.window_step);
         (first.max(0), (low.div_euclid(self.window_step) + 1).min(self.windows))
     }
-}
-
-/// The part of the region in a rectangle.
-fn clip(bands: &Bands, to: &Rect) -> Bands {
-    let mut part: Bands = Vec::new();
-    let first = first_not(bands, |band| band.0 <= to.y1).saturating_sub(1);
-    for band in bands[first..].iter().take_while(|band| band.0 < to.y2) {
-        let begin = first_not(&band.1, |edge| *edge <= to.x1);
-        let end = first_not(&band.1, |edge| *edge < to.x2);
-        let mut row = Vec::with_capacity(end - begin + 2);
-        row.extend((begin % 2 == 1).then_some(to.x1));
-        row.extend_from_slice(&band.1[begin..end]);
-        row.extend((end % 2 == 1).then_some(to.x2));
-        if part.last().map_or(!row.is_empty(), |last| last.1 != row) {
-            part.push((band.0.max(to.y1), row));
-        }
-    }
-    if part.last().is_some_and(|last| !last.1.is_empty()) {
-        part.push((to.y2, Vec::new()));
-    }
-    part
 }
 
 /// Marks the wanted places of a tile, and counts them.

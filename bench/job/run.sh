@@ -8,19 +8,11 @@
 # usage: bench/job/run.sh      (needs rt, rustc, python3, taskset and 1 GB; some two minutes, and more where the crates were
 #                               not proved before)
 set -eu
-here=$(cd "$(dirname "$0")" && pwd)
-work=$(mktemp -d)
-trap 'rm -rf "$work"' EXIT
+. "$(dirname "$0")/../common.sh"
 
-python3 "$here/../layer/generate.py" 1000 "$work/first"
-"$here/../build.sh" "$here" job "$work" "$work/first" \
-    "fill_base fill_raster fill_spans fill_region fill_size fill_area fill_text fill_job" "rayon csv thiserror anyhow"
-python3 "$here/../layer/generate.py" 1000000 "$work/layer"
-mkdir "$work/rules"
-python3 "$here/rules.py" "$work/layer" "$work/rules"
+build_over_layer job rules.py "fill_base fill_raster fill_spans fill_region fill_size fill_area fill_text fill_job"
 
-all=$(nproc)
-for processors in $(printf '1\n%s\n' "$all" | sort -nu); do
+for processors in $(one_and_all); do
     for round in 1 2 3; do
         for program in rattle plain; do
             (cd "$work/rules" && taskset -c "0-$((processors - 1))" "$work/$program" "$work/layer" ./*.csv) |
@@ -46,4 +38,4 @@ awk '
             printf "%-8d %6d %8d %10d %9.3f %9.3f %6.2f\n", kind[1], kind[2], wanted[rows[k]], part[1], r / 1e6, p / 1e6, r / p
         }
     }' "$work/measured"
-echo "processes that ran or waited, on average over 1, 5 and 15 minutes: $(cut -d' ' -f1-3 /proc/loadavg)"
+say_load

@@ -13,15 +13,13 @@
 # usage: bench/layer/run.sh      (needs rt, rustc, python3, taskset, GNU time and 2 GB; some five minutes on four idle
 #                                 processors, and as many again where the crates were not proved before)
 set -eu
-here=$(cd "$(dirname "$0")" && pwd)
-work=$(mktemp -d)
-trap 'rm -rf "$work"' EXIT
+. "$(dirname "$0")/../common.sh"
 
 python3 "$here/generate.py" 1000 "$work/first"
 "$here/../build.sh" "$here" layer "$work" "$work/first" "fill_base fill_spans fill_region fill_size fill_area" "rayon anyhow"
 
-# measure SIZE PROCESSORS: runs both programs three times on the first so many processors.
-measure() {
+# time_both SIZE PROCESSORS: runs both programs three times on the first so many processors.
+time_both() {
     local size=$1 processors=$2 last=$(($2 - 1)) round program
     for round in 1 2 3; do
         for program in rattle plain; do
@@ -32,15 +30,14 @@ measure() {
     done
 }
 
-all=$(nproc)
 for size in 100000 1000000 4000000; do
     python3 "$here/generate.py" $size "$work/layer"
     if [ $size = 1000000 ]; then
         for processors in 1 2; do
-            [ $processors -ge "$all" ] || measure $size $processors
+            [ $processors -ge "$all" ] || time_both $size $processors
         done
     fi
-    measure $size "$all"
+    time_both $size "$all"
 done
 
 # Lines of $work/measured: size, processors, program, peak in KB, what was done, what came out, microseconds.
@@ -75,4 +72,4 @@ awk '
                 peak[part[1] " " part[2] " plain"] / 1024
         }
     }' "$work/measured"
-echo "processes that ran or waited, on average over 1, 5 and 15 minutes: $(cut -d' ' -f1-3 /proc/loadavg)"
+say_load

@@ -5,10 +5,7 @@
 #
 # usage: bench/rects/run.sh      (after make build; needs python3 and GNU time; a minute or two)
 set -eu
-here=$(cd "$(dirname "$0")" && pwd)
-root=$(cd "$here/../.." && pwd)
-work=$(mktemp -d)
-trap 'rm -rf "$work"' EXIT
+. "$(dirname "$0")/../common.sh"
 
 printf '%-10s %9s %9s %9s %9s %24s\n' shape records windows seconds "peak MB" "ns by record and window"
 for shape in scattered tracks; do

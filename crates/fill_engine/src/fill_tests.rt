@@ -1,6 +1,7 @@
 //! Runs of `prepare` and `deliver` over readers and writers that tell their bytes or fail.
 use crate::tests::{
-    Broken, EMPTY, OTHER_LINES, RULES, SOLID, SOLID_REPORT, Short, WIRE, of_script,
+    Broken, CYCLE_APART, EMPTY, OTHER_LINES, OTHERS, RULES, SOLID, SOLID_REPORT, Short, WIRE,
+    of_script,
 };
 use crate::{Filled, InputFault, Refusal, RunFault, deliver, prepare};
 use fill_device::{InputError, Tap};
@@ -130,12 +131,15 @@ fn an_empty_design_is_filled_whole(rt: HostRuntime) -> Result<(), Fail> {
     Ok(())
 }
 
-/// The wire is too near to two boxes, so two rows are a box and an array of eight.
+/// The wire is too near to two boxes, so two rows are a box and an array of eight. Elements that are no metal of the layer, and
+/// cells that the top doesn't reach, change nothing.
 #[test]
 fn a_wire_keeps_its_spacing(rt: HostRuntime) -> Result<(), Fail> {
     let alloc = rt.alloc();
     let report = format!(in alloc; "0,0,0,0,50,50,220,368,588,235200,LOW\n{FILLED_LINES}")?;
-    assert!(rt; is_filled(&rt, alloc, WIRE, b"", None, 790, report.as_bytes()));
+    for design in [WIRE, OTHERS, CYCLE_APART] {
+        assert!(rt; is_filled(&rt, alloc, design, b"", None, 790, report.as_bytes()));
+    }
     Ok(())
 }
 

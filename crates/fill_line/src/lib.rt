@@ -36,7 +36,7 @@ pub enum Line<'a> {
         /// The path of the design.
         design: &'a str,
     },
-    /// To fill the windows of a design that are low, while a script changes it.
+    /// To fill the windows of a design that are low, once a script's changes of its metal are made.
     Fill {
         /// The path of the rule file.
         rules: &'a str,

@@ -1,0 +1,367 @@
+//! Designs in plain Rust, for the benchmarks alone: reads a GDSII library and carries the shapes of a layer to their copies. It takes
+//! sound inputs for granted.
+#![allow(dead_code)] // no benchmark uses all of it
+
+use crate::sweep::Rect;
+use std::collections::HashMap;
+
+type Point = (i64, i64);
+
+/// Where a reference carries: swapped first, then each coordinate negated or not, then moved.
+#[derive(Clone, Copy)]
+struct Placement {
+    swapped: bool,
+    flip_x: bool,
+    flip_y: bool,
+    x: i64,
+    y: i64,
+}
+
+fn signed(flip: bool, v: i64) -> i64 {
+    if flip { -v } else { v }
+}
+
+impl Placement {
+    fn shift(x: i64, y: i64) -> Placement {
+        Placement { swapped: false, flip_x: false, flip_y: false, x, y }
+    }
+
+    fn of(reflected: bool, turns: u8, (x, y): Point) -> Placement {
+        let (swapped, flip_x, flip_y) = match turns {
+            0 => (false, false, reflected),
+            1 => (true, !reflected, false),
+            2 => (false, true, !reflected),
+            _ => (true, reflected, true),
+        };
+        Placement { swapped, flip_x, flip_y, x, y }
+    }
+
+    fn point(&self, (x, y): Point) -> Point {
+        let (a, b) = if self.swapped { (y, x) } else { (x, y) };
+        (signed(self.flip_x, a) + self.x, signed(self.flip_y, b) + self.y)
+    }
+
+    fn after(&self, inner: &Placement) -> Placement {
+        let (fx, fy) = if self.swapped { (inner.flip_y, inner.flip_x) } else { (inner.flip_x, inner.flip_y) };
+        let (x, y) = self.point((inner.x, inner.y));
+        let swapped = self.swapped != inner.swapped;
+        Placement { swapped, flip_x: self.flip_x != fx, flip_y: self.flip_y != fy, x, y }
+    }
+
+    fn rect(&self, r: &Rect) -> Rect {
+        let (a, b) = self.point((r.x1.into(), r.y1.into()));
+        let (c, d) = self.point((r.x2.into(), r.y2.into()));
+        Rect { x1: a.min(c) as i32, y1: b.min(d) as i32, x2: a.max(c) as i32, y2: b.max(d) as i32 }
+    }
+}
+
+#[derive(Clone)]
+struct Link {
+    name: Vec<u8>,
+    placement: Placement,
+    columns: i64,
+    rows: i64,
+    column_step: Point,
+    row_step: Point,
+}
+
+#[derive(Default)]
+pub struct Cell {
+    pieces: Vec<Rect>,
+    shapes: usize,
+    links: Vec<Link>,
+}
+
+#[derive(Default)]
+struct Draft<'a> {
+    layer: u16,
+    data_type: u16,
+    path_type: u16,
+    width: i32,
+    begin: i32,
+    end: i32,
+    cell: &'a [u8],
+    flags: u16,
+    angle: f64,
+    columns: u16,
+    rows: u16,
+    xy: &'a [u8],
+}
+
+pub fn word(b: &[u8]) -> u16 {
+    u16::from_be_bytes([b[0], b[1]])
+}
+
+fn number(b: &[u8]) -> i32 {
+    i32::from_be_bytes([b[0], b[1], b[2], b[3]])
+}
+
+fn real(b: &[u8]) -> f64 {
+    let fraction = b[1..8].iter().fold(0u64, |sum, byte| sum << 8 | u64::from(*byte)) as f64;
+    let size = fraction / 2f64.powi(56) * 16f64.powi(i32::from(b[0] & 0x7f) - 64);
+    if b[0] >> 7 == 1 { -size } else { size }
+}
+
+fn name(mut b: &[u8]) -> Vec<u8> {
+    while let [front @ .., 0] = b {
+        b = front;
+    }
+    b.to_vec()
+}
+
+fn points(xy: &[u8]) -> Vec<Point> {
+    xy.chunks_exact(8).map(|b| (number(b).into(), number(&b[4..]).into())).collect()
+}
+
+pub fn next<'a>(bytes: &'a [u8], at: &mut usize) -> (u8, &'a [u8]) {
+    let len = word(&bytes[*at..]) as usize;
+    let body = &bytes[*at + 4..*at + len];
+    let kind = bytes[*at + 2];
+    *at += len;
+    (kind, body)
+}
+
+/// The rectangles of a rectilinear polygon, by its vertical edges and winding numbers.
+fn fill(points: &[Point], out: &mut Vec<Rect>) {
+    let edges: Vec<_> = points
+        .windows(2)
+        .filter(|p| p[0].0 == p[1].0 && p[0].1 != p[1].1)
+        .map(|p| (p[0].0, p[0].1.min(p[1].1), p[0].1.max(p[1].1), if p[0].1 < p[1].1 { 1 } else { -1 }))
+        .collect();
+    if let ([a, b], 5) = (edges.as_slice(), points.len()) {
+        out.push(Rect { x1: a.0.min(b.0) as i32, y1: a.1 as i32, x2: a.0.max(b.0) as i32, y2: a.2 as i32 });
+        return;
+    }
+    let mut lines: Vec<i64> = edges.iter().flat_map(|e| [e.1, e.2]).collect();
+    lines.sort_unstable();
+    lines.dedup();
+    for line in lines.windows(2) {
+        let mut row: Vec<_> = edges.iter().filter(|e| e.1 <= line[0] && line[1] <= e.2).map(|e| (e.0, e.3)).collect();
+        row.sort_unstable();
+        let mut winding = 0;
+        for pair in row.windows(2) {
+            winding += pair[0].1;
+            if winding != 0 && pair[0].0 < pair[1].0 {
+                out.push(Rect { x1: pair[0].0 as i32, y1: line[0] as i32, x2: pair[1].0 as i32, y2: line[1] as i32 });
+            }
+        }
+    }
+}
+
+/// The numbers of a path: its type, its width and its two extensions.
+#[derive(Clone, Copy)]
+struct Numbers {
+    path_type: u16,
+    width: i32,
+    begin: i32,
+    end: i32,
+}
+
+/// The rectangles of a path's segments; its points are corners.
+fn wire(numbers: Numbers, corners: &[Point], out: &mut Vec<Rect>) {
+    let half = i64::from(numbers.width.abs() / 2);
+    let ends = match numbers.path_type {
+        0 => (0, 0),
+        2 => (half, half),
+        _ => (numbers.begin.into(), numbers.end.into()),
+    };
+    let last = corners.len() - 2;
+    for (k, pair) in corners.windows(2).enumerate() {
+        let mut before = if k == 0 { ends.0 } else { half };
+        let mut behind = if k == last { ends.1 } else { half };
+        let (mut a, mut b) = (pair[0], pair[1]);
+        if b < a {
+            (a, b, before, behind) = (b, a, behind, before);
+        }
+        let (x1, y1, x2, y2) = if a.1 == b.1 {
+            (a.0 - before, a.1 - half, b.0 + behind, a.1 + half)
+        } else {
+            (a.0 - half, a.1 - before, a.0 + half, b.1 + behind)
+        };
+        out.push(Rect { x1: x1 as i32, y1: y1 as i32, x2: x2 as i32, y2: y2 as i32 });
+    }
+}
+
+fn link(draft: &Draft, array: bool) -> Link {
+    let points = points(draft.xy);
+    let turns = (draft.angle / 90.0).rem_euclid(4.0) as u8;
+    let placement = Placement::of(draft.flags >> 15 == 1, turns, points[0]);
+    let (columns, rows) = if array { (draft.columns.into(), draft.rows.into()) } else { (1, 1) };
+    let step = |k: usize, n: i64| {
+        if array { ((points[k].0 - points[0].0) / n, (points[k].1 - points[0].1) / n) } else { (0, 0) }
+    };
+    let (column_step, row_step) = (step(1, columns), step(2, rows));
+    Link { name: name(draft.cell), placement, columns, rows, column_step, row_step }
+}
+
+/// The records of an element up to its end.
+fn draft<'a>(bytes: &'a [u8], at: &mut usize) -> Draft<'a> {
+    let mut draft = Draft::default();
+    loop {
+        let (record, body) = next(bytes, at);
+        match record {
+            0x0d => draft.layer = word(body),
+            0x0e => draft.data_type = word(body),
+            0x0f => draft.width = number(body),
+            0x10 => draft.xy = body,
+            0x12 => draft.cell = body,
+            0x13 => (draft.columns, draft.rows) = (word(body), word(&body[2..])),
+            0x1a => draft.flags = word(body),
+            0x1c => draft.angle = real(body),
+            0x21 => draft.path_type = word(body),
+            0x30 => draft.begin = number(body),
+            0x31 => draft.end = number(body),
+            0x11 => return draft,
+            _ => {}
+        }
+    }
+}
+
+impl Draft<'_> {
+    fn numbers(&self) -> Numbers {
+        Numbers { path_type: self.path_type, width: self.width, begin: self.begin, end: self.end }
+    }
+}
+
+/// An element as a value of its own, as a library keeps it.
+enum Element {
+    Boundary { layer: u16, data_type: u16, points: Vec<Point> },
+    Path { layer: u16, data_type: u16, numbers: Numbers, points: Vec<Point> },
+    Link(Link),
+    Other,
+}
+
+impl Element {
+    fn of(kind: u8, draft: &Draft) -> Element {
+        let (layer, data_type) = (draft.layer, draft.data_type);
+        match kind {
+            0x08 => Element::Boundary { layer, data_type, points: points(draft.xy) },
+            0x09 => Element::Path { layer, data_type, numbers: draft.numbers(), points: points(draft.xy) },
+            0x0a | 0x0b => Element::Link(link(draft, kind == 0x0b)),
+            _ => Element::Other,
+        }
+    }
+}
+
+impl Cell {
+    fn put_boundary(&mut self, points: &[Point]) {
+        self.shapes += 1;
+        fill(points, &mut self.pieces);
+    }
+
+    fn put_path(&mut self, numbers: Numbers, points: &[Point]) {
+        self.shapes += 1;
+        wire(numbers, points, &mut self.pieces);
+    }
+
+    /// Puts an element into the cell as it is read.
+    fn put_draft(&mut self, kind: u8, draft: &Draft, wanted: (u16, u16)) {
+        let is_wanted = (draft.layer, draft.data_type) == wanted;
+        match kind {
+            0x08 if is_wanted => self.put_boundary(&points(draft.xy)),
+            0x09 if is_wanted => self.put_path(draft.numbers(), &points(draft.xy)),
+            0x0a | 0x0b => self.links.push(link(draft, kind == 0x0b)),
+            _ => {}
+        }
+    }
+
+    /// Puts an element of a library into the cell.
+    fn put_element(&mut self, element: &Element, wanted: (u16, u16)) {
+        match element {
+            Element::Boundary { layer, data_type, points } if (*layer, *data_type) == wanted => self.put_boundary(points),
+            Element::Path { layer, data_type, numbers, points } if (*layer, *data_type) == wanted => {
+                self.put_path(*numbers, points);
+            }
+            Element::Link(link) => self.links.push(link.clone()),
+            _ => {}
+        }
+    }
+}
+
+/// The cells, each by `take` of its elements, and their names, in the order of the file.
+fn read<'a, C: Default>(bytes: &'a [u8], take: impl Fn(&mut C, u8, Draft<'a>)) -> (Vec<C>, HashMap<Vec<u8>, usize>) {
+    let (mut cells, mut indices, mut at) = (Vec::new(), HashMap::new(), 0);
+    loop {
+        match next(bytes, &mut at).0 {
+            0x05 => {
+                indices.insert(name(next(bytes, &mut at).1), cells.len());
+                let mut cell = C::default();
+                loop {
+                    match next(bytes, &mut at).0 {
+                        0x07 => break,
+                        kind => take(&mut cell, kind, draft(bytes, &mut at)),
+                    }
+                }
+                cells.push(cell);
+            }
+            0x04 => return (cells, indices),
+            _ => {}
+        }
+    }
+}
+
+/// The cells' rectangles of the layer and their references, filled as they are read.
+pub fn read_cells(bytes: &[u8], layer: (u16, u16)) -> (Vec<Cell>, HashMap<Vec<u8>, usize>) {
+    read(bytes, |cell: &mut Cell, kind, draft| cell.put_draft(kind, &draft, layer))
+}
+
+/// The same by way of a library: each element of each layer is a value before one shape is filled.
+pub fn read_library(bytes: Vec<u8>, layer: (u16, u16)) -> (Vec<Cell>, HashMap<Vec<u8>, usize>) {
+    let (library, indices) = read(&bytes, |cell: &mut Vec<Element>, kind, draft| cell.push(Element::of(kind, &draft)));
+    drop(bytes);
+    let filled = |elements: &Vec<Element>| -> Cell {
+        let mut cell = Cell::default();
+        elements.iter().for_each(|element| cell.put_element(element, layer));
+        cell
+    };
+    let cells = library.iter().map(filled).collect();
+    (cells, indices)
+}
+
+struct Design {
+    cells: Vec<Cell>,
+    targets: Vec<Vec<usize>>,
+    counts: Vec<Option<usize>>,
+}
+
+impl Design {
+    fn count(&mut self, cell: usize) -> usize {
+        if let Some(count) = self.counts[cell] {
+            return count;
+        }
+        let mut total = self.cells[cell].shapes;
+        for k in 0..self.targets[cell].len() {
+            let each = self.count(self.targets[cell][k]);
+            let link = &self.cells[cell].links[k];
+            total += (link.columns * link.rows) as usize * each;
+        }
+        self.counts[cell] = Some(total);
+        total
+    }
+
+    fn carry(&self, cell: usize, at: &Placement, out: &mut Vec<Rect>) {
+        out.extend(self.cells[cell].pieces.iter().map(|piece| at.rect(piece)));
+        for (link, target) in self.cells[cell].links.iter().zip(&self.targets[cell]) {
+            if self.counts[*target] == Some(0) {
+                continue;
+            }
+            for row in 0..link.rows {
+                for column in 0..link.columns {
+                    let x = link.placement.x + column * link.column_step.0 + row * link.row_step.0;
+                    let y = link.placement.y + column * link.column_step.1 + row * link.row_step.1;
+                    self.carry(*target, &at.after(&Placement { x, y, ..link.placement }), out);
+                }
+            }
+        }
+    }
+}
+
+pub fn flatten((cells, indices): (Vec<Cell>, HashMap<Vec<u8>, usize>), top: &[u8]) -> Vec<Rect> {
+    let targets = cells.iter().map(|cell| cell.links.iter().map(|link| indices[&link.name]).collect()).collect();
+    let counts = vec![None; cells.len()];
+    let mut design = Design { cells, targets, counts };
+    let count = design.count(indices[top]);
+    let mut rects = Vec::with_capacity(count);
+    design.carry(indices[top], &Placement::shift(0, 0), &mut rects);
+    rects
+}
