@@ -18,3 +18,4 @@ pub mod WindowTotals
 pub mod Accounted
 pub mod Answering
 pub mod TileWords
+pub mod LastTile

@@ -4,7 +4,7 @@ ghost use Rattle.std.specs.Ordering.{int_eq};
 ghost use Rattle.fill_base.specs.Counts.{is_between};
 ghost use Rattle.fill_base.specs.Squares.{area_of};
 ghost use Rattle.fill_area.specs.Density.{AreMeasured, IsArea};
-ghost use Rattle.fill_raster.specs.Lattice.{KeepsPitch, in_raster, in_tile, tiles};
+ghost use Rattle.fill_raster.specs.Lattice.{KeepsPitch, in_raster, in_tile, tile_of, tiles};
 ghost use Rattle.fill_raster.specs.Marks.{in_block, is_marked};
 ghost use Rattle.fill_region.specs.Bands.{holds};
 ghost use Rattle.fill_core.specs.Boxes.{count_places};
@@ -181,27 +181,63 @@ impl Filled {
         self.clear_rows(columns.start, columns.end, rows.start, rows.end);
     }
 
-    /// Whether a place is filled, and none of those that are left out.
-    fn is_left(&self, out: &Places, place: Place) -> bool
-        ensures { result ≡ left_by self.now out.now place.i place.j }
+    /// Whether a place is of a tile.
+    fn is_of_tile(&self, tile: usize, place: Place) -> bool
+        ensures { result ≡ in_tile self.now.raster tile place.i place.j }
     {
-        self.has(place) && !out.has(place)
+        match self.tiles.get(tile) {
+            Some(marks) => marks.has_place(place),
+            None => false,
+        }
     }
 
-    /// How many squares of a window the box of a place holds: none where it isn't filled, or is left out.
-    fn taken(&self, out: &Places, place: Place, window: &Rect) -> i64
+    /// The tile of a place. The tile that was looked in last is tried first, since most places share theirs with the one before.
+    fn tile_after(&self, last: usize, place: Place) -> usize
+        requires { in_raster self.now.raster place.i place.j ≡ true }
+        ensures tile { result ≡ tile_of self.now.raster place.i place.j }
+        ensures index { result < tiles self.now.raster }
+    {
+        if self.is_of_tile(last, place) {
+            last
+        } else {
+            self.raster.tile_of(place) as usize
+        }
+    }
+
+    /// Whether a place is filled, and none of those that are left out. Its tile is then the one that was looked in last.
+    fn is_left(&self, last: &mut usize, out: &Places, place: Place) -> bool
+        requires { in_raster self.now.raster place.i place.j ≡ true }
+        ensures left { result ≡ left_by self.now out.now place.i place.j }
+        ensures last { last.new ≡ tile_of self.now.raster place.i place.j }
+    {
+        *last = self.tile_after(*last, place);
+        self.tiles[*last].has(place) && !out.has(place)
+    }
+
+    /// How many squares of a window the box of a place holds: none where it isn't filled, or is left out. Its tile is then the one
+    /// that was looked in last.
+    fn taken(&self, last: &mut usize, out: &Places, place: Place, window: &Rect) -> i64
         requires { in_raster self.now.raster place.i place.j ≡ true }
         ensures { result ≡ pos (taken_in self.now.raster (left_by self.now out.now) window.now place.i place.j) }
     {
-        if self.is_left(out, place) {
+        if self.is_left(last, out, place) {
             shared_area(&self.raster.box_of(place), window)
         } else {
             0
         }
     }
 
-    /// How many squares of a window the boxes of a row hold, from one column on and before another, but for some places.
-    fn taken_by_row(&self, out: &Places, window: &Rect, left: i64, right: i64, j: i64) -> i64
+    /// How many squares of a window the boxes of a row hold, from one column on and before another, but for some places. The tile
+    /// that was looked in last comes from the row before.
+    fn taken_by_row(
+        &self,
+        last: &mut usize,
+        out: &Places,
+        window: &Rect,
+        left: i64,
+        right: i64,
+        j: i64,
+    ) -> i64
         requires ordered { left ≤ℤ right }
         requires apart { AreApart self.now.raster (left_by self.now out.now) }
         requires places { (i : ℤ) → is_between left right i ≡ true → in_raster self.now.raster i j ≡ true }
@@ -209,7 +245,7 @@ impl Filled {
     {
         let mut area = 0;
         for i in left..right {
-            area += self.taken(out, Place { i, j }, window);
+            area += self.taken(last, out, Place { i, j }, window);
         }
         area
     }
@@ -231,8 +267,9 @@ impl Filled {
         ensures { result ≡ pos (taken_by_rows self.now.raster (left_by self.now out.now) window.now left right bottom top) }
     {
         let mut area = 0;
+        let mut last = 0;
         for j in bottom..top {
-            area += self.taken_by_row(out, window, left, right, j);
+            area += self.taken_by_row(&mut last, out, window, left, right, j);
         }
         area
     }

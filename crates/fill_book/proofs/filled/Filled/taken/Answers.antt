@@ -6,4 +6,4 @@ use Rattle.fill_book.proofs.filled.Filled.taken.Goals as goal
 pub returns-then-is_left : goal.returns-then-is_left
 returns-then-is_left c = let b = c.box_of.ensures in
     box_taken c.self.inside.raster c.args.self.now.raster (left_by c.args.self.now c.args.out.now) c.args.window.now c.box_of.result c.args.place.i c.args.place.j c.shared_area.result
-    (ap (λ f. f.raster) c.self.view_is) (sym c.is_left.ensures ∙ c.if-is_left.true) b.left b.bottom b.right b.top c.shared_area.ensures
+    (ap (λ f. f.raster) c.self.view_is) (sym c.is_left.ensures.left ∙ c.if-is_left.true) b.left b.bottom b.right b.top c.shared_area.ensures
