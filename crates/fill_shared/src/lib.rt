@@ -1,0 +1,13 @@
+//! A book that many threads share behind one lock, and runs of workers beside an editor. The layers above rely on this: each
+//! answer was given by the book at some point of its history, no earlier than the caller's own calls, and the callers' numbers
+//! taken together are the book's.
+#![tactic(auto)]
+
+mod shared;
+
+pub use shared::{Look, NotOpened, PassMissing, PassOf, Seen, Shared};
+
+#[cfg(test)]
+mod cases;
+#[cfg(test)]
+mod tests;
