@@ -3,9 +3,13 @@
 //! taken together are the book's.
 #![tactic(auto)]
 
+mod gate;
 mod shared;
+mod worker;
 
+pub use gate::{Gate, OpenGate};
 pub use shared::{Look, NotOpened, PassMissing, PassOf, Seen, Shared};
+pub use worker::{WorkEnd, work};
 
 #[cfg(test)]
 mod cases;

@@ -1,9 +1,9 @@
 ghost use Rattle.std.specs.Prelude.{◌≡◌};
 ghost use Rattle.fill_core.specs.Shares.{AllParts};
 
-use crate::cases::{Count, added, assert_counts, hundred_places, shared_by};
-use crate::{Look, PassMissing, PassOf, Seen, Shared};
-use fill_core::{Edit, FillBook, Pass, Reply};
+use crate::cases::{Count, NO_PLACES, added, assert_counts, hundred_places, shared_by};
+use crate::{Look, OpenGate, PassMissing, PassOf, Seen, Shared, WorkEnd, work};
+use fill_core::{BookError, Edit, FillBook, Pass, Reply};
 use fill_job::Proposal;
 use std::alloc::Global;
 use std::marker::Brand;
@@ -161,6 +161,198 @@ fn three_passes<C: Ledger + Send + Sync, P: Ledger + Send + Sync, W: Ledger + Se
 #[test]
 fn three_callers_in_three_threads(rt: HostRuntime) -> Result<(), Fail> {
     three_passes::<Brand, Brand, Brand>(
+        &rt,
+        rt.alloc(),
+        Blank::new(1024),
+        Blank::new(1024),
+        Blank::new(1024),
+    )
+}
+
+/// A fill is worked on alone, metal is added, and the next version is worked on.
+fn fill_and_fill_again<C: Ledger + Send + Sync, P: Ledger + Send + Sync, W: Ledger + Send + Sync>(
+    rt: &(impl Abort + Threads + Wait + Sync),
+    alloc: Global,
+    calls: Blank,
+    placed: Blank,
+    withdrawn: Blank,
+) -> Result<(), Fail>
+    requires names { (calls.name ≡ C.name) × (placed.name ≡ P.name) × (withdrawn.name ≡ W.name) }
+    requires parts { (calls.parts ≡ C.parts) × (placed.parts ≡ P.parts) × (withdrawn.parts ≡ W.parts) }
+    requires all { AllParts C.parts P.parts W.parts }
+{
+    let opening = hundred_places(alloc);
+    let (shared, mut passes) = shared_by::<C, P, W>(
+        rt, alloc, calls, placed, withdrawn, opening, 1,
+    )?;
+    let Some(mut pass) = passes.pop() else {
+        panic!(rt; "one caller has one pass");
+    };
+    let first = work(rt, alloc, &shared, &mut pass, 0, 0, &OpenGate, 10);
+    assert_eq!(rt; first, WorkEnd::Done { version: 0 });
+    let edit = shared.edit(rt, alloc, &mut pass, added()?);
+    assert!(rt; edit == Ok(Reply::Withdrawn(1)));
+    let second = work(rt, alloc, &shared, &mut pass, 0, 0, &OpenGate, 10);
+    assert_eq!(rt; second, WorkEnd::Done { version: 1 });
+    passes.push(pass)?;
+    let Ok((book, pass)) = shared.close(passes) else {
+        panic!(rt; "no pass is missing");
+    };
+    assert_counts(rt, &book, &pass, [19, 100, 1], 99);
+    for entry in &book.history().entries()[10..] {
+        assert_eq!(rt; entry.reply, Reply::Placed(0));
+    }
+    Ok(())
+}
+
+#[test]
+fn a_worker_fills_and_fills_again(rt: HostRuntime) -> Result<(), Fail> {
+    fill_and_fill_again::<Brand, Brand, Brand>(
+        &rt,
+        rt.alloc(),
+        Blank::new(1024),
+        Blank::new(1024),
+        Blank::new(1024),
+    )
+}
+
+/// A worker has as many turns as tiles are left, and then one more.
+fn turns_run_out<C: Ledger + Send + Sync, P: Ledger + Send + Sync, W: Ledger + Send + Sync>(
+    rt: &(impl Abort + Threads + Wait + Sync),
+    alloc: Global,
+    calls: Blank,
+    placed: Blank,
+    withdrawn: Blank,
+) -> Result<(), Fail>
+    requires names { (calls.name ≡ C.name) × (placed.name ≡ P.name) × (withdrawn.name ≡ W.name) }
+    requires parts { (calls.parts ≡ C.parts) × (placed.parts ≡ P.parts) × (withdrawn.parts ≡ W.parts) }
+    requires all { AllParts C.parts P.parts W.parts }
+{
+    let opening = hundred_places(alloc);
+    let (shared, mut passes) = shared_by::<C, P, W>(
+        rt, alloc, calls, placed, withdrawn, opening, 1,
+    )?;
+    let Some(mut pass) = passes.pop() else {
+        panic!(rt; "one caller has one pass");
+    };
+    let none = work(rt, alloc, &shared, &mut pass, 0, 0, &OpenGate, 0);
+    assert_eq!(rt; none, WorkEnd::Tired);
+    let first = proposal_from(rt, alloc, &shared, &mut pass, 0);
+    let second = proposal_from(rt, alloc, &shared, &mut pass, 1);
+    let placed = shared.commit(rt, alloc, &mut pass, &first);
+    assert!(rt; placed == Ok(Reply::Placed(16)));
+    let edit = shared.edit(rt, alloc, &mut pass, added()?);
+    assert!(rt; edit == Ok(Reply::Withdrawn(1)));
+    let stale = shared.commit(rt, alloc, &mut pass, &second);
+    assert!(rt; stale == Ok(Reply::Stale { at: 1 }));
+    let nine = work(rt, alloc, &shared, &mut pass, 0, 0, &OpenGate, 9);
+    assert_eq!(rt; nine, WorkEnd::Tired);
+    let one = work(rt, alloc, &shared, &mut pass, 0, 0, &OpenGate, 1);
+    assert_eq!(rt; one, WorkEnd::Done { version: 1 });
+    passes.push(pass)?;
+    let Ok((book, pass)) = shared.close(passes) else {
+        panic!(rt; "no pass is missing");
+    };
+    assert_counts(rt, &book, &pass, [12, 100, 1], 99);
+    Ok(())
+}
+
+#[test]
+fn a_worker_grows_tired(rt: HostRuntime) -> Result<(), Fail> {
+    turns_run_out::<Brand, Brand, Brand>(
+        &rt,
+        rt.alloc(),
+        Blank::new(1024),
+        Blank::new(1024),
+        Blank::new(1024),
+    )
+}
+
+/// A history of one event takes one commit, and then neither commits nor edits, nor a worker's.
+fn one_event<C: Ledger + Send + Sync, P: Ledger + Send + Sync, W: Ledger + Send + Sync>(
+    rt: &(impl Abort + Threads + Wait + Sync),
+    alloc: Global,
+    calls: Blank,
+    placed: Blank,
+    withdrawn: Blank,
+) -> Result<(), Fail>
+    requires names { (calls.name ≡ C.name) × (placed.name ≡ P.name) × (withdrawn.name ≡ W.name) }
+    requires parts { (calls.parts ≡ C.parts) × (placed.parts ≡ P.parts) × (withdrawn.parts ≡ W.parts) }
+    requires all { AllParts C.parts P.parts W.parts }
+{
+    let mut opening = hundred_places(alloc);
+    opening.max_events = 1;
+    let (shared, mut passes) = shared_by::<C, P, W>(
+        rt, alloc, calls, placed, withdrawn, opening, 1,
+    )?;
+    let Some(mut pass) = passes.pop() else {
+        panic!(rt; "one caller has one pass");
+    };
+    let first = proposal_from(rt, alloc, &shared, &mut pass, 0);
+    let second = proposal_from(rt, alloc, &shared, &mut pass, 1);
+    let placed = shared.commit(rt, alloc, &mut pass, &first);
+    assert!(rt; placed == Ok(Reply::Placed(16)));
+    for proposal in [&second, &first] {
+        let full = shared.commit(rt, alloc, &mut pass, proposal);
+        assert!(rt; full == Err(BookError::HistoryFull));
+    }
+    let full = shared.edit(rt, alloc, &mut pass, added()?);
+    assert!(rt; full == Err(BookError::HistoryFull));
+    assert_eq!(rt; pass.calls(), 1);
+    let end = work(rt, alloc, &shared, &mut pass, 0, 0, &OpenGate, 5);
+    assert_eq!(rt; end, WorkEnd::Full);
+    passes.push(pass)?;
+    let Ok((book, pass)) = shared.close(passes) else {
+        panic!(rt; "no pass is missing");
+    };
+    assert_counts(rt, &book, &pass, [1, 16, 0], 16);
+    Ok(())
+}
+
+#[test]
+fn a_full_history_ends_the_work(rt: HostRuntime) -> Result<(), Fail> {
+    one_event::<Brand, Brand, Brand>(
+        &rt,
+        rt.alloc(),
+        Blank::new(1024),
+        Blank::new(1024),
+        Blank::new(1024),
+    )
+}
+
+/// Where there is room for no box, there is nothing to do.
+fn no_tile<C: Ledger + Send + Sync, P: Ledger + Send + Sync, W: Ledger + Send + Sync>(
+    rt: &(impl Abort + Threads + Wait + Sync),
+    alloc: Global,
+    calls: Blank,
+    placed: Blank,
+    withdrawn: Blank,
+) -> Result<(), Fail>
+    requires names { (calls.name ≡ C.name) × (placed.name ≡ P.name) × (withdrawn.name ≡ W.name) }
+    requires parts { (calls.parts ≡ C.parts) × (placed.parts ≡ P.parts) × (withdrawn.parts ≡ W.parts) }
+    requires all { AllParts C.parts P.parts W.parts }
+{
+    let mut opening = hundred_places(alloc);
+    opening.frame = NO_PLACES;
+    let (shared, mut passes) = shared_by::<C, P, W>(
+        rt, alloc, calls, placed, withdrawn, opening, 1,
+    )?;
+    let Some(mut pass) = passes.pop() else {
+        panic!(rt; "one caller has one pass");
+    };
+    let end = work(rt, alloc, &shared, &mut pass, 0, 0, &OpenGate, 1);
+    assert_eq!(rt; end, WorkEnd::Done { version: 0 });
+    passes.push(pass)?;
+    let Ok((book, pass)) = shared.close(passes) else {
+        panic!(rt; "no pass is missing");
+    };
+    assert_counts(rt, &book, &pass, [0, 0, 0], 0);
+    Ok(())
+}
+
+#[test]
+fn a_raster_without_places_is_done(rt: HostRuntime) -> Result<(), Fail> {
+    no_tile::<Brand, Brand, Brand>(
         &rt,
         rt.alloc(),
         Blank::new(1024),
