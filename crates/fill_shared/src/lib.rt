@@ -4,14 +4,19 @@
 #![tactic(auto)]
 
 mod gate;
+mod round;
+mod runs;
 mod shared;
 mod worker;
 
 pub use gate::{Gate, OpenGate};
+pub use runs::{RunError, run};
 pub use shared::{Look, NotOpened, PassMissing, PassOf, Seen, Shared};
 pub use worker::{WorkEnd, work};
 
 #[cfg(test)]
 mod cases;
+#[cfg(test)]
+mod run_tests;
 #[cfg(test)]
 mod tests;

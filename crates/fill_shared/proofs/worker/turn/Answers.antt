@@ -12,8 +12,7 @@ overflow_add-result g c =
 pub returns-in-Ok-commit : goal.returns-in-Ok-commit
 returns-in-Ok-commit g c =
     let seen = rw c.in-Ok-Work.field-0-is at c.in-Ok-Work.ensures.seen in
-    let shares = c.in-Ok-commit.ensures.written.3.1.writes.shares in
-    (
+    let shares = c.in-Ok-commit.ensures.written.3.1.writes.shares in (
       ap (λ (h : Held). h.parts) shares ∙ ap (λ (h : Held). h.parts) c.look.ensures.same,
       ap (λ (h : Held). h.calls) shares ∙ ap (λ (h : Held). h.calls + 1) c.look.ensures.same,
       goes_on c.args.pass.now.calls c.args.from c.tile-tile.result c.in-Ok-Work.job c.tile-tile.ensures seen,
