@@ -1,0 +1,4 @@
+pub mod Points
+pub mod Sums
+pub mod Rounds
+pub mod Edited

@@ -1,0 +1,66 @@
+-- What a call tells of the book under the lock, of which the caller's pass is one.
+use Rattle.std.proofs.Common.{◌≡◌, ◌∙◌, sym, ap, subst, arith, ℕ, ◌+◌, ◌^◌, ◌<◌, ◌≤◌, None, Some, IfOk}
+use Rattle.std.specs.Prelude.{Option, Result}
+use Rattle.std.proofs.lemmas.Result.{IfOk-weaker}
+use Rattle.fill_raster.specs.Lattice.{tiles}
+use Rattle.fill_raster.proofs.Tiling.{tiles_few}
+use Rattle.fill_text.specs.declared.script.Edit.{Edit}
+use Rattle.fill_job.specs.Plans.{plan_of}
+use Rattle.fill_job.specs.declared.job.Job.{Job}
+use Rattle.fill_core.specs.Accounts.{Account, IsEdited, IsKeeping, state_of}
+use Rattle.fill_core.specs.Boxes.{count_places}
+use Rattle.fill_core.specs.Shares.{Held, IsWhole, IsWithin, totals_of}
+use Rattle.fill_core.specs.Tiles.{next_tile}
+use Rattle.fill_core.specs.declared.book.BookError.{BookError}
+use Rattle.fill_core.specs.declared.event.Reply.{Reply}
+use Rattle.fill_core.proofs.Searched.{next_first, next_none}
+use Rattle.fill_shared.specs.Passes.{HasCounted}
+use Rattle.fill_shared.specs.Sharing.{AtSomePoint, IsCompleteAt, IsFull, IsLook}
+use Rattle.fill_shared.specs.Working.{Ends, GoesOn}
+use Rattle.fill_shared.specs.declared.worker.WorkEnd.TheVariants.{Full}
+use Rattle.fill_shared.specs.declared.shared.Look.TheVariants.{Work}
+
+-- the book before the call keeps what every book keeps, and has at least the caller's events
+pub record IsPoint (a : Account) (held : Held) : Type 0 where
+  pub keeping : IsKeeping a
+  pub within : IsWithin held (totals_of a.history)
+
+pub edited_at : (r : Result Reply BookError) (a b d : Account) (h k m : Held) (edit : Edit) → IsPoint a h → (b ≡ a) × (k ≡ h) → IfOk r (λ reply. IsEdited b d k m edit reply)
+    → IfOk r (λ reply. AtSomePoint h.calls (λ x. (y : Account) × IsEdited x y h m edit reply))
+edited_at r a b d h k m edit at same written =
+    IfOk-weaker r _ _ (λ reply w. (a, at.keeping, at.within.calls, (d, subst (λ (z : Account). IsEdited z d h m edit reply) same.0 (subst (λ (z : Held). IsEdited b d z m edit reply) same.1 w)))) written
+
+pub complete_at : (a b : Account) (h : Held) (from version : ℕ) (r : Option ℕ) → IsPoint a h → b ≡ a → r ≡ next_tile (tiles (plan_of b.rules).raster) (state_of b).tiles_in from → r ≡ None → version ≡ (state_of b).version
+    → AtSomePoint h.calls (IsCompleteAt version)
+complete_at a b h from version r at same first none is =
+    (a, at.keeping, at.within.calls, subst (IsCompleteAt version) same ((next_none (tiles (plan_of b.rules).raster) (state_of b).tiles_in from).0 (sym first ∙ none), is))
+
+-- a pass with all parts has counted all that happened
+pub counted_all : (a b : Account) (pass : Held) → IsKeeping a → b ≡ a → pass.parts ≡ 1024 → (pass.parts ≡ 1024 → IsWhole pass (totals_of a.history)) → HasCounted b pass
+counted_all a b pass keeping same all whole =
+    let w = whole all in
+    rw same (record { all = all; whole = w; calls = w.calls; boxes = ap (λ (n : ℕ). count_places (plan_of a.rules).raster (state_of a).fill + n) w.withdrawn ∙ (keeping.count ∙ sym w.placed) })
+
+-- the tile of a job is one of few
+pub few_tiles : (a : Account) (from tile : ℕ) → IsKeeping a → next_tile (tiles (plan_of a.rules).raster) (state_of a).tiles_in from ≡ Some tile → tile + 1 < 2 ^ 32
+few_tiles a from tile keeping next =
+    let few : tiles (plan_of a.rules).raster ≤ 16777216 = tiles_few (plan_of a.rules).raster keeping.plan.raster in
+    let exists : tile < tiles (plan_of a.rules).raster = (next_first (tiles (plan_of a.rules).raster) (state_of a).tiles_in from tile next).exists in
+    omega arith
+
+pub job_few : (held from t : ℕ) (job : Job) → t ≡ job.tile → AtSomePoint held (λ a. IsLook a from (Work job)) → t + 1 < 2 ^ 32
+job_few held from t job is p =
+    let few : p.3.0 + 1 < 2 ^ 32 = few_tiles p.0 from p.3.0 p.1 p.3.1 in
+    let e : t ≡ p.3.0 = is ∙ p.3.2.tile_is in
+    omega arith
+
+-- a turn goes on behind the tile that was looked up
+pub goes_on : (held from t : ℕ) (job : Job) → t ≡ job.tile → AtSomePoint held (λ a. IsLook a from (Work job)) → AtSomePoint held (GoesOn from (t + 1))
+goes_on held from t job is p = (p.0, p.1, p.2, (p.3.0, p.3.1, ap (λ (n : ℕ). n + 1) (is ∙ p.3.2.tile_is)))
+
+-- a turn into a full history is no call
+pub full_turn : (h k m : Held) → k ≡ h → m ≡ k → AtSomePoint k.calls IsFull → (m ≡ h) × Ends 1 h m Full
+full_turn h k m e f p =
+    let s : m ≡ h = f ∙ e in
+    let n : m.calls ≡ h.calls = ap (λ (x : Held). x.calls) s in
+    (s, ((omega arith, omega arith), subst (λ (x : Held). AtSomePoint x.calls IsFull) (sym f) p))

@@ -1,0 +1,9 @@
+-- At most one call for each edit so far.
+use Rattle.std.proofs.Common.{◌≡◌, ◌≤◌, ◌+◌}
+use Rattle.fill_shared.proofs.round.edit_all.Given as goal
+
+abbrev pub invariant-loop-k : goal.invariant-loop-k
+invariant-loop-k g l = record {
+  parts : l.pass.parts ≡ l.fn.pass.parts;
+  calls : l.pass.calls ≤ l.fn.pass.calls + l.k;
+}

@@ -1,0 +1,5 @@
+pub mod Passes
+pub mod Sharing
+pub mod Working
+pub mod Runs
+pub mod steps

@@ -1,0 +1,22 @@
+//! A book that many threads share behind one lock, and runs of workers beside an editor. The layers above rely on this: each
+//! answer was given by the book at some point of its history, no earlier than the caller's own calls, and the callers' numbers
+//! taken together are the book's.
+#![tactic(auto)]
+
+mod gate;
+mod round;
+mod runs;
+mod shared;
+mod worker;
+
+pub use gate::{Gate, OpenGate};
+pub use runs::{RunError, run};
+pub use shared::{Look, NotOpened, PassMissing, PassOf, Seen, Shared};
+pub use worker::{WorkEnd, work};
+
+#[cfg(test)]
+mod cases;
+#[cfg(test)]
+mod run_tests;
+#[cfg(test)]
+mod tests;

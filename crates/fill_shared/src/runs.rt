@@ -1,0 +1,160 @@
+//! Runs: workers fill a book while an editor makes the edits, and what comes of it is compared with what was handed in.
+ghost use Rattle.std.specs.Prelude.{◌≡◌, ◌↔◌, ◌+◌, ◌*◌, ◌<◌, ◌≤◌, [], Err, IfOk, IfSome, IsTrue, length, map, slice_index_or, take};
+ghost use Rattle.fill_region.specs.Bands.{holds};
+ghost use Rattle.fill_text.specs.Script.{change_of};
+ghost use Rattle.fill_text.specs.ValuesOfRules.{values_of};
+ghost use Rattle.fill_job.specs.Plans.{plan_of};
+ghost use Rattle.fill_core.specs.Accounts.{IsKeeping, state_of};
+ghost use Rattle.fill_core.specs.Histories.{entries_of};
+ghost use Rattle.fill_core.specs.Shares.{AllParts};
+ghost use Rattle.fill_shared.specs.Passes.{HasCounted};
+ghost use Rattle.fill_shared.specs.Runs.{IsFinished, IsUnfinished, changes_in, low_fill};
+ghost use Rattle.fill_shared.specs.declared.runs.RunError.TheVariants as error;
+
+use crate::gate::Gate;
+use crate::round::{RoundLost, rounds};
+use crate::shared::PassOf;
+use fill_core::{Edit, Event, FillBook, History};
+use fill_region::Region;
+use fill_region::laws::equal_sets_are_equal;
+use fill_text::Rules;
+use std::alloc::{AllocError, Global};
+use std::sync::Wait;
+use std::thread::Threads;
+
+/// Why a run did not finish.
+#[derive(Drop)]
+pub enum RunError<B: FillBook> {
+    /// Memory was refused, to a worker, the editor or the run itself. The book is dropped.
+    Memory,
+    /// The book that came back has another opening or other rules than the one handed in, or edits that do not begin those handed
+    /// in. It is dropped.
+    Mixed,
+    /// Not all edits were made, as the history was full, or a tile is left that isn't in.
+    Unfinished {
+        /// The book.
+        book: B,
+        /// Its pass.
+        pass: PassOf<B>,
+    },
+}
+
+impl<B: FillBook> From<AllocError> for RunError<B> {
+    ghost from_gives = { λ _ e. e ≡ error.Memory };
+
+    fn from(_error: AllocError) -> RunError<B> {
+        RunError::Memory
+    }
+}
+
+impl<B: FillBook> From<RoundLost> for RunError<B> {
+    ghost from_gives = { λ _ e. e ≡ error.Memory };
+
+    fn from(_error: RoundLost) -> RunError<B> {
+        RunError::Memory
+    }
+}
+
+/// Whether a book opened on this metal, by these rules.
+fn opened_on<B: FillBook>(book: &B, opening: &Region, rules: &Rules) -> bool
+    ensures { let a = B.account book.now in IsTrue result ↔ ((a.rules ≡ values_of rules.now) × (a.opening ≡ opening.now)) }
+{
+    equal_sets_are_equal(book.opening(), opening);
+    book.rules().same_as(rules) & (*book.opening() == *opening)
+}
+
+/// Whether two edits are of one kind and of one rectangle.
+fn are_same(a: Edit, b: Edit) -> bool
+    ensures { IsTrue result → (change_of a ≡ change_of b) }
+{
+    match (a, b) {
+        (Edit::Add(r), Edit::Add(s)) => r == s,
+        (Edit::Cut(r), Edit::Cut(s)) => r == s,
+        _ => false,
+    }
+}
+
+/// Whether the edit at `k` is this one.
+fn is_edit_at(edits: &[Edit], k: usize, edit: Edit) -> bool
+    ensures { IsTrue result → (k < length edits.now) × (change_of edit ≡ change_of (slice_index_or edits.now k edit)) }
+{
+    k < edits.len() && are_same(edit, edits[k])
+}
+
+/// How many of the edits a history has, where its edits are the first of them, in their order.
+fn edits_made(history: &History, edits: &[Edit]) -> Option<usize>
+    ensures most { IfSome result (λ made. made ≤ length edits.now) }
+    ensures made { IfSome result (λ made. changes_in (entries_of history.now) ≡ map change_of (take made edits.now)) }
+{
+    let mut made = 0;
+    for entry in history.entries() {
+        match entry.event {
+            Event::Commit { .. } => {}
+            Event::Edit(edit) => {
+                if !is_edit_at(edits, made, edit) {
+                    return None;
+                }
+                made += 1;
+            }
+        }
+    }
+    Some(made)
+}
+
+/// Compares a book with what was handed in.
+fn settle<B: FillBook>(
+    book: B,
+    pass: PassOf<B>,
+    opening: &Region,
+    rules: &Rules,
+    edits: &[Edit],
+) -> Result<(B, PassOf<B>), RunError<B>>
+    requires keeping { IsKeeping (B.account book) }
+    requires counted { HasCounted (B.account book) pass }
+    ensures same { IfOk result (λ r. (r.0 ≡ book) × (r.1 ≡ pass)) }
+    ensures finished { IfOk result (λ r. IsFinished (values_of rules.now) opening.now edits.now (B.account r.0) r.1) }
+    ensures unfinished { (b : _) (p : _) → result ≡ Err (error.Unfinished b p) → IsUnfinished (values_of rules.now) opening.now edits.now (B.account b) p }
+{
+    if !opened_on(&book, opening, rules) {
+        return Err(RunError::Mixed);
+    }
+    let Some(made) = edits_made(book.history(), edits) else {
+        return Err(RunError::Mixed);
+    };
+    if made < edits.len() || !book.is_complete() {
+        return Err(RunError::Unfinished { book, pass });
+    }
+    Ok((book, pass))
+}
+
+/// Fills a book: so many workers bring tile after tile, each in a thread of its own and in at most `limit` turns, while one editor
+/// makes the edits in their order. Where the version isn't complete after that, the workers have as many turns once more, without
+/// the editor. Worker `k` of `n` starts at the tile `k * tiles / n`. What comes back opened on the metal that the book opened on,
+/// by the same rules, and its edits are those handed in.
+///
+/// # Errors
+/// `Memory` where memory is refused, `Mixed` where book and edits are not those handed in, `Unfinished` where not all edits were
+/// made or a tile is left that isn't in.
+pub fn run<B: FillBook + Send, G: Gate + Sync, R: Threads + Wait + Sync>(
+    rt: &R,
+    alloc: Global,
+    book: B,
+    pass: PassOf<B>,
+    edits: &[Edit],
+    workers: u32,
+    gate: &G,
+    limit: u64,
+) -> Result<(B, PassOf<B>), RunError<B>>
+    requires ledgers { AllParts B.Calls.parts B.Placed.parts B.Withdrawn.parts }
+    requires pass { pass.parts ≡ 1024 }
+    requires workers { (0 < workers) × (workers ≤ 64) }
+    ensures finished { IfOk result (λ r. IsFinished (B.account book).rules (B.account book).opening edits.now (B.account r.0) r.1) }
+    ensures unedited { edits.now ≡ [] → IfOk result (λ r. (state_of (B.account r.0)).fill ≡ low_fill (plan_of (B.account book).rules) (holds (B.account book).opening)) }
+    ensures brief { IfOk result (λ r. r.1.calls ≤ pass.calls + (length edits.now + 2 * (workers * limit))) }
+    ensures unfinished { (b : _) (p : _) → result ≡ Err (error.Unfinished b p) → IsUnfinished (B.account book).rules (B.account book).opening edits.now (B.account b) p }
+{
+    let opening = book.opening().copy(alloc)?;
+    let rules = book.rules().copy(alloc)?;
+    let (book, pass) = rounds(rt, alloc, book, pass, edits, workers, gate, limit)?;
+    settle(book, pass, &opening, &rules, edits)
+}
