@@ -19,7 +19,7 @@ touch "$work/script.csv"
 python3 "$here/../check/generate.py" 1000 flat "$work"
 python3 "$here/rules.py" "$work"
 "$here/../build.sh" "$here" phases "$work" "$work/fill.csv $work/design.gds" \
-    "$(sed -n 's/^\([a-z_]*\):.*/\1/p' "$root/crates.txt" | grep -v -e fill_line -e fill_device -e gds_out -e fill_engine -e densfill | tr '\n' ' ')" \
+    "$(sed -n 's/^\([a-z_]*\):.*/\1/p' "$root/crates.txt" | grep -v -e fill_line -e fill_device -e gds_out -e fill_engine -e fill_shared -e densfill | tr '\n' ' ')" \
     "rayon csv itoa indexmap thiserror anyhow"
 
 # run PROGRAM PROCESSORS: the report of densfill or the plain program to WORK/PROGRAM.csv, and the fill to WORK/PROGRAM.gds.
