@@ -19,4 +19,6 @@ mod cases;
 #[cfg(test)]
 mod run_tests;
 #[cfg(test)]
+mod shared_tests;
+#[cfg(test)]
 mod tests;

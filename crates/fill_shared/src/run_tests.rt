@@ -1,16 +1,13 @@
 ghost use Rattle.std.specs.Prelude.{◌≡◌, ◌<◌, ◌≤◌};
 ghost use Rattle.fill_core.specs.Shares.{AllParts};
 
-use crate::cases::{Count, HUNDRED_PLACES, Opening, added, assert_counts, book_of, hundred_places};
-use crate::{Gate, OpenGate, RunError, run};
+use crate::cases::{Count, added, assert_counts};
+use crate::{Gate, OpenGate, PassOf, RunError, run};
 use fill_base::{Place, Rect};
 use fill_core::{Edit, Entry, Event, FillBook, Reply};
-use fill_region::Region;
 use std::alloc::Global;
-use std::marker::Brand;
 use std::process::Abort;
 use std::sync::Wait;
-use std::sync::ledger::{Blank, Ledger};
 use std::test::Fail;
 use std::thread::Threads;
 
@@ -32,19 +29,15 @@ impl Gate for Meeting {
 }
 
 /// Two workers are each at a tile before one of them brings its own.
-fn two_workers<C: Ledger + Send + Sync, P: Ledger + Send + Sync, W: Ledger + Send + Sync>(
+pub(crate) fn two_workers<B: FillBook + Send>(
     rt: &(impl Abort + Threads + Wait + Sync),
     alloc: Global,
-    calls: Blank,
-    placed: Blank,
-    withdrawn: Blank,
+    book: B,
+    pass: PassOf<B>,
 ) -> Result<(), Fail>
-    requires names { (calls.name ≡ C.name) × (placed.name ≡ P.name) × (withdrawn.name ≡ W.name) }
-    requires parts { (calls.parts ≡ C.parts) × (placed.parts ≡ P.parts) × (withdrawn.parts ≡ W.parts) }
-    requires all { AllParts C.parts P.parts W.parts }
+    requires ledgers { AllParts B.Calls.parts B.Placed.parts B.Withdrawn.parts }
+    requires pass { pass.parts ≡ 1024 }
 {
-    let opening = hundred_places(alloc);
-    let (book, pass) = book_of::<C, P, W>(rt, alloc, calls, placed, withdrawn, opening)?;
     let gate = Meeting {
         workers: 2,
         begun: Count::new(),
@@ -56,17 +49,6 @@ fn two_workers<C: Ledger + Send + Sync, P: Ledger + Send + Sync, W: Ledger + Sen
     assert_eq!(rt; (pass.placed(), pass.withdrawn()), (100, 0));
     assert_eq!(rt; book.count(), 100);
     Ok(())
-}
-
-#[test]
-fn two_workers_work_at_once(rt: HostRuntime) -> Result<(), Fail> {
-    two_workers::<Brand, Brand, Brand>(
-        &rt,
-        rt.alloc(),
-        Blank::new(1024),
-        Blank::new(1024),
-        Blank::new(1024),
-    )
 }
 
 /// Lets the first edit be made when the worker is at its first tile, and the worker go on when the second one is about to be made.
@@ -97,19 +79,15 @@ fn is_old_and_stale(entry: &Entry) -> bool {
 }
 
 /// The metal changes twice while a worker is at its first tile, so what it brings is stale.
-fn edits_beside_a_worker<C: Ledger + Send + Sync, P: Ledger + Send + Sync, W: Ledger + Send + Sync>(
+pub(crate) fn edits_beside_a_worker<B: FillBook + Send>(
     rt: &(impl Abort + Threads + Wait + Sync),
     alloc: Global,
-    calls: Blank,
-    placed: Blank,
-    withdrawn: Blank,
+    book: B,
+    pass: PassOf<B>,
 ) -> Result<(), Fail>
-    requires names { (calls.name ≡ C.name) × (placed.name ≡ P.name) × (withdrawn.name ≡ W.name) }
-    requires parts { (calls.parts ≡ C.parts) × (placed.parts ≡ P.parts) × (withdrawn.parts ≡ W.parts) }
-    requires all { AllParts C.parts P.parts W.parts }
+    requires ledgers { AllParts B.Calls.parts B.Placed.parts B.Withdrawn.parts }
+    requires pass { pass.parts ≡ 1024 }
 {
-    let opening = hundred_places(alloc);
-    let (book, pass) = book_of::<C, P, W>(rt, alloc, calls, placed, withdrawn, opening)?;
     let rect = Rect::new(10, 10, 21, 20)?;
     let gate = Between {
         passes: Count::new(),
@@ -131,17 +109,6 @@ fn edits_beside_a_worker<C: Ledger + Send + Sync, P: Ledger + Send + Sync, W: Le
     Ok(())
 }
 
-#[test]
-fn an_editor_edits_beside_a_worker(rt: HostRuntime) -> Result<(), Fail> {
-    edits_beside_a_worker::<Brand, Brand, Brand>(
-        &rt,
-        rt.alloc(),
-        Blank::new(1024),
-        Blank::new(1024),
-        Blank::new(1024),
-    )
-}
-
 /// Holds the editor back until the worker is at its ninth tile.
 #[derive(Drop)]
 struct Late {
@@ -159,19 +126,15 @@ impl Gate for Late {
 }
 
 /// An edit comes when the worker is at its last tile: all tiles are worked on once more, and the edit is made once.
-fn late_edit<C: Ledger + Send + Sync, P: Ledger + Send + Sync, W: Ledger + Send + Sync>(
+pub(crate) fn late_edit<B: FillBook + Send>(
     rt: &(impl Abort + Threads + Wait + Sync),
     alloc: Global,
-    calls: Blank,
-    placed: Blank,
-    withdrawn: Blank,
+    book: B,
+    pass: PassOf<B>,
 ) -> Result<(), Fail>
-    requires names { (calls.name ≡ C.name) × (placed.name ≡ P.name) × (withdrawn.name ≡ W.name) }
-    requires parts { (calls.parts ≡ C.parts) × (placed.parts ≡ P.parts) × (withdrawn.parts ≡ W.parts) }
-    requires all { AllParts C.parts P.parts W.parts }
+    requires ledgers { AllParts B.Calls.parts B.Placed.parts B.Withdrawn.parts }
+    requires pass { pass.parts ≡ 1024 }
 {
-    let opening = hundred_places(alloc);
-    let (book, pass) = book_of::<C, P, W>(rt, alloc, calls, placed, withdrawn, opening)?;
     let gate = Late {
         passes: Count::new(),
     };
@@ -184,31 +147,16 @@ fn late_edit<C: Ledger + Send + Sync, P: Ledger + Send + Sync, W: Ledger + Send 
     Ok(())
 }
 
-#[test]
-fn a_late_edit_is_made_once(rt: HostRuntime) -> Result<(), Fail> {
-    late_edit::<Brand, Brand, Brand>(
-        &rt,
-        rt.alloc(),
-        Blank::new(1024),
-        Blank::new(1024),
-        Blank::new(1024),
-    )
-}
-
 /// Without turns no tile comes in.
-fn no_turns<C: Ledger + Send + Sync, P: Ledger + Send + Sync, W: Ledger + Send + Sync>(
+pub(crate) fn no_turns<B: FillBook + Send>(
     rt: &(impl Abort + Threads + Wait + Sync),
     alloc: Global,
-    calls: Blank,
-    placed: Blank,
-    withdrawn: Blank,
+    book: B,
+    pass: PassOf<B>,
 ) -> Result<(), Fail>
-    requires names { (calls.name ≡ C.name) × (placed.name ≡ P.name) × (withdrawn.name ≡ W.name) }
-    requires parts { (calls.parts ≡ C.parts) × (placed.parts ≡ P.parts) × (withdrawn.parts ≡ W.parts) }
-    requires all { AllParts C.parts P.parts W.parts }
+    requires ledgers { AllParts B.Calls.parts B.Placed.parts B.Withdrawn.parts }
+    requires pass { pass.parts ≡ 1024 }
 {
-    let opening = hundred_places(alloc);
-    let (book, pass) = book_of::<C, P, W>(rt, alloc, calls, placed, withdrawn, opening)?;
     let Err(RunError::Unfinished { book, pass }) = run(rt, alloc, book, pass, &[], 1, &OpenGate, 0)
     else {
         panic!(rt; "the run finishes");
@@ -217,32 +165,16 @@ fn no_turns<C: Ledger + Send + Sync, P: Ledger + Send + Sync, W: Ledger + Send +
     Ok(())
 }
 
-#[test]
-fn a_run_without_turns_is_unfinished(rt: HostRuntime) -> Result<(), Fail> {
-    no_turns::<Brand, Brand, Brand>(
-        &rt,
-        rt.alloc(),
-        Blank::new(1024),
-        Blank::new(1024),
-        Blank::new(1024),
-    )
-}
-
 /// A history of three events has no room for nine tiles.
-fn three_events<C: Ledger + Send + Sync, P: Ledger + Send + Sync, W: Ledger + Send + Sync>(
+pub(crate) fn three_events<B: FillBook + Send>(
     rt: &(impl Abort + Threads + Wait + Sync),
     alloc: Global,
-    calls: Blank,
-    placed: Blank,
-    withdrawn: Blank,
+    book: B,
+    pass: PassOf<B>,
 ) -> Result<(), Fail>
-    requires names { (calls.name ≡ C.name) × (placed.name ≡ P.name) × (withdrawn.name ≡ W.name) }
-    requires parts { (calls.parts ≡ C.parts) × (placed.parts ≡ P.parts) × (withdrawn.parts ≡ W.parts) }
-    requires all { AllParts C.parts P.parts W.parts }
+    requires ledgers { AllParts B.Calls.parts B.Placed.parts B.Withdrawn.parts }
+    requires pass { pass.parts ≡ 1024 }
 {
-    let mut opening = hundred_places(alloc);
-    opening.max_events = 3;
-    let (book, pass) = book_of::<C, P, W>(rt, alloc, calls, placed, withdrawn, opening)?;
     let Err(RunError::Unfinished { book, pass }) = run(rt, alloc, book, pass, &[], 1, &OpenGate, 10)
     else {
         panic!(rt; "the run finishes");
@@ -251,37 +183,18 @@ fn three_events<C: Ledger + Send + Sync, P: Ledger + Send + Sync, W: Ledger + Se
     Ok(())
 }
 
-#[test]
-fn a_run_into_a_full_history_is_unfinished(rt: HostRuntime) -> Result<(), Fail> {
-    three_events::<Brand, Brand, Brand>(
-        &rt,
-        rt.alloc(),
-        Blank::new(1024),
-        Blank::new(1024),
-        Blank::new(1024),
-    )
-}
-
 /// Beside one wire all boxes are placed but two, by so many workers.
-fn one_wire<C: Ledger + Send + Sync, P: Ledger + Send + Sync, W: Ledger + Send + Sync>(
+pub(crate) fn one_wire<B: FillBook + Send>(
     rt: &(impl Abort + Threads + Wait + Sync),
     alloc: Global,
-    calls: Blank,
-    placed: Blank,
-    withdrawn: Blank,
+    book: B,
+    pass: PassOf<B>,
     workers: u32,
 ) -> Result<(), Fail>
-    requires names { (calls.name ≡ C.name) × (placed.name ≡ P.name) × (withdrawn.name ≡ W.name) }
-    requires parts { (calls.parts ≡ C.parts) × (placed.parts ≡ P.parts) × (withdrawn.parts ≡ W.parts) }
-    requires all { AllParts C.parts P.parts W.parts }
+    requires ledgers { AllParts B.Calls.parts B.Placed.parts B.Withdrawn.parts }
+    requires pass { pass.parts ≡ 1024 }
     requires workers { (0 < workers) × (workers ≤ 64) }
 {
-    let opening = Opening {
-        frame: HUNDRED_PLACES,
-        metal: Region::one(alloc, &Rect::new(9, 0, 20, 20)?)?,
-        max_events: 1000,
-    };
-    let (book, pass) = book_of::<C, P, W>(rt, alloc, calls, placed, withdrawn, opening)?;
     let Ok((book, pass)) = run(rt, alloc, book, pass, &[], workers, &OpenGate, 10) else {
         panic!(rt; "the run of {workers} does not finish");
     };
@@ -295,21 +208,6 @@ fn one_wire<C: Ledger + Send + Sync, P: Ledger + Send + Sync, W: Ledger + Send +
             let free = i != 1 || j > 1;
             assert_eq!(rt; book.has(Place { i, j }), free, "{workers} workers");
         }
-    }
-    Ok(())
-}
-
-#[test]
-fn one_wire_by_any_number_of_workers(rt: HostRuntime) -> Result<(), Fail> {
-    for workers in [1, 2, 8] {
-        one_wire::<Brand, Brand, Brand>(
-            &rt,
-            rt.alloc(),
-            Blank::new(1024),
-            Blank::new(1024),
-            Blank::new(1024),
-            workers,
-        )?;
     }
     Ok(())
 }
