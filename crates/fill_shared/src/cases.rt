@@ -1,12 +1,19 @@
-//! What the tests of shared books and of runs open, wait for and ask.
-use crate::PassOf;
+//! What the tests of shared books and of runs open.
+ghost use Rattle.std.specs.Prelude.{◌≡◌, ◌≤◌, ◌<◌, IfOk};
+ghost use Rattle.fill_core.specs.Shares.{AllParts};
+
+use crate::{PassOf, Shared};
 use fill_base::Rect;
-use fill_core::{Edit, FillBook};
+use fill_book::PlainBook;
+use fill_core::{Edit, FillBook, Pass};
+use fill_region::Region;
 use fill_text::{Rules, read_rules};
 use std::alloc::Global;
 use std::process::Abort;
 use std::sync::atomic::{AtomicBool, AtomicU64, Ordering};
+use std::sync::ledger::{Blank, Ledger};
 use std::test::Fail;
+use std::thread::Threads;
 
 /// Boxes of 4 by 4 that keep a gap of two to metal and to one another, in tiles of four by four places.
 const BOXES: &str = "box_w,4
@@ -65,6 +72,69 @@ pub(crate) fn rules_in(alloc: Global, frame: &str) -> Result<Rules, Fail> {
 /// The edit that adds metal beside the box of place (1, 1).
 pub(crate) fn added() -> Result<Edit, Fail> {
     Ok(Edit::Add(Rect::new(10, 10, 21, 20)?))
+}
+
+/// A rule file's frame, the metal that a book opens on, and how many events its history may have.
+#[derive(Drop)]
+pub(crate) struct Opening {
+    pub(crate) frame: &'static str,
+    pub(crate) metal: Region,
+    pub(crate) max_events: u32,
+}
+
+/// A hundred places, no metal, and a long history.
+pub(crate) fn hundred_places(alloc: Global) -> Opening {
+    Opening {
+        frame: HUNDRED_PLACES,
+        metal: Region::empty(alloc),
+        max_events: 1000,
+    }
+}
+
+/// The book that opens so.
+pub(crate) fn book_of<C: Ledger, P: Ledger, W: Ledger>(
+    rt: &(impl Threads + Sync),
+    alloc: Global,
+    calls: Blank,
+    placed: Blank,
+    withdrawn: Blank,
+    opening: Opening,
+) -> Result<(PlainBook<C, P, W>, Pass<C, P, W>), Fail>
+    requires names { (calls.name ≡ C.name) × (placed.name ≡ P.name) × (withdrawn.name ≡ W.name) }
+    requires parts { (calls.parts ≡ C.parts) × (placed.parts ≡ P.parts) × (withdrawn.parts ≡ W.parts) }
+    requires all { AllParts C.parts P.parts W.parts }
+    ensures { IfOk result (λ r. r.1.parts ≡ 1024) }
+{
+    let Opening {
+        frame,
+        metal,
+        max_events,
+    } = opening;
+    let rules = rules_in(alloc, frame)?;
+    let most = u64::from(max_events);
+    Ok(PlainBook::open(rt, alloc, calls, placed, withdrawn, metal, rules, most)?)
+}
+
+/// A shared book that opens so, with so many passes, the last one first.
+pub(crate) fn shared_by<C: Ledger + Send + Sync, P: Ledger + Send + Sync, W: Ledger + Send + Sync>(
+    rt: &(impl Abort + Threads + Sync),
+    alloc: Global,
+    calls: Blank,
+    placed: Blank,
+    withdrawn: Blank,
+    opening: Opening,
+    callers: u32,
+) -> Result<(Shared<PlainBook<C, P, W>>, Vec<Pass<C, P, W>>), Fail>
+    requires names { (calls.name ≡ C.name) × (placed.name ≡ P.name) × (withdrawn.name ≡ W.name) }
+    requires parts { (calls.parts ≡ C.parts) × (placed.parts ≡ P.parts) × (withdrawn.parts ≡ W.parts) }
+    requires all { AllParts C.parts P.parts W.parts }
+    requires callers { (0 < callers) × (callers ≤ 1024) }
+{
+    let (book, pass) = book_of::<C, P, W>(rt, alloc, calls, placed, withdrawn, opening)?;
+    let Ok(opened) = Shared::open(alloc, book, pass, callers) else {
+        panic!(rt; "memory was refused");
+    };
+    Ok(opened)
 }
 
 /// How often a flag is looked at before a test gives up.

@@ -17,8 +17,4 @@ pub use worker::{WorkEnd, work};
 #[cfg(test)]
 mod cases;
 #[cfg(test)]
-mod run_tests;
-#[cfg(test)]
-mod shared_tests;
-#[cfg(test)]
 mod tests;

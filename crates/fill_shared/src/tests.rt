@@ -1,191 +1,170 @@
-ghost use Rattle.std.specs.Prelude.{◌≡◌, ◌<◌, ◌≤◌, ◌^◌};
+ghost use Rattle.std.specs.Prelude.{◌≡◌};
 ghost use Rattle.fill_core.specs.Shares.{AllParts};
 
-use crate::cases::{HUNDRED_PLACES, NO_PLACES, rules_in};
-use crate::{PassOf, run_tests, shared_tests};
-use fill_base::Rect;
-use fill_book::PlainBook;
-use fill_core::FillBook;
-use fill_region::Region;
+use crate::cases::{Count, added, assert_counts, hundred_places, shared_by};
+use crate::{Look, PassMissing, PassOf, Seen, Shared};
+use fill_core::{Edit, FillBook, Pass, Reply};
+use fill_job::Proposal;
 use std::alloc::Global;
 use std::marker::Brand;
 use std::process::Abort;
 use std::sync::Wait;
 use std::sync::ledger::{Blank, Ledger};
 use std::test::Fail;
+use std::thread;
 use std::thread::Threads;
 
-/// What is done with a book.
-#[derive(Clone, Copy)]
-enum Case {
-    ThreePasses,
-    FillAgain,
-    TurnsRunOut,
-    OneEvent,
-    NoTile,
-    TwoWorkers,
-    EditsBeside,
-    LateEdit,
-    NoTurns,
-    ThreeEvents,
-    OneWire,
-}
-
-impl Case {
-    /// The frame of the rules.
-    fn frame(self) -> &'static str {
-        match self {
-            Case::NoTile => NO_PLACES,
-            _ => HUNDRED_PLACES,
-        }
-    }
-
-    /// The metal that the book opens on.
-    fn metal(self, alloc: Global) -> Result<Region, Fail> {
-        match self {
-            Case::OneWire => Ok(Region::one(alloc, &Rect::new(9, 0, 20, 20)?)?),
-            _ => Ok(Region::empty(alloc)),
-        }
-    }
-
-    /// How many events there may be.
-    fn max_events(self) -> u64
-        ensures { result ≤ 2 ^ 32 }
-    {
-        match self {
-            Case::OneEvent => 1,
-            Case::ThreeEvents => 3,
-            _ => 1000,
-        }
-    }
-}
-
-/// Plays a case with a book; a case of a run by so many workers.
-fn play<B: FillBook + Send>(
-    rt: &(impl Abort + Threads + Wait + Sync),
+/// The proposal of the next tile from a tile on.
+fn proposal_from<B: FillBook>(
+    rt: &(impl Abort + Wait),
     alloc: Global,
-    book: B,
-    pass: PassOf<B>,
-    case: Case,
-    workers: u32,
-) -> Result<(), Fail>
-    requires ledgers { AllParts B.Calls.parts B.Placed.parts B.Withdrawn.parts }
-    requires pass { pass.parts ≡ 1024 }
-    requires workers { (0 < workers) × (workers ≤ 64) }
+    shared: &Shared<B>,
+    pass: &mut PassOf<B>,
+    from: u32,
+) -> Proposal
+    requires { AllParts B.Calls.parts B.Placed.parts B.Withdrawn.parts }
 {
-    match case {
-        Case::ThreePasses => shared_tests::three_passes(rt, alloc, book, pass),
-        Case::FillAgain => shared_tests::fill_and_fill_again(rt, alloc, book, pass),
-        Case::TurnsRunOut => shared_tests::turns_run_out(rt, alloc, book, pass),
-        Case::OneEvent => shared_tests::one_event(rt, alloc, book, pass),
-        Case::NoTile => shared_tests::no_tile(rt, alloc, book, pass),
-        Case::TwoWorkers => run_tests::two_workers(rt, alloc, book, pass),
-        Case::EditsBeside => run_tests::edits_beside_a_worker(rt, alloc, book, pass),
-        Case::LateEdit => run_tests::late_edit(rt, alloc, book, pass),
-        Case::NoTurns => run_tests::no_turns(rt, alloc, book, pass),
-        Case::ThreeEvents => run_tests::three_events(rt, alloc, book, pass),
-        Case::OneWire => run_tests::one_wire(rt, alloc, book, pass, workers),
-    }
+    let Ok(Look::Work(job)) = shared.look(rt, alloc, pass, from) else {
+        panic!(rt; "no work from tile {from}");
+    };
+    let Ok(proposal) = job.propose(alloc) else {
+        panic!(rt; "memory was refused");
+    };
+    proposal
 }
 
-/// Opens a book for a case and plays it.
-fn open_and_play<C: Ledger + Send + Sync, P: Ledger + Send + Sync, W: Ledger + Send + Sync>(
+/// Looks from a tile on in one turn, and commits in a later one.
+fn look_and_commit<B: FillBook>(
+    rt: &(impl Abort + Wait),
+    alloc: Global,
+    shared: &Shared<B>,
+    mut pass: PassOf<B>,
+    turns: &Count,
+    when: (u32, u64, u64),
+    want: Reply,
+) -> PassOf<B>
+    requires { AllParts B.Calls.parts B.Placed.parts B.Withdrawn.parts }
+{
+    let (from, look, commit) = when;
+    turns.wait_for(look);
+    let proposal = proposal_from(rt, alloc, shared, &mut pass, from);
+    turns.raise();
+    assert_eq!(rt; proposal.tile(), from);
+    turns.wait_for(commit);
+    let reply = shared.commit(rt, alloc, &mut pass, &proposal);
+    turns.raise();
+    assert!(rt; reply == Ok(want));
+    pass
+}
+
+/// Edits in a turn, and asks for the totals of a window that there is and of one that there isn't.
+fn edit_and_ask<B: FillBook>(
+    rt: &(impl Abort + Wait),
+    alloc: Global,
+    shared: &Shared<B>,
+    mut pass: PassOf<B>,
+    turns: &Count,
+    turn: u64,
+    edit: Edit,
+) -> PassOf<B>
+    requires { AllParts B.Calls.parts B.Placed.parts B.Withdrawn.parts }
+{
+    turns.wait_for(turn);
+    let reply = shared.edit(rt, alloc, &mut pass, edit);
+    assert!(rt; reply == Ok(Reply::Withdrawn(1)));
+    let seen = Seen {
+        version: 1,
+        events: 2,
+        total: 350,
+    };
+    assert!(rt; shared.total(rt, &mut pass, 0, 0) == Some(seen));
+    assert!(rt; shared.total(rt, &mut pass, 3, 0).is_none());
+    turns.raise();
+    pass
+}
+
+/// Three callers in three threads: two look, the first commits, the third edits and asks, and the second commits too late.
+fn three_passes<C: Ledger + Send + Sync, P: Ledger + Send + Sync, W: Ledger + Send + Sync>(
     rt: &(impl Abort + Threads + Wait + Sync),
     alloc: Global,
     calls: Blank,
     placed: Blank,
     withdrawn: Blank,
-    case: Case,
-    workers: u32,
 ) -> Result<(), Fail>
     requires names { (calls.name ≡ C.name) × (placed.name ≡ P.name) × (withdrawn.name ≡ W.name) }
     requires parts { (calls.parts ≡ C.parts) × (placed.parts ≡ P.parts) × (withdrawn.parts ≡ W.parts) }
     requires all { AllParts C.parts P.parts W.parts }
-    requires workers { (0 < workers) × (workers ≤ 64) }
 {
-    let rules = rules_in(alloc, case.frame())?;
-    let metal = case.metal(alloc)?;
-    let most = case.max_events();
-    let (book, pass) = PlainBook::<C, P, W>::open(
-        rt, alloc, calls, placed, withdrawn, metal, rules, most,
+    let opening = hundred_places(alloc);
+    let (shared, mut passes) = shared_by::<C, P, W>(
+        rt, alloc, calls, placed, withdrawn, opening, 3,
     )?;
-    play(rt, alloc, book, pass, case, workers)
-}
-
-/// Plays a case in a book with ledgers of its own.
-fn play_by(
-    rt: &(impl Abort + Threads + Wait + Sync),
-    alloc: Global,
-    case: Case,
-    workers: u32,
-) -> Result<(), Fail>
-    requires { (0 < workers) × (workers ≤ 64) }
-{
-    open_and_play::<Brand, Brand, Brand>(
+    let edit = added()?;
+    let (Some(third), Some(second), Some(first)) = (passes.pop(), passes.pop(), passes.pop()) else {
+        panic!(rt; "three callers have three passes");
+    };
+    let turns = Count::new();
+    let ((first, second), third) = thread::join(
         rt,
-        alloc,
-        Blank::new(1024),
-        Blank::new(1024),
-        Blank::new(1024),
-        case,
-        workers,
-    )
+        || -> (Pass<C, P, W>, Pass<C, P, W>)
+            requires { AllParts C.parts P.parts W.parts }
+        {
+            thread::join(
+                rt,
+                || -> Pass<C, P, W>
+                    requires { AllParts C.parts P.parts W.parts }
+                {
+                    look_and_commit(
+                        rt,
+                        alloc,
+                        &shared,
+                        first,
+                        &turns,
+                        (0, 0, 2),
+                        Reply::Placed(16),
+                    )
+                },
+                || -> Pass<C, P, W>
+                    requires { AllParts C.parts P.parts W.parts }
+                {
+                    look_and_commit(
+                        rt,
+                        alloc,
+                        &shared,
+                        second,
+                        &turns,
+                        (1, 1, 4),
+                        Reply::Stale { at: 1 },
+                    )
+                },
+            )
+        },
+        || -> Pass<C, P, W>
+            requires { AllParts C.parts P.parts W.parts }
+        { edit_and_ask(rt, alloc, &shared, third, &turns, 3, edit) },
+    );
+    assert!(rt; !turns.is_late());
+    passes.push(first)?;
+    passes.push(second)?;
+    let Err(PassMissing { shared, mut passes }) = shared.close(passes) else {
+        panic!(rt; "a pass is missing");
+    };
+    assert_eq!(rt; passes.len(), 2);
+    passes.push(third)?;
+    let Ok((book, pass)) = shared.close(passes) else {
+        panic!(rt; "no pass is missing");
+    };
+    assert_counts(rt, &book, &pass, [3, 16, 1], 15);
+    Ok(())
 }
 
 #[test]
 fn three_callers_in_three_threads(rt: HostRuntime) -> Result<(), Fail> {
-    play_by(&rt, rt.alloc(), Case::ThreePasses, 1)
-}
-
-#[test]
-fn a_worker_fills_and_fills_again(rt: HostRuntime) -> Result<(), Fail> {
-    play_by(&rt, rt.alloc(), Case::FillAgain, 1)
-}
-
-#[test]
-fn a_worker_grows_tired(rt: HostRuntime) -> Result<(), Fail> {
-    play_by(&rt, rt.alloc(), Case::TurnsRunOut, 1)
-}
-
-#[test]
-fn a_full_history_ends_the_work(rt: HostRuntime) -> Result<(), Fail> {
-    play_by(&rt, rt.alloc(), Case::OneEvent, 1)
-}
-
-#[test]
-fn a_raster_without_places_is_done(rt: HostRuntime) -> Result<(), Fail> {
-    play_by(&rt, rt.alloc(), Case::NoTile, 1)
-}
-
-#[test]
-fn two_workers_work_at_once(rt: HostRuntime) -> Result<(), Fail> {
-    play_by(&rt, rt.alloc(), Case::TwoWorkers, 1)
-}
-
-#[test]
-fn an_editor_edits_beside_a_worker(rt: HostRuntime) -> Result<(), Fail> {
-    play_by(&rt, rt.alloc(), Case::EditsBeside, 1)
-}
-
-#[test]
-fn a_late_edit_is_made_once(rt: HostRuntime) -> Result<(), Fail> {
-    play_by(&rt, rt.alloc(), Case::LateEdit, 1)
-}
-
-#[test]
-fn a_run_without_turns_is_unfinished(rt: HostRuntime) -> Result<(), Fail> {
-    play_by(&rt, rt.alloc(), Case::NoTurns, 1)
-}
-
-#[test]
-fn a_run_into_a_full_history_is_unfinished(rt: HostRuntime) -> Result<(), Fail> {
-    play_by(&rt, rt.alloc(), Case::ThreeEvents, 1)
-}
-
-#[test]
-fn one_wire_by_any_number_of_workers(rt: HostRuntime) -> Result<(), Fail> {
-    for workers in [1, 2, 8] {
-        play_by(&rt, rt.alloc(), Case::OneWire, workers)?;
-    }
-    Ok(())
+    three_passes::<Brand, Brand, Brand>(
+        &rt,
+        rt.alloc(),
+        Blank::new(1024),
+        Blank::new(1024),
+        Blank::new(1024),
+    )
 }
