@@ -7,16 +7,18 @@ use Rattle.fill_region.specs.Bands.{Band, holds}
 use Rattle.fill_text.specs.Rules.{Values}
 use Rattle.fill_text.specs.Script.{change_of}
 use Rattle.fill_text.specs.declared.script.Edit.{Edit}
-use Rattle.fill_job.specs.Plans.{plan_of}
+use Rattle.fill_job.specs.Plans.{Plan, plan_of}
 use Rattle.fill_core.specs.Accounts.{Account, IsKeeping, state_of}
 use Rattle.fill_core.specs.Histories.{edits_in, events_in}
-use Rattle.fill_core.specs.Machine.{IsComplete}
+use Rattle.fill_core.specs.Machine.{State, IsComplete, opening as start, replay_from, step}
 use Rattle.fill_core.specs.Shares.{Held}
 use Rattle.fill_core.specs.declared.event.Entry.{Entry}
+use Rattle.fill_core.specs.declared.event.Event.{Event}
+use Rattle.fill_core.specs.declared.event.Event.TheVariants as event
 use Rattle.fill_core.proofs.Counts.{version_counts}
-use Rattle.fill_core.proofs.Unedited.{complete_unedited}
+use Rattle.fill_core.proofs.Unedited.{committed_stays, complete_unedited}
 use Rattle.fill_shared.specs.Passes.{HasCounted}
-use Rattle.fill_shared.specs.Runs.{IsFinished, IsLeft, IsUnfinished, changes_in, low_fill}
+use Rattle.fill_shared.specs.Runs.{IsFinished, IsLeft, IsUnedited, IsUnfinished, changes_in, low_fill}
 
 pub opened_same : (a : Account) (rules v : Values) (opening o q : List Band) (r s : Bool) → v ≡ a.rules → o ≡ a.opening → q ≡ a.opening → (IsTrue r ↔ (v ≡ rules))
     → (IsTrue s ↔ ((x y : ℤ) → holds q x y ≡ holds opening x y)) → (((x y : ℤ) → holds o x y ≡ holds opening x y) → o ≡ opening)
@@ -56,12 +58,22 @@ unfinished_by a pass rules opening edits history made same h e most keeping coun
     let left = left_by a pass rules opening (take made edits) same.0 same.1 (ap changes_in (sym h) ∙ e) keeping counted in
     record { made = made; most = most; left = left; lacking = lacking }
 
--- without edits the fill is one function of rules and metal
-pub unedited_fill : (rules : Values) (opening : List Band) (edits : List Edit) (a : Account) (pass : Held) → edits ≡ [] → IsFinished rules opening edits a pass → (state_of a).fill ≡ low_fill (plan_of rules) (holds opening)
+metal_stays : (plan : Plan) (s : State) (events : List Event) → edits_in events ≡ [] → (replay_from plan s events).metal ≡ s.metal
+unfolding replay_from
+metal_stays plan s [] e = refl
+metal_stays plan s (event.Commit version tile same ∷ es) e = metal_stays plan (step plan s (event.Commit version tile same)) es e ∙ (committed_stays plan s version tile same).metal
+metal_stays plan s (event.Edit edit ∷ es) e = absurd (let f : suc (length (edits_in es)) ≡ 0 = ap length e in omega (arith, f))
+
+-- without edits the metal stays, and the fill is one function of it and the rules
+pub unedited_fill : (rules : Values) (opening : List Band) (edits : List Edit) (a : Account) (pass : Held) → edits ≡ [] → IsFinished rules opening edits a pass → IsUnedited rules opening (state_of a)
 unedited_fill rules opening edits a pass none is =
     let left = is.left in
-    complete_unedited (plan_of a.rules) (holds a.opening) (events_in a.history) left.keeping.plan (no_change (edits_in (events_in a.history)) (left.edited ∙ ap (map change_of) none)) is.complete
-    ∙ (ap (λ (v : Values). low_fill (plan_of v) (holds a.opening)) left.rules_are ∙ ap (λ (o : List Band). low_fill (plan_of rules) (holds o)) left.opening_is)
+    let unedited : edits_in (events_in a.history) ≡ [] = no_change (edits_in (events_in a.history)) (left.edited ∙ ap (map change_of) none) in
+    record {
+      metal = metal_stays (plan_of a.rules) (start (plan_of a.rules) (holds a.opening)) (events_in a.history) unedited ∙ ap holds left.opening_is;
+      fill = complete_unedited (plan_of a.rules) (holds a.opening) (events_in a.history) left.keeping.plan unedited is.complete
+          ∙ (ap (λ (v : Values). low_fill (plan_of v) (holds a.opening)) left.rules_are ∙ ap (λ (o : List Band). low_fill (plan_of rules) (holds o)) left.opening_is);
+    }
 
 -- the same said of equal rules and metal
 pub finished_of : (rules v : Values) (opening o : List Band) (edits : List Edit) (a : Account) (pass : Held) → v ≡ rules → o ≡ opening → IsFinished v o edits a pass → IsFinished rules opening edits a pass

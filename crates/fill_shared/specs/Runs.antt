@@ -1,13 +1,13 @@
 -- What a run of workers beside an editor leaves.
 use Rattle.std.specs.Prelude.{◌≡◌, ◌⊎◌, ℕ, ◌<◌, ◌≤◌, ◌&&◌, List, length, map, take}
-use Rattle.fill_region.specs.Bands.{Band}
+use Rattle.fill_region.specs.Bands.{Band, holds}
 use Rattle.fill_text.specs.Rules.{Values}
 use Rattle.fill_text.specs.Script.{Change, change_of}
 use Rattle.fill_text.specs.declared.script.Edit.{Edit}
 use Rattle.fill_job.specs.Plans.{Plan, PointSet, allowed, in_window_of, low_windows, plan_of}
 use Rattle.fill_core.specs.Accounts.{Account, IsKeeping, state_of}
 use Rattle.fill_core.specs.Histories.{edits_in, events_in}
-use Rattle.fill_core.specs.Machine.{IsComplete}
+use Rattle.fill_core.specs.Machine.{State, IsComplete}
 use Rattle.fill_core.specs.Shares.{Held}
 use Rattle.fill_core.specs.declared.event.Entry.{Entry}
 use Rattle.fill_shared.specs.Passes.{HasCounted}
@@ -40,3 +40,8 @@ pub record IsUnfinished (rules : Values) (opening : List Band) (edits : List Edi
 -- all places that may be filled and whose box lies wholly in a window that is low in the metal
 abbrev pub low_fill : Plan → PointSet → PointSet
 low_fill plan metal i j = allowed plan metal i j && in_window_of plan (low_windows plan metal) i j
+
+-- what is left without edits: the metal as it was, and all those places
+pub record IsUnedited (rules : Values) (opening : List Band) (s : State) : Type 0 where
+  pub metal : s.metal ≡ holds opening
+  pub fill : s.fill ≡ low_fill (plan_of rules) (holds opening)

@@ -17,6 +17,4 @@ pub use worker::{WorkEnd, work};
 #[cfg(test)]
 mod cases;
 #[cfg(test)]
-mod run_tests;
-#[cfg(test)]
 mod tests;

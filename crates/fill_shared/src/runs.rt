@@ -1,14 +1,12 @@
 //! Runs: workers fill a book while an editor makes the edits, and what comes of it is compared with what was handed in.
 ghost use Rattle.std.specs.Prelude.{◌≡◌, ◌↔◌, ◌+◌, ◌*◌, ◌<◌, ◌≤◌, [], Err, IfOk, IfSome, IsTrue, length, map, slice_index_or, take};
-ghost use Rattle.fill_region.specs.Bands.{holds};
 ghost use Rattle.fill_text.specs.Script.{change_of};
 ghost use Rattle.fill_text.specs.ValuesOfRules.{values_of};
-ghost use Rattle.fill_job.specs.Plans.{plan_of};
 ghost use Rattle.fill_core.specs.Accounts.{IsKeeping, state_of};
 ghost use Rattle.fill_core.specs.Histories.{entries_of};
 ghost use Rattle.fill_core.specs.Shares.{AllParts};
 ghost use Rattle.fill_shared.specs.Passes.{HasCounted};
-ghost use Rattle.fill_shared.specs.Runs.{IsFinished, IsUnfinished, changes_in, low_fill};
+ghost use Rattle.fill_shared.specs.Runs.{IsFinished, IsUnedited, IsUnfinished, changes_in};
 ghost use Rattle.fill_shared.specs.declared.runs.RunError.TheVariants as error;
 
 use crate::gate::Gate;
@@ -130,7 +128,8 @@ fn settle<B: FillBook>(
 /// Fills a book: so many workers bring tile after tile, each in a thread of its own and in at most `limit` turns, while one editor
 /// makes the edits in their order. Where the version isn't complete after that, the workers have as many turns once more, without
 /// the editor. Worker `k` of `n` starts at the tile `k * tiles / n`. What comes back opened on the metal that the book opened on,
-/// by the same rules, and its edits are those handed in.
+/// by the same rules, and its edits are those handed in. Without edits its fill is one function of that metal and the rules,
+/// whatever the number of workers.
 ///
 /// # Errors
 /// `Memory` where memory is refused, `Mixed` where book and edits are not those handed in, `Unfinished` where not all edits were
@@ -149,7 +148,7 @@ pub fn run<B: FillBook + Send, G: Gate + Sync, R: Threads + Wait + Sync>(
     requires pass { pass.parts ≡ 1024 }
     requires workers { (0 < workers) × (workers ≤ 64) }
     ensures finished { IfOk result (λ r. IsFinished (B.account book).rules (B.account book).opening edits.now (B.account r.0) r.1) }
-    ensures unedited { edits.now ≡ [] → IfOk result (λ r. (state_of (B.account r.0)).fill ≡ low_fill (plan_of (B.account book).rules) (holds (B.account book).opening)) }
+    ensures unedited { edits.now ≡ [] → IfOk result (λ r. IsUnedited (B.account book).rules (B.account book).opening (state_of (B.account r.0))) }
     ensures brief { IfOk result (λ r. r.1.calls ≤ pass.calls + (length edits.now + 2 * (workers * limit))) }
     ensures unfinished { (b : _) (p : _) → result ≡ Err (error.Unfinished b p) → IsUnfinished (B.account book).rules (B.account book).opening edits.now (B.account b) p }
 {
