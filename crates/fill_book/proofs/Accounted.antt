@@ -5,6 +5,7 @@ use Rattle.std.proofs.lemmas.Bool.{and_parts, cases_Bool}
 use Rattle.fill_base.specs.Squares.{area_of}
 use Rattle.fill_base.specs.declared.rect.Rect.{Rect}
 use Rattle.fill_region.specs.Bands.{Band, holds}
+use Rattle.fill_area.specs.Density.{window_area}
 use Rattle.fill_raster.specs.Lattice.{in_tile}
 use Rattle.fill_raster.specs.Marks.{Marked, is_marked}
 use Rattle.fill_text.specs.Rules.{Values}
@@ -56,6 +57,11 @@ total_now {a} {t} {s} keeps p w m n none window =
     ∙ (ap (λ r. area_of (metal_or_box r (is_filled s.filled) (holds s.metal)) w) keeps.fits.raster
     ∙ (area_in_window (with_boxes plan (holds s.metal) (is_filled s.filled)) plan.windows m n w window
     ∙ (ap (λ (f : PointSet). total_in plan (holds s.metal) f m n) (sym fill) ∙ ap (λ (f : PointSet). total_in plan f (state_of a).fill m n) (sym metal))))
+
+pub drawn_now : {a : Account} {t : Totals} {s : Stored} → Keeps a t s → (w : Rect) (m n : ℕ) → IsWindowOf (plan_of a.rules).windows m n w → area_of (holds s.metal) w ≡ window_area (state_of a).metal (plan_of a.rules).windows m n
+drawn_now {a} {t} {s} keeps w m n window =
+    let metal : (state_of a).metal ≡ holds s.metal = ap (λ (q : State). q.metal) keeps.state in
+    area_in_window (holds s.metal) (plan_of a.rules).windows m n w window ∙ ap (λ (f : PointSet). window_area f (plan_of a.rules).windows m n) (sym metal)
 
 -- ---- the ledgers have room
 
@@ -162,6 +168,22 @@ commit_counts plan s n version tile true m placed refusal reply taken refused is
 commit_counts plan s n version tile false m placed refusal reply taken refused is =
     let none = refusal_counts plan (state_by no_places s) version tile in let reply_is = is ∙ refused in
     (none_placed s n tile m placed taken ∙ (sym none.0 ∙ sym (ap placed_by reply_is)), sym none.1 ∙ sym (ap withdrawn_by reply_is))
+
+-- what a commit found, did and answered
+pub record IsDone (a : Account) (s n : Stored) (version tile : ℕ) (read : ReadSet) (same : Bool) (m : Marked) (placed : ℕ) (reply : Reply) : Type 0 where
+  pub brought : IsBrought a.rules s version tile read same m
+  pub taken : IsTakenIn s n same tile m placed
+  pub answer : reply ≡ reply_of (plan_of a.rules) (state_of a) (event.Commit version tile same)
+  pub counts : (placed ≡ placed_by reply) × (0 ≡ withdrawn_by reply)
+
+pub commit_done : {a : Account} {t : Totals} {s : Stored} → Keeps a t s → (n : Stored) (version tile : ℕ) (read : ReadSet) (same : Bool) (m : Marked) (placed : ℕ) (refusal reply : Reply) → IsBrought a.rules s version tile read same m → IsTakenIn s n same tile m placed
+    → ((plan : Plan) → refusal ≡ commit_reply plan (state_by no_places s) version tile false) → reply ≡ cond same (Placed placed) refusal → IsDone a s n version tile read same m placed reply
+commit_done {a} {t} {s} keeps n version tile read same m placed refusal reply is taken refused answer = record {
+  brought = is;
+  taken = taken;
+  answer = answer ∙ commit_answer keeps n version tile read same m placed refusal is taken (refused (plan_of a.rules));
+  counts = commit_counts (plan_of a.rules) s n version tile same m placed refusal reply taken (refused (plan_of a.rules)) answer;
+}
 
 pub counted_as : (t u : Totals) (p q w v : ℕ) → u ≡ counted t p w → p ≡ q → w ≡ v → u ≡ counted t q v
 counted_as t u p q w v is placed withdrawn = rw (placed, withdrawn) at is

@@ -1,5 +1,5 @@
 -- The tile that was looked in last is tried before the tile of a place is computed.
-use Rattle.std.proofs.Common.{◌≡◌, ap, sym, ◌∙◌, ℕ, ◌<◌, ◌≤◌, ℤ, inl, inr, arith, List, length, true, false}
+use Rattle.std.proofs.Common.{◌≡◌, refl, ap, sym, ◌∙◌, ℕ, ◌<◌, ◌≤◌, ℤ, inl, inr, arith, List, length, Bool, true, false, ◌&&◌, not}
 use Rattle.std.specs.Prelude.{◌==◌}
 use Rattle.std.proofs.lemmas.Bool.{and_parts, cases_Bool, eqb-true}
 use Rattle.fill_raster.specs.Lattice.{in_raster, in_tile, tile_of, tiles}
@@ -23,3 +23,7 @@ no_tile f g marks tile i j is same all past = ap (λ (h : Filling). in_tile h.ra
   where
     behind : (t n l : ℕ) → t < n → l ≡ n → l ≤ t → ⊥
     behind t n l below is past = omega (arith, below, is, past)
+
+-- a filled place is left where it is not left out
+pub left_is : (filled marked has out left_out : Bool) → marked ≡ filled → has ≡ marked → has ≡ true → out ≡ left_out → not out ≡ filled && not left_out
+left_is filled marked has out left_out is at on gone = rw (sym is, sym at, on, gone) refl

@@ -131,6 +131,12 @@ given_place f g i j t m keeps same on tile marks =
     let of = are_of f g i j t m keeps same on tile marks in
     ap (λ q. in_block q.block i j) (marks_are f i j t m of) ∙ place_marked f i j keeps of.on
 
+pub given_has : (f g : Filling) (i j : ℤ) (t : ℕ) (m : Marked) → IsFilling f → f ≡ g → in_raster g.raster i j ≡ true → t ≡ tile_of f.raster i j → m ≡ get_or f.marks t m → is_marked m i j ≡ is_filled g i j
+given_has f g i j t m keeps same on tile marks =
+    let of = are_of f g i j t m keeps same on tile marks in
+    let here : is_marked (marks_of f (tile_of f.raster i j)) i j ≡ is_filled f i j = rw of.on refl in
+    ap (λ q. is_marked q i j) (marks_are f i j t m of) ∙ (here ∙ ap (λ q. is_filled q i j) same)
+
 pub given_keeps : (f g : Filling) (i j : ℤ) (t : ℕ) (m : Marked) (n : Marked) → IsFilling f → f ≡ g → in_raster g.raster i j ≡ true → t ≡ tile_of f.raster i j → m ≡ get_or f.marks t m → n.block ≡ m.block → IsFilling (changed f t n)
 given_keeps f g i j t m n keeps same on tile marks block =
     let of = are_of f g i j t m keeps same on tile marks in

@@ -1,4 +1,4 @@
-use Rattle.std.proofs.Common.{ap, ◌∙◌}
+use Rattle.std.proofs.Common.{ap, ◌∙◌, rules}
 use Rattle.fill_core.specs.Boxes.{count_places}
 use Rattle.fill_book.specs.Filling.{in_places, is_filled}
 use Rattle.fill_book.proofs.Grown.{Grown, grown, fewer_filled}
@@ -14,3 +14,6 @@ overflow_sub-result c = (fewer c).least
 
 pub returns-clause-withdrawn : goal.returns-clause-withdrawn
 returns-clause-withdrawn c = (fewer c).sum
+
+pub returns-clause-tiles : goal.returns-clause-tiles
+returns-clause-tiles c = search rules
