@@ -1,5 +1,5 @@
 //! Rounds of a run: workers side by side, with the editor or without.
-ghost use Rattle.std.specs.Prelude.{◌≡◌, ◌+◌, ◌*◌, ◌/◌, ◌<◌, ◌≤◌, ℕ, IfOk, length, map, slice_index_or, sum_by};
+ghost use Rattle.std.specs.Prelude.{◌≡◌, ◌+◌, ◌*◌, ◌/◌, ◌<◌, ◌≤◌, ℕ, IfOk, length, slice_index_or, sum_by};
 ghost use Rattle.fill_core.specs.Accounts.{IsKeeping};
 ghost use Rattle.fill_core.specs.Shares.{AllParts};
 ghost use Rattle.fill_shared.specs.Passes.{HasCounted, calls_of, parts_of};
