@@ -37,9 +37,9 @@ IsUnopened Out = ⊥
 IsUnopened Report = ⊥
 
 -- there is a fill of inputs of these bytes, but no memory for its file's name, or one of its texts could not be written
-abbrev pub IsUndelivered : (rules design script : List ℕ) → Option ℕ → Refusal → Type 0
-IsUndelivered rules design script limit refusal =
-    ((library report : List ℕ) × IsFilled rules design script limit library report) × ((refusal ≡ Run run.Memory) ⊎ (refusal ≡ Out) ⊎ (refusal ≡ Report))
+abbrev pub IsUndelivered : (rules design script : List ℕ) → ℕ → Option ℕ → Refusal → Type 0
+IsUndelivered rules design script workers limit refusal =
+    ((library report : List ℕ) × IsFilled rules design script workers limit library report) × ((refusal ≡ Run run.Memory) ⊎ (refusal ≡ Out) ⊎ (refusal ≡ Report))
 
 -- an input could not be opened, or this is why opened files, whose bytes `remaining` tells, give nothing of what the line asks for
 abbrev pub IsCause : {F : Type 0} → (F → Option (List ℕ)) → Option Said → Refusal → Type 0
@@ -47,9 +47,9 @@ IsCause {F} remaining (Some (line.rects rules script)) refusal =
     IsUnopened refusal ⊎ ((r s : F) × IfSome (remaining r) (λ r. IfSome (remaining s) (λ s. IsReason r s refusal)))
 IsCause {F} remaining (Some (line.check rules design)) refusal =
     IsUnopened refusal ⊎ ((r d : F) × IfSome (remaining r) (λ r. IfSome (remaining d) (λ d. IsCheckReason r d refusal)))
-IsCause {F} remaining (Some (line.fill rules design script out limit)) refusal =
+IsCause {F} remaining (Some (line.fill rules design script out workers limit)) refusal =
     IsUnopened refusal ⊎ ((r d s : F) × IfSome (remaining r) (λ r. IfSome (remaining d) (λ d. IfSome (remaining s) (λ s.
-    IsFillReason r d s limit refusal ⊎ IsUndelivered r d s limit refusal))))
+    IsFillReason r d s workers limit refusal ⊎ IsUndelivered r d s workers limit refusal))))
 IsCause remaining None refusal = ⊥
 
 -- a text was written whole to a file
@@ -62,9 +62,9 @@ IsReport {F} remaining contents (Some (line.rects rules script)) before after =
     (r s : F) × IfSome (remaining r) (λ r. IfSome (remaining s) (λ s. IsOkAnd (report_answer r s) (Appends before after)))
 IsReport {F} remaining contents (Some (line.check rules design)) before after =
     (r d : F) × IfSome (remaining r) (λ r. IfSome (remaining d) (λ d. (text : List ℕ) × IsChecked r d text × Appends before after text))
-IsReport {F} remaining contents (Some (line.fill rules design script out limit)) before after =
+IsReport {F} remaining contents (Some (line.fill rules design script out workers limit)) before after =
     (r d s : F) × IfSome (remaining r) (λ r. IfSome (remaining d) (λ d. IfSome (remaining s) (λ s.
-    (library report : List ℕ) × IsFilled r d s limit library report × IsFile contents library × Appends before after report)))
+    (library report : List ℕ) × IsFilled r d s workers limit library report × IsFile contents library × Appends before after report)))
 IsReport remaining contents None before after = ⊥
 
 -- the run gave up for a cause, and told it; want of memory of the command line is told as that of the run

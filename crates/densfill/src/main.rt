@@ -1,13 +1,13 @@
 //! The program: it opens what the command line names, runs the engine and prints a fault.
 #![tactic(auto)]
 
-ghost use Rattle.std.specs.Prelude.{◌≡◌, ◌⊎◌, ◌↔◌, ◌<◌, false, true, Some, map, IfErr, IfOk, IfSome, IsSome, OnErr, OnOk};
+ghost use Rattle.std.specs.Prelude.{◌≡◌, ◌⊎◌, ◌↔◌, ◌<◌, ◌≤◌, false, true, Some, map, IfErr, IfOk, IfSome, IsSome, OnErr, OnOk};
 ghost use Rattle.std.specs.IoError.{error_kind};
 ghost use Rattle.std.specs.Process.{exit_status};
 ghost use Rattle.fill_device.specs.Taps.{has_failed, under};
 ghost use Rattle.fill_engine.specs.Fills.{IsFilled, IsFillReason};
 ghost use Rattle.fill_engine.specs.Refusals.{refusal_status};
-ghost use Rattle.fill_line.specs.Lines.{text_of};
+ghost use Rattle.fill_line.specs.Lines.{text_of, IsManned};
 ghost use Rattle.fill_line.specs.Grammar.{said_in, IsFaultless, IsTaken};
 ghost use Rattle.fill_line.specs.Grammar as said;
 ghost use Rattle.densfill.specs.Outcomes.{GaveUp, IsCause, IsReport, IsTold, IsToldOf, IsUnopened};
@@ -22,6 +22,7 @@ use std::io::{ErrorKind, Write};
 use std::marker::Brand;
 use std::process::ExitCode;
 use std::rt::Files;
+use std::sync::Wait;
 use std::sync::ledger::Blank;
 use std::thread::Threads;
 use std::{env, io};
@@ -102,32 +103,24 @@ fn created<R: Files>(rt: &R, path: &str) -> Result<Tap<R::File>, Refusal>
     }
 }
 
-/// The limit of turns as the engine takes it.
-fn turns(limit: Option<u32>) -> Option<u64>
-    ensures { result ≡ limit }
-{
-    match limit {
-        Some(turns) => Some(u64::from(turns)),
-        None => None,
-    }
-}
-
 /// The texts of a fill of three opened inputs.
-fn prepared<R: Files + Threads + Sync>(
+fn prepared<R: Files + Threads + Wait + Sync>(
     rt: &R,
     alloc: Global,
     rules: &mut Tap<R::File>,
     design: &mut Tap<R::File>,
     script: &mut Tap<R::File>,
+    workers: u32,
     limit: Option<u32>,
 ) -> Result<Filled, Refusal>
     requires rules { has_failed rules.old ≡ false }
     requires design { has_failed design.old ≡ false }
     requires script { has_failed script.old ≡ false }
+    requires workers { (0 < workers) × (workers ≤ 64) }
     ensures filled { IfOk result (λ f. IfSome (R.File.remaining (under rules.old)) (λ r. IfSome (R.File.remaining (under design.old)) (λ d.
-        IfSome (R.File.remaining (under script.old)) (λ s. IsFilled r d s limit f.library.items f.report.items)))) }
+        IfSome (R.File.remaining (under script.old)) (λ s. IsFilled r d s workers limit f.library.items f.report.items)))) }
     ensures refused { IfErr result (λ e. IfSome (R.File.remaining (under rules.old)) (λ r. IfSome (R.File.remaining (under design.old)) (λ d.
-        IfSome (R.File.remaining (under script.old)) (λ s. IsFillReason r d s limit e)))) }
+        IfSome (R.File.remaining (under script.old)) (λ s. IsFillReason r d s workers limit e)))) }
 {
     prepare::<Brand, Brand, Brand, _, _, _>(
         rt,
@@ -138,43 +131,55 @@ fn prepared<R: Files + Threads + Sync>(
         rules,
         design,
         script,
-        turns(limit),
+        workers,
+        limit,
     )
 }
 
 /// Does what a line of `fill` asks for: the fill of the files that its first three paths name, all opened before one is read. The
 /// library's file is created only where there is a fill, and is written whole before the report begins.
-fn fill<R: Files + Threads + Sync, W: Write + Drop>(
+fn fill<R: Files + Threads + Wait + Sync, W: Write + Drop>(
     rt: &R,
     alloc: Global,
     rules: &str,
     design: &str,
     script: &str,
     library: &str,
+    workers: u32,
     limit: Option<u32>,
     out: &mut Tap<W>,
 ) -> Result<(), Refusal>
-    requires { has_failed out.old ≡ false }
-    ensures written { OnOk result (IsReport R.File.remaining R.File.contents (Some (said.fill rules.now design.now script.now library.now limit)) (W.contents (under out.old)) (W.contents (under out.new))) }
-    ensures refused { IfErr result (IsCause R.File.remaining (Some (said.fill rules.now design.now script.now library.now limit))) }
+    requires out { has_failed out.old ≡ false }
+    requires workers { (0 < workers) × (workers ≤ 64) }
+    ensures written { OnOk result (IsReport R.File.remaining R.File.contents (Some (said.fill rules.now design.now script.now library.now workers limit)) (W.contents (under out.old)) (W.contents (under out.new))) }
+    ensures refused { IfErr result (IsCause R.File.remaining (Some (said.fill rules.now design.now script.now library.now workers limit))) }
     ensures silent { OnErr result ((has_failed out.new ≡ true) ⊎ (out.new ≡ out.old)) }
 {
     let mut rules = opened_rules(rt, rules)?;
     let mut design = opened_design(rt, design)?;
     let mut script = opened_script(rt, script)?;
-    let filled = prepared(rt, alloc, &mut rules, &mut design, &mut script, limit)?;
+    let filled = prepared(
+        rt,
+        alloc,
+        &mut rules,
+        &mut design,
+        &mut script,
+        workers,
+        limit,
+    )?;
     let mut library = created(rt, library)?;
     deliver(&filled, &mut library, out)
 }
 
 /// Does what a line asks for, on the files that its paths name. All inputs are opened before one is read.
-fn run<R: Files + Threads + Sync, W: Write + Drop>(
+fn run<R: Files + Threads + Wait + Sync, W: Write + Drop>(
     rt: &R,
     alloc: Global,
     line: Line,
     out: &mut Tap<W>,
 ) -> Result<(), Refusal>
-    requires { has_failed out.old ≡ false }
+    requires out { has_failed out.old ≡ false }
+    requires manned { IsManned line }
     ensures written { OnOk result (IsReport R.File.remaining R.File.contents (Some (text_of line.entry)) (W.contents (under out.old)) (W.contents (under out.new))) }
     ensures refused { IfErr result (IsCause R.File.remaining (Some (text_of line.entry))) }
     ensures silent { OnErr result ((has_failed out.new ≡ true) ⊎ (out.new ≡ out.old)) }
@@ -195,8 +200,11 @@ fn run<R: Files + Threads + Sync, W: Write + Drop>(
             design,
             script,
             out: library,
+            workers,
             limit,
-        } => fill(rt, alloc, rules, design, script, library, limit, out),
+        } => fill(
+            rt, alloc, rules, design, script, library, workers, limit, out,
+        ),
     }
 }
 
@@ -237,7 +245,7 @@ fn ended<E: Write>(alloc: Global, err: &mut Tap<E>, done: Result<(), Refusal>) -
 }
 
 /// Does what a line asks for, and gives the exit status: 0 where it is done, and else that of the refusal.
-fn line_status<R: Files + Threads + Sync, W: Write + Drop, E: Write>(
+fn line_status<R: Files + Threads + Wait + Sync, W: Write + Drop, E: Write>(
     rt: &R,
     alloc: Global,
     line: Line,
@@ -246,6 +254,7 @@ fn line_status<R: Files + Threads + Sync, W: Write + Drop, E: Write>(
 ) -> ExitCode
     requires out { has_failed out.old ≡ false }
     requires err { has_failed err.old ≡ false }
+    requires manned { IsManned line }
     ensures done { exit_status result ≡ 0 → IsReport R.File.remaining R.File.contents (Some (text_of line.entry)) (W.contents (under out.old)) (W.contents (under out.new)) }
     ensures refused { (exit_status result ≡ 0) ⊎ GaveUp R.File.remaining (Some (text_of line.entry)) (E.contents (under err.old)) (E.contents (under err.new)) (has_failed err.new) (exit_status result) }
     ensures status { (exit_status result ≡ 0) ⊎ (1 < exit_status result) }
@@ -258,7 +267,7 @@ fn line_status<R: Files + Threads + Sync, W: Write + Drop, E: Write>(
 /// Does what the words ask for, the program's own name first, and gives the exit status: 0 where it is done, 1 where
 /// they are no line of the program, and else that of the refusal. Nothing is written to `out` then, unless a write to it
 /// failed.
-fn status_of<R: AllocGlobal + Files + Threads + Sync, S: AsStr, W: Write + Drop, E: Write>(
+fn status_of<R: AllocGlobal + Files + Threads + Wait + Sync, S: AsStr, W: Write + Drop, E: Write>(
     rt: &R,
     words: &[S],
     out: &mut Tap<W>,

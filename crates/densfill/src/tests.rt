@@ -6,6 +6,7 @@ use fill_line::Line;
 use std::io::{self, ErrorKind};
 use std::process::{Abort, ExitCode};
 use std::rt::Files;
+use std::sync::Wait;
 use std::thread::Threads;
 
 /// No file has this path.
@@ -113,7 +114,7 @@ fn a_missing_file_is_a_device_fault_at_its_part(rt: HostRuntime) {
 
 /// Asserts the status of `fill` on these paths, and what it tells.
 fn assert_fill(
-    rt: &(impl Abort + AllocGlobal + Files + Threads + Sync),
+    rt: &(impl Abort + AllocGlobal + Files + Threads + Wait + Sync),
     paths: [&str; 4],
     option: &str,
     want: u8,

@@ -28,14 +28,14 @@ if_all (Some r) (Some d) (Some s) given = given r d s refl refl refl
 of : (P : List ℕ → Type 0) (known : Option (List ℕ)) (bytes : List ℕ) → known ≡ Some bytes → IfSome known P → P bytes
 of P known bytes is holds = subst (λ (o : Option (List ℕ)). IfSome o P) is holds
 
-module _ (rules design edits : Option (List ℕ)) (limit : Option ℕ) where
+module _ (rules design edits : Option (List ℕ)) (workers : ℕ) (limit : Option ℕ) where
   pub rules_refused : (f : InputFault RuleError) → IfSome rules (λ text. IsFaultOf rule.Memory (rules_answer text) f)
-      → IfSome rules (λ r. IfSome design (λ d. IfSome edits (λ s. IsFillReason r d s limit (Rules f))))
+      → IfSome rules (λ r. IfSome design (λ d. IfSome edits (λ s. IsFillReason r d s workers limit (Rules f))))
   rules_refused f why = if_all rules design edits (λ r d s at_r at_d at_s. of _ rules r at_r why)
 
   module _ (values : Values) (read : IfSome rules (λ text. rules_answer text ≡ Ok values)) where
     pub design_refused : (f : InputFault DesignError) → IfSome design (λ bytes. IsDesignFault bytes values f)
-        → IfSome rules (λ r. IfSome design (λ d. IfSome edits (λ s. IsFillReason r d s limit (Design f))))
+        → IfSome rules (λ r. IfSome design (λ d. IfSome edits (λ s. IsFillReason r d s workers limit (Design f))))
     design_refused f why = if_all rules design edits (λ r d s at_r at_d at_s. (values, of _ rules r at_r read, of _ design d at_d why))
 
     module _ (metal : PointSet) (units dates : List ℕ) (drawn : IfSome design (λ bytes. IsDesign bytes values metal units dates)) where
@@ -49,7 +49,7 @@ module _ (rules design edits : Option (List ℕ)) (limit : Option ℕ) where
           both (Some r) (Some d) read drawn = (values, read, (metal, drawn.drawn))
 
       pub script_refused : (f : InputFault ScriptError) → IfSome edits (λ text. IsFaultOf script.Memory (script_answer text) f)
-          → IfSome rules (λ r. IfSome design (λ d. IfSome edits (λ s. IsFillReason r d s limit (Script f))))
+          → IfSome rules (λ r. IfSome design (λ d. IfSome edits (λ s. IsFillReason r d s workers limit (Script f))))
       script_refused f why = if_all rules design edits (λ r d s at_r at_d at_s. (values, of _ rules r at_r read, (metal, (of _ design d at_d drawn).drawn, of _ edits s at_s why)))
 
       module _ (changes : List Change) (changed : IfSome edits (λ text. script_answer text ≡ Ok changes)) where
@@ -65,13 +65,14 @@ module _ (rules design edits : Option (List ℕ)) (limit : Option ℕ) where
           edits = of _ edits s at_s changed;
         }
 
-        pub filled : (library report : List ℕ) → IsFillOf values metal units dates changes limit library report
-            → IfSome rules (λ r. IfSome design (λ d. IfSome edits (λ s. IsFilled r d s limit library report)))
+        pub filled : (library report : List ℕ) → IsFillOf values metal units dates changes workers limit library report
+            → IfSome rules (λ r. IfSome design (λ d. IfSome edits (λ s. IsFilled r d s workers limit library report)))
         unfolding inputs
         filled library report fill = if_all rules design edits (λ r d s at_r at_d at_s. record { inputs = inputs r d s at_r at_d at_s; fill = fill })
 
-        pub run_refused : (f : RunFault) → (f ≡ run.Unfinished → IsTooShort values limit (length changes) 4294967296)
-            → IfSome rules (λ r. IfSome design (λ d. IfSome edits (λ s. IsFillReason r d s limit (Run f))))
+        pub run_refused : (f : RunFault) → (f ≡ run.Unfinished → workers ≡ 1 → IsTooShort values limit (length changes) 4294967296) → (f ≡ run.Mixed → workers ≡ 1 → ⊥)
+            → IfSome rules (λ r. IfSome design (λ d. IfSome edits (λ s. IsFillReason r d s workers limit (Run f))))
         unfolding inputs
-        run_refused run.Memory why = if_all rules design edits (λ r d s at_r at_d at_s. inputs r d s at_r at_d at_s)
-        run_refused run.Unfinished why = if_all rules design edits (λ r d s at_r at_d at_s. (inputs r d s at_r at_d at_s, why refl))
+        run_refused run.Memory why own = if_all rules design edits (λ r d s at_r at_d at_s. inputs r d s at_r at_d at_s)
+        run_refused run.Unfinished why own = if_all rules design edits (λ r d s at_r at_d at_s. (inputs r d s at_r at_d at_s, why refl))
+        run_refused run.Mixed why own = if_all rules design edits (λ r d s at_r at_d at_s. (inputs r d s at_r at_d at_s, own refl))

@@ -1,6 +1,6 @@
 -- What edits and commits do with the account of a book, and how many tiles they leave.
-use Rattle.std.proofs.Common.{◌≡◌, refl, ap, sym, subst, ◌∙◌, ℕ, zero, suc, ◌+◌, ◌≤◌, ◌<◌, arith, inl, inr, Bool, true, false, not, get_or, ◌&&◌, ◌||◌, ◌==◌, List, [], ◌∷◌, ◌++◌, length, take, append_assoc, if◌then◌else◌}
-use Rattle.std.specs.Prelude.{Option, Some, None, unwrap_or}
+use Rattle.std.proofs.Common.{◌≡◌, refl, ap, sym, subst, ◌∙◌, ℕ, zero, suc, ◌+◌, ◌*◌, ◌≤◌, ◌<◌, arith, inl, inr, Bool, true, false, not, get_or, ◌&&◌, ◌||◌, ◌==◌, List, [], ◌∷◌, ◌++◌, length, take, append_assoc, if◌then◌else◌}
+use Rattle.std.specs.Prelude.{Option, Some, None}
 use Rattle.std.proofs.lemmas.Bool.{cases_eq}
 use Rattle.std.proofs.lemmas.Bool.Decides.{nat_tests}
 use Rattle.std.proofs.lemmas.Grind.{flat_map-append}
@@ -186,6 +186,11 @@ pub full_of : (e : BookError) → book_fault e ≡ run.Unfinished → e ≡ book
 full_of book.HistoryFull is = refl
 full_of book.Memory is = absurd (cc is)
 
+-- and no error of a book is told as a run of many workers that was mixed up
+pub own_fault : (e : BookError) → book_fault e ≡ run.Mixed → ⊥
+own_fault book.HistoryFull is = cc is
+own_fault book.Memory is = cc is
+
 -- ---- turns, each of which brings a tile
 
 pub none_brought : (f : ℕ → Bool) → ((tile : ℕ) → f tile ≡ false) → (n : ℕ) → left f n + 0 ≡ n
@@ -219,15 +224,10 @@ full_short a b k tile limit run before lt out full =
     more x y h m n k le most full lt = omega (arith, le, most, full, lt)
 
 -- and where a tile is left after all turns, there are fewer turns than tiles
-pub limit_short : (values : Values) (limit : Option ℕ) (tiles turns k : ℕ) (f : ℕ → Bool) (history most : ℕ) → tiles ≡ tile_count values → turns ≡ unwrap_or limit (tiles + 1) → turns ≤ k
+pub limit_short : (values : Values) (limit : Option ℕ) (turns k : ℕ) (f : ℕ → Bool) (history most : ℕ) → turns ≡ 2 * most_turns values limit → turns ≤ k
     → left f (tile_count values) + k ≡ tile_count values → (((t : ℕ) → t < tile_count values → f t ≡ true) → ⊥) → IsTooShort values limit history most
-limit_short values limit tiles turns k f history most count are over before some =
-    inl (fewer turns k _ _ over (turns_short f (tile_count values) k before some) (are ∙ all_turns limit))
+limit_short values limit turns k f history most are over before some = inl (fewer turns k _ _ over (turns_short f (tile_count values) k before some) are)
   where
-    all_turns : (l : Option ℕ) → unwrap_or l (tiles + 1) ≡ most_turns values l
-    all_turns (Some l) = refl
-    all_turns None = ap (λ n. n + 1) count
-
     fewer : (t k n m : ℕ) → t ≤ k → k < n → t ≡ m → m < n
     fewer t k n m le lt e = omega (arith, le, lt, e)
 

@@ -24,5 +24,6 @@ IsCheckReason rules design (Design fault) = (values : Values) × (rules_answer r
 IsCheckReason rules design (Script fault) = ⊥
 IsCheckReason rules design (Run run.Memory) = (text : List ℕ) × IsChecked rules design text
 IsCheckReason rules design (Run run.Unfinished) = ⊥
+IsCheckReason rules design (Run run.Mixed) = ⊥
 IsCheckReason rules design Out = ⊥
 IsCheckReason rules design Report = (text : List ℕ) × IsChecked rules design text

@@ -14,7 +14,7 @@ use Rattle.fill_core.specs.declared.book.BookError.TheVariants as book
 use Rattle.fill_device.specs.declared.input.InputError.{InputError}
 use Rattle.fill_device.specs.declared.input.InputError.TheVariants as input
 use Rattle.fill_engine.specs.declared.fault.Fault.{Fault}
-use Rattle.fill_engine.specs.declared.fault.Fault.TheVariants.{Truncated, BadLength, Unexpected, DuplicateCell, BadXY, NotClosed, BadArray, NotManhattan, RoundEnd, OddWidth, DoublesBack, BadExtension, NoTop, MissingCell, Cycle, TooDeep, TooManyShapes, OutOfRange, BadTransform, BadRow, BadNumber, BadRule, TooManyLines, BadRect, BadWindows, BadPitch, TooManyPlaces, TooLong, Device, Memory, Unfinished}
+use Rattle.fill_engine.specs.declared.fault.Fault.TheVariants.{Truncated, BadLength, Unexpected, DuplicateCell, BadXY, NotClosed, BadArray, NotManhattan, RoundEnd, OddWidth, DoublesBack, BadExtension, NoTop, MissingCell, Cycle, TooDeep, TooManyShapes, OutOfRange, BadTransform, BadRow, BadNumber, BadRule, TooManyLines, BadRect, BadWindows, BadPitch, TooManyPlaces, TooLong, Device, Memory, Unfinished, Mixed}
 use Rattle.fill_engine.specs.declared.refusal.RunFault.{RunFault}
 use Rattle.fill_engine.specs.declared.refusal.RunFault.TheVariants as run
 
@@ -50,6 +50,7 @@ fault_number TooLong = 29
 fault_number Device = 30
 fault_number Memory = 31
 fault_number Unfinished = 34
+fault_number Mixed = 35
 
 abbrev pub fault_name : Fault → List ℕ
 fault_name Truncated = codes "Truncated"
@@ -83,6 +84,7 @@ fault_name TooLong = codes "TooLong"
 fault_name Device = codes "Device"
 fault_name Memory = codes "Memory"
 fault_name Unfinished = codes "Unfinished"
+fault_name Mixed = codes "Mixed"
 
 -- what follows the name: the record's number, the key, or the record's first byte
 abbrev pub fault_ending : Fault → List ℕ
@@ -117,11 +119,12 @@ fault_ending TooLong = []
 fault_ending Device = []
 fault_ending Memory = []
 fault_ending Unfinished = []
+fault_ending Mixed = []
 
--- the exit status of a fault's number: 5 for a fill that is not complete, 4 for a device fault, 3 for want of memory, 2 for a
--- refused input
+-- the exit status of a fault's number: 6 for a book that a run mixed up, 5 for a fill that is not complete, 4 for a device fault,
+-- 3 for want of memory, 2 for a refused input
 abbrev pub fault_status : ℕ → ℕ
-fault_status number = if number == 30 then 4 else if number == 31 then 3 else if number == 34 then 5 else 2
+fault_status number = if number == 30 then 4 else if number == 31 then 3 else if number == 34 then 5 else if number == 35 then 6 else 2
 
 -- the fault of a refused rule file
 abbrev pub rule_fault : RuleError → Fault

@@ -1,5 +1,5 @@
 -- What the program makes of a rule file, a design and a script: a fill library and a report.
-use Rattle.std.specs.Prelude.{◌≡◌, ℕ, ◌+◌, ◌^◌, ◌≤◌, List, length, map, Option, Ok}
+use Rattle.std.specs.Prelude.{◌≡◌, [], ℕ, ◌+◌, ◌^◌, ◌≤◌, List, length, map, Option, Ok}
 use Rattle.fill_text.specs.Rules.{Values}
 use Rattle.fill_text.specs.Script.{Change, change_of}
 use Rattle.fill_text.specs.declared.rule_error.RuleError.TheVariants as rule
@@ -12,7 +12,8 @@ use Rattle.fill_report.specs.BookReport.{fill_report}
 use Rattle.gds_out.specs.FillText.{fill_text}
 use Rattle.fill_engine.specs.Designs.{IsDesign, IsDesignFault, IsDrawn}
 use Rattle.fill_engine.specs.Inputs.{rules_answer, script_answer, IsFaultOf}
-use Rattle.fill_engine.specs.Runs.{IsTooShort, most_turns}
+use Rattle.fill_shared.specs.Runs.{low_fill}
+use Rattle.fill_engine.specs.Runs.{IsTooShort, most_commits}
 use Rattle.fill_engine.specs.declared.refusal.RunFault.TheVariants as run
 use Rattle.fill_engine.specs.declared.refusal.Refusal.{Refusal}
 use Rattle.fill_engine.specs.declared.refusal.Refusal.TheVariants.{Rules, Design, Script, Run, Out, Report}
@@ -28,29 +29,39 @@ pub record Inputs (rules design script : List ℕ) : Type 0 where
   pub changes : List Change
   pub edits : script_answer script ≡ Ok changes
 
+-- The texts are those of the metal as it is drawn and of all allowed places whose box lies wholly in a window that is low in it:
+-- one pair of texts, whoever computed it.
+pub record IsOnlyFillOf (values : Values) (metal : PointSet) (units dates library report : List ℕ) : Type 0 where
+  pub library_is : library ≡ fill_text units dates values (low_fill (plan_of values) metal)
+  pub report_is : report ≡ fill_report values metal (low_fill (plan_of values) metal)
+
 -- The texts are those of a fill of the metal in which every tile is in: some events lead to it from the opening on the metal, among
--- them exactly these changes, in their order, and at most so many commits as there are turns.
-pub record IsFillOf (values : Values) (metal : PointSet) (units dates : List ℕ) (changes : List Change) (limit : Option ℕ) (library report : List ℕ) : Type 0 where
+-- them exactly these changes, in their order, and at most so many commits as the workers have turns. Without a change there is
+-- one fill only.
+pub record IsFillOf (values : Values) (metal : PointSet) (units dates : List ℕ) (changes : List Change) (workers : ℕ) (limit : Option ℕ) (library report : List ℕ) : Type 0 where
   pub events : List Event
   pub changed : map change_of (edits_in events) ≡ changes
-  pub brief : length events ≤ length changes + most_turns values limit
+  pub brief : length events ≤ length changes + most_commits values workers limit
   pub complete : IsComplete (plan_of values) (replay (plan_of values) metal events)
   pub library_is : let s = replay (plan_of values) metal events in library ≡ fill_text units dates values s.fill
   pub report_is : let s = replay (plan_of values) metal events in report ≡ fill_report values s.metal s.fill
+  pub unedited : changes ≡ [] → IsOnlyFillOf values metal units dates library report
 
 -- the texts are those of a fill of what the three inputs say
-pub record IsFilled (rules design script : List ℕ) (limit : Option ℕ) (library report : List ℕ) : Type 0 where
+pub record IsFilled (rules design script : List ℕ) (workers : ℕ) (limit : Option ℕ) (library report : List ℕ) : Type 0 where
   pub inputs : Inputs rules design script
-  pub fill : IsFillOf inputs.values inputs.metal inputs.units inputs.dates inputs.changes limit library report
+  pub fill : IsFillOf inputs.values inputs.metal inputs.units inputs.dates inputs.changes workers limit library report
 
--- why there is no fill of inputs of these bytes
-abbrev pub IsFillReason : (rules design edits : List ℕ) → Option ℕ → Refusal → Type 0
-IsFillReason rules design edits limit (Rules fault) = IsFaultOf rule.Memory (rules_answer rules) fault
-IsFillReason rules design edits limit (Design fault) = (values : Values) × (rules_answer rules ≡ Ok values) × IsDesignFault design values fault
-IsFillReason rules design edits limit (Script fault) =
+-- Why there is no fill of inputs of these bytes. One worker leaves a tile only where turns or history are too few; when threads
+-- stop each other no clause says.
+abbrev pub IsFillReason : (rules design edits : List ℕ) → ℕ → Option ℕ → Refusal → Type 0
+IsFillReason rules design edits workers limit (Rules fault) = IsFaultOf rule.Memory (rules_answer rules) fault
+IsFillReason rules design edits workers limit (Design fault) = (values : Values) × (rules_answer rules ≡ Ok values) × IsDesignFault design values fault
+IsFillReason rules design edits workers limit (Script fault) =
     (values : Values) × (rules_answer rules ≡ Ok values) × ((metal : PointSet) × IsDrawn design values metal × IsFaultOf script.Memory (script_answer edits) fault)
-IsFillReason rules design edits limit (Run run.Memory) = Inputs rules design edits
-IsFillReason rules design edits limit (Run run.Unfinished) =
-    (inputs : Inputs rules design edits) × IsTooShort inputs.values limit (length inputs.changes) (2 ^ 32)
-IsFillReason rules design edits limit Out = ⊥
-IsFillReason rules design edits limit Report = ⊥
+IsFillReason rules design edits workers limit (Run run.Memory) = Inputs rules design edits
+IsFillReason rules design edits workers limit (Run run.Unfinished) =
+    (inputs : Inputs rules design edits) × (workers ≡ 1 → IsTooShort inputs.values limit (length inputs.changes) (2 ^ 32))
+IsFillReason rules design edits workers limit (Run run.Mixed) = Inputs rules design edits × (workers ≡ 1 → ⊥)
+IsFillReason rules design edits workers limit Out = ⊥
+IsFillReason rules design edits workers limit Report = ⊥

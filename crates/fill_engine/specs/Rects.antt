@@ -24,5 +24,6 @@ IsReason rules edits (Design fault) = ⊥
 IsReason rules edits (Script fault) = IsOk (rules_answer rules) × IsFaultOf script.Memory (script_answer edits) fault
 IsReason rules edits (Run run.Memory) = IsOk (report_answer rules edits)
 IsReason rules edits (Run run.Unfinished) = ⊥
+IsReason rules edits (Run run.Mixed) = ⊥
 IsReason rules edits Out = ⊥
 IsReason rules edits Report = IsOk (report_answer rules edits)

@@ -2,7 +2,7 @@
 use Rattle.std.specs.Prelude.{ℕ, List, ◌++◌, codes, decimal}
 use Rattle.fill_engine.specs.Faults.{fault_ending, fault_name, fault_number, fault_status, flatten_fault, input_fault, library_fault, rule_fault, script_fault}
 use Rattle.fill_engine.specs.declared.fault.Fault.{Fault}
-use Rattle.fill_engine.specs.declared.fault.Fault.TheVariants.{Device, Memory, Unfinished}
+use Rattle.fill_engine.specs.declared.fault.Fault.TheVariants.{Device, Memory, Mixed, Unfinished}
 use Rattle.fill_engine.specs.declared.refusal.DesignError.TheVariants as design
 use Rattle.fill_engine.specs.declared.refusal.InputFault.TheVariants.{Unread, Refused}
 use Rattle.fill_engine.specs.declared.refusal.RunFault.TheVariants as run
@@ -29,6 +29,7 @@ fault_of (Script (Unread error)) = input_fault error
 fault_of (Script (Refused error)) = script_fault error
 fault_of (Run run.Memory) = Memory
 fault_of (Run run.Unfinished) = Unfinished
+fault_of (Run run.Mixed) = Mixed
 fault_of Out = Device
 fault_of Report = Device
 

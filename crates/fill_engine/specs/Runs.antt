@@ -1,5 +1,5 @@
 -- What a run does with a book, and when it can't end.
-use Rattle.std.specs.Prelude.{◌≡◌, ◌⊎◌, ℕ, ◌+◌, ◌<◌, ◌≤◌, false, List, length, ◌++◌, Option, Some, None}
+use Rattle.std.specs.Prelude.{◌≡◌, ◌⊎◌, ℕ, ◌+◌, ◌*◌, ◌<◌, ◌≤◌, false, List, length, ◌++◌, Option, Some, None}
 use Rattle.fill_raster.specs.Lattice.{tiles}
 use Rattle.fill_text.specs.Rules.{Values}
 use Rattle.fill_text.specs.declared.script.Edit.{Edit}
@@ -12,10 +12,14 @@ use Rattle.fill_core.specs.Machine.{State}
 abbrev pub tile_count : Values → ℕ
 tile_count values = tiles (plan_of values).raster
 
--- how many turns a run may take: as many as the limit says, and without one a turn for each tile and one more
+-- how many turns a worker may take in a round: as many as the limit says, and without one a turn for each tile and one more
 abbrev pub most_turns : Values → Option ℕ → ℕ
 most_turns values (Some limit) = limit
 most_turns values None = tile_count values + 1
+
+-- how many commits there may be: one for each turn of each worker in two rounds
+abbrev pub most_commits : Values → ℕ → Option ℕ → ℕ
+most_commits values workers limit = 2 * (workers * most_turns values limit)
 
 -- no tile is in
 abbrev pub IsFresh : State → Type 0
@@ -29,6 +33,6 @@ pub record IsRun (old new : Account) (edits : List Edit) (turns : ℕ) : Type 0 
   pub edited : edits_in (events_in new.history) ≡ edits_in (events_in old.history) ++ edits
   pub brief : length new.history ≤ length old.history + (length edits + turns)
 
--- there are fewer turns than tiles, or more edits and tiles than a history of so many events has room for
+-- one worker has fewer turns in two rounds than there are tiles, or there are more edits and tiles than a history of so many events has room for
 abbrev pub IsTooShort : Values → Option ℕ → ℕ → ℕ → Type 0
-IsTooShort values limit edits most = (most_turns values limit < tile_count values) ⊎ (most < edits + tile_count values)
+IsTooShort values limit edits most = (2 * most_turns values limit < tile_count values) ⊎ (most < edits + tile_count values)

@@ -74,6 +74,8 @@ pub(crate) enum Fault {
     Memory,
     /// A tile of the fill isn't in.
     Unfinished,
+    /// A run gave back another book than it was given.
+    Mixed,
 }
 
 impl Fault {
@@ -114,11 +116,12 @@ impl Fault {
             Fault::Device => (30, "Device"),
             Fault::Memory => (31, "Memory"),
             Fault::Unfinished => (34, "Unfinished"),
+            Fault::Mixed => (35, "Mixed"),
         }
     }
 
-    /// The exit status of the program: 5 for a fill that is not complete, 4 for a device fault, 3 for want of memory, and 2
-    /// for a refused input.
+    /// The exit status of the program: 6 for a book that a run mixed up, 5 for a fill that is not complete, 4 for a device fault,
+    /// 3 for want of memory, and 2 for a refused input.
     pub(crate) fn status(self) -> u8
         ensures { result ≡ fault_status (fault_number self) }
     {
@@ -126,6 +129,7 @@ impl Fault {
             30 => 4,
             31 => 3,
             34 => 5,
+            35 => 6,
             _ => 2,
         }
     }

@@ -1,5 +1,5 @@
 //! The fill of a design: from the bytes of three inputs to its texts, and these to two outputs.
-ghost use Rattle.std.specs.Prelude.{◌≡◌, ◌↔◌, ◌⊎◌, ◌+◌, ◌^◌, ℕ, true, false, length, map, take, Ok, IfErr, IfOk, IfSome, IsOk, OnOk};
+ghost use Rattle.std.specs.Prelude.{◌≡◌, ◌↔◌, ◌⊎◌, ◌+◌, ◌^◌, ◌<◌, ◌≤◌, ℕ, true, false, length, map, take, Ok, IfErr, IfOk, IfSome, IsOk, OnOk};
 ghost use Rattle.std.specs.Io.KnownBytes.{Appends};
 ghost use Rattle.fill_device.specs.Taps.{has_failed, under};
 ghost use Rattle.fill_region.specs.Bands.{holds};
@@ -16,21 +16,25 @@ ghost use Rattle.fill_engine.specs.Runs.{IsTooShort};
 use crate::inputs::{Design, take_design, take_edits, take_rules};
 use crate::refusal::{InputFault, Refusal, RunFault};
 use crate::texts::{Filled, texts_of};
+use crate::together::fill_together;
 use crate::turns::{edit_all, fill_tiles};
 use fill_book::PlainBook;
 use fill_device::{InputError, Tap, write_text};
+use fill_job::laws::rules_make_a_plan;
 use fill_text::{Edit, Rules};
 use std::alloc::Global;
 use std::io::{Read, Write};
+use std::sync::Wait;
 use std::sync::ledger::{Blank, Ledger};
 use std::thread::Threads;
 
 /// How many events the history of a run may have.
 const MOST_EVENTS: u64 = 4_294_967_296;
 
-/// The texts of a fill of the design, with the edits made first and in their order.
+/// The texts of a fill of the design: one worker makes the edits first and then brings the tiles, and more of them bring tiles while
+/// the edits are made.
 fn fill_design<C: Ledger + Send + Sync, P: Ledger + Send + Sync, W: Ledger + Send + Sync>(
-    rt: &(impl Threads + Sync),
+    rt: &(impl Threads + Wait + Sync),
     alloc: Global,
     calls: Blank,
     placed: Blank,
@@ -38,14 +42,18 @@ fn fill_design<C: Ledger + Send + Sync, P: Ledger + Send + Sync, W: Ledger + Sen
     rules: Rules,
     design: Design,
     edits: &[Edit],
-    limit: Option<u64>,
+    workers: u32,
+    limit: Option<u32>,
 ) -> Result<Filled, RunFault>
     requires names { (calls.name ≡ C.name) × (placed.name ≡ P.name) × (withdrawn.name ≡ W.name) }
     requires parts { (calls.parts ≡ C.parts) × (placed.parts ≡ P.parts) × (withdrawn.parts ≡ W.parts) }
     requires all { AllParts C.parts P.parts W.parts }
-    ensures filled { IfOk result (λ f. IsFillOf (values_of rules) (holds design.metal) design.units design.dates (map change_of edits.now) limit f.library.items f.report.items) }
-    ensures unfinished { result ≡ Err RunFault.Unfinished → IsTooShort (values_of rules) limit (length (map change_of edits.now)) (2 ^ 32) }
+    requires workers { (0 < workers) × (workers ≤ 64) }
+    ensures filled { IfOk result (λ f. IsFillOf (values_of rules) (holds design.metal) design.units design.dates (map change_of edits.now) workers limit f.library.items f.report.items) }
+    ensures unfinished { result ≡ Err RunFault.Unfinished → workers ≡ 1 → IsTooShort (values_of rules) limit (length (map change_of edits.now)) (2 ^ 32) }
+    ensures mixed { result ≡ Err RunFault.Mixed → workers ≡ 1 → ⊥ }
 {
+    rules_make_a_plan(&rules);
     let Design {
         metal,
         units,
@@ -61,19 +69,25 @@ fn fill_design<C: Ledger + Send + Sync, P: Ledger + Send + Sync, W: Ledger + Sen
         rules,
         MOST_EVENTS,
     )?;
+    if workers > 1 {
+        let book = fill_together(rt, alloc, book, pass, edits, workers, limit)?;
+        return texts_of(alloc, &book, &units, &dates);
+    }
     edit_all(alloc, &mut book, &mut pass, edits)?;
     fill_tiles(alloc, &mut book, &mut pass, limit)?;
     texts_of(alloc, &book, &units, &dates)
 }
 
-/// Fills a design: opens a book on the metal that it draws on the rules' layer, makes the script's edits in their order, and then
-/// brings tile after tile in at most `limit` turns, without a limit in a turn for each tile and one more. Each input is read to
-/// its end and interpreted before the next one is touched, and the design is flattened before the script is touched. The three
-/// blank ledgers are those that the book counts its calls with.
+/// Fills a design: opens a book on the metal that it draws on the rules' layer, and makes the script's edits in their order. One
+/// worker brings tile after tile once they are made. Two to 64 workers bring tiles while they are made, and begin once more where a
+/// tile is left then. In each of these two rounds a worker takes at most `limit` turns, without a limit one for each tile and one
+/// more; so one worker has both at once. Each input is read to its end and interpreted before the next one is touched, and the design is flattened
+/// before the script is touched. The three blank ledgers are those that the book counts its calls with.
 ///
 /// # Errors
 /// The first fault, with its part: `rules`, `design` and `script` for the inputs, and `run` once they are interpreted:
-/// `Memory`, or `Unfinished` where a tile is left that isn't in. An input of more than 2^31 bytes is `TooLong`.
+/// `Memory`, `Unfinished` where a tile is left that isn't in, or, of two workers or more, `Mixed` where they gave back another book
+/// than they were given, which no clause can rule out. An input of more than 2^31 bytes is `TooLong`.
 pub fn prepare<
     C: Ledger + Send + Sync,
     P: Ledger + Send + Sync,
@@ -82,7 +96,7 @@ pub fn prepare<
     D: Read,
     S: Read,
 >(
-    rt: &(impl Threads + Sync),
+    rt: &(impl Threads + Wait + Sync),
     alloc: Global,
     calls: Blank,
     placed: Blank,
@@ -90,11 +104,13 @@ pub fn prepare<
     rules: &mut Tap<R>,
     design: &mut Tap<D>,
     script: &mut Tap<S>,
-    limit: Option<u64>,
+    workers: u32,
+    limit: Option<u32>,
 ) -> Result<Filled, Refusal>
     requires names { (calls.name ≡ C.name) × (placed.name ≡ P.name) × (withdrawn.name ≡ W.name) }
     requires parts { (calls.parts ≡ C.parts) × (placed.parts ≡ P.parts) × (withdrawn.parts ≡ W.parts) }
     requires all { AllParts C.parts P.parts W.parts }
+    requires workers { (0 < workers) × (workers ≤ 64) }
     requires rules { has_failed rules.old ≡ false }
     requires design { has_failed design.old ≡ false }
     requires script { has_failed script.old ≡ false }
@@ -106,9 +122,9 @@ pub fn prepare<
 
     // What is answered is what the bytes of the three inputs say.
     ensures filled { IfOk result (λ f. IfSome (R.remaining (under rules.old)) (λ r. IfSome (D.remaining (under design.old)) (λ d.
-        IfSome (S.remaining (under script.old)) (λ s. IsFilled r d s limit f.library.items f.report.items)))) }
+        IfSome (S.remaining (under script.old)) (λ s. IsFilled r d s workers limit f.library.items f.report.items)))) }
     ensures refused { IfErr result (λ e. IfSome (R.remaining (under rules.old)) (λ r. IfSome (D.remaining (under design.old)) (λ d.
-        IfSome (S.remaining (under script.old)) (λ s. IsFillReason r d s limit e)))) }
+        IfSome (S.remaining (under script.old)) (λ s. IsFillReason r d s workers limit e)))) }
 
     // No input is touched before those before it are interpreted and accepted.
     ensures in_turn { IfErr result (λ e. is_of_rules e ≡ false → IfSome (R.remaining (under rules.old)) (λ r. IsOk (rules_answer r))) }
@@ -121,7 +137,7 @@ pub fn prepare<
     let drawn = take_design(alloc, design, &values)?;
     let edits = take_edits(alloc, script)?;
     let filled = fill_design::<C, P, W>(
-        rt, alloc, calls, placed, withdrawn, values, drawn, &edits, limit,
+        rt, alloc, calls, placed, withdrawn, values, drawn, &edits, workers, limit,
     )?;
     Ok(filled)
 }

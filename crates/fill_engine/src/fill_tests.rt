@@ -1,4 +1,6 @@
 //! Runs of `prepare` and `deliver` over readers and writers that tell their bytes or fail.
+ghost use Rattle.std.specs.Prelude.{◌<◌, ◌≤◌};
+
 use crate::tests::{
     Broken, CYCLE_APART, EMPTY, OTHER_LINES, OTHERS, RULES, SOLID, SOLID_REPORT, Short, WIRE,
     of_script,
@@ -9,6 +11,7 @@ use fill_text::ScriptError;
 use std::alloc::Global;
 use std::io::Read;
 use std::marker::Brand;
+use std::sync::Wait;
 use std::sync::ledger::Blank;
 use std::test::Fail;
 use std::thread::Threads;
@@ -79,13 +82,16 @@ const FILLED_LINES: &str = "1,0,25,0,75,50,0,400,400,160000,LOW
 
 /// The fill of three inputs.
 fn fill_of<R: Read + Drop, D: Read + Drop, S: Read + Drop>(
-    rt: &(impl Threads + Sync),
+    rt: &(impl Threads + Wait + Sync),
     alloc: Global,
     rules: R,
     design: D,
     script: S,
-    limit: Option<u64>,
-) -> Result<Filled, Refusal> {
+    workers: u32,
+    limit: Option<u32>,
+) -> Result<Filled, Refusal>
+    requires { (0 < workers) × (workers ≤ 64) }
+{
     prepare::<Brand, Brand, Brand, _, _, _>(
         rt,
         alloc,
@@ -95,21 +101,24 @@ fn fill_of<R: Read + Drop, D: Read + Drop, S: Read + Drop>(
         &mut Tap::new(rules),
         &mut Tap::new(design),
         &mut Tap::new(script),
+        workers,
         limit,
     )
 }
 
-/// Whether a design and a script are filled within the turns, with a library of so many bytes and this report.
+/// Whether a design and a script are filled by so many workers, with a library of so many bytes and this report.
 fn is_filled(
-    rt: &(impl Threads + Sync),
+    rt: &(impl Threads + Wait + Sync),
     alloc: Global,
     design: &[u8],
     script: &[u8],
-    limit: Option<u64>,
+    workers: u32,
     length: usize,
     report: &[u8],
-) -> bool {
-    let Ok(filled) = fill_of(rt, alloc, RULES, design, script, limit) else {
+) -> bool
+    requires { (0 < workers) × (workers ≤ 64) }
+{
+    let Ok(filled) = fill_of(rt, alloc, RULES, design, script, workers, None) else {
         return false;
     };
     let mut written = Vec::new(alloc);
@@ -127,7 +136,7 @@ fn is_filled(
 fn an_empty_design_is_filled_whole(rt: HostRuntime) -> Result<(), Fail> {
     let alloc = rt.alloc();
     let report = format!(in alloc; "0,0,0,0,50,50,0,400,400,160000,LOW\n{FILLED_LINES}")?;
-    assert!(rt; is_filled(&rt, alloc, EMPTY, b"", None, 734, report.as_bytes()));
+    assert!(rt; is_filled(&rt, alloc, EMPTY, b"", 1, 734, report.as_bytes()));
     Ok(())
 }
 
@@ -138,8 +147,10 @@ fn a_wire_keeps_its_spacing(rt: HostRuntime) -> Result<(), Fail> {
     let alloc = rt.alloc();
     let report = format!(in alloc; "0,0,0,0,50,50,220,368,588,235200,LOW\n{FILLED_LINES}")?;
     for design in [WIRE, OTHERS, CYCLE_APART] {
-        assert!(rt; is_filled(&rt, alloc, design, b"", None, 790, report.as_bytes()));
+        assert!(rt; is_filled(&rt, alloc, design, b"", 1, 790, report.as_bytes()));
     }
+    assert!(rt; is_filled(&rt, alloc, WIRE, b"", 2, 790, report.as_bytes()));
+    assert!(rt; is_filled(&rt, alloc, WIRE, b"", 8, 790, report.as_bytes()));
     Ok(())
 }
 
@@ -149,14 +160,14 @@ fn edits_are_made_in_their_order(rt: HostRuntime) -> Result<(), Fail> {
     let alloc = rt.alloc();
     let script = b"add,0,0,100,100\ncut,0,0,100,100\nadd,10,10,21,20\n";
     let report = format!(in alloc; "0,0,0,0,50,50,110,384,494,197600,LOW\n{FILLED_LINES}")?;
-    assert!(rt; is_filled(&rt, alloc, EMPTY, script, None, 762, report.as_bytes()));
+    assert!(rt; is_filled(&rt, alloc, EMPTY, script, 1, 762, report.as_bytes()));
     Ok(())
 }
 
 /// No window is low, so no box is placed.
 #[test]
 fn solid_metal_takes_no_box(rt: HostRuntime) {
-    match fill_of(&rt, rt.alloc(), RULES, SOLID, b"".as_slice(), None) {
+    match fill_of(&rt, rt.alloc(), RULES, SOLID, b"".as_slice(), 64, None) {
         Ok(filled) => {
             assert!(rt; filled.library.as_slice() == NO_BOX);
             assert!(rt; filled.report.as_slice() == SOLID_REPORT);
@@ -165,19 +176,34 @@ fn solid_metal_takes_no_box(rt: HostRuntime) {
     }
 }
 
-/// Nine tiles take nine turns.
+/// Nine tiles take nine turns, five of them in a first round and four in a second.
 #[test]
 fn too_few_turns_leave_a_fill_unfinished(rt: HostRuntime) {
     let unfinished = Refusal::Run(RunFault::Unfinished);
     for (limit, want) in [
         (0, Some(unfinished)),
-        (8, Some(unfinished)),
-        (9, None),
+        (4, Some(unfinished)),
+        (5, None),
         (4_294_967_295, None),
     ] {
-        let done = fill_of(&rt, rt.alloc(), RULES, EMPTY, b"".as_slice(), Some(limit));
+        let done = fill_of(
+            &rt,
+            rt.alloc(),
+            RULES,
+            EMPTY,
+            b"".as_slice(),
+            1,
+            Some(limit),
+        );
         assert_eq!(rt; done.err(), want);
     }
+}
+
+/// Nobody brings a tile in either round.
+#[test]
+fn workers_without_a_turn_leave_a_fill_unfinished(rt: HostRuntime) {
+    let done = fill_of(&rt, rt.alloc(), RULES, EMPTY, b"".as_slice(), 3, Some(0));
+    assert_eq!(rt; done.err(), Some(Refusal::Run(RunFault::Unfinished)));
 }
 
 /// Without a place there is no tile, so the fill is complete at once.
@@ -185,7 +211,7 @@ fn too_few_turns_leave_a_fill_unfinished(rt: HostRuntime) {
 fn a_frame_without_room_takes_no_turn(rt: HostRuntime) -> Result<(), Fail> {
     let alloc = rt.alloc();
     let report = format!(in alloc; "0,0,0,0,50,50,0,0,0,0,LOW\n{OTHER_LINES}")?;
-    match fill_of(&rt, alloc, SMALL_RULES, EMPTY, b"".as_slice(), Some(0)) {
+    match fill_of(&rt, alloc, SMALL_RULES, EMPTY, b"".as_slice(), 1, Some(0)) {
         Ok(filled) => {
             assert!(rt; filled.library.as_slice() == NO_BOX);
             assert!(rt; filled.report.as_slice() == report.as_bytes());
@@ -199,16 +225,16 @@ fn a_frame_without_room_takes_no_turn(rt: HostRuntime) -> Result<(), Fail> {
 fn the_first_input_that_is_refused_is_told(rt: HostRuntime) {
     let alloc = rt.alloc();
     let unread = InputFault::Unread(InputError::Device);
-    let done = fill_of(&rt, alloc, Broken, Broken, Broken, None).err();
+    let done = fill_of(&rt, alloc, Broken, Broken, Broken, 2, None).err();
     assert_eq!(rt; done, Some(Refusal::Rules(unread)));
     let unread = InputFault::Unread(InputError::Device);
-    let done = fill_of(&rt, alloc, RULES, Broken, Broken, None).err();
+    let done = fill_of(&rt, alloc, RULES, Broken, Broken, 1, None).err();
     assert_eq!(rt; done, Some(Refusal::Design(unread)));
     let unread = InputFault::Unread(InputError::Device);
-    let done = fill_of(&rt, alloc, RULES, EMPTY, Broken, Some(0)).err();
+    let done = fill_of(&rt, alloc, RULES, EMPTY, Broken, 1, Some(0)).err();
     assert_eq!(rt; done, Some(Refusal::Script(unread)));
     let script = b"add,0,0,10".as_slice();
-    let done = fill_of(&rt, alloc, RULES, EMPTY, script, Some(0)).err();
+    let done = fill_of(&rt, alloc, RULES, EMPTY, script, 1, Some(0)).err();
     assert_eq!(rt; done, Some(of_script(ScriptError::BadRow { line: 1 })));
 }
 

@@ -8,6 +8,7 @@ mod metal;
 mod refusal;
 mod subcommands;
 mod texts;
+mod together;
 mod turns;
 
 pub use fill::{deliver, prepare};

@@ -3,9 +3,10 @@ ghost use Rattle.std.specs.Prelude.{◌≡◌, IfOk, string_bytes};
 ghost use Rattle.fill_engine.specs.Refusals.{fault_of, part_name, refusal_status, refusal_text};
 
 use crate::fault::Fault;
-use fill_core::BookError;
+use fill_core::{BookError, FillBook};
 use fill_device::{DeviceError, InputError};
 use fill_report::OutOfMemory;
+use fill_shared::RunError;
 use fill_text::{RuleError, ScriptError};
 use gds_flatten::FlattenError;
 use gds_grammar::LibraryError;
@@ -45,6 +46,9 @@ pub enum RunFault {
     /// A tile is left that isn't in: the turns were used up, or the history is full.
     #[error("the fill is not complete")]
     Unfinished,
+    /// The book that came back from many workers has another opening, other rules or other edits than those handed in.
+    #[error("the book that came back is another one")]
+    Mixed,
 }
 
 /// Why the program gave up: at which input or output, or in the run between them, and what is the matter there.
@@ -206,6 +210,22 @@ impl From<BookError> for RunFault {
     }
 }
 
+impl<B: FillBook> From<RunError<B>> for RunFault {
+    ghost use Rattle.std.specs.Prelude.{◌≡◌};
+    ghost use Rattle.fill_shared.specs.declared.runs.RunError.TheVariants as error;
+    ghost use Rattle.fill_engine.specs.declared.refusal.RunFault.TheVariants.{Memory, Mixed, Unfinished};
+
+    ghost from_gives = { λ e fault. (e ≡ error.Memory → fault ≡ Memory) × (e ≡ error.Mixed → fault ≡ Mixed) × ((b : _) (p : _) → e ≡ error.Unfinished b p → fault ≡ Unfinished) };
+
+    fn from(error: RunError<B>) -> RunFault {
+        match error {
+            RunError::Memory => RunFault::Memory,
+            RunError::Mixed => RunFault::Mixed,
+            RunError::Unfinished { .. } => RunFault::Unfinished,
+        }
+    }
+}
+
 impl From<DeviceError> for Refusal {
     ghost use Rattle.fill_engine.specs.declared.refusal.Refusal.TheVariants.{Report};
 
@@ -245,12 +265,13 @@ impl Refusal {
             Refusal::Script(InputFault::Refused(error)) => error.into(),
             Refusal::Run(RunFault::Memory) => Fault::Memory,
             Refusal::Run(RunFault::Unfinished) => Fault::Unfinished,
+            Refusal::Run(RunFault::Mixed) => Fault::Mixed,
             Refusal::Out | Refusal::Report => Fault::Device,
         }
     }
 
-    /// The exit status of the program: 5 where the fill is not complete, 4 where a file could not be opened, read or
-    /// written, 3 where memory ran out, and 2 for a refused input.
+    /// The exit status of the program: 6 where many workers' book came back mixed up, 5 where the fill is not complete, 4 where
+    /// a file could not be opened, read or written, 3 where memory ran out, and 2 for a refused input.
     pub fn status(self) -> u8
         ensures { result ≡ refusal_status self }
     {

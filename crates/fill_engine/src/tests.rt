@@ -88,6 +88,11 @@ fn a_line_tells_part_number_and_name(rt: HostRuntime) -> Result<(), Fail> {
             5,
         ),
         (
+            Refusal::Run(RunFault::Mixed),
+            "densfill: run: 35 Mixed\n",
+            6,
+        ),
+        (
             Refusal::Script(InputFault::Unread(InputError::Memory)),
             "densfill: script: 31 Memory\n",
             3,

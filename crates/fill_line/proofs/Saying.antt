@@ -10,7 +10,7 @@ use Rattle.clap.specs.Words.{HasKind, Row, Text, fault_of, first_of, is_simple, 
 use Rattle.clap.specs.declared.builder.value_parser.ValueParser.TheVariants.{Unsigned}
 use Rattle.clap.specs.declared.error.Error.{Error}
 use Rattle.clap.specs.declared.error.kind.ErrorKind.TheVariants.{MissingSubcommand, OutOfMemory}
-use Rattle.fill_line.specs.Grammar.{Said, both, fill, filling, found_in, limit_by, program_words, said_by, said_in}
+use Rattle.fill_line.specs.Grammar.{Said, both, crew, fill, filling, found_in, limit_by, number_of, numbers_in, program_words, said_by, said_in, workers_by}
 use Rattle.fill_line.specs.Lines.{IsRefusalOf, text_of}
 use Rattle.fill_line.specs.declared.Line.{Line}
 use Rattle.fill_line.specs.declared.LineError.{LineError}
@@ -60,17 +60,43 @@ number_passed text h =
     let most : digits_value 10 (without_leading_plus text) ≤ 4294967295 = accepted.3 in
     (accepted.0, omega (arith, most))
 
--- the limit as it was read from its text
-pub limit_read : (o : Option Text) (t : Text) (n : ℕ) → o ≡ Some t → IsNumeral 10 (without_leading_plus t) × (digits_value 10 (without_leading_plus t) < 2 ^ 32) → n ≡ digits_value 10 (without_leading_plus t)
-    → Some (Some n) ≡ limit_by o
-limit_read o t n some numeral is = rw (some, number_test t numeral.0 numeral.1, is) refl
+-- a number as it was read from its text
+pub number_read : (t : Text) (n : ℕ) → IsNumeral 10 (without_leading_plus t) × (digits_value 10 (without_leading_plus t) < 2 ^ 32) → n ≡ digits_value 10 (without_leading_plus t)
+    → number_of t ≡ Some n
+number_read t n numeral is = rw (number_test t numeral.0 numeral.1, is) refl
 
-pub limit_unread : (o : Option Text) (t : Text) → o ≡ Some t → (IsNumeral 10 (without_leading_plus t) × (digits_value 10 (without_leading_plus t) < 2 ^ 32) → ⊥) → None ≡ limit_by o
-limit_unread o t some none = rw (some, failed (is_unsigned_in 0 4294967295 t) refl) refl
+pub number_unread : (t : Text) → (IsNumeral 10 (without_leading_plus t) × (digits_value 10 (without_leading_plus t) < 2 ^ 32) → ⊥) → number_of t ≡ None
+number_unread t none = rw (failed (is_unsigned_in 0 4294967295 t) refl) refl
   where
     failed : (b : Bool) → is_unsigned_in 0 4294967295 t ≡ b → is_unsigned_in 0 4294967295 t ≡ false
     failed true h = absurd (none (number_passed t h))
     failed false h = h
+
+pub limit_read : (o : Option Text) (t : Text) (n : ℕ) → o ≡ Some t → number_of t ≡ Some n → Some (Some n) ≡ limit_by o
+limit_read o t n some is = rw (some, is) refl
+
+pub limit_unread : (o : Option Text) (t : Text) → o ≡ Some t → number_of t ≡ None → None ≡ limit_by o
+limit_unread o t some none = rw (some, none) refl
+
+pub no_workers : (rows : List Row) → first_of (codes "workers") rows ≡ None → Some 1 ≡ workers_by (one_of (codes "workers") rows)
+no_workers rows none = rw (no_number (codes "workers") rows none) refl
+
+pub workers_read : (o : Option Text) (t : Text) (n : ℕ) → o ≡ Some t → number_of t ≡ Some n → crew n ≡ workers_by o
+workers_read o t n some is = rw (some, is) refl
+
+pub workers_unread : (o : Option Text) (t : Text) → o ≡ Some t → number_of t ≡ None → None ≡ workers_by o
+workers_unread o t some none = rw (some, none) refl
+
+-- the two numbers, as far as they are read
+pub no_crew : (rows : List Row) → None ≡ workers_by (one_of (codes "workers") rows) → None ≡ numbers_in rows
+no_crew rows none = rw (← none) refl
+
+pub no_turns : (rows : List Row) (n : ℕ) → Some n ≡ workers_by (one_of (codes "workers") rows) → None ≡ limit_by (one_of (codes "limit") rows) → None ≡ numbers_in rows
+no_turns rows n workers none = rw (← workers, ← none) refl
+
+pub both_numbers : (rows : List Row) (n : ℕ) (limit : Option ℕ) → Some n ≡ workers_by (one_of (codes "workers") rows) → Some limit ≡ limit_by (one_of (codes "limit") rows)
+    → Some (n, limit) ≡ numbers_in rows
+both_numbers rows n limit workers given = rw (← workers, ← given) refl
 
 -- what the rows of `fill` say, as far as they are found
 pub no_rules : (rows : List Row) → first_of (codes "RULES") rows ≡ None → None ≡ filling rows
@@ -85,13 +111,13 @@ no_script rows a b rules design none = rw (rules, design, none) refl
 pub no_out : (rows : List Row) (a b c : Text) → first_of (codes "RULES") rows ≡ Some a → first_of (codes "DESIGN") rows ≡ Some b → first_of (codes "SCRIPT") rows ≡ Some c → first_of (codes "OUT") rows ≡ None → None ≡ filling rows
 no_out rows a b c rules design script none = rw (rules, design, script, none) refl
 
-pub bad_limit : (rows : List Row) (a b c d : Text) → first_of (codes "RULES") rows ≡ Some a → first_of (codes "DESIGN") rows ≡ Some b → first_of (codes "SCRIPT") rows ≡ Some c → first_of (codes "OUT") rows ≡ Some d
-    → None ≡ limit_by (one_of (codes "limit") rows) → None ≡ filling rows
-bad_limit rows a b c d rules design script out none = rw (rules, design, script, out, ← none) refl
+pub bad_numbers : (rows : List Row) (a b c d : Text) → first_of (codes "RULES") rows ≡ Some a → first_of (codes "DESIGN") rows ≡ Some b → first_of (codes "SCRIPT") rows ≡ Some c → first_of (codes "OUT") rows ≡ Some d
+    → None ≡ numbers_in rows → None ≡ filling rows
+bad_numbers rows a b c d rules design script out none = rw (rules, design, script, out, ← none) refl
 
-pub all_found : (rows : List Row) (a b c d : Text) (limit : Option ℕ) → first_of (codes "RULES") rows ≡ Some a → first_of (codes "DESIGN") rows ≡ Some b → first_of (codes "SCRIPT") rows ≡ Some c → first_of (codes "OUT") rows ≡ Some d
-    → Some limit ≡ limit_by (one_of (codes "limit") rows) → Some (fill a b c d limit) ≡ filling rows
-all_found rows a b c d limit rules design script out given = rw (rules, design, script, out, ← given) refl
+pub all_found : (rows : List Row) (a b c d : Text) (numbers : ℕ × Option ℕ) → first_of (codes "RULES") rows ≡ Some a → first_of (codes "DESIGN") rows ≡ Some b → first_of (codes "SCRIPT") rows ≡ Some c → first_of (codes "OUT") rows ≡ Some d
+    → Some numbers ≡ numbers_in rows → Some (fill a b c d numbers.0 numbers.1) ≡ filling rows
+all_found rows a b c d numbers rules design script out given = rw (rules, design, script, out, ← given) refl
 
 -- the program's grammar is one of those of which `clap` says which words it refuses
 pub program_is_plain : is_simple_and_free program_words ≡ true

@@ -1,5 +1,5 @@
 -- The command lines that the program takes, as `clap` reads them.
-use Rattle.std.specs.Prelude.{◌≡◌, ℕ, ℤ, pos, List, [], Option, None, Some, true, bytes_eq, codes, if◌then◌else◌, option_map}
+use Rattle.std.specs.Prelude.{◌≡◌, ◌&&◌, ℕ, ℤ, pos, List, [], Option, None, Some, true, bytes_eq, codes, if◌then◌else◌, nat_le, option_map}
 use Rattle.std.specs.Option.{option_and_then}
 use Rattle.std.specs.Str.Parse.{digits_value, without_leading_plus}
 use Rattle.clap.specs.ValueTests.{is_unsigned_in}
@@ -22,11 +22,11 @@ check_words = with_rule (with_rule (new_app (codes "check")) (path (codes "RULES
 abbrev pub option : Text → ℤ → ℤ → Rule
 option name least most = record (new_rule name) { long = Some name; value_names = 1; parser = Some (Signed least most) }
 
--- `fill RULES DESIGN SCRIPT OUT --workers N [--limit L]`: one worker, for now
+-- `fill RULES DESIGN SCRIPT OUT [--workers N] [--limit L]`
 abbrev pub fill_words : App
 fill_words =
     with_rule (with_rule (with_rule (with_rule (with_rule (with_rule (new_app (codes "fill")) (path (codes "RULES"))) (path (codes "DESIGN"))) (path (codes "SCRIPT"))) (path (codes "OUT")))
-    (option (codes "workers") (pos 1) (pos 1))) (option (codes "limit") (pos 0) (pos 4294967295))
+    (option (codes "workers") (pos 1) (pos 64))) (option (codes "limit") (pos 0) (pos 4294967295))
 
 -- the program's own words: a subcommand must be there
 abbrev pub own_words : App
@@ -39,11 +39,11 @@ program_words = with_subcommand (with_subcommand (with_subcommand own_words rect
 abbrev pub found_in : List Text → Option (Text × List Row)
 found_in words = subcommand_of program_words words
 
--- a line by its paths, and by the limit of turns where one is given
+-- a line by its paths, and by the number of workers and the limit of turns where one is given
 pub data Said : Type 0 where
   rects : (rules script : Text) → Said
   check : (rules design : Text) → Said
-  fill : (rules design script out : Text) (limit : Option ℕ) → Said
+  fill : (rules design script out : Text) (workers : ℕ) (limit : Option ℕ) → Said
 
 -- what the rows of two arguments make
 abbrev pub both : (Text → Text → Said) → Text → Text → List Row → Option Said
@@ -53,16 +53,30 @@ both make first second rows = option_and_then (λ a. option_map (λ b. make a b)
 abbrev pub number_of : Text → Option ℕ
 number_of text = if is_unsigned_in 0 4294967295 text then Some (digits_value 10 (without_leading_plus text)) else None
 
+-- how many workers there may be
+abbrev pub crew : ℕ → Option ℕ
+crew n = if nat_le 1 n && nat_le n 64 then Some n else None
+
+-- the number of workers: one, where none is given
+abbrev pub workers_by : Option Text → Option ℕ
+workers_by None = Some 1
+workers_by (Some text) = option_and_then crew (number_of text)
+
 -- the limit of turns, where there is one: a number
 abbrev pub limit_by : Option Text → Option (Option ℕ)
 limit_by None = Some None
 limit_by (Some text) = option_map Some (number_of text)
 
+-- the number of workers and the limit of turns
+abbrev pub numbers_in : List Row → Option (ℕ × Option ℕ)
+numbers_in rows =
+    option_and_then {U = ℕ × Option ℕ} (λ workers. option_map (λ limit. (workers, limit)) (limit_by (one_of (codes "limit") rows))) (workers_by (one_of (codes "workers") rows))
+
 -- what the rows of `fill` make
 abbrev pub filling : List Row → Option Said
 filling rows =
-    option_and_then (λ rules. option_and_then (λ design. option_and_then (λ script. option_and_then (λ out. option_map (λ limit. fill rules design script out limit)
-    (limit_by (one_of (codes "limit") rows))) (first_of (codes "OUT") rows)) (first_of (codes "SCRIPT") rows)) (first_of (codes "DESIGN") rows)) (first_of (codes "RULES") rows)
+    option_and_then (λ rules. option_and_then (λ design. option_and_then (λ script. option_and_then (λ out. option_map (λ numbers. fill rules design script out numbers.0 numbers.1)
+    (numbers_in rows)) (first_of (codes "OUT") rows)) (first_of (codes "SCRIPT") rows)) (first_of (codes "DESIGN") rows)) (first_of (codes "RULES") rows)
 
 -- what the rows of the subcommand of a name say
 abbrev pub said_by : Text → List Row → Option Said

@@ -5,11 +5,11 @@
 //! and a call for help is a usage fault too.
 #![tactic(auto)]
 
-ghost use Rattle.std.specs.Prelude.{◌≡◌, ◌≢◌, ◌⊎◌, ℤ, false, Some, IfErr, IfOk, IsSome, OnOk, codes, map, option_map};
+ghost use Rattle.std.specs.Prelude.{◌≡◌, ◌≢◌, ◌⊎◌, ◌<◌, ◌≤◌, ℤ, false, Some, IfErr, IfOk, IfSome, IsSome, OnOk, codes, map, option_map};
 ghost use Rattle.clap.specs.Words.{app_of, found_of, kind_of, one_of, rows_of, rule_of, with_subcommand};
-ghost use Rattle.fill_line.specs.Grammar.{both, fill_words, filling, limit_by, path, program_words, said_by, said_in, IsFaultless, IsTaken};
+ghost use Rattle.fill_line.specs.Grammar.{both, fill_words, filling, limit_by, path, program_words, said_by, said_in, workers_by, IsFaultless, IsTaken};
 ghost use Rattle.fill_line.specs.Grammar as said;
-ghost use Rattle.fill_line.specs.Lines.{text_of, IsRefusalOf};
+ghost use Rattle.fill_line.specs.Lines.{text_of, IsManned, IsRefusalOf};
 ghost use Rattle.fill_line.specs.declared.LineError.TheVariants.{Memory};
 
 use clap::builder::ValueParser;
@@ -46,7 +46,9 @@ pub enum Line<'a> {
         script: &'a str,
         /// The path of the fill library.
         out: &'a str,
-        /// The most turns that may be taken; where it is left out, one more than there are tiles.
+        /// How many workers compute fill: 1 to 64, and one where it is left out.
+        workers: u32,
+        /// The most turns that a worker may take in a round; where it is left out, one more than there are tiles.
         limit: Option<u32>,
     },
 }
@@ -90,11 +92,11 @@ fn number<'a>(alloc: Global, name: &'a str, help: &'a str, parser: ValueParser<'
         .value_parser(parser)
 }
 
-/// The program's words with those of `fill`, which one worker does.
+/// The program's words with those of `fill`.
 fn with_fill<'a>(alloc: Global, program: Command<'a>) -> Result<Command<'a>, AllocError>
     ensures { IfOk result (λ c. app_of c ≡ with_subcommand (app_of program.entry) fill_words.top) }
 {
-    let workers = value_parser!(u8).range(1..=1);
+    let workers = value_parser!(u8).range(1..=64);
     let limit = value_parser!(u32);
     let fill = Command::new(alloc, "fill")
         .about("Fills the windows of a design that have too little metal")
@@ -102,7 +104,7 @@ fn with_fill<'a>(alloc: Global, program: Command<'a>) -> Result<Command<'a>, All
         .arg(path(alloc, "DESIGN", "The design, a GDSII Stream library"))?
         .arg(path(alloc, "SCRIPT", "The script of added and cut rectangles"))?
         .arg(path(alloc, "OUT", "The fill library to write"))?
-        .arg(number(alloc, "workers", "How many workers: 1", workers))?
+        .arg(number(alloc, "workers", "How many workers: 1 to 64", workers))?
         .arg(number(alloc, "limit", "How many turns at most", limit))?;
     let program = program.subcommand(fill)?;
     Ok(program)
@@ -149,6 +151,28 @@ fn check_in<'a>(found: &ArgMatches<'a>) -> Option<Line<'a>>
     Some(Line::Check { rules, design })
 }
 
+/// A number of workers, where it is one.
+fn crew(count: u32) -> Option<u32>
+    ensures { result ≡ said.crew count }
+{
+    if 1 <= count && count <= 64 {
+        Some(count)
+    } else {
+        None
+    }
+}
+
+/// The number of workers, by what was found: one, where none was given.
+fn workers_in(found: &ArgMatches) -> Option<u32>
+    ensures workers { result ≡ workers_by (one_of (codes "workers") (rows_of (found_of found.now))) }
+    ensures manned { IfSome result (λ workers. (0 < workers) × (workers ≤ 64)) }
+{
+    match found.get_str("workers") {
+        Some(_) => crew(found.get_one::<u32>("workers")?),
+        None => Some(1),
+    }
+}
+
 /// The limit of turns, where one was given, by what was found.
 fn limit_in(found: &ArgMatches) -> Option<Option<u32>>
     ensures { result ≡ limit_by (one_of (codes "limit") (rows_of (found_of found.now))) }
@@ -159,27 +183,40 @@ fn limit_in(found: &ArgMatches) -> Option<Option<u32>>
     }
 }
 
+/// The number of workers and the limit of turns, by what was found.
+fn numbers_in(found: &ArgMatches) -> Option<(u32, Option<u32>)>
+    ensures numbers { result ≡ said.numbers_in (rows_of (found_of found.now)) }
+    ensures manned { IfSome result (λ numbers. (0 < numbers.0) × (numbers.0 ≤ 64)) }
+{
+    let workers = workers_in(found)?;
+    let limit = limit_in(found)?;
+    Some((workers, limit))
+}
+
 /// The line of `fill`, by what was found.
 fn fill_in<'a>(found: &ArgMatches<'a>) -> Option<Line<'a>>
-    ensures { option_map text_of result ≡ filling (rows_of (found_of found.now)) }
+    ensures line { option_map text_of result ≡ filling (rows_of (found_of found.now)) }
+    ensures manned { IfSome result IsManned }
 {
     let rules = found.get_str("RULES")?;
     let design = found.get_str("DESIGN")?;
     let script = found.get_str("SCRIPT")?;
     let out = found.get_str("OUT")?;
-    let limit = limit_in(found)?;
+    let (workers, limit) = numbers_in(found)?;
     Some(Line::Fill {
         rules,
         design,
         script,
         out,
+        workers,
         limit,
     })
 }
 
 /// The line of a subcommand that was found.
 fn line_in<'a>(name: &str, found: &ArgMatches<'a>) -> Option<Line<'a>>
-    ensures { option_map text_of result ≡ said_by name.now (rows_of (found_of found.now)) }
+    ensures line { option_map text_of result ≡ said_by name.now (rows_of (found_of found.now)) }
+    ensures manned { IfSome result IsManned }
 {
     if name == "rects" {
         return rects_in(found);
@@ -199,6 +236,7 @@ fn line_in<'a>(name: &str, found: &ArgMatches<'a>) -> Option<Line<'a>>
 /// `Usage` where they make none, also where they ask for help; `Memory` where memory runs out.
 pub fn read_line<'a, S: AsStr>(alloc: Global, words: &'a [S]) -> Result<Line<'a>, LineError>
     ensures line { IfOk result (λ line. said_in (map S.text words.entry.now) ≡ Some (text_of line)) }
+    ensures manned { IfOk result IsManned }
     ensures faultless { OnOk result (IsFaultless (map S.text words.entry.now)) }
     ensures usage { IsTaken (map S.text words.entry.now) → IsSome (said_in (map S.text words.entry.now)) → IfErr result (λ e. e ≡ LineError.Memory) }
     ensures refused { IfErr result (λ e. IsRefusalOf (map S.text words.entry.now) e) }

@@ -35,8 +35,8 @@ fn check_takes_two_paths(rt: HostRuntime) -> Result<(), Fail> {
     Ok(())
 }
 
-/// The limit of a line of `fill` with these four paths.
-fn limit_of(line: Result<Line<'_>, LineError>) -> Option<Option<u32>> {
+/// The workers and the limit of a line of `fill` with these four paths.
+fn numbers_of(line: Result<Line<'_>, LineError>) -> Option<(u32, Option<u32>)> {
     match line {
         Ok(
             Line::Fill {
@@ -44,15 +44,16 @@ fn limit_of(line: Result<Line<'_>, LineError>) -> Option<Option<u32>> {
                 design: "chip.gds",
                 script: "edits.csv",
                 out: "fill.gds",
+                workers,
                 limit,
             },
-        ) => Some(limit),
+        ) => Some((workers, limit)),
         _ => None,
     }
 }
 
 #[test]
-fn fill_takes_four_paths_and_a_limit(rt: HostRuntime) -> Result<(), Fail> {
+fn fill_takes_four_paths_workers_and_a_limit(rt: HostRuntime) -> Result<(), Fail> {
     let words = [
         "densfill",
         "fill",
@@ -61,7 +62,7 @@ fn fill_takes_four_paths_and_a_limit(rt: HostRuntime) -> Result<(), Fail> {
         "edits.csv",
         "fill.gds",
     ];
-    assert!(rt; limit_of(read_line(rt.alloc(), words.as_slice())) == Some(None));
+    assert!(rt; numbers_of(read_line(rt.alloc(), words.as_slice())) == Some((1, None)));
     let words = [
         "densfill",
         "fill",
@@ -72,18 +73,20 @@ fn fill_takes_four_paths_and_a_limit(rt: HostRuntime) -> Result<(), Fail> {
         "edits.csv",
         "fill.gds",
     ];
-    assert!(rt; limit_of(read_line(rt.alloc(), words.as_slice())) == Some(Some(0)));
+    assert!(rt; numbers_of(read_line(rt.alloc(), words.as_slice())) == Some((1, Some(0))));
     let words = [
         "densfill",
         "fill",
         "rules.csv",
         "chip.gds",
-        "--workers=1",
+        "--workers=64",
         "edits.csv",
         "fill.gds",
         "--limit=4294967295",
     ];
-    assert!(rt; limit_of(read_line(rt.alloc(), words.as_slice())) == Some(Some(4_294_967_295)));
+    assert!(rt;
+        numbers_of(read_line(rt.alloc(), words.as_slice())) == Some((64, Some(4_294_967_295)))
+    );
     Ok(())
 }
 
@@ -96,7 +99,7 @@ fn is_fill_refused(rt: &impl AllocGlobal, option: &str) -> bool {
 #[test]
 fn numbers_out_of_range_are_usage_faults(rt: HostRuntime) {
     assert!(rt; is_fill_refused(&rt, "--workers=0"));
-    assert!(rt; is_fill_refused(&rt, "--workers=2"));
+    assert!(rt; is_fill_refused(&rt, "--workers=65"));
     assert!(rt; is_fill_refused(&rt, "--workers=x"));
     assert!(rt; is_fill_refused(&rt, "--workers"));
     assert!(rt; is_fill_refused(&rt, "--limit=4294967296"));
@@ -232,7 +235,7 @@ Arguments:
   <OUT>     The fill library to write
 
 Options:
-      --workers <NUMBER>  How many workers: 1
+      --workers <NUMBER>  How many workers: 1 to 64
       --limit <NUMBER>    How many turns at most
   -h, --help              Print help
 ",

@@ -30,7 +30,7 @@ opened_same a rules v opening o q r s ve oe qe same equal law =
     )
 
 -- no change, no edit
-no_change : (xs : List Edit) → map change_of xs ≡ [] → xs ≡ []
+pub no_change : (xs : List Edit) → map change_of xs ≡ [] → xs ≡ []
 no_change [] e = refl
 no_change (x ∷ xs) e = absurd (let f : suc (length (map change_of xs)) ≡ 0 = ap length e in omega (arith, f))
 
@@ -58,7 +58,7 @@ unfinished_by a pass rules opening edits history made same h e most keeping coun
     let left = left_by a pass rules opening (take made edits) same.0 same.1 (ap changes_in (sym h) ∙ e) keeping counted in
     record { made = made; most = most; left = left; lacking = lacking }
 
-metal_stays : (plan : Plan) (s : State) (events : List Event) → edits_in events ≡ [] → (replay_from plan s events).metal ≡ s.metal
+pub metal_stays : (plan : Plan) (s : State) (events : List Event) → edits_in events ≡ [] → (replay_from plan s events).metal ≡ s.metal
 unfolding replay_from
 metal_stays plan s [] e = refl
 metal_stays plan s (event.Commit version tile same ∷ es) e = metal_stays plan (step plan s (event.Commit version tile same)) es e ∙ (committed_stays plan s version tile same).metal

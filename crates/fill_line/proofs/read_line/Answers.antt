@@ -28,7 +28,7 @@ returns-in-Some-line-clause-line g c =
     let here : subcommand_rows_of c.in-Ok.matches ≡ found_in words =
     (c.in-Ok.ensures.matches (ap is_simple c.in_ok-grammar.ensures ∙ program_is_simple)).1 ∙ ap (λ (a : App). subcommand_of a words) c.in_ok-grammar.ensures in
     elim c.match-subcommand.branch [
-      | in-Some w ↦ line_is words _ w.in-Some.name.now (rows_of (found_of w.in-Some.found.now)) c.match-subcommand.line here (told_apart _ _ _ _ _ w.in-Some.ensures.name w.in-Some.ensures.rows) (ap (option_map text_of) w.line-is ∙ w.line_in-line.ensures)
+      | in-Some w ↦ line_is words _ w.in-Some.name.now (rows_of (found_of w.in-Some.found.now)) c.match-subcommand.line here (told_apart _ _ _ _ _ w.in-Some.ensures.name w.in-Some.ensures.rows) (ap (option_map text_of) w.line-is ∙ w.line_in-line.ensures.line)
           ∙ ap (option_map text_of) c.in-Some-line.is
       | in-None w ↦ absurd (no c.in-Some-line.line (sym w.line-is ∙ c.in-Some-line.is))
     ]
@@ -42,7 +42,7 @@ returns-clause-usage g c = λ taken said.
     let here : subcommand_rows_of c.in-Ok.matches ≡ found_in words =
     (c.in-Ok.ensures.matches (ap is_simple c.in_ok-grammar.ensures ∙ program_is_simple)).1 ∙ ap (λ (a : App). subcommand_of a words) c.in_ok-grammar.ensures in
     elim c.match-subcommand.branch [
-      | in-Some w ↦ absurd (none_said words (line_is words _ w.in-Some.name.now (rows_of (found_of w.in-Some.found.now)) c.match-subcommand.line here (told_apart _ _ _ _ _ w.in-Some.ensures.name w.in-Some.ensures.rows) (ap (option_map text_of) w.line-is ∙ w.line_in-line.ensures)
+      | in-Some w ↦ absurd (none_said words (line_is words _ w.in-Some.name.now (rows_of (found_of w.in-Some.found.now)) c.match-subcommand.line here (told_apart _ _ _ _ _ w.in-Some.ensures.name w.in-Some.ensures.rows) (ap (option_map text_of) w.line-is ∙ w.line_in-line.ensures.line)
           ∙ ap (option_map text_of) c.in-None-line.is) said)
       | in-None w ↦ absurd (none_said words (no_line_is words _ here (none_apart _ _ _ w.in-None.ensures.name)) said)
     ]

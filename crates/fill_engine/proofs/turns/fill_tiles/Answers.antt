@@ -1,11 +1,10 @@
-use Rattle.std.proofs.Common.{◌≡◌, ◌∙◌, ◌<◌, ap, subst, sym, true, false, Err}
+use Rattle.std.proofs.Common.{◌≡◌, ◌∙◌, ◌<◌, ◌*◌, ap, subst, sym, true, false, Err}
 use Rattle.std.proofs.lemmas.Result.{err_from_is_err_and}
-use Rattle.fill_raster.specs.Lattice.{tiles}
-use Rattle.fill_text.specs.Rules.{Values, raster_of}
+use Rattle.fill_text.specs.Rules.{Values}
 use Rattle.fill_core.specs.Accounts.{state_of}
 use Rattle.fill_core.proofs.Searched.{next_first, next_none}
 use Rattle.fill_engine.specs.Runs.{tile_count}
-use Rattle.fill_engine.specs.declared.refusal.RunFault.TheVariants.{Unfinished}
+use Rattle.fill_engine.specs.declared.refusal.RunFault.TheVariants.{Mixed, Unfinished}
 use Rattle.fill_engine.proofs.Checking.{as_error}
 use Rattle.fill_engine.proofs.TileTurns.{full_short, limit_short, next_at, no_run, none_brought, one_brought, one_more}
 use Rattle.fill_engine.proofs.turns.fill_tiles.Goals as goal
@@ -53,7 +52,11 @@ pub returns-else-is_complete-clause-unfinished : goal.returns-else-is_complete-c
 returns-else-is_complete-clause-unfinished g c =
     let a = g.B.FillBook.account c.args.book.now in
     let b = g.B.FillBook.account c.loop.book in
-    let count : c.tiles-tiles.result ≡ tile_count a.rules = c.tiles-tiles.ensures ∙ (ap tiles c.raster.ensures.raster ∙ ap (λ (v : Values). tiles (raster_of v.numbers)) c.rules.ensures) in
-    λ _. limit_short a.rules c.args.limit c.from.result c.unwrap_or-turns.result c.loop.counter (state_of b).tiles_in _ _ (c.from.ensures ∙ count) c.unwrap_or-turns.ensures c.loop-test.false
+    λ _. limit_short a.rules c.args.limit (2 * c.most_turns-turns.result) c.loop.counter (state_of b).tiles_in _ _ (ap (λ n. 2 * n) c.most_turns-turns.ensures.turns) c.loop-test.false
     c.loop.invariant.left (λ all. absurd (let e : true ≡ false =
     sym (c.is_complete.ensures.complete.1 (λ t lt. all t (subst (λ (v : Values). t < tile_count v) c.loop.invariant.run.rules lt))) ∙ c.if-is_complete.false in cc))
+
+pub returns-in_err-bring-clause-own : goal.returns-in_err-bring-clause-own
+returns-in_err-bring-clause-own g c =
+    let p = err_from_is_err_and c.from_residual.result c.from_residual.ensures.1 in
+    λ is. c.in_err-bring.ensures.own (ap Err (as_error c.from_residual.result p.0 c.in_err-bring.field-0.0 Mixed p.1 p.2 is))
