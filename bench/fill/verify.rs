@@ -269,11 +269,6 @@ impl History {
         self.low[window].iter().any(|low| low.start.max(versions.start) < low.end.min(versions.end))
     }
 
-    fn window_name(&self, window: usize) -> String {
-        let (a, b) = self.windows.column_and_row(window);
-        format!("window {a},{b}")
-    }
-
     fn box_name(&self, place: usize) -> String {
         let Rect { x1, y1, .. } = self.places.rect(place);
         format!("the box at {x1},{y1}")
@@ -354,26 +349,17 @@ impl Fill<'_> {
         missing
     }
 
-    /// Checks that some version could want each box; answers the boxes that one before the last could.
-    fn check_wanted(&self, missing: &Missing) -> Result<Vec<usize>, String> {
-        let mut early = Vec::new();
-        for place in self.boxes() {
-            let since = self.history.since[place].expect("a clear box");
-            let tile = self.tile_of(place);
-            let before_last = |window: usize| {
-                let first_missing = missing.of_tile.get(&(tile, window)).map_or(self.edits, |first| *first.min(&self.edits));
+    /// The boxes that some version before the last could want.
+    fn early(&self, missing: &Missing) -> Vec<usize> {
+        let is_early = |place: &usize| {
+            let Some(since) = self.history.since[*place] else { return false };
+            let tile = self.tile_of(*place);
+            self.around(*place).any(|window| {
+                let first_missing = missing.of_tile.get(&(tile, window)).map_or(self.edits, |first| self.edits.min(*first));
                 self.history.was_low(window, since..first_missing)
-            };
-            let in_last = |window: usize| {
-                missing.of_window[window].is_none() && self.history.was_low(window, self.edits..self.edits + 1)
-            };
-            if self.around(place).any(before_last) {
-                early.push(place);
-            } else if !self.around(place).any(in_last) {
-                return Err(format!("{} was wanted in no version", self.history.box_name(place)));
-            }
-        }
-        Ok(early)
+            })
+        };
+        self.boxes().filter(is_early).collect()
     }
 
     /// Checks that no box is missing in a window that is low whatever boxes the last version began with.
@@ -381,11 +367,23 @@ impl Fill<'_> {
         let History { windows, places, lines, drawn, .. } = self.history;
         let mut most = Areas(drawn.0.clone());
         early.iter().for_each(|place| most.put(windows, &places.rect(*place), 1));
-        let short = |(window, place): (usize, &Option<usize>)| place.filter(|_| lines.is_low(most.0[window])).map(|at| (window, at));
-        match missing.of_window.iter().enumerate().find_map(short) {
-            Some((window, at)) => {
-                Err(format!("{} is missing in {}, which is low", self.history.box_name(at), self.history.window_name(window)))
+        for (window, place) in missing.of_window.iter().enumerate() {
+            if let Some(place) = place.filter(|_| lines.is_low(most.0[window])) {
+                let (a, b) = windows.column_and_row(window);
+                return Err(format!("{} is missing in window {a},{b}, which is low", self.history.box_name(place)));
             }
+        }
+        Ok(())
+    }
+
+    /// Checks that the last version could want each box that isn't early.
+    fn check_wanted(&self, missing: &Missing, early: &[usize]) -> Result<(), String> {
+        let wants = |window: usize| {
+            missing.of_window[window].is_none() && self.history.was_low(window, self.edits..self.edits + 1)
+        };
+        let is_early = |place: &usize| early.binary_search(place).is_ok();
+        match self.boxes().find(|place| !is_early(place) && !self.around(*place).any(wants)) {
+            Some(place) => Err(format!("{} was wanted in no version", self.history.box_name(place))),
             None => Ok(()),
         }
     }
@@ -415,8 +413,9 @@ fn verify([rules, design, script, out, report]: &[String; 5]) -> Result<String, 
     fill.check_spacing()?;
     let totals = fill.check_report(&std::fs::read(report).expect("REPORT"))?;
     let missing = fill.missing();
-    let early = fill.check_wanted(&missing)?;
+    let early = fill.early(&missing);
     fill.check_complete(&missing, &early)?;
+    fill.check_wanted(&missing, &early)?;
     let low = totals.iter().filter(|total| history.lines.is_low(**total)).count();
     Ok(format!("{} boxes, {} windows ({low} low), {} edits", fill.boxes().count(), totals.len(), edits.len()))
 }
