@@ -6,13 +6,14 @@
 //!   references that place boxes on the raster, within the frame, none twice, row by row, in runs as long as can be.
 //! - The rules' steps keep the fill spacing between the boxes of two places, and each box keeps the spacing to the final metal.
 //! - Each line of REPORT is that of the final metal and the boxes: exact areas of both, their total, its share and its state.
-//! - Each box is one that some version could want. The workers bring a version's tiles in one by one, each with all boxes then wanted,
-//!   and only the last version is sure to have all of them; when the edits came is not in the bytes. So a box must have a version, since
-//!   when it has been clear of metal, and a window around it that was low in metal then, so that no box of that window and the same
-//!   tile that has been clear since then is missing; in the last version, no box of that window at all.
-//! - No box is missing. The opening fill of the last version has no more boxes than those that a version before it could want; where a
-//!   window is low in the final metal and these, each place whose box lies wholly in it has its box, but for those too near to metal.
-//!   So it is in each window that REPORT calls low.
+//! - Each box is one that some version could want. Workers bring the tiles of a version in one by one, each with all boxes of it that are
+//!   wanted then, and only of the last version all tiles are sure to be in; when the edits came is not in the bytes. So for each box there
+//!   must be a version, since when it has been clear of metal, and a window around it that was low in metal then, with this: no place
+//!   of the same tile that lies in that window and has been clear since then lacks its box, and for the last version no clear place of
+//!   any tile in that window does.
+//! - No box is missing. The last version opened with no more boxes than those that a version before it could want; where a window is
+//!   low in the final metal and these together, each place in it that is clear of metal has its box. So does each in a window that
+//!   REPORT calls low.
 //!
 //! With an empty script there is one version, and the last two say that the boxes are exactly the allowed ones of the windows that are low in
 //! metal. It prints a line of numbers and ends with status 0, or the first wrong thing with status 1.
@@ -195,7 +196,8 @@ fn read_fill(bytes: &[u8], rules: &Rules, (units, dates): (&[u8], &[u8]), places
     if records.at == bytes.len() { Ok(filled) } else { records.wrong("bytes behind the library") }
 }
 
-/// The design, the rules' places and windows, and what each version of the metal has left of them.
+/// The metal as the edits have left it so far, and what its versions were to the windows and the places of the rules. A version lasts
+/// from one edit to the next; the design's metal is version 0.
 struct History {
     places: Grid,
     windows: Grid,
