@@ -121,6 +121,18 @@ pub fn next<'a>(bytes: &'a [u8], at: &mut usize) -> (u8, &'a [u8]) {
     (kind, body)
 }
 
+/// The units and the dates of a library.
+pub fn head(bytes: &[u8]) -> (&[u8], &[u8]) {
+    let (mut at, mut dates): (usize, &[u8]) = (0, &[]);
+    loop {
+        match next(bytes, &mut at) {
+            (0x01, body) => dates = body,
+            (0x03, body) => return (body, dates),
+            _ => {}
+        }
+    }
+}
+
 /// The rectangles of a rectilinear polygon, by its vertical edges and winding numbers.
 fn fill(points: &[Point], out: &mut Vec<Rect>) {
     let edges: Vec<_> = points

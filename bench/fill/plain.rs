@@ -7,7 +7,7 @@ mod rules;
 #[path = "../sweep.rs"]
 mod sweep;
 
-use design::{flatten, next, read_library};
+use design::{flatten, head, read_library};
 use rules::{Lines, Rules};
 use std::io::Write;
 use std::ops::Range;
@@ -156,18 +156,6 @@ fn put_name(out: &mut Vec<u8>, kind: u8, name: &[u8]) {
 fn put_points(out: &mut Vec<u8>, points: &[(i32, i32)]) {
     let body: Vec<u8> = points.iter().flat_map(|(x, y)| [x.to_be_bytes(), y.to_be_bytes()].concat()).collect();
     put(out, 0x10, 0x03, &body);
-}
-
-/// The units and the dates of a design.
-fn head(bytes: &[u8]) -> (&[u8], &[u8]) {
-    let (mut at, mut dates): (usize, &[u8]) = (0, &[]);
-    loop {
-        match next(bytes, &mut at) {
-            (0x01, body) => dates = body,
-            (0x03, body) => return (body, dates),
-            _ => {}
-        }
-    }
 }
 
 /// The fill library.

@@ -3,8 +3,9 @@
 # 10,000 windows, with some nine places for ten copies, beside `densfill check` on the same design and the same fill in plain Rust
 # (plain.rs), on one processor and on all. Seconds are the best of three runs, peaks those of the whole process. Where the plain
 # program's library or report differ in a byte, or the windows' metal is told otherwise than by `check`, or the fill on one processor is
-# another one than that on all, the run fails. A second table has the phases of a fill on one processor but for the
-# fill library, timed by a program of its own.
+# another one than that on all, the run fails. A second table has fills by 1, 2 and as many workers as there are processors, on all
+# processors; where two numbers of workers give other bytes, the run fails. A third has the phases of a fill on one processor but for
+# the fill library, timed by a program of its own.
 #
 # Where `klayout` is installed (Debian's package of that name), KLayout's own script for the same windows, spacing and raster
 # (fill.drc) runs beside it, once. KLayout lets a box lie across two low windows, so its boxes are compared on a design with one
@@ -27,6 +28,9 @@ run() {
     case $1 in
         check) "$root/bin/densfill" check "$work/fill.csv" "$work/design.gds" > "$work/check.csv" ;;
         fill) "$root/bin/densfill" fill "$work/fill.csv" "$work/design.gds" "$work/script.csv" "$work/fill.gds" > "$work/filled.csv" ;;
+        by_*)
+            "$root/bin/densfill" fill "$work/fill.csv" "$work/design.gds" "$work/script.csv" "$work/by.gds" --workers "${1#by_}" \
+                > "$work/by.csv" ;;
         plain) "$work/plain" "$work/fill.csv" "$work/design.gds" "$work/plain.gds" > "$work/plain.csv" ;;
         klayout)
             QT_QPA_PLATFORM=offscreen klayout -b -r "$here/fill.drc" -rd design="$work/design.gds" -rd rules="$work/fill.csv" \
@@ -64,8 +68,18 @@ for count in "$@"; do
         echo "$count $processors $fill $theirs" >> "$work/klayout"
     done
     rm "$work/first.gds"
+    for workers in $(printf '1\n2\n%s\n' "$all" | sort -nu); do
+        rm -f "$work/by.gds" "$work/by.csv"
+        echo "$count $workers $(measure "by_$workers" "$all" 3)" >> "$work/workers"
+        cmp "$work/by.gds" "$work/fill.gds"
+        cmp "$work/by.csv" "$work/filled.csv"
+    done
     taskset -c 0 "$work/rattle" "$work/fill.csv" "$work/design.gds" | sed "s/^/$count;/" >> "$work/phases"
 done
+
+awk '
+    BEGIN { printf "\n%10s %10s %9s %9s\n", "copies", "workers", "fill s", "fill MB" }
+    { printf "%10d %10d %9.2f %9d\n", $1, $2, $3, $4 }' "$work/workers"
 
 echo
 awk -F';' '
