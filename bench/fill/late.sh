@@ -1,12 +1,12 @@
 #!/usr/bin/env bash
 # Fills a generated design (that of bench/check, flat) of 100,000 copies of shapes with 1, 2 and 8 workers, while a script of 1,000
 # late edits of its metal (edits.py) is carried out, and with an empty script; some windows are low at first, some at last. Each
-# result is checked by verify.rs from its bytes alone: the run fails where one is refused. Seconds are the best of three runs, peaks those
-# of the whole process, both on all processors.
+# result is checked by verify.rs from its bytes alone: the run fails where one is refused. Seconds are the best of three runs without
+# edits and of one run with them, peaks those of the whole process, both on all processors.
 #
 # Then each result is altered in one thing at a time (alter.py), and the run fails where that isn't refused for the right reason.
 #
-# usage: bench/fill/late.sh [COUNT [EDITS]]     (after make build; needs rustc, python3, taskset and GNU time; less than a minute)
+# usage: bench/fill/late.sh [COUNT [EDITS]]     (after make build; needs rustc, python3, taskset and GNU time; some four minutes)
 set -eu
 . "$(dirname "$0")/../common.sh"
 count=${1:-100000} edits=${2:-1000}
@@ -41,8 +41,9 @@ touch "$work/empty.csv"
 mkdir "$work/altered"
 printf '%8s %8s %8s %8s  %s\n' edits workers s MB "as counted from the bytes"
 for script in empty.csv script.csv; do
+    [ "$script" = empty.csv ] && rounds=3 || rounds=1
     for workers in 1 2 8; do
-        for _ in 1 2 3; do
+        for _ in $(seq "$rounds"); do
             rm -f "$work/fill.gds" "$work/filled.csv"
             measure "$script:$workers" "$all" 1 >> "$work/costs"
             "$work/verify" "$work/fill.csv" "$work/design.gds" "$work/$script" "$work/fill.gds" "$work/filled.csv" > "$work/numbers" ||
