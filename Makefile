@@ -34,3 +34,4 @@ bench: build
 	bench/book/run.sh
 	bench/check/run.sh
 	bench/fill/run.sh
+	bench/fill/late.sh
