@@ -1,11 +1,12 @@
 -- Sums over the passes of a round.
-use Rattle.std.proofs.Common.{◌≡◌, ◌∙◌, sym, ap, arith, ℕ, suc, ◌+◌, ◌*◌, ◌<◌, ◌≤◌, ◌⊎◌, refl, inl, inr, List, [], ◌∷◌, ◌++◌, length, length-append, slice_index_or}
+use Rattle.std.proofs.Common.{◌≡◌, ◌∙◌, sym, ap, subst, arith, ℕ, suc, ◌+◌, ◌*◌, ◌<◌, ◌≤◌, ◌⊎◌, refl, inl, inr, List, [], ◌∷◌, ◌++◌, length, length-append, slice_index_or}
 use Rattle.std.specs.Prelude.{sum_by}
 use Rattle.std.proofs.lemmas.List.{get_or_append_left, get_or_push}
 use Rattle.std.proofs.lemmas.List.Sums.{sum_by-cons, sum_by_push}
+use Rattle.fill_text.specs.declared.script.Edit.{Edit}
 use Rattle.fill_core.specs.Shares.{Held}
 use Rattle.fill_shared.specs.Passes.{calls_of}
-use Rattle.fill_shared.specs.steps.Rounds.{HasWorked}
+use Rattle.fill_shared.specs.steps.Rounds.{AreAnswered, HasWorked, IsAnswered}
 
 -- what holds of each worker's pass, of all together
 pub worked_sums : {A B : Type 0} (f : A → Held) (h : B → Held) (most : ℕ) (xs : List A) (ys : List B) → length ys ≡ length xs
@@ -47,3 +48,8 @@ round_calls all rest editor workers limit edits before seats count final is len 
     let c : count * limit ≡ workers * limit = ap (λ (k : ℕ). k * limit) w in
     let s : calls_of all ≡ calls_of rest + editor.calls = ap calls_of is ∙ sum_by_push (λ (h : Held). h.calls) rest editor in
     omega (arith, c, s, sum, some, le)
+
+-- one edit more was answered
+pub answered_more : (held next after : Held) (done : List Edit) (edit : Edit) → AreAnswered held done next → IsAnswered next edit after → AreAnswered held (done ++ edit ∷ []) after
+answered_more held next after [] edit before last = (after, subst (λ (h : Held). IsAnswered h edit after) before last, refl)
+answered_more held next after (first ∷ done) edit before last = (before.0, before.1, answered_more before.0 next after done edit before.2 last)

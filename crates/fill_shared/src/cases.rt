@@ -2,14 +2,15 @@
 ghost use Rattle.std.specs.Prelude.{◌≡◌, ◌≤◌, ◌<◌, IfOk};
 ghost use Rattle.fill_core.specs.Shares.{AllParts};
 
-use crate::{PassOf, Shared};
+use crate::{Gate, OpenGate, PassMissing, PassOf, RunError, Shared, WorkEnd, run, work};
 use fill_base::Rect;
 use fill_book::PlainBook;
-use fill_core::{Edit, FillBook, Pass};
+use fill_core::{BookError, Edit, FillBook, Pass, Reply};
 use fill_region::Region;
 use fill_text::{Rules, read_rules};
 use std::alloc::Global;
 use std::process::Abort;
+use std::sync::Wait;
 use std::sync::atomic::{AtomicBool, AtomicU64, Ordering};
 use std::sync::ledger::{Blank, Ledger};
 use std::test::Fail;
@@ -115,28 +116,6 @@ pub(crate) fn book_of<C: Ledger, P: Ledger, W: Ledger>(
     Ok(PlainBook::open(rt, alloc, calls, placed, withdrawn, metal, rules, most)?)
 }
 
-/// A shared book that opens so, with so many passes, the last one first.
-pub(crate) fn shared_by<C: Ledger + Send + Sync, P: Ledger + Send + Sync, W: Ledger + Send + Sync>(
-    rt: &(impl Abort + Threads + Sync),
-    alloc: Global,
-    calls: Blank,
-    placed: Blank,
-    withdrawn: Blank,
-    opening: Opening,
-    callers: u32,
-) -> Result<(Shared<PlainBook<C, P, W>>, Vec<Pass<C, P, W>>), Fail>
-    requires names { (calls.name ≡ C.name) × (placed.name ≡ P.name) × (withdrawn.name ≡ W.name) }
-    requires parts { (calls.parts ≡ C.parts) × (placed.parts ≡ P.parts) × (withdrawn.parts ≡ W.parts) }
-    requires all { AllParts C.parts P.parts W.parts }
-    requires callers { (0 < callers) × (callers ≤ 1024) }
-{
-    let (book, pass) = book_of::<C, P, W>(rt, alloc, calls, placed, withdrawn, opening)?;
-    let Ok(opened) = Shared::open(alloc, book, pass, callers) else {
-        panic!(rt; "memory was refused");
-    };
-    Ok(opened)
-}
-
 /// How often a flag is looked at before a test gives up.
 const LOOKS: u32 = 1 << 30;
 
@@ -188,4 +167,147 @@ pub(crate) fn assert_counts<B: FillBook>(
     assert_eq!(rt; [pass.calls(), pass.placed(), pass.withdrawn()], numbers);
     assert_eq!(rt; book.history().len(), pass.calls());
     assert_eq!(rt; book.count(), boxes);
+}
+
+/// Shares a book with one caller.
+pub(crate) fn shared_alone<B: FillBook>(
+    rt: &impl Abort,
+    alloc: Global,
+    book: B,
+    pass: PassOf<B>,
+) -> (Shared<B>, PassOf<B>)
+    requires { pass.parts ≡ 1024 }
+{
+    let Ok((shared, mut passes)) = Shared::open(alloc, book, pass, 1) else {
+        panic!(rt; "memory was refused");
+    };
+    let Some(pass) = passes.pop() else {
+        panic!(rt; "a caller has no pass");
+    };
+    (shared, pass)
+}
+
+/// Shares a book among three callers.
+pub(crate) fn shared_by_three<B: FillBook>(
+    rt: &impl Abort,
+    alloc: Global,
+    book: B,
+    pass: PassOf<B>,
+) -> (Shared<B>, (PassOf<B>, PassOf<B>, PassOf<B>))
+    requires { pass.parts ≡ 1024 }
+{
+    let Ok((shared, mut passes)) = Shared::open(alloc, book, pass, 3) else {
+        panic!(rt; "memory was refused");
+    };
+    let (Some(third), Some(second), Some(first)) = (passes.pop(), passes.pop(), passes.pop()) else {
+        panic!(rt; "three callers have three passes");
+    };
+    (shared, (first, second, third))
+}
+
+/// Asserts that a book isn't handed out with a pass missing.
+pub(crate) fn refuse_to_close<B: FillBook>(
+    rt: &impl Abort,
+    alloc: Global,
+    shared: Shared<B>,
+    first: PassOf<B>,
+    second: PassOf<B>,
+) -> Result<(Shared<B>, Vec<PassOf<B>>), Fail>
+    requires { AllParts B.Calls.parts B.Placed.parts B.Withdrawn.parts }
+{
+    let mut passes = Vec::new(alloc);
+    passes.push(first)?;
+    passes.push(second)?;
+    let Err(PassMissing { shared, passes }) = shared.close(passes) else {
+        panic!(rt; "a pass is missing");
+    };
+    assert_eq!(rt; passes.len(), 2);
+    Ok((shared, passes))
+}
+
+/// Takes a book back with these passes and the last one, and asserts what was counted.
+pub(crate) fn close<B: FillBook>(
+    rt: &impl Abort,
+    shared: Shared<B>,
+    mut passes: Vec<PassOf<B>>,
+    last: PassOf<B>,
+    numbers: [u64; 3],
+    boxes: u32,
+) -> Result<B, Fail>
+    requires { AllParts B.Calls.parts B.Placed.parts B.Withdrawn.parts }
+{
+    passes.push(last)?;
+    let Ok((book, pass)) = shared.close(passes) else {
+        panic!(rt; "no pass is missing");
+    };
+    assert_counts(rt, &book, &pass, numbers, boxes);
+    Ok(book)
+}
+
+/// Lets a worker have so many turns, from the first tile on, and asserts how they end.
+pub(crate) fn assert_work<B: FillBook>(
+    rt: &(impl Abort + Wait),
+    alloc: Global,
+    shared: &Shared<B>,
+    pass: &mut PassOf<B>,
+    limit: u64,
+    want: WorkEnd,
+)
+    requires { AllParts B.Calls.parts B.Placed.parts B.Withdrawn.parts }
+{
+    let end = work(rt, alloc, shared, pass, 0, 0, &OpenGate, limit);
+    assert_eq!(rt; end, want);
+}
+
+/// Makes an edit, and asserts its answer.
+pub(crate) fn assert_edit<B: FillBook>(
+    rt: &(impl Abort + Wait),
+    alloc: Global,
+    shared: &Shared<B>,
+    pass: &mut PassOf<B>,
+    edit: Edit,
+    want: Result<Reply, BookError>,
+)
+    requires { AllParts B.Calls.parts B.Placed.parts B.Withdrawn.parts }
+{
+    let reply = shared.edit(rt, alloc, pass, edit);
+    assert!(rt; reply == want);
+}
+
+/// A run that finishes.
+pub(crate) fn finished<B: FillBook + Send, G: Gate + Sync>(
+    rt: &(impl Abort + Threads + Wait + Sync),
+    alloc: Global,
+    book: B,
+    pass: PassOf<B>,
+    edits: &[Edit],
+    workers: u32,
+    gate: &G,
+    limit: u64,
+) -> (B, PassOf<B>)
+    requires ledgers { AllParts B.Calls.parts B.Placed.parts B.Withdrawn.parts }
+    requires pass { pass.parts ≡ 1024 }
+    requires workers { (0 < workers) × (workers ≤ 64) }
+{
+    let Ok(ran) = run(rt, alloc, book, pass, edits, workers, gate, limit) else {
+        panic!(rt; "the run does not finish");
+    };
+    ran
+}
+
+/// A run of one worker that stays unfinished.
+pub(crate) fn unfinished<B: FillBook + Send>(
+    rt: &(impl Abort + Threads + Wait + Sync),
+    alloc: Global,
+    book: B,
+    pass: PassOf<B>,
+    limit: u64,
+) -> (B, PassOf<B>)
+    requires ledgers { AllParts B.Calls.parts B.Placed.parts B.Withdrawn.parts }
+    requires pass { pass.parts ≡ 1024 }
+{
+    match run(rt, alloc, book, pass, &[], 1, &OpenGate, limit) {
+        Err(RunError::Unfinished { book, pass }) => (book, pass),
+        _ => panic!(rt; "the run is not told as unfinished"),
+    }
 }

@@ -3,7 +3,7 @@ ghost use Rattle.std.specs.Prelude.{◌≡◌, ◌+◌, ◌*◌, ◌/◌, ◌<�
 ghost use Rattle.fill_core.specs.Accounts.{IsKeeping};
 ghost use Rattle.fill_core.specs.Shares.{AllParts};
 ghost use Rattle.fill_shared.specs.Passes.{HasCounted, calls_of, parts_of};
-ghost use Rattle.fill_shared.specs.steps.Rounds.{HasWorked};
+ghost use Rattle.fill_shared.specs.steps.Rounds.{HasEdited, HasWorked};
 
 use crate::gate::Gate;
 use crate::shared::{PassOf, Shared};
@@ -149,7 +149,8 @@ fn edit_all<B: FillBook, G: Gate, R: Wait>(
     gate: &G,
 ) -> Result<PassOf<B>, RoundLost>
     requires { AllParts B.Calls.parts B.Placed.parts B.Withdrawn.parts }
-    ensures { IfOk result (λ after. HasWorked (length edits.now) pass after) }
+    ensures worked { IfOk result (λ after. HasWorked (length edits.now) pass after) }
+    ensures edited { IfOk result (λ after. HasEdited edits.now pass after) }
 {
     for k in 0..edits.len() {
         gate.edit(k as u64);
