@@ -332,6 +332,43 @@ fn edits_beside_a_worker<B: FillBook + Send>(
     Ok(())
 }
 
+/// Holds the editor back until the worker is at its ninth tile.
+#[derive(Drop)]
+struct Late {
+    passes: Count,
+}
+
+impl Gate for Late {
+    fn pass(&self, _worker: u32, _tile: u32) {
+        self.passes.raise();
+    }
+
+    fn edit(&self, _k: u64) {
+        self.passes.wait_for(9);
+    }
+}
+
+/// An edit comes when the worker is at its last tile: all tiles are worked on once more, and the edit is made once.
+fn late_edit<B: FillBook + Send>(
+    rt: &(impl Abort + Threads + Wait + Sync),
+    alloc: Global,
+    book: B,
+    pass: PassOf<B>,
+) -> Result<(), Fail>
+    requires ledgers { AllParts B.Calls.parts B.Placed.parts B.Withdrawn.parts }
+    requires pass { pass.parts ≡ 1024 }
+{
+    let gate = Late {
+        passes: Count::new(),
+    };
+    let edits = [added()?];
+    let (book, pass) = finished(rt, alloc, book, pass, &edits, 1, &gate, 9);
+    assert!(rt; !gate.passes.is_late());
+    assert_eq!(rt; (book.version(), book.count()), (1, 99));
+    assert_eq!(rt; (pass.calls(), book.history().len()), (19, 19));
+    Ok(())
+}
+
 /// Without turns no tile comes in.
 fn no_turns<B: FillBook + Send>(
     rt: &(impl Abort + Threads + Wait + Sync),
@@ -369,6 +406,7 @@ enum Case {
     NoTile,
     TwoWorkers,
     EditsBeside,
+    LateEdit,
     NoTurns,
     ThreeEvents,
 }
@@ -413,6 +451,7 @@ fn play<B: FillBook + Send>(
         Case::NoTile => no_tile(rt, alloc, book, pass),
         Case::TwoWorkers => two_workers(rt, alloc, book, pass),
         Case::EditsBeside => edits_beside_a_worker(rt, alloc, book, pass),
+        Case::LateEdit => late_edit(rt, alloc, book, pass),
         Case::NoTurns => {
             no_turns(rt, alloc, book, pass);
             Ok(())
@@ -486,6 +525,11 @@ fn two_workers_work_at_once(rt: HostRuntime) -> Result<(), Fail> {
 #[test]
 fn an_editor_edits_beside_a_worker(rt: HostRuntime) -> Result<(), Fail> {
     play_by(&rt, rt.alloc(), Case::EditsBeside)
+}
+
+#[test]
+fn a_late_edit_is_made_once(rt: HostRuntime) -> Result<(), Fail> {
+    play_by(&rt, rt.alloc(), Case::LateEdit)
 }
 
 #[test]
