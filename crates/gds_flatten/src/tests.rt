@@ -2,7 +2,7 @@ use super::*;
 use crate::shapes::{carry_shape, shape_of};
 use fill_base::Point;
 use gds_grammar::{Array, Element, Library, Ref, Transform, read_library};
-use std::alloc::Global;
+use std::alloc::{AllocError, Global};
 use std::test::*;
 
 mod designs;
@@ -254,18 +254,29 @@ const THIN: &[u8] = &[0, 4, 9, 0, 0, 6, 0x0d, 2, 0, 1, 0, 6, 0x0e, 2, 0, 0];
 /// What stands behind the last element's points.
 const TAIL: &[u8] = &[0, 4, 0x11, 0, 0, 4, 7, 0, 0, 4, 4, 0];
 
-/// A library of one element with these points.
-fn library_of(alloc: Global, kind: &[u8], points: &[(i32, i32)]) -> Result<Library, Fail> {
-    let mut bytes = Vec::from_slice(alloc, HEAD)?;
-    bytes.extend_from_slice(kind)?;
-    let length = points.len().wrapping_mul(8).wrapping_add(4);
-    let length = u16::try_from(length).or(Err("too many points"))?;
-    bytes.extend_from_slice(&length.to_be_bytes())?;
-    bytes.extend_from_slice(&[0x10, 3])?;
+/// Appends points, each as two numbers of four bytes.
+fn put_points(bytes: &mut Vec<u8>, points: &[(i32, i32)]) -> Result<(), AllocError> {
     for (x, y) in points {
         bytes.extend_from_slice(&x.to_be_bytes())?;
         bytes.extend_from_slice(&y.to_be_bytes())?;
     }
+    Ok(())
+}
+
+/// The bytes of a library of one element, up to its points.
+fn begun(alloc: Global, kind: &[u8], count: usize) -> Result<Vec<u8>, AllocError> {
+    let length = u16::try_from(count.wrapping_mul(8).wrapping_add(4)).unwrap_or(0);
+    let mut bytes = Vec::from_slice(alloc, HEAD)?;
+    bytes.extend_from_slice(kind)?;
+    bytes.extend_from_slice(&length.to_be_bytes())?;
+    bytes.extend_from_slice(&[0x10, 3])?;
+    Ok(bytes)
+}
+
+/// A library of one element with these points.
+fn library_of(alloc: Global, kind: &[u8], points: &[(i32, i32)]) -> Result<Library, Fail> {
+    let mut bytes = begun(alloc, kind, points.len())?;
+    put_points(&mut bytes, points)?;
     bytes.extend_from_slice(TAIL)?;
     Ok(read_library(alloc, &bytes)?)
 }
