@@ -16,10 +16,3 @@ pub use metal::metal_left;
 pub use refusal::{DesignError, InputFault, Refusal, RunFault};
 pub use subcommands::{check, rects};
 pub use texts::Filled;
-
-#[cfg(test)]
-mod fill_tests;
-#[cfg(test)]
-mod report_tests;
-#[cfg(test)]
-mod tests;
