@@ -8,9 +8,10 @@ use fill_base::{Point, Rect};
 use fill_raster::{Marks, Place, Raster};
 use fill_text::{Rules, read_rules};
 use gds_flatten::{flatten, flatten_rects};
-use gds_grammar::{Element, read_library};
+use gds_grammar::{Array, Element, Ref, read_library};
 use gds_out::fill_library;
 use std::alloc::{AllocError, Global};
+use std::process::Abort;
 use std::test::Fail;
 
 /// The rules but for boxes, steps and tiles.
@@ -301,58 +302,60 @@ fn a_cell_of_one_box(rt: HostRuntime) -> Result<(), Fail> {
     Ok(())
 }
 
+/// Asserts that it's the array of the two boxes in the lowest row.
+fn assert_pair(rt: &impl Abort, array: &Array) {
+    let points = [
+        Point { x: 3, y: 3 },
+        Point { x: 23, y: 3 },
+        Point { x: 3, y: 13 },
+    ];
+    assert_eq!(rt; array.cell.as_slice(), b"BOX4".as_slice());
+    assert_eq!(rt;
+        (array.columns, array.rows, array.transform.flags),
+        (2, 1, 0)
+    );
+    assert_eq!(rt; array.points, points);
+}
+
+/// Asserts that it's the box alone in the third row.
+fn assert_alone(rt: &impl Abort, single: &Ref) {
+    assert_eq!(rt; single.cell.as_slice(), b"BOX4".as_slice());
+    assert_eq!(rt; single.origin, Point { x: 53, y: 23 });
+    assert_eq!(rt; single.transform.angle, None);
+}
+
 #[test]
 fn an_array_for_two_boxes_and_a_reference_for_one(rt: HostRuntime) -> Result<(), Fail> {
     let text = library(rt.alloc(), WORKED_RULES, &THREE, &[])?;
     let read = read_library(rt.alloc(), &text)?;
-    let elements = read
-        .cells
-        .get(b"FILLTOP".as_slice())
-        .ok_or("no cell FILLTOP")?;
-    assert_eq!(rt; elements.len(), 2);
-    let mut found = 0u32;
-    for element in elements {
+    let top = read.cells.get(b"FILLTOP".as_slice()).ok_or("no FILLTOP")?;
+    assert_eq!(rt; top.len(), 2);
+    for (i, element) in top.iter().enumerate() {
         match element {
-            Element::Array(a) => {
-                assert_eq!(rt; found, 0);
-                assert_eq!(rt; a.cell.as_slice(), b"BOX4".as_slice());
-                assert_eq!(rt; (a.columns, a.rows, a.transform.flags), (2, 1, 0));
-                let points = [
-                    Point { x: 3, y: 3 },
-                    Point { x: 23, y: 3 },
-                    Point { x: 3, y: 13 },
-                ];
-                assert_eq!(rt; a.points, points);
-                found += 1;
-            }
-            Element::Ref(r) => {
-                assert_eq!(rt; found, 1);
-                assert_eq!(rt; r.cell.as_slice(), b"BOX4".as_slice());
-                assert_eq!(rt; r.origin, Point { x: 53, y: 23 });
-                assert_eq!(rt; r.transform.angle, None);
-                found += 1;
-            }
-            _ => assert!(rt; false, "no reference"),
+            Element::Array(array) if i == 0 => assert_pair(&rt, array),
+            Element::Ref(single) if i == 1 => assert_alone(&rt, single),
+            _ => assert!(rt; false, "no reference, or another order"),
         }
     }
-    assert_eq!(rt; found, 2);
     Ok(())
+}
+
+/// The boxes of the fill library of these places.
+fn boxes_of(alloc: Global, places: &[Place]) -> Result<Vec<Rect>, Fail> {
+    let text = library(alloc, WORKED_RULES, places, &[])?;
+    let read = read_library(alloc, &text)?;
+    Ok(flatten_rects(alloc, &read, b"FILLTOP", 10, 1)?)
 }
 
 #[test]
 fn its_copies_are_the_boxes(rt: HostRuntime) -> Result<(), Fail> {
-    let alloc = rt.alloc();
-    let text = library(alloc, WORKED_RULES, &THREE, &[])?;
-    let boxes = flatten_rects(alloc, &read_library(alloc, &text)?, b"FILLTOP", 10, 1)?;
-    let places = [
-        Rect::new(3, 3, 7, 7)?,
-        Rect::new(13, 3, 17, 7)?,
-        Rect::new(53, 23, 57, 27)?,
-    ];
-    assert_eq!(rt; boxes.as_slice(), places.as_slice());
-    let empty = library(alloc, WORKED_RULES, &NOWHERE, &[])?;
-    let none = flatten_rects(alloc, &read_library(alloc, &empty)?, b"FILLTOP", 10, 1)?;
-    assert!(rt; none.is_empty());
+    let want = [[3, 3, 7, 7], [13, 3, 17, 7], [53, 23, 57, 27]];
+    let boxes = boxes_of(rt.alloc(), &THREE)?;
+    assert_eq!(rt; boxes.len(), 3);
+    for (one, want) in boxes.iter().zip(want) {
+        assert_eq!(rt; [one.x1(), one.y1(), one.x2(), one.y2()], want);
+    }
+    assert!(rt; boxes_of(rt.alloc(), &NOWHERE)?.is_empty());
     Ok(())
 }
 

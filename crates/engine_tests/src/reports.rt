@@ -67,8 +67,40 @@ fn fill_all<B: FillBook>(
     Ok(())
 }
 
-/// Asserts the report of a book that opens on one rectangle, before and after it is filled.
-fn report_twice<C: Ledger + Send + Sync, P: Ledger + Send + Sync, W: Ledger + Send + Sync>(
+/// Asserts the report of a book.
+fn assert_report<B: FillBook>(
+    rt: &impl Abort,
+    alloc: Global,
+    book: &B,
+    want: &[u8],
+) -> Result<(), Fail> {
+    let text = report(alloc, book)?;
+    assert_eq!(rt; text.as_slice(), want);
+    Ok(())
+}
+
+/// The report before any box is placed.
+const BEFORE: &[u8] =
+    b"0,0,0,0,50,100,400,0,400,80000,LOW\n1,0,50,0,100,100,1000,0,1000,200000,OK\n";
+
+/// The report with all boxes.
+const AFTER: &[u8] =
+    b"0,0,0,0,50,100,400,736,1136,227200,HIGH\n1,0,50,0,100,100,1000,0,1000,200000,OK\n";
+
+/// Asserts the report of a book before and after it is filled.
+fn report_twice<B: FillBook>(
+    rt: &impl Abort,
+    alloc: Global,
+    book: &mut B,
+    pass: &mut Pass<B::Calls, B::Placed, B::Withdrawn>,
+) -> Result<(), Fail> {
+    assert_report(rt, alloc, book, BEFORE)?;
+    fill_all(rt, alloc, book, pass)?;
+    assert_report(rt, alloc, book, AFTER)
+}
+
+/// Asserts both reports of a book on this metal.
+fn open_and_report<C: Ledger + Send + Sync, P: Ledger + Send + Sync, W: Ledger + Send + Sync>(
     rt: &(impl Abort + Threads + Sync),
     alloc: Global,
     calls: Blank,
@@ -84,18 +116,7 @@ fn report_twice<C: Ledger + Send + Sync, P: Ledger + Send + Sync, W: Ledger + Se
     let (mut book, mut pass) = PlainBook::<C, P, W>::open(
         rt, alloc, calls, placed, withdrawn, metal, rules, 100,
     )?;
-    let before = report(alloc, &book)?;
-    assert_eq!(rt;
-        before.as_slice(),
-        b"0,0,0,0,50,100,400,0,400,80000,LOW\n1,0,50,0,100,100,1000,0,1000,200000,OK\n".as_slice()
-    );
-    fill_all(rt, alloc, &mut book, &mut pass)?;
-    let after = report(alloc, &book)?;
-    assert_eq!(rt;
-        after.as_slice(),
-        b"0,0,0,0,50,100,400,736,1136,227200,HIGH\n1,0,50,0,100,100,1000,0,1000,200000,OK\n".as_slice()
-    );
-    Ok(())
+    report_twice(rt, alloc, &mut book, &mut pass)
 }
 
 /// On the left, metal of 20 by 20 leaves 46 of 50 boxes, each of 16 squares; on the right, a fifth of the window is metal, which is not
@@ -108,7 +129,7 @@ fn report_of_a_book(rt: HostRuntime) -> Result<(), Fail> {
         alloc,
         &[Rect::new(0, 0, 20, 20)?, Rect::new(90, 0, 100, 100)?],
     )?;
-    report_twice::<Brand, Brand, Brand>(
+    open_and_report::<Brand, Brand, Brand>(
         &rt,
         alloc,
         Blank::new(1024),

@@ -15,4 +15,4 @@ pub use fill::{deliver, prepare};
 pub use metal::metal_left;
 pub use refusal::{DesignError, InputFault, Refusal, RunFault};
 pub use subcommands::{check, rects};
-pub use texts::Filled;
+pub use texts::{Filled, texts_of};

@@ -1,10 +1,10 @@
 use Rattle.engine_tests.proofs.reports.report_of_a_book.Given as goal
 
-abbrev pub ghosts-report_twice-C-Ledger : goal.ghosts-report_twice-C-Ledger
-ghosts-report_twice-C-Ledger g a = record { name = a.calls.name; parts = a.calls.parts }
+abbrev pub ghosts-open_and_report-C-Ledger : goal.ghosts-open_and_report-C-Ledger
+ghosts-open_and_report-C-Ledger g a = record { name = a.calls.name; parts = a.calls.parts }
 
-abbrev pub ghosts-report_twice-P-Ledger : goal.ghosts-report_twice-P-Ledger
-ghosts-report_twice-P-Ledger g a = record { name = a.placed.name; parts = a.placed.parts }
+abbrev pub ghosts-open_and_report-P-Ledger : goal.ghosts-open_and_report-P-Ledger
+ghosts-open_and_report-P-Ledger g a = record { name = a.placed.name; parts = a.placed.parts }
 
-abbrev pub ghosts-report_twice-W-Ledger : goal.ghosts-report_twice-W-Ledger
-ghosts-report_twice-W-Ledger g a = record { name = a.withdrawn.name; parts = a.withdrawn.parts }
+abbrev pub ghosts-open_and_report-W-Ledger : goal.ghosts-open_and_report-W-Ledger
+ghosts-open_and_report-W-Ledger g a = record { name = a.withdrawn.name; parts = a.withdrawn.parts }
