@@ -4,8 +4,8 @@
 # (plain.rs), on one processor and on all. Seconds are the best of three runs, peaks those of the whole process. Where the plain
 # program's library or report differ in a byte, or the windows' metal is told otherwise than by `check`, or the fill on one processor is
 # another one than that on all, the run fails. A second table has fills by 1, 2 and as many workers as there are processors, on all
-# processors; where two numbers of workers give other bytes, the run fails. A third has the phases of a fill on one processor but for
-# the fill library, timed by a program of its own.
+# processors; where two numbers of workers give other bytes, the run fails. A third has the phases of a fill on one processor, timed by a
+# program of its own (the fill library by the time of both texts less that of the report).
 #
 # Where `klayout` is installed (Debian's package of that name), KLayout's own script for the same windows, spacing and raster
 # (fill.drc) runs beside it, once. KLayout lets a box lie across two low windows, so its boxes are compared on a design with one
@@ -20,7 +20,7 @@ touch "$work/script.csv"
 python3 "$here/../check/generate.py" 1000 flat "$work"
 python3 "$here/rules.py" "$work"
 "$here/../build.sh" "$here" phases "$work" "$work/fill.csv $work/design.gds" \
-    "$(sed -n 's/^\([a-z_]*\):.*/\1/p' "$root/crates.txt" | grep -v -e fill_line -e fill_device -e gds_out -e fill_engine -e fill_shared -e densfill | tr '\n' ' ')" \
+    "$(sed -n 's/^\([a-z_]*\):.*/\1/p' "$root/crates.txt" | grep -v -e fill_line -e densfill -e _tests | tr '\n' ' ')" \
     "rayon csv itoa indexmap thiserror anyhow"
 
 # run PROGRAM PROCESSORS: the report of densfill or the plain program to WORK/PROGRAM.csv, and the fill to WORK/PROGRAM.gds.

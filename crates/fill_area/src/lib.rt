@@ -12,6 +12,3 @@ pub use area::{area_in, is_high, is_low};
 pub use axis::Axis;
 pub use measure::{areas_in, measure_all};
 pub use windows::{BadWindows, Windows};
-
-#[cfg(test)]
-mod tests;

@@ -11,8 +11,3 @@ mod stored;
 mod tiles;
 
 pub use book::PlainBook;
-
-#[cfg(test)]
-mod book_tests;
-#[cfg(test)]
-mod tests;

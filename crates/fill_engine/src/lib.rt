@@ -15,11 +15,4 @@ pub use fill::{deliver, prepare};
 pub use metal::metal_left;
 pub use refusal::{DesignError, InputFault, Refusal, RunFault};
 pub use subcommands::{check, rects};
-pub use texts::Filled;
-
-#[cfg(test)]
-mod fill_tests;
-#[cfg(test)]
-mod report_tests;
-#[cfg(test)]
-mod tests;
+pub use texts::{Filled, texts_of};

@@ -16,6 +16,3 @@ pub use block::Block;
 pub use fill_base::Place;
 pub use marks::Marks;
 pub use raster::{Raster, RasterError};
-
-#[cfg(test)]
-mod tests;

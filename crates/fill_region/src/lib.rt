@@ -12,6 +12,3 @@ mod rows;
 
 pub use region::Region;
 pub use rows::{Row, Rows};
-
-#[cfg(test)]
-mod tests;

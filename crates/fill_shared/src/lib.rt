@@ -13,8 +13,3 @@ pub use gate::{Gate, OpenGate};
 pub use runs::{RunError, run};
 pub use shared::{Look, NotOpened, PassMissing, PassOf, Seen, Shared};
 pub use worker::{WorkEnd, work};
-
-#[cfg(test)]
-mod cases;
-#[cfg(test)]
-mod tests;

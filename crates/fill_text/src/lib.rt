@@ -24,6 +24,3 @@ pub use rule_error::RuleError;
 pub use rule_file::read_rules;
 pub use rules::{Numbers, Rules, Texts};
 pub use script::{Edit, ScriptError, read_script};
-
-#[cfg(test)]
-mod tests;

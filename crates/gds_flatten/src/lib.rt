@@ -26,6 +26,3 @@ pub use flattening::{flatten, flatten_rects};
 pub use link::Link;
 pub use placement::Placement;
 pub use reference::{array_link, reference_link};
-
-#[cfg(test)]
-mod tests;

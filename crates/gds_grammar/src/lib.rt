@@ -16,6 +16,3 @@ mod well_formed;
 pub use element::{Array, Boundary, Element, Path, Ref, Transform};
 pub use error::LibraryError;
 pub use library::{Library, read_library};
-
-#[cfg(test)]
-mod tests;

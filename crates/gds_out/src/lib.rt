@@ -10,6 +10,3 @@ mod rows;
 mod writer;
 
 pub use library::fill_library;
-
-#[cfg(test)]
-mod tests;

@@ -21,6 +21,3 @@ pub use error::ShapeError;
 pub use extent::{bounds_extent, move_to_corner, points_extent};
 pub use path::{path_region, path_segments, put_path_at_corner};
 pub use segments::{is_in_range, put_bounds};
-
-#[cfg(test)]
-mod tests;

@@ -1,0 +1,10 @@
+//! Tests of books: of the plain book, and of books that many threads share. They stand here so that
+//! a crate isn't proved a second time for the sake of its tests.
+#![tactic(auto)]
+
+#[cfg(test)]
+mod book;
+#[cfg(test)]
+mod cases;
+#[cfg(test)]
+mod shared;

@@ -1,0 +1,543 @@
+ghost use Rattle.std.specs.Prelude.{◌≡◌, ◌<◌, ◌≤◌};
+ghost use Rattle.fill_core.specs.Shares.{AllParts};
+
+use crate::cases::{
+    Count, NO_PLACES, Opening, added, assert_counts, assert_edit, assert_work, book_of, close,
+    finished, hundred_places, refuse_to_close, shared_alone, shared_by_three, unfinished,
+};
+use fill_base::Rect;
+use fill_core::{BookError, Edit, Entry, Event, FillBook, Reply};
+use fill_job::Proposal;
+use fill_shared::{Gate, Look, PassOf, Seen, Shared, WorkEnd};
+use std::alloc::Global;
+use std::marker::Brand;
+use std::process::Abort;
+use std::sync::Wait;
+use std::sync::ledger::{Blank, Ledger};
+use std::test::Fail;
+use std::thread;
+use std::thread::Threads;
+
+/// The proposal of the next tile from a tile on.
+fn proposal_from<B: FillBook>(
+    rt: &(impl Abort + Wait),
+    alloc: Global,
+    shared: &Shared<B>,
+    pass: &mut PassOf<B>,
+    from: u32,
+) -> Proposal
+    requires { AllParts B.Calls.parts B.Placed.parts B.Withdrawn.parts }
+{
+    let Ok(Look::Work(job)) = shared.look(rt, alloc, pass, from) else {
+        panic!(rt; "no work from tile {from}");
+    };
+    let Ok(proposal) = job.propose(alloc) else {
+        panic!(rt; "memory was refused");
+    };
+    proposal
+}
+
+/// Looks from a tile on in one turn, and commits in a later one.
+fn look_and_commit<B: FillBook>(
+    rt: &(impl Abort + Wait),
+    alloc: Global,
+    shared: &Shared<B>,
+    mut pass: PassOf<B>,
+    turns: &Count,
+    when: (u32, u64, u64),
+    want: Reply,
+) -> PassOf<B>
+    requires { AllParts B.Calls.parts B.Placed.parts B.Withdrawn.parts }
+{
+    let (from, look, commit) = when;
+    turns.wait_for(look);
+    let proposal = proposal_from(rt, alloc, shared, &mut pass, from);
+    turns.raise();
+    assert_eq!(rt; proposal.tile(), from);
+    turns.wait_for(commit);
+    let reply = shared.commit(rt, alloc, &mut pass, &proposal);
+    turns.raise();
+    assert!(rt; reply == Ok(want));
+    pass
+}
+
+/// Edits in a turn, and asks for the totals of a window that there is and of one that there isn't.
+fn edit_and_ask<B: FillBook>(
+    rt: &(impl Abort + Wait),
+    alloc: Global,
+    shared: &Shared<B>,
+    mut pass: PassOf<B>,
+    turns: &Count,
+    turn: u64,
+    edit: Edit,
+) -> PassOf<B>
+    requires { AllParts B.Calls.parts B.Placed.parts B.Withdrawn.parts }
+{
+    turns.wait_for(turn);
+    let reply = shared.edit(rt, alloc, &mut pass, edit);
+    assert!(rt; reply == Ok(Reply::Withdrawn(1)));
+    let seen = Seen {
+        version: 1,
+        events: 2,
+        total: 350,
+    };
+    assert!(rt; shared.total(rt, &mut pass, 0, 0) == Some(seen));
+    assert!(rt; shared.total(rt, &mut pass, 3, 0).is_none());
+    turns.raise();
+    pass
+}
+
+/// Lets three callers play in three threads: two look, the first commits, the third edits and asks, and the second commits too
+/// late.
+fn in_three_threads<B: FillBook + Send>(
+    rt: &(impl Abort + Threads + Wait + Sync),
+    alloc: Global,
+    shared: &Shared<B>,
+    passes: (PassOf<B>, PassOf<B>, PassOf<B>),
+    turns: &Count,
+    edit: Edit,
+) -> (PassOf<B>, PassOf<B>, PassOf<B>)
+    requires { AllParts B.Calls.parts B.Placed.parts B.Withdrawn.parts }
+{
+    let (first, second, third) = passes;
+    let placed = Reply::Placed(16);
+    let stale = Reply::Stale { at: 1 };
+    let ((first, second), third) = thread::join(
+        rt,
+        || -> (PassOf<B>, PassOf<B>)
+            requires { AllParts B.Calls.parts B.Placed.parts B.Withdrawn.parts }
+        {
+            thread::join(
+                rt,
+                || -> PassOf<B>
+                    requires { AllParts B.Calls.parts B.Placed.parts B.Withdrawn.parts }
+                { look_and_commit(rt, alloc, shared, first, turns, (0, 0, 2), placed) },
+                || -> PassOf<B>
+                    requires { AllParts B.Calls.parts B.Placed.parts B.Withdrawn.parts }
+                { look_and_commit(rt, alloc, shared, second, turns, (1, 1, 4), stale) },
+            )
+        },
+        || -> PassOf<B>
+            requires { AllParts B.Calls.parts B.Placed.parts B.Withdrawn.parts }
+        { edit_and_ask(rt, alloc, shared, third, turns, 3, edit) },
+    );
+    (first, second, third)
+}
+
+/// Three callers play in three threads, and the book is closed with one pass missing and then with all.
+fn three_passes<B: FillBook + Send>(
+    rt: &(impl Abort + Threads + Wait + Sync),
+    alloc: Global,
+    book: B,
+    pass: PassOf<B>,
+) -> Result<(), Fail>
+    requires ledgers { AllParts B.Calls.parts B.Placed.parts B.Withdrawn.parts }
+    requires pass { pass.parts ≡ 1024 }
+{
+    let (shared, passes) = shared_by_three(rt, alloc, book, pass);
+    let edit = added()?;
+    let turns = Count::new();
+    let (first, second, third) = in_three_threads(rt, alloc, &shared, passes, &turns, edit);
+    assert!(rt; !turns.is_late());
+    let (shared, passes) = refuse_to_close(rt, alloc, shared, first, second)?;
+    close(rt, shared, passes, third, [3, 16, 1], 15)?;
+    Ok(())
+}
+
+/// A fill is worked on alone, metal is added, and the next version is worked on.
+fn fill_and_fill_again<B: FillBook>(
+    rt: &(impl Abort + Wait),
+    alloc: Global,
+    book: B,
+    pass: PassOf<B>,
+) -> Result<(), Fail>
+    requires ledgers { AllParts B.Calls.parts B.Placed.parts B.Withdrawn.parts }
+    requires pass { pass.parts ≡ 1024 }
+{
+    let (shared, mut pass) = shared_alone(rt, alloc, book, pass);
+    assert_work(rt, alloc, &shared, &mut pass, 0, WorkEnd::Tired);
+    assert_work(
+        rt,
+        alloc,
+        &shared,
+        &mut pass,
+        10,
+        WorkEnd::Done { version: 0 },
+    );
+    let edit = added()?;
+    assert_edit(rt, alloc, &shared, &mut pass, edit, Ok(Reply::Withdrawn(1)));
+    assert_work(rt, alloc, &shared, &mut pass, 9, WorkEnd::Tired);
+    assert_work(
+        rt,
+        alloc,
+        &shared,
+        &mut pass,
+        1,
+        WorkEnd::Done { version: 1 },
+    );
+    let book = close(rt, shared, Vec::new(alloc), pass, [19, 100, 1], 99)?;
+    assert_placed_nothing(rt, &book, 10);
+    Ok(())
+}
+
+/// Asserts that the entries from one on are commits that filled no place.
+fn assert_placed_nothing<B: FillBook>(rt: &impl Abort, book: &B, from: usize) {
+    for entry in book.history().entries().iter().skip(from) {
+        assert_eq!(rt; entry.reply, Reply::Placed(0));
+    }
+}
+
+/// A history of one event takes one commit of a worker, and then no edit.
+fn one_event<B: FillBook>(
+    rt: &(impl Abort + Wait),
+    alloc: Global,
+    book: B,
+    pass: PassOf<B>,
+) -> Result<(), Fail>
+    requires ledgers { AllParts B.Calls.parts B.Placed.parts B.Withdrawn.parts }
+    requires pass { pass.parts ≡ 1024 }
+{
+    let (shared, mut pass) = shared_alone(rt, alloc, book, pass);
+    assert_work(rt, alloc, &shared, &mut pass, 5, WorkEnd::Full);
+    let edit = added()?;
+    assert_edit(
+        rt,
+        alloc,
+        &shared,
+        &mut pass,
+        edit,
+        Err(BookError::HistoryFull),
+    );
+    close(rt, shared, Vec::new(alloc), pass, [1, 16, 0], 16)?;
+    Ok(())
+}
+
+/// Where there is room for no box, there is nothing to do.
+fn no_tile<B: FillBook>(
+    rt: &(impl Abort + Wait),
+    alloc: Global,
+    book: B,
+    pass: PassOf<B>,
+) -> Result<(), Fail>
+    requires ledgers { AllParts B.Calls.parts B.Placed.parts B.Withdrawn.parts }
+    requires pass { pass.parts ≡ 1024 }
+{
+    let (shared, mut pass) = shared_alone(rt, alloc, book, pass);
+    assert_work(
+        rt,
+        alloc,
+        &shared,
+        &mut pass,
+        1,
+        WorkEnd::Done { version: 0 },
+    );
+    close(rt, shared, Vec::new(alloc), pass, [0, 0, 0], 0)?;
+    Ok(())
+}
+
+/// Holds each of two workers back at its first tile until both are there.
+#[derive(Drop)]
+struct Meeting {
+    begun: Count,
+}
+
+impl Gate for Meeting {
+    fn pass(&self, _worker: u32, _tile: u32) {
+        if self.begun.raise() < 2 {
+            self.begun.wait_for(2);
+        }
+    }
+
+    fn edit(&self, _k: u64) {}
+}
+
+/// Two workers are each at a tile before one of them brings its own.
+fn two_workers<B: FillBook + Send>(
+    rt: &(impl Abort + Threads + Wait + Sync),
+    alloc: Global,
+    book: B,
+    pass: PassOf<B>,
+) -> Result<(), Fail>
+    requires ledgers { AllParts B.Calls.parts B.Placed.parts B.Withdrawn.parts }
+    requires pass { pass.parts ≡ 1024 }
+{
+    let gate = Meeting {
+        begun: Count::new(),
+    };
+    let (book, pass) = finished(rt, alloc, book, pass, &[], 2, &gate, 10);
+    assert!(rt; !gate.begun.is_late());
+    assert_eq!(rt; (pass.placed(), pass.withdrawn()), (100, 0));
+    assert_eq!(rt; book.count(), 100);
+    Ok(())
+}
+
+/// Lets the first edit be made when the worker is at its first tile, and the worker go on when the second one is about to be made.
+#[derive(Drop)]
+struct Between {
+    passes: Count,
+    edits: Count,
+}
+
+impl Gate for Between {
+    fn pass(&self, _worker: u32, _tile: u32) {
+        if self.passes.raise() == 0 {
+            self.edits.wait_for(2);
+        }
+    }
+
+    fn edit(&self, _k: u64) {
+        if self.edits.raise() == 0 {
+            self.passes.wait_for(1);
+        }
+    }
+}
+
+/// Whether places found at version 0 were answered `Stale`.
+fn is_old_and_stale(entry: &Entry) -> bool {
+    matches!(entry.event, Event::Commit { version: 0, .. })
+        && matches!(entry.reply, Reply::Stale { .. })
+}
+
+/// Asserts that an edit stands first, and that places found before it were brought too late.
+fn assert_edited_first<B: FillBook>(rt: &impl Abort, book: &B, edit: Edit) {
+    let entries = book.history().entries();
+    let first = Entry {
+        event: Event::Edit(edit),
+        reply: Reply::Withdrawn(0),
+    };
+    assert!(rt; entries.first() == Some(&first));
+    assert!(rt; entries.iter().any(|entry| is_old_and_stale(entry)));
+}
+
+/// The metal changes twice while a worker is at its first tile, so what it brings is stale.
+fn edits_beside_a_worker<B: FillBook + Send>(
+    rt: &(impl Abort + Threads + Wait + Sync),
+    alloc: Global,
+    book: B,
+    pass: PassOf<B>,
+) -> Result<(), Fail>
+    requires ledgers { AllParts B.Calls.parts B.Placed.parts B.Withdrawn.parts }
+    requires pass { pass.parts ≡ 1024 }
+{
+    let rect = Rect::new(10, 10, 21, 20)?;
+    let gate = Between {
+        passes: Count::new(),
+        edits: Count::new(),
+    };
+    let edits = [Edit::Add(rect), Edit::Cut(rect)];
+    let (book, _) = finished(rt, alloc, book, pass, &edits, 1, &gate, 10);
+    assert!(rt; !gate.passes.is_late() && !gate.edits.is_late());
+    assert_eq!(rt; (book.version(), book.count()), (2, 100));
+    assert_edited_first(rt, &book, Edit::Add(rect));
+    Ok(())
+}
+
+/// Holds the editor back until the worker is at its ninth tile.
+#[derive(Drop)]
+struct Late {
+    passes: Count,
+}
+
+impl Gate for Late {
+    fn pass(&self, _worker: u32, _tile: u32) {
+        self.passes.raise();
+    }
+
+    fn edit(&self, _k: u64) {
+        self.passes.wait_for(9);
+    }
+}
+
+/// An edit comes when the worker is at its last tile: all tiles are worked on once more, and the edit is made once.
+fn late_edit<B: FillBook + Send>(
+    rt: &(impl Abort + Threads + Wait + Sync),
+    alloc: Global,
+    book: B,
+    pass: PassOf<B>,
+) -> Result<(), Fail>
+    requires ledgers { AllParts B.Calls.parts B.Placed.parts B.Withdrawn.parts }
+    requires pass { pass.parts ≡ 1024 }
+{
+    let gate = Late {
+        passes: Count::new(),
+    };
+    let edits = [added()?];
+    let (book, pass) = finished(rt, alloc, book, pass, &edits, 1, &gate, 9);
+    assert!(rt; !gate.passes.is_late());
+    assert_eq!(rt; (book.version(), book.count()), (1, 99));
+    assert_eq!(rt; (pass.calls(), book.history().len()), (19, 19));
+    Ok(())
+}
+
+/// Without turns no tile comes in.
+fn no_turns<B: FillBook + Send>(
+    rt: &(impl Abort + Threads + Wait + Sync),
+    alloc: Global,
+    book: B,
+    pass: PassOf<B>,
+)
+    requires ledgers { AllParts B.Calls.parts B.Placed.parts B.Withdrawn.parts }
+    requires pass { pass.parts ≡ 1024 }
+{
+    let (book, pass) = unfinished(rt, alloc, book, pass, 0);
+    assert_counts(rt, &book, &pass, [0, 0, 0], 0);
+}
+
+/// A history of three events has no room for nine tiles.
+fn three_events<B: FillBook + Send>(
+    rt: &(impl Abort + Threads + Wait + Sync),
+    alloc: Global,
+    book: B,
+    pass: PassOf<B>,
+)
+    requires ledgers { AllParts B.Calls.parts B.Placed.parts B.Withdrawn.parts }
+    requires pass { pass.parts ≡ 1024 }
+{
+    let (book, pass) = unfinished(rt, alloc, book, pass, 10);
+    assert_counts(rt, &book, &pass, [3, 40, 0], 40);
+}
+
+/// What is done with a book.
+#[derive(Clone, Copy)]
+enum Case {
+    ThreePasses,
+    FillAgain,
+    OneEvent,
+    NoTile,
+    TwoWorkers,
+    EditsBeside,
+    LateEdit,
+    NoTurns,
+    ThreeEvents,
+}
+
+impl Case {
+    /// What the book opens on.
+    fn opening(self, alloc: Global) -> Opening {
+        let opening = hundred_places(alloc);
+        match self {
+            Case::NoTile => Opening {
+                frame: NO_PLACES,
+                ..opening
+            },
+            Case::OneEvent => Opening {
+                max_events: 1,
+                ..opening
+            },
+            Case::ThreeEvents => Opening {
+                max_events: 3,
+                ..opening
+            },
+            _ => opening,
+        }
+    }
+}
+
+/// Plays a case with a book.
+fn play<B: FillBook + Send>(
+    rt: &(impl Abort + Threads + Wait + Sync),
+    alloc: Global,
+    book: B,
+    pass: PassOf<B>,
+    case: Case,
+) -> Result<(), Fail>
+    requires ledgers { AllParts B.Calls.parts B.Placed.parts B.Withdrawn.parts }
+    requires pass { pass.parts ≡ 1024 }
+{
+    match case {
+        Case::ThreePasses => three_passes(rt, alloc, book, pass),
+        Case::FillAgain => fill_and_fill_again(rt, alloc, book, pass),
+        Case::OneEvent => one_event(rt, alloc, book, pass),
+        Case::NoTile => no_tile(rt, alloc, book, pass),
+        Case::TwoWorkers => two_workers(rt, alloc, book, pass),
+        Case::EditsBeside => edits_beside_a_worker(rt, alloc, book, pass),
+        Case::LateEdit => late_edit(rt, alloc, book, pass),
+        Case::NoTurns => {
+            no_turns(rt, alloc, book, pass);
+            Ok(())
+        }
+        Case::ThreeEvents => {
+            three_events(rt, alloc, book, pass);
+            Ok(())
+        }
+    }
+}
+
+/// Opens a book for a case and plays it.
+fn open_and_play<C: Ledger + Send + Sync, P: Ledger + Send + Sync, W: Ledger + Send + Sync>(
+    rt: &(impl Abort + Threads + Wait + Sync),
+    alloc: Global,
+    calls: Blank,
+    placed: Blank,
+    withdrawn: Blank,
+    case: Case,
+) -> Result<(), Fail>
+    requires names { (calls.name ≡ C.name) × (placed.name ≡ P.name) × (withdrawn.name ≡ W.name) }
+    requires parts { (calls.parts ≡ C.parts) × (placed.parts ≡ P.parts) × (withdrawn.parts ≡ W.parts) }
+    requires all { AllParts C.parts P.parts W.parts }
+{
+    let opening = case.opening(alloc);
+    let (book, pass) = book_of::<C, P, W>(rt, alloc, calls, placed, withdrawn, opening)?;
+    play(rt, alloc, book, pass, case)
+}
+
+/// Plays a case in a book with ledgers of its own.
+fn play_by(
+    rt: &(impl Abort + Threads + Wait + Sync),
+    alloc: Global,
+    case: Case,
+) -> Result<(), Fail> {
+    open_and_play::<Brand, Brand, Brand>(
+        rt,
+        alloc,
+        Blank::new(1024),
+        Blank::new(1024),
+        Blank::new(1024),
+        case,
+    )
+}
+
+#[test]
+fn three_callers_in_three_threads(rt: HostRuntime) -> Result<(), Fail> {
+    play_by(&rt, rt.alloc(), Case::ThreePasses)
+}
+
+#[test]
+fn a_worker_fills_and_fills_again(rt: HostRuntime) -> Result<(), Fail> {
+    play_by(&rt, rt.alloc(), Case::FillAgain)
+}
+
+#[test]
+fn a_full_history_ends_the_work(rt: HostRuntime) -> Result<(), Fail> {
+    play_by(&rt, rt.alloc(), Case::OneEvent)
+}
+
+#[test]
+fn a_raster_without_places_is_done(rt: HostRuntime) -> Result<(), Fail> {
+    play_by(&rt, rt.alloc(), Case::NoTile)
+}
+
+#[test]
+fn two_workers_work_at_once(rt: HostRuntime) -> Result<(), Fail> {
+    play_by(&rt, rt.alloc(), Case::TwoWorkers)
+}
+
+#[test]
+fn an_editor_edits_beside_a_worker(rt: HostRuntime) -> Result<(), Fail> {
+    play_by(&rt, rt.alloc(), Case::EditsBeside)
+}
+
+#[test]
+fn a_late_edit_is_made_once(rt: HostRuntime) -> Result<(), Fail> {
+    play_by(&rt, rt.alloc(), Case::LateEdit)
+}
+
+#[test]
+fn a_run_without_turns_is_unfinished(rt: HostRuntime) -> Result<(), Fail> {
+    play_by(&rt, rt.alloc(), Case::NoTurns)
+}
+
+#[test]
+fn a_run_into_a_full_history_is_unfinished(rt: HostRuntime) -> Result<(), Fail> {
+    play_by(&rt, rt.alloc(), Case::ThreeEvents)
+}

@@ -1,0 +1,12 @@
+//! Tests of what stands on all other crates: the library of the fill, and the subcommands on whole
+//! inputs. They stand here so that a crate isn't proved a second time for the sake of its tests.
+#![tactic(auto)]
+
+#[cfg(test)]
+mod fills;
+#[cfg(test)]
+mod inputs;
+#[cfg(test)]
+mod library;
+#[cfg(test)]
+mod reports;

@@ -1,0 +1,12 @@
+//! Tests of the crates below the book: each module calls one of them as its users do. They stand here
+//! so that a crate isn't proved a second time for the sake of its tests.
+#![tactic(auto)]
+
+#[cfg(test)]
+mod area;
+#[cfg(test)]
+mod raster;
+#[cfg(test)]
+mod region;
+#[cfg(test)]
+mod text;

@@ -1,0 +1,560 @@
+use fill_area::Windows;
+use fill_base::{Point, Rect};
+use fill_raster::Raster;
+use fill_text::{Edit, Key, NumberKey, RuleError, ScriptError, TextKey, read_rules, read_script};
+use std::alloc::Global;
+use std::process::Abort;
+use std::test::Fail;
+
+/// A rule file, a record a line.
+const RULES: [&str; 32] = [
+    "frame_x1,0",
+    "frame_y1,0",
+    "frame_x2,100",
+    "frame_y2,100",
+    "box_w,4",
+    "box_h,4",
+    "step_x,10",
+    "step_y,10",
+    "origin_x,3",
+    "origin_y,3",
+    "spacing,2",
+    "fill_spacing,2",
+    "win_w,50",
+    "win_h,50",
+    "win_step_x,25",
+    "win_step_y,25",
+    "win_x,0",
+    "win_y,0",
+    "win_nx,3",
+    "win_ny,3",
+    "min,300000",
+    "max,800000",
+    "tile_nx,4",
+    "tile_ny,4",
+    "layer,7",
+    "datatype,0",
+    "fill_layer,10",
+    "fill_datatype,1",
+    "top,TOP",
+    "fill_lib,FILL",
+    "fill_cell,BOX4",
+    "fill_top,FILLTOP",
+];
+
+/// The rule file with the record `at`, from 1, written in another way.
+fn rules_with(alloc: Global, at: usize, record: &str) -> Result<Vec<u8>, Fail> {
+    rules_with_both(alloc, (at, record), (0, ""))
+}
+
+/// The rule file with two records, each at a number from 1, written in another way.
+fn rules_with_both(
+    alloc: Global,
+    one: (usize, &str),
+    other: (usize, &str),
+) -> Result<Vec<u8>, Fail> {
+    let mut text = Vec::new(alloc);
+    for (i, line) in RULES.iter().enumerate() {
+        let line = if i + 1 == one.0 {
+            one.1
+        } else if i + 1 == other.0 {
+            other.1
+        } else {
+            *line
+        };
+        text.extend_from_slice(line.as_bytes())?;
+        text.push(b'\n')?;
+    }
+    Ok(text)
+}
+
+fn assert_refused(rt: &impl Abort, alloc: Global, text: &[u8], want: RuleError) {
+    match read_rules(alloc, text) {
+        Ok(_) => assert!(rt; false, "accepted, and not {want:?}"),
+        Err(error) => assert_eq!(rt; error, want),
+    }
+}
+
+fn missing(key: NumberKey) -> RuleError {
+    RuleError::BadRule {
+        key: Key::Number(key),
+    }
+}
+
+/// A rule file in which no two rules have one value, so that none can stand for another.
+const DISTINCT_RULES: &[u8] = b"fill_top,B
+fill_cell,C
+fill_lib,L
+top,T
+fill_datatype,13
+fill_layer,14
+datatype,1
+layer,65535
+tile_ny,8
+tile_nx,7
+max,820000
+min,310000
+win_ny,2
+win_nx,3
+win_y,-28
+win_x,-27
+win_step_y,36
+win_step_x,35
+win_h,44
+win_w,43
+fill_spacing,12
+spacing,11
+origin_y,-10
+origin_x,-9
+step_y,18
+step_x,17
+box_h,6
+box_w,5
+frame_y2,204
+frame_x2,203
+frame_y1,-102
+frame_x1,-101
+";
+
+#[test]
+fn every_rule_has_its_value(rt: HostRuntime) -> Result<(), Fail> {
+    let rules = read_rules(rt.alloc(), DISTINCT_RULES)?;
+    assert_eq!(rt; rules.frame(), Rect::new(-101, -102, 203, 204)?);
+    let frame = [
+        rules.frame_x1(),
+        rules.frame_y1(),
+        rules.frame_x2(),
+        rules.frame_y2(),
+    ];
+    assert_eq!(rt; frame, [-101, -102, 203, 204]);
+    let origin = Point { x: -9, y: -10 };
+    let places = Raster::new(rules.frame(), (5, 6), (17, 18), origin, 12, (7, 8));
+    assert_eq!(rt; places, Ok(rules.raster()));
+    let raster = [
+        rules.box_w(),
+        rules.box_h(),
+        rules.step_x(),
+        rules.step_y(),
+        rules.origin_x(),
+        rules.origin_y(),
+    ];
+    assert_eq!(rt; raster, [5, 6, 17, 18, -9, -10]);
+    assert_eq!(rt; [rules.spacing(), rules.fill_spacing()], [11, 12]);
+    let sides = [
+        rules.win_w(),
+        rules.win_h(),
+        rules.win_step_x(),
+        rules.win_step_y(),
+    ];
+    assert_eq!(rt; sides, [43, 44, 35, 36]);
+    let windows = [rules.win_x(), rules.win_y(), rules.win_nx(), rules.win_ny()];
+    assert_eq!(rt; windows, [-27, -28, 3, 2]);
+    let rest = [rules.min(), rules.max(), rules.tile_nx(), rules.tile_ny()];
+    assert_eq!(rt; rest, [310_000, 820_000, 7, 8]);
+    let layers = [
+        rules.layer(),
+        rules.datatype(),
+        rules.fill_layer(),
+        rules.fill_datatype(),
+    ];
+    assert_eq!(rt; layers, [65_535, 1, 14, 13]);
+    let want = Windows::new(Point { x: -27, y: -28 }, (43, 44), (35, 36), (3, 2))?;
+    assert_eq!(rt; rules.windows(), want);
+    assert!(rt; rules.top() == b"T".as_slice());
+    assert!(rt; rules.fill_lib() == b"L".as_slice());
+    assert!(rt; rules.fill_cell() == b"C".as_slice());
+    assert!(rt; rules.fill_top() == b"B".as_slice());
+    Ok(())
+}
+
+#[test]
+fn a_key_prints_as_its_name(rt: HostRuntime) -> Result<(), Fail> {
+    let alloc = rt.alloc();
+    for (key, want) in [
+        (Key::Number(NumberKey::FrameX1), "frame_x1"),
+        (Key::Number(NumberKey::WinStepY), "win_step_y"),
+        (Key::Number(NumberKey::FillDatatype), "fill_datatype"),
+        (Key::Text(TextKey::Top), "top"),
+        (Key::Text(TextKey::FillTop), "fill_top"),
+    ] {
+        let text = format!(in alloc; "{key}")?;
+        assert_eq!(rt; text.as_str(), want);
+    }
+    Ok(())
+}
+
+#[test]
+fn refusals_print_their_reason(rt: HostRuntime) -> Result<(), Fail> {
+    let alloc = rt.alloc();
+    for (error, want) in [
+        (RuleError::BadRow { line: 3 }, "record 3 is no rule"),
+        (
+            RuleError::BadNumber { line: 4 },
+            "record 4 has a bad number",
+        ),
+        (
+            missing(NumberKey::Min),
+            "the rule min is missing or out of range",
+        ),
+        (RuleError::BadRect, "the frame holds no square"),
+        (
+            RuleError::BadWindows,
+            "the windows are too many or out of range",
+        ),
+        (
+            RuleError::BadPitch,
+            "a step is below the side of a box and the fill spacing",
+        ),
+        (
+            RuleError::TooManyPlaces,
+            "the frame has more than 16777216 places for a box",
+        ),
+        (RuleError::Memory, "out of memory"),
+    ] {
+        let text = format!(in alloc; "{error}")?;
+        assert_eq!(rt; text.as_str(), want);
+    }
+    for (error, want) in [
+        (ScriptError::BadRow { line: 3 }, "record 3 is no edit"),
+        (
+            ScriptError::BadNumber { line: 4 },
+            "record 4 has a bad number",
+        ),
+        (ScriptError::TooManyLines, "more than 100,000 records"),
+        (ScriptError::Memory, "out of memory"),
+    ] {
+        let text = format!(in alloc; "{error}")?;
+        assert_eq!(rt; text.as_str(), want);
+    }
+    Ok(())
+}
+
+#[test]
+fn copies_are_equal_and_other_rules_are_not(rt: HostRuntime) -> Result<(), Fail> {
+    let rules = read_rules(rt.alloc(), &rules_with(rt.alloc(), 0, "")?)?;
+    let copy = rules.copy(rt.alloc())?;
+    assert!(rt; rules == copy && rules.same_as(&copy));
+    for (at, record) in [
+        (1, "frame_x1,1"),
+        (28, "fill_datatype,2"),
+        (29, "top,TOQ"),
+        (32, "fill_top,FILL"),
+    ] {
+        let other = read_rules(rt.alloc(), &rules_with(rt.alloc(), at, record)?)?;
+        assert!(rt; rules != other && !rules.same_as(&other), "{record}");
+    }
+    Ok(())
+}
+
+#[test]
+fn the_first_fault_of_a_record_is_refused(rt: HostRuntime) -> Result<(), Fail> {
+    let alloc = rt.alloc();
+    for (at, record, want) in [
+        (3, "frame_x2", RuleError::BadRow { line: 3 }),
+        (3, "frame_x2,100,", RuleError::BadRow { line: 3 }),
+        (3, "frame_x3,100", RuleError::BadRow { line: 3 }),
+        (3, "frame_x1,1e2", RuleError::BadRow { line: 3 }),
+        (3, "\"\"", RuleError::BadRow { line: 3 }),
+        (3, " ", RuleError::BadRow { line: 3 }),
+        (3, "frame_x2,1e2", RuleError::BadNumber { line: 3 }),
+        (3, "frame_x2,+1", RuleError::BadNumber { line: 3 }),
+        (3, "frame_x2,-", RuleError::BadNumber { line: 3 }),
+        (3, "frame_x2,", RuleError::BadNumber { line: 3 }),
+        (3, "frame_x2, ", RuleError::BadNumber { line: 3 }),
+        (3, "frame_x2,1\"00\"", RuleError::BadNumber { line: 3 }),
+        (
+            3,
+            "frame_x2,0000000000000000001",
+            RuleError::BadNumber { line: 3 },
+        ),
+        (
+            3,
+            "frame_x2,100000000000000000",
+            missing(NumberKey::FrameX2),
+        ),
+        (3, "frame_x2,1073741825", missing(NumberKey::FrameX2)),
+        (3, "frame_x2,-1073741825", missing(NumberKey::FrameX2)),
+        (5, "box_w,0", missing(NumberKey::BoxW)),
+        (5, "box_w,1048577", missing(NumberKey::BoxW)),
+        (11, "spacing,-1", missing(NumberKey::Spacing)),
+        (24, "tile_ny,4097", missing(NumberKey::TileNy)),
+        (25, "layer,65536", missing(NumberKey::Layer)),
+        (
+            29,
+            "top,",
+            RuleError::BadRule {
+                key: Key::Text(TextKey::Top),
+            },
+        ),
+        (
+            30,
+            "fill_lib,FILL-1",
+            RuleError::BadRule {
+                key: Key::Text(TextKey::FillLib),
+            },
+        ),
+        (
+            31,
+            "fill_cell,ABCDEFGHIJKLMNOPQRSTUVWXYZ0123456",
+            RuleError::BadRule {
+                key: Key::Text(TextKey::FillCell),
+            },
+        ),
+    ] {
+        assert_refused(&rt, alloc, &rules_with(alloc, at, record)?, want);
+    }
+    assert_refused(&rt, alloc, b"box_w,0\nbox_w", missing(NumberKey::BoxW));
+    Ok(())
+}
+
+#[test]
+fn the_values_together_are_checked(rt: HostRuntime) -> Result<(), Fail> {
+    let alloc = rt.alloc();
+    assert_refused(&rt, alloc, b"", missing(NumberKey::FrameX1));
+    for (at, record, want) in [
+        (21, "", missing(NumberKey::Min)),
+        (28, "", missing(NumberKey::FillDatatype)),
+        (
+            29,
+            "",
+            RuleError::BadRule {
+                key: Key::Text(TextKey::Top),
+            },
+        ),
+        (
+            32,
+            "",
+            RuleError::BadRule {
+                key: Key::Text(TextKey::FillTop),
+            },
+        ),
+        (22, "max,200000", missing(NumberKey::Max)),
+        (
+            32,
+            "fill_top,BOX4",
+            RuleError::BadRule {
+                key: Key::Text(TextKey::FillTop),
+            },
+        ),
+        (3, "frame_x2,0", RuleError::BadRect),
+        (3, "frame_x2,-5", RuleError::BadRect),
+        (17, "win_x,1073741800", RuleError::BadWindows),
+        (19, "win_nx,349526", RuleError::BadWindows),
+        (7, "step_x,5", RuleError::BadPitch),
+        (8, "step_y,5", RuleError::BadPitch),
+        (12, "fill_spacing,7", RuleError::BadPitch),
+        (3, "frame_x2,16777217", RuleError::TooManyPlaces),
+        (4, "frame_y2,1073741824", RuleError::TooManyPlaces),
+    ] {
+        assert_refused(&rt, alloc, &rules_with(alloc, at, record)?, want);
+    }
+    for (at, record) in [
+        (19, "win_nx,349525"),
+        (7, "step_x,6"),
+        (12, "fill_spacing,6"),
+        (3, "frame_x2,16777216"),
+        (3, "frame_x2,5"),
+        (22, "max,300000"),
+        (32, "fill_top,TOP"),
+        (26, "datatype,-0"),
+        (26, "datatype,000000000000000000"),
+    ] {
+        assert!(rt;
+            read_rules(alloc, &rules_with(alloc, at, record)?).is_ok(),
+            "{record}"
+        );
+    }
+    Ok(())
+}
+
+#[test]
+fn records_are_those_of_csv(rt: HostRuntime) -> Result<(), Fail> {
+    let alloc = rt.alloc();
+    for (at, record) in [
+        (1, "\u{feff}frame_x1,0"),
+        (3, "frame_x2,\"1\"00"),
+        (3, "\"frame_x2\",\"100\""),
+        (3, "\r\n\n\rframe_x2,100\r"),
+        (32, "fill_top,FILLTOP\n\n"),
+    ] {
+        let rules = read_rules(alloc, &rules_with(alloc, at, record)?)?;
+        assert_eq!(rt; rules.frame_x2(), 100, "{record}");
+    }
+    let quoted = read_rules(alloc, &rules_with(alloc, 29, "top,\"a,\"\"b\n\"")?)?;
+    assert!(rt; quoted.top() == b"a,\"b\n".as_slice());
+    let mut text = rules_with(alloc, 0, "")?;
+    assert_eq!(rt; text.pop(), Some(b'\n'));
+    let open = read_rules(alloc, &text)?;
+    assert!(rt; open.fill_top() == b"FILLTOP".as_slice());
+    assert_refused(
+        &rt,
+        alloc,
+        &rules_with(alloc, 2, "\u{feff}frame_y1,0")?,
+        RuleError::BadRow { line: 2 },
+    );
+    assert_refused(
+        &rt,
+        alloc,
+        &rules_with(alloc, 2, "\n\nframe_y1,x")?,
+        RuleError::BadNumber { line: 2 },
+    );
+    Ok(())
+}
+
+#[test]
+fn an_open_quote_runs_to_the_end_of_the_file(rt: HostRuntime) -> Result<(), Fail> {
+    let alloc = rt.alloc();
+    let endings: [(&[u8], &[u8]); 3] = [
+        (b"top,\"TOP", b"TOP"),
+        (b"top,\"TOP\n\"\",\n", b"TOP\n\",\n"),
+        (b"\"top\",\"T,P\nspacing,3", b"T,P\nspacing,3"),
+    ];
+    for (ending, want) in endings {
+        let mut text = rules_with(alloc, 29, "")?;
+        text.extend_from_slice(ending)?;
+        let rules = read_rules(alloc, &text)?;
+        assert!(rt; rules.top() == want);
+        assert_eq!(rt; rules.spacing(), 2);
+    }
+    assert_refused(
+        &rt,
+        alloc,
+        &rules_with(alloc, 3, "frame_x2,\"100")?,
+        RuleError::BadNumber { line: 3 },
+    );
+    assert_refused(
+        &rt,
+        alloc,
+        &rules_with(alloc, 3, "\"frame_x2,100")?,
+        RuleError::BadRow { line: 3 },
+    );
+    Ok(())
+}
+
+#[test]
+fn a_script_gives_its_edits(rt: HostRuntime) -> Result<(), Fail> {
+    let edits = read_script(
+        rt.alloc(),
+        b"add,0,0,10,10\r\n\nadd,5,5,15,15\n\"cut\",0,0,\"5\",-0\n",
+    )
+    .map_err(|_| "refused");
+    assert!(rt; edits.is_err(), "the last one holds no square");
+    let edits = read_script(
+        rt.alloc(),
+        b"add,0,0,10,10\r\n\nadd,5,5,15,15\n\"cut\",-5,0,\"5\",5",
+    )?;
+    let want = [
+        Edit::Add(Rect::new(0, 0, 10, 10)?),
+        Edit::Add(Rect::new(5, 5, 15, 15)?),
+        Edit::Cut(Rect::new(-5, 0, 5, 5)?),
+    ];
+    assert!(rt; edits.as_slice() == want.as_slice());
+    assert!(rt; read_script(rt.alloc(), b"")?.is_empty());
+    Ok(())
+}
+
+#[test]
+fn the_first_fault_of_a_script_is_refused(rt: HostRuntime) {
+    let cases: [(&[u8], ScriptError); 9] = [
+        (b"add,0,0,10", ScriptError::BadRow { line: 1 }),
+        (b"add,0,0,10,10,", ScriptError::BadRow { line: 1 }),
+        (b"add,5,0,5,9", ScriptError::BadRow { line: 1 }),
+        (b"add,0,0,1,1073741825", ScriptError::BadRow { line: 1 }),
+        (b"add,9,9,1,x", ScriptError::BadNumber { line: 1 }),
+        (b"mov,0,0,x,1", ScriptError::BadRow { line: 1 }),
+        (b"Add,0,0,1,1", ScriptError::BadRow { line: 1 }),
+        (
+            b"add,0,0,1,1\ncut,0,0,x,9",
+            ScriptError::BadNumber { line: 2 },
+        ),
+        (
+            b"\n\nadd,0,0,1,1\n\ncut,0,0,9,\n",
+            ScriptError::BadNumber { line: 2 },
+        ),
+    ];
+    for (text, want) in cases {
+        match read_script(rt.alloc(), text) {
+            Ok(_) => assert!(rt; false, "accepted, and not {want:?}"),
+            Err(error) => assert_eq!(rt; error, want),
+        }
+    }
+}
+
+#[test]
+fn a_script_has_at_most_100_000_records(rt: HostRuntime) -> Result<(), Fail> {
+    let mut text = Vec::new(rt.alloc());
+    for _ in 0..100_000 {
+        text.extend_from_slice(b"add,0,0,1,1\n")?;
+    }
+    assert_eq!(rt; read_script(rt.alloc(), &text)?.len(), 100_000);
+    text.extend_from_slice(b"\n\n")?;
+    assert!(rt;
+        read_script(rt.alloc(), &text).is_ok(),
+        "empty lines are no records"
+    );
+    let allowed = text.len();
+    text.extend_from_slice(b"cut,0,0,1,1")?;
+    assert!(rt;
+        matches!(
+            read_script(rt.alloc(), &text),
+            Err(ScriptError::TooManyLines)
+        ),
+        "one record more, and a good one"
+    );
+    text.truncate(allowed);
+    text.extend_from_slice(b"nonsense")?;
+    assert!(rt;
+        matches!(
+            read_script(rt.alloc(), &text),
+            Err(ScriptError::TooManyLines)
+        )
+    );
+    text[0] = b'A';
+    assert!(rt;
+        matches!(
+            read_script(rt.alloc(), &text),
+            Err(ScriptError::BadRow { line: 1 })
+        )
+    );
+    Ok(())
+}
+
+#[test]
+fn edits_of_one_kind_and_one_rectangle_are_equal(rt: HostRuntime) -> Result<(), Fail> {
+    let rect = Rect::new(0, 0, 10, 10)?;
+    let wider = Rect::new(0, 0, 11, 10)?;
+    assert_eq!(rt; Edit::Add(rect), Edit::Add(rect));
+    assert_eq!(rt; Edit::Cut(rect), Edit::Cut(rect));
+    assert_ne!(rt; Edit::Add(rect), Edit::Cut(rect));
+    assert_ne!(rt; Edit::Add(rect), Edit::Add(wider));
+    assert_ne!(rt; Edit::Cut(rect), Edit::Cut(wider));
+    Ok(())
+}
+
+#[test]
+fn pitch_and_places_are_judged_last(rt: HostRuntime) -> Result<(), Fail> {
+    let alloc = rt.alloc();
+    for (one, other, want) in [
+        (
+            (7, "step_x,5"),
+            (17, "win_x,1073741800"),
+            RuleError::BadWindows,
+        ),
+        ((7, "step_x,5"), (3, "frame_x2,0"), RuleError::BadRect),
+        ((7, "step_x,5"), (22, "max,200000"), missing(NumberKey::Max)),
+        (
+            (8, "step_y,5"),
+            (3, "frame_x2,1073741824"),
+            RuleError::BadPitch,
+        ),
+        ((8, "step_y,5"), (3, "frame_x2,5"), RuleError::BadPitch),
+        (
+            (3, "frame_x2,1073741824"),
+            (19, "win_nx,349526"),
+            RuleError::BadWindows,
+        ),
+    ] {
+        assert_refused(&rt, alloc, &rules_with_both(alloc, one, other)?, want);
+    }
+    Ok(())
+}

@@ -1,0 +1,14 @@
+//! Tests of the crates that read a design: each module calls one of them as its users do. They stand
+//! here so that a crate isn't proved a second time for the sake of its tests.
+#![tactic(auto)]
+
+#[cfg(test)]
+mod designs;
+#[cfg(test)]
+mod grammar;
+#[cfg(test)]
+mod placements;
+#[cfg(test)]
+mod records;
+#[cfg(test)]
+mod shape;
