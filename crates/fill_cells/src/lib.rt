@@ -1,0 +1,3 @@
+//! The area that rectangles cover in each cell of a mesh, with no region in between. An area is a count of unit squares, each
+//! counted once however many rectangles hold it: the layer above relies on that.
+#![tactic(auto)]
