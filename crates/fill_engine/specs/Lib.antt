@@ -8,3 +8,4 @@ pub mod Checks
 pub mod Refusals
 pub mod Runs
 pub mod Fills
+pub mod Shapes

@@ -2,16 +2,18 @@
 ghost use Rattle.std.specs.Prelude.{◌≡◌, ◌↔◌, true, false, map, IfOk, IfErr, IfSome, IsErrOf, Ok};
 ghost use Rattle.fill_device.specs.Taps.{has_failed, under};
 ghost use Rattle.fill_region.specs.Bands.{holds};
+ghost use Rattle.fill_region.specs.Squares.{covered};
 ghost use Rattle.fill_text.specs.Script.{change_of};
 ghost use Rattle.fill_text.specs.ValuesOfRules.{values_of};
 ghost use Rattle.fill_engine.specs.Designs.{layer_in, data_type_in, IsDesign, IsDesignFault};
 ghost use Rattle.fill_engine.specs.Inputs.{rules_answer, script_answer, IsFaultOf};
 
 use crate::refusal::{DesignError, InputFault};
+use fill_base::Rect;
 use fill_device::{InputError, Tap, read_input};
 use fill_region::Region;
 use fill_text::{Edit, RuleError, Rules, ScriptError, read_rules, read_script};
-use gds_flatten::flatten;
+use gds_flatten::flatten_rects;
 use gds_grammar::read_library;
 use std::alloc::Global;
 use std::io::Read;
@@ -60,6 +62,45 @@ fn data_type_of(rules: &Rules) -> u16
     rules.datatype() as u16
 }
 
+/// What a design gives to a report or a fill.
+#[derive(Drop)]
+pub struct Drawing {
+    /// Rectangles that cover the metal that its top draws on the rules' layer; they may overlap.
+    pub rects: Vec<Rect>,
+    /// The data of its UNITS.
+    pub units: [u8; 16],
+    /// The data of its BGNLIB: the dates of its last change and access.
+    pub dates: [u8; 24],
+}
+
+/// What the design behind the tap draws on the rules' layer, with its units and dates.
+pub fn take_drawing<D: Read>(
+    alloc: Global,
+    tap: &mut Tap<D>,
+    rules: &Rules,
+) -> Result<Drawing, InputFault<DesignError>>
+    requires { has_failed tap.old ≡ false }
+    ensures device { IsErrOf result (InputFault.Unread InputError.Device) ↔ (has_failed tap.new ≡ true) }
+    ensures design { IfOk result (λ d. IfSome (D.remaining (under tap.old)) (λ bytes. IsDesign bytes (values_of rules.now) (covered d.rects.items) d.units d.dates)) }
+    ensures refused { IfErr result (λ f. IfSome (D.remaining (under tap.old)) (λ bytes. IsDesignFault bytes (values_of rules.now) f)) }
+{
+    let bytes = read_input(alloc, tap, MOST_BYTES)?;
+    let library = read_library(alloc, &bytes)?;
+    drop(bytes);
+    let rects = flatten_rects(
+        alloc,
+        &library,
+        rules.top(),
+        layer_of(rules),
+        data_type_of(rules),
+    )?;
+    Ok(Drawing {
+        rects,
+        units: library.units,
+        dates: library.dates,
+    })
+}
+
 /// What a design gives to a fill.
 #[derive(Drop)]
 pub struct Design {
@@ -71,7 +112,7 @@ pub struct Design {
     pub dates: [u8; 24],
 }
 
-/// What the design behind the tap draws on the rules' layer, with its units and dates.
+/// The same with the metal as a region.
 pub fn take_design<D: Read>(
     alloc: Global,
     tap: &mut Tap<D>,
@@ -82,19 +123,22 @@ pub fn take_design<D: Read>(
     ensures design { IfOk result (λ d. IfSome (D.remaining (under tap.old)) (λ bytes. IsDesign bytes (values_of rules.now) (holds d.metal) d.units d.dates)) }
     ensures refused { IfErr result (λ f. IfSome (D.remaining (under tap.old)) (λ bytes. IsDesignFault bytes (values_of rules.now) f)) }
 {
-    let bytes = read_input(alloc, tap, MOST_BYTES)?;
-    let library = read_library(alloc, &bytes)?;
-    drop(bytes);
-    let metal = flatten(
-        alloc,
-        &library,
-        rules.top(),
-        layer_of(rules),
-        data_type_of(rules),
-    )?;
+    let drawing = take_drawing(alloc, tap, rules)?;
+    let metal = region_of(alloc, &drawing.rects)?;
     Ok(Design {
         metal,
-        units: library.units,
-        dates: library.dates,
+        units: drawing.units,
+        dates: drawing.dates,
     })
+}
+
+/// The region of the squares that some rectangle holds.
+fn region_of(alloc: Global, rects: &[Rect]) -> Result<Region, InputError>
+    ensures squares { IfOk result (λ r. covered rects.now ≡ holds r) }
+    ensures refused { IfErr result (λ e. e ≡ InputError.Memory) }
+{
+    match Region::from_rects(alloc, rects) {
+        Ok(region) => Ok(region),
+        Err(_) => Err(InputError::Memory),
+    }
 }

@@ -1,13 +1,27 @@
-//! The metal that a script's edits leave of nothing.
+//! The metal that a script's edits leave of nothing, and the report of metal.
 ghost use Rattle.std.specs.Prelude.{◌≡◌, [], ◌∷◌, ◌||◌, ◌&&◌, not, ℤ, map, IfOk, IfSome};
 ghost use Rattle.fill_region.specs.Bands.{holds};
+ghost use Rattle.fill_report.specs.RulesReport.{metal_report};
+ghost use Rattle.fill_text.specs.ValuesOfRules.{values_of};
 ghost use Rattle.fill_text.specs.Script.{change_of};
 ghost use Rattle.fill_engine.specs.Metal.{AreAdded, is_added, is_cut, is_metal, last_change};
+ghost use Rattle.fill_engine.specs.Shapes.{metal_of};
 
 use fill_base::Rect;
 use fill_region::Region;
-use fill_text::Edit;
+use fill_report::{OutOfMemory, report_of, report_of_rects};
+use fill_text::{Edit, Rules};
 use std::alloc::{AllocError, Global};
+use std::thread::Threads;
+
+/// Metal that is measured once: as the rectangles that draw it, which may overlap, or as the region that cuts have left.
+#[derive(Drop)]
+pub enum Metal {
+    /// The squares that some rectangle holds.
+    Drawn(Vec<Rect>),
+    /// The squares of the region.
+    Left(Region),
+}
 
 /// What a run of edits leaves of the squares that it touches: metal, or none.
 #[derive(Drop)]
@@ -109,6 +123,40 @@ pub fn metal_left(alloc: Global, edits: &[Edit]) -> Result<Region, AllocError>
             let then = patch_of(alloc, then)?;
             let metal = covered_over(alloc, &under, &then.cut, &then.metal)?;
             Ok(metal)
+        }
+    }
+}
+
+/// The metal that the edits leave of nothing: where they only add, as their rectangles.
+pub(crate) fn metal_after(alloc: Global, edits: &[Edit]) -> Result<Metal, OutOfMemory>
+    ensures { IfOk result (λ m. metal_of m ≡ is_metal (map change_of edits.now)) }
+{
+    match rects_added(alloc, edits)? {
+        Some(rects) => Ok(Metal::Drawn(rects)),
+        None => {
+            let region = metal_left(alloc, edits)?;
+            Ok(Metal::Left(region))
+        }
+    }
+}
+
+/// The density report of metal. Rectangles are measured as they are, with no region in between.
+pub(crate) fn report_of_metal(
+    rt: &(impl Threads + Sync),
+    alloc: Global,
+    metal: &Metal,
+    rules: &Rules,
+) -> Result<Vec<u8>, OutOfMemory>
+    ensures { IfOk result (λ v. v.items ≡ metal_report (metal_of metal.now) (values_of rules.now)) }
+{
+    match metal {
+        Metal::Drawn(rects) => {
+            let report = report_of_rects(rt, alloc, rects, rules)?;
+            Ok(report)
+        }
+        Metal::Left(region) => {
+            let report = report_of(rt, alloc, region, rules)?;
+            Ok(report)
         }
     }
 }

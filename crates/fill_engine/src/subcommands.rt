@@ -1,53 +1,41 @@
 //! The density reports: of the metal that a script leaves of nothing, and of the metal that a design draws, from bytes to bytes.
-ghost use Rattle.std.specs.Prelude.{◌≡◌, ◌↔◌, ◌⊎◌, ℕ, List, true, false, take, IfOk, IfErr, IfSome, IsOk, IsOkAnd, OnErr, OnOk, map};
+ghost use Rattle.std.specs.Prelude.{◌≡◌, ◌↔◌, ◌⊎◌, ℕ, List, true, false, take, IfOk, IfErr, IfSome, IsOk, IsOkAnd, OnErr, OnOk};
 ghost use Rattle.std.specs.Io.KnownBytes.{Appends};
 ghost use Rattle.fill_device.specs.Taps.{has_failed, under};
-ghost use Rattle.fill_region.specs.Bands.{holds};
 ghost use Rattle.fill_report.specs.RulesReport.{metal_report};
-ghost use Rattle.fill_text.specs.Script.{change_of};
 ghost use Rattle.fill_text.specs.ValuesOfRules.{values_of};
-ghost use Rattle.fill_engine.specs.Metal.{is_metal};
+ghost use Rattle.fill_engine.specs.Shapes.{metal_of};
 ghost use Rattle.fill_engine.specs.Inputs.{is_of_rules, rules_answer};
 ghost use Rattle.fill_engine.specs.Rects.{report_answer, IsReason};
 ghost use Rattle.fill_engine.specs.Checks.{IsChecked, IsCheckReason};
 
-use crate::inputs::{take_design, take_edits, take_rules};
-use crate::metal::metal_left;
+use crate::inputs::{take_drawing, take_edits, take_rules};
+use crate::metal::{Metal, metal_after, report_of_metal};
 use crate::refusal::{InputFault, Refusal, RunFault};
 use fill_device::{InputError, Tap, write_text};
-use fill_region::Region;
-use fill_report::{OutOfMemory, report_of};
-use fill_text::{Edit, Rules};
+use fill_text::Rules;
 use std::alloc::Global;
 use std::io::{Read, Write};
 use std::thread::Threads;
-
-/// The metal that the edits leave of nothing.
-fn metal_after(alloc: Global, edits: &[Edit]) -> Result<Region, OutOfMemory>
-    ensures { IfOk result (λ m. holds m ≡ is_metal (map change_of edits.now)) }
-{
-    let metal = metal_left(alloc, edits)?;
-    Ok(metal)
-}
 
 /// Writes the report of the metal, whole.
 fn write_report<W: Write>(
     rt: &(impl Threads + Sync),
     alloc: Global,
-    metal: &Region,
+    metal: &Metal,
     rules: &Rules,
     out: &mut Tap<W>,
 ) -> Result<(), Refusal>
     requires { has_failed out.old ≡ false }
     ensures device { (result ≡ Err Refusal.Report) ↔ (has_failed out.new ≡ true) }
     ensures whole { OnOk result (Appends (W.contents (under out.old)) (W.contents (under out.new))
-        (metal_report (holds metal.now) (values_of rules.now))) }
+        (metal_report (metal_of metal.now) (values_of rules.now))) }
     ensures prefix { result ≡ Err Refusal.Report → (k : ℕ) × Appends (W.contents (under out.old)) (W.contents (under out.new))
-        (take k (metal_report (holds metal.now) (values_of rules.now))) }
+        (take k (metal_report (metal_of metal.now) (values_of rules.now))) }
     ensures refused { IfErr result (λ e. (e ≡ Refusal.Report) ⊎ (e ≡ Refusal.Run RunFault.Memory)) }
     ensures silent { OnErr result ((has_failed out.new ≡ true) ⊎ (out.new ≡ out.old)) }
 {
-    let report = report_of(rt, alloc, metal, rules)?;
+    let report = report_of_metal(rt, alloc, metal, rules)?;
     write_text(out, &report)?;
     Ok(())
 }
@@ -134,7 +122,7 @@ pub fn check<R: Read, D: Read, W: Write>(
     ensures silent { OnErr result ((has_failed out.new ≡ true) ⊎ (out.new ≡ out.old)) }
 {
     let values = take_rules(alloc, rules)?;
-    let drawn = take_design(alloc, design, &values)?;
-    write_report(rt, alloc, &drawn.metal, &values, out)?;
+    let drawn = take_drawing(alloc, design, &values)?;
+    write_report(rt, alloc, &Metal::Drawn(drawn.rects), &values, out)?;
     Ok(())
 }

@@ -6,12 +6,14 @@ pub mod book;
 pub mod error;
 pub mod line;
 pub mod metal;
+pub mod shapes;
 mod window;
 
 pub use book::report;
 pub use error::OutOfMemory;
 pub use line::{Density, Measures};
 pub use metal::report_of;
+pub use shapes::report_of_rects;
 
 #[cfg(test)]
 mod tests;

@@ -54,7 +54,7 @@ fn windows_report(
 }
 
 /// The lines of windows with these areas of metal, and no fill.
-fn drawn_lines(
+pub(crate) fn drawn_lines(
     alloc: Global,
     windows: &Windows,
     totals: &[i64],

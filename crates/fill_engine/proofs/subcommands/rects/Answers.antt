@@ -2,13 +2,13 @@ use Rattle.std.proofs.Common.{◌∙◌, ℕ, ℤ, Bool, List, Err, ap, map, tak
 use Rattle.std.proofs.lemmas.Result.{err_from_is_err_and}
 use Rattle.std.specs.Io.KnownBytes.{Appends}
 use Rattle.fill_device.specs.Taps.{under}
-use Rattle.fill_region.specs.Bands.{holds}
 use Rattle.fill_report.specs.RulesReport.{metal_report}
 use Rattle.fill_text.specs.Script.{change_of}
 use Rattle.fill_text.specs.ValuesOfRules.{values_of}
 use Rattle.fill_text.specs.declared.script.Edit.{Edit}
 use Rattle.fill_engine.specs.declared.refusal.Refusal.TheVariants.{Report}
 use Rattle.fill_engine.specs.Metal.{is_metal}
+use Rattle.fill_engine.specs.Shapes.{metal_of}
 use Rattle.fill_engine.proofs.Checking.{as_error}
 use Rattle.fill_engine.proofs.Reasons.{answered, output_reason, report_is, rules_are, script_reason}
 use Rattle.fill_engine.proofs.subcommands.rects.Goals as goal
@@ -35,7 +35,7 @@ returns-in_err-write_report-clause-prefix g c =
     let made = ap (λ (m : ℤ → ℤ → Bool). metal_report m (values_of c.in_ok-values.values))
     (c.in_ok-metal.ensures ∙ ap (λ (l : List Edit). is_metal (map change_of l)) c.deref.ensures.value) in
     λ is. report_is (g.R.Read.remaining (under c.args.rules.now)) (g.S.Read.remaining (under c.args.script.now)) (values_of c.in_ok-values.values)
-    (map change_of c.in_ok-edits.edits.items) (metal_report (holds c.in_ok-metal.metal) (values_of c.in_ok-values.values))
+    (map change_of c.in_ok-edits.edits.items) (metal_report (metal_of c.in_ok-metal.metal) (values_of c.in_ok-values.values))
     (λ text. (k : ℕ) × Appends (g.W.Write.contents (under c.args.out.now)) (g.W.Write.contents (under c.write_report.new.out)) (take k text))
     c.in_ok-values.ensures.rules c.in_ok-edits.ensures.edits made (c.in_err-write_report.ensures.prefix
     (ap Err (as_error c.from_residual-in_err-write_report.result p.0 c.in_err-write_report.field-0.0 Report p.1 p.2 is)))
@@ -45,7 +45,7 @@ returns-clause-written g c =
     let made = ap (λ (m : ℤ → ℤ → Bool). metal_report m (values_of c.in_ok-values.values))
     (c.in_ok-metal.ensures ∙ ap (λ (l : List Edit). is_metal (map change_of l)) c.deref.ensures.value) in
     report_is (g.R.Read.remaining (under c.args.rules.now)) (g.S.Read.remaining (under c.args.script.now)) (values_of c.in_ok-values.values)
-    (map change_of c.in_ok-edits.edits.items) (metal_report (holds c.in_ok-metal.metal) (values_of c.in_ok-values.values))
+    (map change_of c.in_ok-edits.edits.items) (metal_report (metal_of c.in_ok-metal.metal) (values_of c.in_ok-values.values))
     (Appends (g.W.Write.contents (under c.args.out.now)) (g.W.Write.contents (under c.write_report.new.out)))
     c.in_ok-values.ensures.rules c.in_ok-edits.ensures.edits made c.in_ok-write_report.ensures.whole
 
