@@ -1,0 +1,184 @@
+//! Windows measured straight from rectangles in plain Rust, for the benchmarks alone: the lines of the windows make a mesh, the
+//! rectangles are shared out to its rows and cells, and each window is a difference of sums. The algorithm is that of the proved crates.
+use crate::sweep::{from_rects, Bands, Rect, Windows};
+use std::ops::Range;
+use std::sync::Mutex;
+
+/// The rows of cells are cut into at most so many groups, which threads take one after another.
+const MOST_GROUPS: usize = 16;
+
+/// So many rectangles are swept at once.
+const FEW: usize = 1024;
+
+fn clip(rect: &Rect, part: &Rect) -> Option<Rect> {
+    let both = Rect {
+        x1: rect.x1.max(part.x1),
+        y1: rect.y1.max(part.y1),
+        x2: rect.x2.min(part.x2),
+        y2: rect.y2.min(part.y2),
+    };
+    (both.x1 < both.x2 && both.y1 < both.y2).then_some(both)
+}
+
+fn is_same(a: &Rect, b: &Rect) -> bool {
+    a.x1 == b.x1 && a.y1 == b.y1 && a.x2 == b.x2 && a.y2 == b.y2
+}
+
+/// The rectangle of the squares of two, where these make one.
+fn joined(a: &Rect, b: &Rect) -> Option<Rect> {
+    let across = a.y1 == b.y1 && a.y2 == b.y2 && a.x1 <= b.x2 && b.x1 <= a.x2;
+    let up = a.x1 == b.x1 && a.x2 == b.x2 && a.y1 <= b.y2 && b.y1 <= a.y2;
+    (across || up).then(|| Rect {
+        x1: a.x1.min(b.x1),
+        y1: a.y1.min(b.y1),
+        x2: a.x2.max(b.x2),
+        y2: a.y2.max(b.y2),
+    })
+}
+
+/// Puts what a rectangle has in the part to the list.
+fn hold(list: &mut Vec<Rect>, rect: &Rect, part: &Rect) {
+    if list.first().is_some_and(|first| is_same(first, part)) {
+        return;
+    }
+    let Some(piece) = clip(rect, part) else { return };
+    if is_same(&piece, part) {
+        list.clear();
+    }
+    match list.last_mut() {
+        Some(last) => match joined(last, &piece) {
+            Some(both) => *last = both,
+            None => list.push(piece),
+        },
+        None => list.push(piece),
+    }
+}
+
+fn within(rects: &[Rect], part: &Rect) -> Vec<Rect> {
+    let mut list = Vec::new();
+    rects.iter().for_each(|rect| hold(&mut list, rect, part));
+    list
+}
+
+/// The gaps between lines that a range meets.
+fn gaps_met(lines: &[i32], lo: i32, hi: i32) -> Range<usize> {
+    let last = lines.len() - 1;
+    if hi <= lines[0] || lines[last] <= lo {
+        return 0..0;
+    }
+    let first = lines.partition_point(|line| *line <= lo).saturating_sub(1);
+    let past = (first..last).find(|gap| lines[*gap] >= hi).unwrap_or(last);
+    first..past
+}
+
+/// The rectangles shared out to the parts between lines, by where they begin and end and by the part at each gap.
+fn shared_out(
+    rects: &[Rect],
+    lines: &[i32],
+    ends: impl Fn(&Rect) -> (i32, i32),
+    part: impl Fn(usize) -> Rect,
+) -> Vec<Vec<Rect>> {
+    let mut lists = vec![Vec::new(); lines.len() - 1];
+    for rect in rects {
+        let (lo, hi) = ends(rect);
+        for gap in gaps_met(lines, lo, hi) {
+            hold(&mut lists[gap], rect, &part(gap));
+        }
+    }
+    lists
+}
+
+fn area(bands: &Bands) -> i64 {
+    let row = |edges: &[i32]| edges.chunks_exact(2).map(|ends| i64::from(ends[1]) - i64::from(ends[0])).sum::<i64>();
+    bands.windows(2).map(|pair| (i64::from(pair[1].0) - i64::from(pair[0].0)) * row(&pair[0].1)).sum()
+}
+
+/// The halves of a part in which many rectangles begin or end.
+fn halves(rects: &[Rect], part: &Rect) -> Option<(Rect, Rect)> {
+    if rects.len() <= FEW {
+        return None;
+    }
+    let across = rects.iter().filter(|rect| rect.x1 > part.x1 || rect.x2 < part.x2).count();
+    let up = rects.iter().filter(|rect| rect.y1 > part.y1 || rect.y2 < part.y2).count();
+    if across == 0 || up == 0 {
+        None
+    } else if across >= up {
+        let middle = part.x1 + (part.x2 - part.x1) / 2;
+        (middle > part.x1).then(|| (Rect { x2: middle, ..*part }, Rect { x1: middle, ..*part }))
+    } else {
+        let middle = part.y1 + (part.y2 - part.y1) / 2;
+        (middle > part.y1).then(|| (Rect { y2: middle, ..*part }, Rect { y1: middle, ..*part }))
+    }
+}
+
+/// How many squares the rectangles of a part cover.
+fn covered_area(rects: &[Rect], part: &Rect) -> i64 {
+    match halves(rects, part) {
+        Some((first, second)) => covered_area(&within(rects, &first), &first) + covered_area(&within(rects, &second), &second),
+        None => area(&from_rects(rects)),
+    }
+}
+
+/// The areas of the cells of some rows, row by row.
+fn cell_areas(rects: &[Rect], across: &[i32], up: &[i32], areas: &mut [i64]) {
+    let (x1, x2) = (across[0], across[across.len() - 1]);
+    let rows = shared_out(rects, up, |rect| (rect.y1, rect.y2), |j| Rect { x1, y1: up[j], x2, y2: up[j + 1] });
+    for (j, row) in rows.iter().enumerate() {
+        let cell = |i: usize| Rect { x1: across[i], y1: up[j], x2: across[i + 1], y2: up[j + 1] };
+        for (i, list) in shared_out(row, across, |rect| (rect.x1, rect.x2), cell).iter().enumerate() {
+            areas[j * (across.len() - 1) + i] = covered_area(list, &cell(i));
+        }
+    }
+}
+
+/// The lines at which windows along an axis begin or end.
+fn lines_of(first: i32, size: i32, step: i32, count: usize) -> Vec<i32> {
+    let mut lines: Vec<i32> = (0..count as i32).flat_map(|a| [first + a * step, first + a * step + size]).collect();
+    lines.sort_unstable();
+    lines.dedup();
+    lines
+}
+
+/// The areas of all windows, row by row.
+pub fn measure_rects(rects: &[Rect], windows: &Windows) -> Vec<i64> {
+    let across = lines_of(windows.origin.0, windows.size.0, windows.step.0, windows.columns);
+    let up = lines_of(windows.origin.1, windows.size.1, windows.step.1, windows.rows);
+    let (columns, rows) = (across.len() - 1, up.len() - 1);
+    let height = rows.div_ceil(MOST_GROUPS);
+    let mut cells = vec![0i64; columns * rows];
+    let threads = std::thread::available_parallelism().map_or(1, |count| count.get());
+    let groups = Mutex::new(cells.chunks_mut(height * columns).enumerate());
+    let next = || groups.lock().expect("no thread panics").next();
+    std::thread::scope(|scope| {
+        for _ in 0..threads {
+            scope.spawn(|| {
+                while let Some((k, areas)) = next() {
+                    let to = ((k + 1) * height).min(rows);
+                    cell_areas(rects, &across, &up[k * height..=to], areas);
+                }
+            });
+        }
+    });
+    let mut corners = vec![0i64; (rows + 1) * (columns + 1)];
+    for j in 0..rows {
+        let mut total = 0;
+        for i in 0..columns {
+            total += cells[j * columns + i];
+            corners[(j + 1) * (columns + 1) + i + 1] = corners[j * (columns + 1) + i + 1] + total;
+        }
+    }
+    let sides = |lines: &[i32], first: i32, size: i32, step: i32, count: usize| -> Vec<(usize, usize)> {
+        let at = |line: i32| lines.partition_point(|below| *below < line);
+        (0..count as i32).map(|a| (at(first + a * step), at(first + a * step + size))).collect()
+    };
+    let xs = sides(&across, windows.origin.0, windows.size.0, windows.step.0, windows.columns);
+    let ys = sides(&up, windows.origin.1, windows.size.1, windows.step.1, windows.rows);
+    let corner = |i: usize, j: usize| corners[j * (columns + 1) + i];
+    let mut areas = Vec::with_capacity(windows.columns * windows.rows);
+    for (bottom, top) in &ys {
+        for (left, right) in &xs {
+            areas.push(corner(*right, *top) - corner(*left, *top) - corner(*right, *bottom) + corner(*left, *bottom));
+        }
+    }
+    areas
+}
