@@ -1,7 +1,8 @@
 //! `densfill check` without proofs, for the benchmark alone: reads the rule file and the design, carries the shapes of
-//! the layer to their copies, joins them by a sweep over y, measures the windows row by row on all processors and
-//! prints the report. It takes sound inputs for granted. With a third word it keeps the whole library as values before it
+//! the layer to their copies, measures the windows straight from the rectangles on all processors and prints the report. It takes sound inputs for granted. With a third word it keeps the whole library as values before it
 //! fills a shape, as `densfill` does; without one it fills each shape of the layer as it is read.
+#[path = "../cells.rs"]
+mod cells;
 #[path = "../design.rs"]
 mod design;
 #[path = "../rules.rs"]
@@ -9,10 +10,10 @@ mod rules;
 #[path = "../sweep.rs"]
 mod sweep;
 
+use cells::measure_rects;
 use design::{flatten, read_cells, read_library};
 use rules::{Lines, Rules};
 use std::io::Write;
-use sweep::{from_rects, measure_all};
 
 fn main() {
     let paths: Vec<String> = std::env::args().skip(1).collect();
@@ -23,7 +24,7 @@ fn main() {
     let cells = if way.is_empty() { read_cells(&bytes, layer) } else { read_library(bytes, layer) };
     let rects = flatten(cells, rules.text("top"));
     let lines = Lines::of(&rules);
-    let areas = measure_all(&from_rects(&rects), &lines.windows);
+    let areas = measure_rects(&rects, &lines.windows);
     let mut report = Vec::new();
     areas.iter().enumerate().for_each(|(k, area)| lines.put(k, *area, 0, &mut report));
     std::io::stdout().write_all(&report).expect("the report");

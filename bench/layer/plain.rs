@@ -1,8 +1,11 @@
 //! The same work as `layer.rt.txt` without proofs, for the benchmark alone: the union of rectangles by a sweep over y,
 //! areas of windows on all processors, and clearances, printed in the same lines.
+#[path = "../cells.rs"]
+mod cells;
 #[path = "../sweep.rs"]
 mod sweep;
 
+use cells::measure_rects;
 use std::time::{Duration, Instant};
 use sweep::{from_rects, is_clear, measure_all, read, Bands, Rect, Windows};
 
@@ -39,6 +42,12 @@ fn time_windows(what: &str, bands: &Bands, windows: &Windows) {
     say(what, areas.iter().sum(), start.elapsed());
 }
 
+fn time_rects(what: &str, rects: &[Rect], windows: &Windows) {
+    let start = Instant::now();
+    let areas = measure_rects(rects, windows);
+    say(what, areas.iter().sum(), start.elapsed());
+}
+
 fn main() {
     let path = std::env::args().nth(1).expect("usage: plain FILE");
     let rects = read(&path);
@@ -53,7 +62,12 @@ fn main() {
     time_windows("windows_4", &bands, &windows_over(side, 2, 2, 1));
     time_windows("windows_10000", &bands, &windows_over(side, 100, 100, 2));
     time_windows("windows_100000", &bands, &windows_over(side, 250, 400, 2));
+    time_windows("windows_1000000", &bands, &windows_over(side, 1000, 1000, 4));
     time_windows("corner_10000", &bands, &windows_over(4 * side, 100, 100, 2));
+    time_rects("rects_1", &rects, &windows_over(side, 1, 1, 1));
+    time_rects("rects_10000", &rects, &windows_over(side, 100, 100, 2));
+    time_rects("rects_100000", &rects, &windows_over(side, 250, 400, 2));
+    time_rects("rects_1000000", &rects, &windows_over(side, 1000, 1000, 4));
     let start = Instant::now();
     let clear = count_clear(&bands, side);
     say("is_clear", clear as i64, start.elapsed());

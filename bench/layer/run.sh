@@ -4,7 +4,8 @@
 #   bands         how many bands the region has
 #   from_rects    makes the region of all rectangles; what comes out is its number of edges
 #   windows_N     measures N windows over the block, few heavy ones or many light ones that overlap by half; the sum
-#   corner_N      the same where all metal lies in one corner of the windows
+#   rects_N       the same windows straight from the rectangles, with no region in between
+#   corner_N      windows by the region where all metal lies in one corner of the windows
 #   is_clear      looks whether a million boxes on a raster over the block are clear; how many are
 # The million rectangles are measured with 1, 2 and all processors; `gain` is how many times faster than with one.
 # Each number is the best of three processes, for the machine may be busy (the last line says how busy); a peak is that
@@ -16,7 +17,7 @@ set -eu
 . "$(dirname "$0")/../common.sh"
 
 python3 "$here/generate.py" 1000 "$work/first"
-"$here/../build.sh" "$here" layer "$work" "$work/first" "fill_base fill_spans fill_region fill_size fill_area" "rayon anyhow"
+"$here/../build.sh" "$here" layer "$work" "$work/first" "fill_base fill_spans fill_region fill_size fill_area fill_cells fill_measure" "rayon anyhow"
 
 # time_both SIZE PROCESSORS: runs both programs three times on the first so many processors.
 time_both() {
