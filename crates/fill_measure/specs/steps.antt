@@ -1,0 +1,2 @@
+-- What serves the functions of the crate alone.
+pub mod Ends
