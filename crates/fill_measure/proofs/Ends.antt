@@ -1,11 +1,11 @@
 -- The lines at which the spans of an axis begin and end.
-use Rattle.std.proofs.Common.{◌≡◌, ℕ, ◌+◌, ◌≤◌, ◌<◌, ℤ, pos, ◌+ℤ◌, ◌≤ℤ◌, ◌<ℤ◌, List, [], ◌∷◌, ◌++◌, Bool, true, false, length, get_or, refl, arith, ap, ◌∙◌, sym, below_more, Ordering, Less}
+use Rattle.std.proofs.Common.{◌≡◌, ℕ, ◌+◌, ◌≤◌, ◌<◌, ℤ, pos, ◌+ℤ◌, ◌≤ℤ◌, ◌<ℤ◌, List, [], ◌∷◌, ◌++◌, true, false, length, get_or, refl, arith, ap, ◌∙◌, sym, below_more, Less}
 use Rattle.std.specs.Prelude.{int_lt}
 use Rattle.std.specs.List.{All, Contains, dedup}
 use Rattle.std.specs.List.Sorted.{IsSorted, IsPermutation, IsPartitionedBy, IsPartitionPoint}
 use Rattle.std.specs.List.Retain.{IsFiltered, DiffersFromLast}
 use Rattle.std.specs.Ordering.{int_cmp, int_eq, eq_by_cmp}
-use Rattle.std.proofs.lemmas.Int.{ints, by_lt_z}
+use Rattle.std.proofs.lemmas.Int.{ints}
 use Rattle.std.proofs.lemmas.Bool.Decides.{Decides-int_eq}
 use Rattle.std.proofs.lemmas.Cmp.{int_cmp_total, int_eq_equiv}
 use Rattle.std.proofs.lemmas.List.{get_or_default}

@@ -1,1 +1,3 @@
+pub mod CornerSums
 pub mod Ends
+pub mod Placing

@@ -2,4 +2,7 @@
 //! of its unit squares that some rectangle holds: the layers above rely on that.
 #![tactic(auto)]
 
+mod corners;
 mod lines;
+mod mesh;
+mod sides;

@@ -37,7 +37,7 @@ fn ends_of(alloc: Global, axis: Axis) -> Result<Vec<i64>, AllocError>
 }
 
 /// Both ends of the span at index `a`.
-fn span(axis: Axis, a: u32) -> (i64, i64)
+pub(crate) fn span(axis: Axis, a: u32) -> (i64, i64)
     requires axis { IsAxis axis }
     requires index { a < axis.count }
     ensures { IsExtent axis a result.0 result.1 }
