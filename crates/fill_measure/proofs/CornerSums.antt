@@ -50,7 +50,7 @@ line_le lines i j d are le lt = by_lt i j
     refl_le z = omega (arith, ints)
 
 -- the area between lines is small
-block_small : (p : ℤ → ℤ → Bool) (across up : List ℤ) (left bottom right top : ℕ) (d : ℤ) → AreLines across → AreLines up → left ≤ right → right < length across → bottom ≤ top → top < length up
+pub block_small : (p : ℤ → ℤ → Bool) (across up : List ℤ) (left bottom right top : ℕ) (d : ℤ) → AreLines across → AreLines up → left ≤ right → right < length across → bottom ≤ top → top < length up
     → block_area p across up left bottom right top d ≤ 2 ^ 62
 block_small p across up left bottom right top d x_are y_are x_le x_in y_le y_in =
     let wide : span_len (get_or across left d) (get_or across right d) ≤ 2 ^ 31 = short across left right x_are x_le x_in in
@@ -63,7 +63,7 @@ block_small p across up left bottom right top d x_are y_are x_le x_in y_le y_in 
     short lines i j are le lt = side_short _ _ (are.coordinates i d (omega (arith, le, lt))).least (line_le lines i j d are le lt) (are.coordinates j d lt).most
 
 -- a count as the code reads it, and the sum and the difference of two counts as it finds them
-count_read : (x : ℤ) (n : ℕ) → x ≡ pos n → n ≤ 2 ^ 62 → read x ≡ pos n
+pub count_read : (x : ℤ) (n : ℕ) → x ≡ pos n → n ≤ 2 ^ 62 → read x ≡ pos n
 count_read x n is small = ap read is ∙ read_is (pos n) (pos_fits n (omega (arith, small)))
 
 sum_of : (x y : ℤ) (m n k : ℕ) → x ≡ pos m → y ≡ pos n → k ≡ m + n → k ≤ 2 ^ 62 → FitsSigned w64 (x +ℤ y) × (read (x +ℤ y) ≡ pos k)

@@ -1,3 +1,4 @@
 pub mod CornerSums
 pub mod Ends
 pub mod Placing
+pub mod Windowing

@@ -6,3 +6,4 @@ mod corners;
 mod lines;
 mod mesh;
 mod sides;
+mod windows;
