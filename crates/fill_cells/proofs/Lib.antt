@@ -1,0 +1,5 @@
+pub mod Lists
+pub mod Halving
+pub mod Gaps
+pub mod Sharing
+pub mod Rows

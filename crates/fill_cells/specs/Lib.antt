@@ -1,1 +1,2 @@
 pub mod Mesh
+pub mod steps

@@ -1,3 +1,12 @@
 //! The area that rectangles cover in each cell of a mesh, with no region in between. An area is a count of unit squares, each
 //! counted once however many rectangles hold it: the layer above relies on that.
 #![tactic(auto)]
+
+mod area;
+mod cells;
+mod direction;
+mod pieces;
+mod shares;
+
+pub use area::covered_area;
+pub use cells::cell_areas;

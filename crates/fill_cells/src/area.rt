@@ -1,0 +1,103 @@
+//! The area that rectangles cover in one part of the plane.
+ghost use Rattle.std.specs.Prelude.{◌≡◌, pos, ◌<ℤ◌, ◌≤ℤ◌, IfOk, IfSome};
+ghost use Rattle.fill_base.specs.Coordinates.{lowest, highest};
+ghost use Rattle.fill_base.specs.Squares.{area_of};
+ghost use Rattle.fill_region.specs.Squares.{covered};
+ghost use Rattle.fill_cells.specs.steps.Halves.{AreHalves};
+
+use crate::pieces::within;
+use fill_area::area_in;
+use fill_base::Rect;
+use fill_region::Region;
+use std::alloc::{AllocError, Global};
+
+/// So many rectangles are swept at once.
+const FEW: usize = 1024;
+
+/// How many unit squares of the part some rectangle covers. Many rectangles are cut at the middle of the part and counted in its
+/// halves, so that a pile of large ones costs little: it is one rectangle wherever one of them covers all.
+///
+/// # Errors
+/// `AllocError` where memory is refused.
+pub fn covered_area(alloc: Global, rects: &[Rect], part: &Rect) -> Result<i64, AllocError>
+    ensures { IfOk result (λ n. n ≡ pos (area_of (covered rects.now) part.now)) }
+{
+    match halves(rects, part) {
+        Some((first, second)) => {
+            let in_first = within(alloc, rects, &first)?;
+            let below = covered_area(alloc, &in_first, &first)?;
+            let in_second = within(alloc, rects, &second)?;
+            let above = covered_area(alloc, &in_second, &second)?;
+            Ok(below + above)
+        }
+        None => swept_area(alloc, rects, part),
+    }
+}
+
+/// The same by the region of the rectangles.
+fn swept_area(alloc: Global, rects: &[Rect], part: &Rect) -> Result<i64, AllocError>
+    ensures { IfOk result (λ n. n ≡ pos (area_of (covered rects.now) part.now)) }
+{
+    let region = Region::from_rects(alloc, rects)?;
+    let area = area_in(&region, part);
+    Ok(area)
+}
+
+/// The halves of a part in which many rectangles begin or end, cut across those edges of which there are more.
+fn halves(rects: &[Rect], part: &Rect) -> Option<(Rect, Rect)>
+    ensures { IfSome result (λ h. AreHalves part.now h.0 h.1) }
+{
+    if rects.len() <= FEW {
+        return None;
+    }
+    let across = rects
+        .iter()
+        .filter(|rect| rect.x1() > part.x1() || rect.x2() < part.x2())
+        .count();
+    let up = rects
+        .iter()
+        .filter(|rect| rect.y1() > part.y1() || rect.y2() < part.y2())
+        .count();
+    if across == 0 || up == 0 {
+        None
+    } else if across >= up {
+        halves_across(part)
+    } else {
+        halves_up(part)
+    }
+}
+
+/// The left and the right half, where the part is wider than one square.
+fn halves_across(part: &Rect) -> Option<(Rect, Rect)>
+    ensures { IfSome result (λ h. AreHalves part.now h.0 h.1) }
+{
+    let middle = middle(part.x1(), part.x2())?;
+    let left = Rect::from_edges(part.x1(), part.y1(), middle, part.y2());
+    let right = Rect::from_edges(middle, part.y1(), part.x2(), part.y2());
+    Some((left, right))
+}
+
+/// The lower and the upper half, where the part is taller than one square.
+fn halves_up(part: &Rect) -> Option<(Rect, Rect)>
+    ensures { IfSome result (λ h. AreHalves part.now h.0 h.1) }
+{
+    let middle = middle(part.y1(), part.y2())?;
+    let lower = Rect::from_edges(part.x1(), part.y1(), part.x2(), middle);
+    let upper = Rect::from_edges(part.x1(), middle, part.x2(), part.y2());
+    Some((lower, upper))
+}
+
+/// The line midway between two, or none where they are neighbours.
+fn middle(lo: i64, hi: i64) -> Option<i64>
+    requires low { lowest ≤ℤ lo }
+    requires ordered { lo <ℤ hi }
+    requires high { hi ≤ℤ highest }
+    ensures { IfSome result (λ m. (lo <ℤ m) × (m <ℤ hi)) }
+{
+    let middle = lo + (hi - lo) / 2;
+    if lo < middle && middle < hi {
+        Some(middle)
+    } else {
+        None
+    }
+}

@@ -1,0 +1,122 @@
+//! Rectangles shared out to the parts between lines.
+ghost use Rattle.std.specs.Prelude.{◌≡◌, ◌+◌, ◌<◌, ◌≤◌, ℤ, ℕ, ◌≤ℤ◌, ◌<ℤ◌, get_or, length, [], All, IfOk, OnOk};
+ghost use Rattle.fill_base.specs.declared.rect.Rect.{Rect};
+ghost use Rattle.fill_region.specs.Squares.{covered};
+ghost use Rattle.fill_cells.specs.Mesh.{AreLines, gaps};
+ghost use Rattle.fill_cells.specs.steps.Parts.{AreShares, AreShared, IsSharedAt, AreMet};
+
+use crate::direction::Direction;
+use crate::pieces::hold;
+use fill_base::Rect;
+use std::alloc::{AllocError, Global};
+use std::ops::Range;
+
+/// The rectangles shared out to the parts of `bounds` between neighbouring lines: for each part a list that covers there what
+/// they cover. A rectangle costs a search for the first part that it meets, and a step for each part.
+pub(crate) fn shared_out(
+    alloc: Global,
+    direction: Direction,
+    bounds: &Rect,
+    lines: &[i64],
+    rects: &[Rect],
+) -> Result<Vec<Vec<Rect>>, AllocError>
+    requires { AreLines lines.now }
+    ensures { IfOk result (λ v. AreShares direction bounds.now lines.now (covered rects.now) v.items) }
+{
+    let mut lists = empty_lists(alloc, lines.len() - 1)?;
+    for rect in rects {
+        share(direction, bounds, lines, rect, &mut lists)?;
+    }
+    Ok(lists)
+}
+
+/// So many empty lists.
+fn empty_lists(alloc: Global, count: usize) -> Result<Vec<Vec<Rect>>, AllocError>
+    ensures count { IfOk result (λ v. length v.items ≡ count) }
+    ensures empty { IfOk result (λ v. All (λ list. list.items ≡ []) v.items) }
+{
+    let mut lists = Vec::with_capacity(alloc, count)?;
+    for _ in 0..count {
+        lists.push(Vec::new(alloc))?;
+    }
+    Ok(lists)
+}
+
+/// Puts a rectangle to the list of each part that it meets.
+fn share(
+    direction: Direction,
+    bounds: &Rect,
+    lines: &[i64],
+    rect: &Rect,
+    lists: &mut [Vec<Rect>],
+) -> Result<(), AllocError>
+    requires lines { AreLines lines.now }
+    requires count { length lists.old ≡ gaps lines.now }
+    ensures { OnOk result (AreShared direction bounds.now lines.now rect.now lists.old lists.new) }
+{
+    let met = gaps_met(lines, direction.begin(rect), direction.end(rect));
+    for k in met.start..met.end {
+        share_at(direction, bounds, lines, rect, lists, k)?;
+    }
+    Ok(())
+}
+
+/// Puts a rectangle to the list of the part at `k`.
+fn share_at(
+    direction: Direction,
+    bounds: &Rect,
+    lines: &[i64],
+    rect: &Rect,
+    lists: &mut [Vec<Rect>],
+    k: usize,
+) -> Result<(), AllocError>
+    requires lines { AreLines lines.now }
+    requires count { length lists.old ≡ gaps lines.now }
+    requires within { k < gaps lines.now }
+    ensures { OnOk result (IsSharedAt direction bounds.now lines.now rect.now k lists.old lists.new) }
+{
+    let part = direction.part(bounds, lines[k], lines[k + 1]);
+    hold(&mut lists[k], rect, &part)?;
+    Ok(())
+}
+
+/// The gaps between lines that have a number from `lo` on and below `hi`.
+fn gaps_met(lines: &[i64], lo: i64, hi: i64) -> Range<usize>
+    requires { AreLines lines.now }
+    ensures { AreMet lines.now lo hi result.start result.end }
+{
+    if hi <= lines[0] {
+        return 0..0;
+    }
+    if lines[lines.len() - 1] <= lo {
+        return 0..0;
+    }
+    let first = first_past(lines, lo);
+    first..first_from(lines, first, hi)
+}
+
+/// The first gap that ends above `lo`, or the number of gaps where there is none.
+fn first_past(lines: &[i64], lo: i64) -> usize
+    requires { AreLines lines.now }
+    ensures within { result ≤ gaps lines.now }
+    ensures first { (k : ℕ) (d : ℤ) → k < gaps lines.now → lo <ℤ get_or lines.now (k + 1) d → result ≤ k }
+{
+    let above = lines.partition_point(|line| *line <= lo);
+    above.saturating_sub(1)
+}
+
+/// The first gap from `first` on that begins at `hi` or above, or the number of gaps where there is none.
+fn first_from(lines: &[i64], first: usize, hi: i64) -> usize
+    requires lines { AreLines lines.now }
+    requires first { first ≤ gaps lines.now }
+    ensures from { first ≤ result }
+    ensures within { result ≤ gaps lines.now }
+    ensures past { (k : ℕ) (d : ℤ) → k < gaps lines.now → get_or lines.now k d <ℤ hi → k < result }
+{
+    let last = lines.len() - 1;
+    let mut past = first;
+    'gaps: while past < last && lines[past] < hi {
+        past += 1;
+    }
+    past
+}
