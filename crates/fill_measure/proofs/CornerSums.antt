@@ -80,7 +80,7 @@ difference_of x y m n k x_is y_is is small =
     left m n k e = omega (arith, ints)
 
 -- the corner in column `i` and row `j` is in the list of all
-corner_in : (w h i j : ℕ) → i < w → j < h → j * w + i < h * w
+pub corner_in : (w h i j : ℕ) → i < w → j < h → j * w + i < h * w
 corner_in w h i j i_in j_in = let le : (j + 1) * w ≤ h * w = mul-le-mul (omega (arith, j_in)) (same w) in omega (arith, le, i_in)
   where
     same : (n : ℕ) → n ≤ n

@@ -2,3 +2,4 @@
 pub mod Ends
 pub mod Sides
 pub mod Corners
+pub mod Groups
