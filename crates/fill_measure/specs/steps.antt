@@ -1,5 +1,6 @@
 -- What serves the functions of the crate alone.
-pub mod Ends
-pub mod Sides
 pub mod Corners
+pub mod Ends
 pub mod Groups
+pub mod Meshes
+pub mod Sides

@@ -1,8 +1,7 @@
 //! The areas of all cells of a mesh, measured in parallel.
 ghost use Rattle.std.specs.Prelude.{◌+◌, ◌-◌, ◌*◌, ◌<◌, ◌≤◌, ℕ, min, IfOk, slice_index_or, length};
-ghost use Rattle.fill_region.specs.Squares.{covered};
-ghost use Rattle.fill_cells.specs.Mesh.{AreCells, gaps};
-ghost use Rattle.fill_measure.specs.steps.Groups.{AreRows};
+ghost use Rattle.fill_cells.specs.Mesh.{gaps};
+ghost use Rattle.fill_measure.specs.steps.Meshes.{AreCellsOf, AreRowsOf};
 
 use crate::mesh::Mesh;
 use fill_cells::cell_areas;
@@ -20,7 +19,7 @@ impl Mesh<'_> {
         rt: &(impl Threads + Sync),
         alloc: Global,
     ) -> Result<Vec<i64>, AllocError>
-        ensures { IfOk result (λ v. AreCells (covered self.now.rects.now) self.now.across.now self.now.up.now v.items) }
+        ensures { IfOk result (λ v. AreCellsOf self.now v.items) }
     {
         let lower = &self.up[..self.up.len() - 1];
         let height = lower.len().div_ceil(MOST_GROUPS);
@@ -32,7 +31,7 @@ impl Mesh<'_> {
             &|from: usize, part: &[i64]| -> Result<Vec<i64>, AllocError>
                 requires some { 0 < length part.now }
                 requires within { from + length part.now ≤ gaps self.now.up.now }
-                ensures { IfOk result (λ v. AreRows (covered self.entry.now.rects.now) self.entry.now.across.now self.entry.now.up.now from (length part.entry.now) v.items) }
+                ensures { IfOk result (λ v. AreRowsOf self.entry.now from (length part.entry.now) v.items) }
             { self.rows(alloc, from, part.len()) },
         )?;
         self.joined(alloc, height, groups)
@@ -42,7 +41,7 @@ impl Mesh<'_> {
     fn rows(&self, alloc: Global, from: usize, count: usize) -> Result<Vec<i64>, AllocError>
         requires some { 0 < count }
         requires within { from + count ≤ gaps self.now.up.now }
-        ensures { IfOk result (λ v. AreRows (covered self.now.rects.now) self.now.across.now self.now.up.now from count v.items) }
+        ensures { IfOk result (λ v. AreRowsOf self.now from count v.items) }
     {
         cell_areas(alloc, self.rects, self.across, &self.up[from..][..=count])
     }
@@ -55,8 +54,8 @@ impl Mesh<'_> {
         groups: Vec<Result<Vec<i64>, AllocError>>,
     ) -> Result<Vec<i64>, AllocError>
         requires all { gaps self.now.up.now ≤ length groups.items * height }
-        requires rows { (k : ℕ) (d : _) → k < length groups.items → IfOk (slice_index_or groups.items k d) (λ v. AreRows (covered self.now.rects.now) self.now.across.now self.now.up.now (k * height) (min height (gaps self.now.up.now - k * height)) v.items) }
-        ensures { IfOk result (λ v. AreCells (covered self.now.rects.now) self.now.across.now self.now.up.now v.items) }
+        requires rows { (k : ℕ) (d : _) → k < length groups.items → IfOk (slice_index_or groups.items k d) (λ v. AreRowsOf self.now (k * height) (min height (gaps self.now.up.now - k * height)) v.items) }
+        ensures { IfOk result (λ v. AreCellsOf self.now v.items) }
     {
         let mut cells = Vec::new(alloc);
         for group in groups {

@@ -1,8 +1,7 @@
 //! How many covered squares lie below and left of each crossing of two lines, by which an area between lines is three sums.
-ghost use Rattle.std.specs.Prelude.{◌≡◌, ◌+◌, ◌*◌, ◌<◌, ℤ, pos, IfOk, OnOk, length};
-ghost use Rattle.fill_region.specs.Squares.{covered};
-ghost use Rattle.fill_cells.specs.Mesh.{AreCells, gaps};
-ghost use Rattle.fill_measure.specs.steps.Corners.{AreCorners, block_area};
+ghost use Rattle.std.specs.Prelude.{◌≡◌, ◌+◌, ◌<◌, ℤ, pos, IfOk, OnOk, length};
+ghost use Rattle.fill_cells.specs.Mesh.{gaps};
+ghost use Rattle.fill_measure.specs.steps.Meshes.{AreCellsOf, AreCornersOf, block_of};
 ghost use Rattle.fill_measure.specs.steps.Sides.{AreInOrder};
 
 use crate::mesh::Mesh;
@@ -12,8 +11,8 @@ use std::alloc::{AllocError, Global};
 impl Mesh<'_> {
     /// How many covered squares lie below and left of each crossing of two lines, row by row from the lowest line.
     pub(crate) fn corners(&self, alloc: Global, cells: &[i64]) -> Result<Vec<i64>, AllocError>
-        requires { AreCells (covered self.now.rects.now) self.now.across.now self.now.up.now cells.now }
-        ensures { IfOk result (λ v. AreCorners (covered self.now.rects.now) self.now.across.now self.now.up.now (length self.now.up.now * length self.now.across.now) v.items) }
+        requires { AreCellsOf self.now cells.now }
+        ensures { IfOk result (λ v. AreCornersOf self.now (length self.now.up.now) v.items) }
     {
         let mut corners = Vec::from_elem(alloc, 0, self.across.len())?;
         for j in 0..self.up.len() - 1 {
@@ -25,9 +24,9 @@ impl Mesh<'_> {
     /// Adds the corners of the line above row `j` of the cells.
     fn add_line(&self, j: usize, cells: &[i64], corners: &mut Vec<i64>) -> Result<(), AllocError>
         requires row { j < gaps self.now.up.now }
-        requires cells { AreCells (covered self.now.rects.now) self.now.across.now self.now.up.now cells.now }
-        requires corners { AreCorners (covered self.now.rects.now) self.now.across.now self.now.up.now ((j + 1) * length self.now.across.now) corners.old.items }
-        ensures { OnOk result (AreCorners (covered self.now.rects.now) self.now.across.now self.now.up.now ((j + 2) * length self.now.across.now) corners.new.items) }
+        requires cells { AreCellsOf self.now cells.now }
+        requires corners { AreCornersOf self.now (j + 1) corners.old.items }
+        ensures { OnOk result (AreCornersOf self.now (j + 2) corners.new.items) }
     {
         let below = j * self.across.len();
         let row = j * (self.across.len() - 1);
@@ -42,10 +41,10 @@ impl Mesh<'_> {
 
     /// How many covered squares lie between two lines across and two upwards.
     pub(crate) fn area(&self, corners: &[i64], columns: Sides, rows: Sides) -> i64
-        requires corners { AreCorners (covered self.now.rects.now) self.now.across.now self.now.up.now (length self.now.up.now * length self.now.across.now) corners.now }
+        requires corners { AreCornersOf self.now (length self.now.up.now) corners.now }
         requires columns { AreInOrder self.now.across.now columns }
         requires rows { AreInOrder self.now.up.now rows }
-        ensures { (d : ℤ) → result ≡ pos (block_area (covered self.now.rects.now) self.now.across.now self.now.up.now columns.begin rows.begin columns.end rows.end d) }
+        ensures { (d : ℤ) → result ≡ pos (block_of self.now columns.begin rows.begin columns.end rows.end d) }
     {
         let top = self.lines_area(corners, columns, rows.end);
         top - self.lines_area(corners, columns, rows.begin)
@@ -53,10 +52,10 @@ impl Mesh<'_> {
 
     /// How many covered squares lie between two lines across, below line `j`.
     fn lines_area(&self, corners: &[i64], columns: Sides, j: usize) -> i64
-        requires corners { AreCorners (covered self.now.rects.now) self.now.across.now self.now.up.now (length self.now.up.now * length self.now.across.now) corners.now }
+        requires corners { AreCornersOf self.now (length self.now.up.now) corners.now }
         requires columns { AreInOrder self.now.across.now columns }
         requires line { j < length self.now.up.now }
-        ensures { (d : ℤ) → result ≡ pos (block_area (covered self.now.rects.now) self.now.across.now self.now.up.now columns.begin 0 columns.end j d) }
+        ensures { (d : ℤ) → result ≡ pos (block_of self.now columns.begin 0 columns.end j d) }
     {
         let row = j * self.across.len();
         corners[row + columns.end] - corners[row + columns.begin]

@@ -1,8 +1,8 @@
 //! The areas of windows whose sides are lines of a mesh.
-ghost use Rattle.std.specs.Prelude.{◌≡◌, ◌*◌, IfOk, All, length};
+ghost use Rattle.std.specs.Prelude.{IfOk, All, length};
 ghost use Rattle.fill_area.specs.Density.{AreMeasured, IsArea};
 ghost use Rattle.fill_region.specs.Squares.{covered};
-ghost use Rattle.fill_measure.specs.steps.Corners.{AreCorners};
+ghost use Rattle.fill_measure.specs.steps.Meshes.{AreCornersOf};
 ghost use Rattle.fill_measure.specs.steps.Ends.{HoldEnds};
 
 use crate::mesh::Mesh;
@@ -20,7 +20,7 @@ impl Mesh<'_> {
     ) -> Result<Vec<i64>, AllocError>
         requires across { HoldEnds self.now.across.now windows.now.across windows.now.across.count }
         requires up { HoldEnds self.now.up.now windows.now.up windows.now.up.count }
-        requires corners { AreCorners (covered self.now.rects.now) self.now.across.now self.now.up.now (length self.now.up.now * length self.now.across.now) corners.now }
+        requires corners { AreCornersOf self.now (length self.now.up.now) corners.now }
         ensures areas { IfOk result (λ v. AreMeasured (covered self.now.rects.now) windows.now v.items) }
         ensures bounded { IfOk result (λ v. All IsArea v.items) }
     {
