@@ -1,7 +1,7 @@
 //! The areas of all cells of a mesh, measured in parallel.
-ghost use Rattle.std.specs.Prelude.{◌+◌, ◌-◌, ◌*◌, ◌<◌, ◌≤◌, ℕ, min, IfOk, slice_index_or, length};
+ghost use Rattle.std.specs.Prelude.{◌+◌, ◌*◌, ◌<◌, ◌≤◌, ℕ, IfOk, slice_index_or, length};
 ghost use Rattle.fill_cells.specs.Mesh.{gaps};
-ghost use Rattle.fill_measure.specs.steps.Meshes.{AreCellsOf, AreRowsOf};
+ghost use Rattle.fill_measure.specs.steps.Meshes.{AreCellsOf, AreRowsOf, AreGroupOf};
 
 use crate::mesh::Mesh;
 use fill_cells::cell_areas;
@@ -54,7 +54,7 @@ impl Mesh<'_> {
         groups: Vec<Result<Vec<i64>, AllocError>>,
     ) -> Result<Vec<i64>, AllocError>
         requires all { gaps self.now.up.now ≤ length groups.items * height }
-        requires rows { (k : ℕ) (d : _) → k < length groups.items → IfOk (slice_index_or groups.items k d) (λ v. AreRowsOf self.now (k * height) (min height (gaps self.now.up.now - k * height)) v.items) }
+        requires rows { (k : ℕ) (d : _) → k < length groups.items → IfOk (slice_index_or groups.items k d) (λ v. AreGroupOf self.now height k v.items) }
         ensures { IfOk result (λ v. AreCellsOf self.now v.items) }
     {
         let mut cells = Vec::new(alloc);

@@ -1,4 +1,4 @@
-//! How many covered squares lie below and left of each crossing of two lines, by which an area between lines is three sums.
+//! How many covered squares lie below and left of each crossing of two lines: an area between lines is a difference of such numbers.
 ghost use Rattle.std.specs.Prelude.{◌≡◌, ◌+◌, ◌<◌, ℤ, pos, IfOk, OnOk, length};
 ghost use Rattle.fill_cells.specs.Mesh.{gaps};
 ghost use Rattle.fill_measure.specs.steps.Meshes.{AreCellsOf, AreCornersOf, block_of};
@@ -15,6 +15,7 @@ impl Mesh<'_> {
         ensures { IfOk result (λ v. AreCornersOf self.now (length self.now.up.now) v.items) }
     {
         let mut corners = Vec::from_elem(alloc, 0, self.across.len())?;
+        corners.reserve(cells.len() + self.up.len())?;
         for j in 0..self.up.len() - 1 {
             self.add_line(j, cells, &mut corners)?;
         }
