@@ -8,6 +8,8 @@ mod lines;
 mod measure;
 mod mesh;
 mod sides;
+#[cfg(test)]
+mod tests;
 mod windows;
 
 pub use measure::measure_rects;
