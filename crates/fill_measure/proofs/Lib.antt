@@ -1,0 +1,5 @@
+pub mod CornerSums
+pub mod Ends
+pub mod Grouping
+pub mod Placing
+pub mod Windowing

@@ -2,6 +2,14 @@
 //! of its unit squares that some rectangle holds: the layers above rely on that.
 #![tactic(auto)]
 
+mod cells;
+mod corners;
+mod lines;
 mod measure;
+mod mesh;
+mod sides;
+#[cfg(test)]
+mod tests;
+mod windows;
 
 pub use measure::measure_rects;

@@ -1,0 +1,217 @@
+-- Areas between lines, as sums and differences of those below and left of the crossings.
+use Rattle.std.proofs.Common.{◌≡◌, ℕ, ◌+◌, ◌*◌, ◌^◌, ◌≤◌, ◌<◌, ℤ, pos, ◌+ℤ◌, ◌-ℤ◌, ◌≤ℤ◌, List, [], ◌∷◌, ◌++◌, Bool, cond, length, get_or, replicate, refl, arith, ap, subst, ◌∙◌, sym, w64, FitsSigned}
+use Rattle.std.proofs.lemmas.Int.{ints}
+use Rattle.std.proofs.lemmas.List.{get_or_append_left, get_or_default, get_or-replicate, length_push, length-replicate}
+use Rattle.std.proofs.lemmas.Nat.{same_from_place}
+use Rattle.std.proofs.Math.Nat.{mul-le-mul}
+use Rattle.std.proofs.Math.Seq.{get_or-append_seam}
+use Rattle.fill_base.specs.Counts.{span_len, count_between}
+use Rattle.fill_base.specs.Squares.{area_between}
+use Rattle.fill_base.proofs.Signed.{read, read_is, pos_fits, side_short, product_small, lt_le}
+use Rattle.fill_base.proofs.Counting.{sum_between_split, sum_between_add, sum_between_le, count_between_le}
+use Rattle.fill_area.proofs.Begun.{by_lt}
+use Rattle.fill_cells.specs.Mesh.{AreLines, AreCells, gaps}
+use Rattle.fill_measure.specs.steps.Corners.{block_area, AreCorners}
+
+-- an area splits at a number between its sides
+area_wider : (p : ℤ → ℤ → Bool) (left mid right bottom top : ℤ) → left ≤ℤ mid → mid ≤ℤ right
+    → area_between p left bottom right top ≡ area_between p left bottom mid top + area_between p mid bottom right top
+area_wider p left mid right bottom top low high =
+    sum_between_add (λ y. count_between (λ x. p x y) left mid) (λ y. count_between (λ x. p x y) mid right) (λ y. count_between (λ x. p x y) left right) bottom top
+    (λ y. sum_between_split (λ x. cond (p x y) 1 0) left mid right low high)
+
+area_taller : (p : ℤ → ℤ → Bool) (left right bottom mid top : ℤ) → bottom ≤ℤ mid → mid ≤ℤ top
+    → area_between p left bottom right top ≡ area_between p left bottom right mid + area_between p left mid right top
+area_taller p left right bottom mid top low high = sum_between_split (λ y. count_between (λ x. p x y) left right) bottom mid top low high
+
+area_le : (p : ℤ → ℤ → Bool) (left bottom right top : ℤ) → area_between p left bottom right top ≤ span_len bottom top * span_len left right
+area_le p left bottom right top = sum_between_le (λ y. count_between (λ x. p x y) left right) bottom top (span_len left right) (λ y. count_between_le (λ x. p x y) left right)
+
+-- nothing lies between a line and itself
+no_width : (p : ℤ → ℤ → Bool) (x bottom top : ℤ) → area_between p x bottom x top ≡ 0
+no_width p x bottom top = nothing _ (span_len bottom top) (span_len x x) (omega (arith, ints)) (area_le p x bottom x top)
+  where
+    nothing : (m n s : ℕ) → s ≡ 0 → m ≤ n * s → m ≡ 0
+    nothing m n s none le = let le' : m ≤ n * 0 = subst (λ z. m ≤ n * z) none le in omega (arith, le')
+
+no_height : (p : ℤ → ℤ → Bool) (left right y : ℤ) → area_between p left y right y ≡ 0
+no_height p left right y = nothing _ (span_len y y) (span_len left right) (omega (arith, ints)) (area_le p left y right y)
+  where
+    nothing : (m s n : ℕ) → s ≡ 0 → m ≤ s * n → m ≡ 0
+    nothing m s n none le = let le' : m ≤ 0 * n = subst (λ z. m ≤ z * n) none le in omega (arith, le')
+
+-- lines do not fall
+line_le : (lines : List ℤ) (i j : ℕ) (d : ℤ) → AreLines lines → i ≤ j → j < length lines → get_or lines i d ≤ℤ get_or lines j d
+line_le lines i j d are le lt = by_lt i j
+    (λ below. lt_le _ _ (are.rising i j d below lt))
+    (λ same. let e : i ≡ j = omega (arith, le, same) in rw e (refl_le (get_or lines j d)))
+  where
+    refl_le : (z : ℤ) → z ≤ℤ z
+    refl_le z = omega (arith, ints)
+
+-- the area between lines is small
+pub block_small : (p : ℤ → ℤ → Bool) (across up : List ℤ) (left bottom right top : ℕ) (d : ℤ) → AreLines across → AreLines up → left ≤ right → right < length across → bottom ≤ top → top < length up
+    → block_area p across up left bottom right top d ≤ 2 ^ 62
+block_small p across up left bottom right top d x_are y_are x_le x_in y_le y_in =
+    let wide : span_len (get_or across left d) (get_or across right d) ≤ 2 ^ 31 = short across left right x_are x_le x_in in
+    let tall : span_len (get_or up bottom d) (get_or up top d) ≤ 2 ^ 31 = short up bottom top y_are y_le y_in in
+    let le = area_le p (get_or across left d) (get_or up bottom d) (get_or across right d) (get_or up top d) in
+    let small = product_small _ _ tall wide in
+    omega (arith, le, small)
+  where
+    short : (lines : List ℤ) (i j : ℕ) → AreLines lines → i ≤ j → j < length lines → span_len (get_or lines i d) (get_or lines j d) ≤ 2 ^ 31
+    short lines i j are le lt = side_short _ _ (are.coordinates i d (omega (arith, le, lt))).least (line_le lines i j d are le lt) (are.coordinates j d lt).most
+
+-- a count as the code reads it, and the sum and the difference of two counts as it finds them
+pub count_read : (x : ℤ) (n : ℕ) → x ≡ pos n → n ≤ 2 ^ 62 → read x ≡ pos n
+count_read x n is small = ap read is ∙ read_is (pos n) (pos_fits n (omega (arith, small)))
+
+sum_of : (x y : ℤ) (m n k : ℕ) → x ≡ pos m → y ≡ pos n → k ≡ m + n → k ≤ 2 ^ 62 → FitsSigned w64 (x +ℤ y) × (read (x +ℤ y) ≡ pos k)
+sum_of x y m n k x_is y_is is small =
+    let whole : x +ℤ y ≡ pos k = ap (λ z. z +ℤ y) x_is ∙ (ap (λ z. pos m +ℤ z) y_is ∙ ap pos (sym is)) in
+    (rw whole (pos_fits k (omega (arith, small))), count_read (x +ℤ y) k whole small)
+
+difference_of : (x y : ℤ) (m n k : ℕ) → x ≡ pos m → y ≡ pos n → m ≡ n + k → m ≤ 2 ^ 62 → FitsSigned w64 (x -ℤ y) × (read (x -ℤ y) ≡ pos k)
+difference_of x y m n k x_is y_is is small =
+    let whole : x -ℤ y ≡ pos k = ap (λ z. z -ℤ y) x_is ∙ (ap (λ z. pos m -ℤ z) y_is ∙ left m n k is) in
+    (rw whole (pos_fits k (omega (arith, is, small))), count_read (x -ℤ y) k whole (omega (arith, is, small)))
+  where
+    left : (m n k : ℕ) → m ≡ n + k → pos m -ℤ pos n ≡ pos k
+    left m n k e = omega (arith, ints)
+
+-- the corner in column `i` and row `j` is in the list of all
+pub corner_in : (w h i j : ℕ) → i < w → j < h → j * w + i < h * w
+corner_in w h i j i_in j_in = let le : (j + 1) * w ≤ h * w = mul-le-mul (omega (arith, j_in)) (same w) in omega (arith, le, i_in)
+  where
+    same : (n : ℕ) → n ≤ n
+    same n = omega arith
+
+-- the lines between two lines across, below line `j`: a difference of two corners
+pub lines_difference : (p : ℤ → ℤ → Bool) (across up corners : List ℤ) (left right j : ℕ) → AreLines across → AreLines up → AreCorners p across up (length up * length across) corners
+    → left ≤ right → right < length across → j < length up → (e d : ℤ)
+    → FitsSigned w64 (read (get_or corners (j * length across + right) e) -ℤ read (get_or corners (j * length across + left) e))
+    × (read (read (get_or corners (j * length across + right) e) -ℤ read (get_or corners (j * length across + left) e)) ≡ pos (block_area p across up left 0 right j d))
+lines_difference p across up corners left right j x_are y_are are le x_in y_in e d = difference_of _ _ _ _ _
+    (corner right x_in)
+    (corner left left_in)
+    (area_wider p (get_or across 0 d) (get_or across left d) (get_or across right d) (get_or up 0 d) (get_or up j d) (line_le across 0 left d x_are (omega arith) left_in) (line_le across left right d x_are le x_in))
+    (small right x_in)
+  where
+    left_in : left < length across
+    left_in = omega (arith, le, x_in)
+
+    small : (i : ℕ) → i < length across → block_area p across up 0 0 i j d ≤ 2 ^ 62
+    small i i_in = block_small p across up 0 0 i j d x_are y_are (omega arith) i_in (omega arith) y_in
+
+    corner : (i : ℕ) → i < length across → read (get_or corners (j * length across + i) e) ≡ pos (block_area p across up 0 0 i j d)
+    corner i i_in =
+        let within : j * length across + i < length up * length across = corner_in (length across) (length up) i j i_in y_in in
+        count_read _ _ (get_or_default corners _ e d (rw are.count within) ∙ are.each i j d i_in within) (small i i_in)
+
+-- the lines between two lines upwards: a difference of such
+pub rows_difference : (p : ℤ → ℤ → Bool) (across up : List ℤ) (left bottom right top : ℕ) (x y : ℤ) → AreLines across → AreLines up → left ≤ right → right < length across → bottom ≤ top → top < length up
+    → ((d : ℤ) → x ≡ pos (block_area p across up left 0 right top d)) → ((d : ℤ) → y ≡ pos (block_area p across up left 0 right bottom d)) → (d : ℤ)
+    → FitsSigned w64 (read x -ℤ read y) × (read (read x -ℤ read y) ≡ pos (block_area p across up left bottom right top d))
+rows_difference p across up left bottom right top x y x_are y_are x_le x_in y_le y_in x_is y_is d = difference_of _ _ _ _ _
+    (count_read x _ (x_is d) (small top y_in))
+    (count_read y _ (y_is d) (small bottom (omega (arith, y_le, y_in))))
+    (area_taller p (get_or across left d) (get_or across right d) (get_or up 0 d) (get_or up bottom d) (get_or up top d) (line_le up 0 bottom d y_are (omega arith) (omega (arith, y_le, y_in))) (line_le up bottom top d y_are y_le y_in))
+    (small top y_in)
+  where
+    small : (j : ℕ) → j < length up → block_area p across up left 0 right j d ≤ 2 ^ 62
+    small j j_in = block_small p across up left 0 right j d x_are y_are x_le x_in (omega arith) j_in
+
+-- above row `j` of the cells `i` corners are added, besides that at the left line, and what the cells so far hold
+pub record AreAdded (p : ℤ → ℤ → Bool) (across up : List ℤ) (j i : ℕ) (total : ℤ) (corners : List ℤ) : Type 0 where
+  pub total_is : (d : ℤ) → total ≡ pos (block_area p across up 0 j i (j + 1) d)
+  pub are : AreCorners p across up ((j + 1) * length across + (i + 1)) corners
+
+-- one corner more
+corners_more : (p : ℤ → ℤ → Bool) (across up corners : List ℤ) (i j : ℕ) (value : ℤ) → i < length across → AreCorners p across up (j * length across + i) corners
+    → ((d : ℤ) → value ≡ pos (block_area p across up 0 0 i j d)) → AreCorners p across up (j * length across + (i + 1)) (corners ++ value ∷ [])
+corners_more p across up corners i j value i_in are value_is = record {
+  count = length_push corners value ∙ omega (arith, are.count);
+  each = λ k l d k_in lt. by_lt (l * length across + k) (j * length across + i)
+      (λ below. get_or_append_left corners (value ∷ []) d (l * length across + k) (rw are.count below) ∙ are.each k l d k_in below)
+      (λ here.
+      let is : l * length across + k ≡ j * length across + i = omega (arith, lt, here) in
+      let place = same_from_place l k j i (length across) k_in i_in is in
+      ap (λ n. get_or (corners ++ value ∷ []) n d) (is ∙ sym are.count) ∙ (get_or-append_seam corners value [] d ∙ (value_is d ∙ rw (place.0, place.1) refl)));
+}
+
+-- the total with one cell more
+pub total_more : (p : ℤ → ℤ → Bool) (across up cells : List ℤ) (i j : ℕ) (total : ℤ) → AreLines across → AreLines up → AreCells p across up cells → i < gaps across → j < gaps up
+    → ((d : ℤ) → total ≡ pos (block_area p across up 0 j i (j + 1) d)) → (e : ℤ)
+    → FitsSigned w64 (total +ℤ read (get_or cells (j * gaps across + i) e)) × ((d : ℤ) → read (total +ℤ read (get_or cells (j * gaps across + i) e)) ≡ pos (block_area p across up 0 j (i + 1) (j + 1) d))
+total_more p across up cells i j total x_are y_are are i_in j_in total_is e = ((at e).0, λ d. (at d).1)
+  where
+    within : j * gaps across + i < gaps up * gaps across
+    within = corner_in (gaps across) (gaps up) i j i_in j_in
+
+    small : (k : ℕ) (d : ℤ) → k ≤ i + 1 → block_area p across up k j (i + 1) (j + 1) d ≤ 2 ^ 62
+    small k d le = block_small p across up k j (i + 1) (j + 1) d x_are y_are le (omega (arith, i_in)) (omega arith) (omega (arith, j_in))
+
+    cell : (d : ℤ) → get_or cells (j * gaps across + i) e ≡ pos (block_area p across up i j (i + 1) (j + 1) d)
+    cell d = get_or_default cells _ e d (rw are.count within) ∙ are.each i j d i_in j_in
+
+    at : (d : ℤ) → FitsSigned w64 (total +ℤ read (get_or cells (j * gaps across + i) e)) × (read (total +ℤ read (get_or cells (j * gaps across + i) e)) ≡ pos (block_area p across up 0 j (i + 1) (j + 1) d))
+    at d = sum_of _ _ _ _ _ (total_is d) (count_read _ _ (cell d) (small i d (omega arith)))
+        (area_wider p (get_or across 0 d) (get_or across i d) (get_or across (i + 1) d) (get_or up j d) (get_or up (j + 1) d) (line_le across 0 i d x_are (omega arith) (omega (arith, i_in))) (line_le across i (i + 1) d x_are (omega arith) (omega (arith, i_in))))
+        (small 0 d (omega arith))
+
+-- the corner with that total above the one below it
+pub corner_above : (p : ℤ → ℤ → Bool) (across up corners : List ℤ) (i j : ℕ) (below total : ℤ) → AreLines across → AreLines up → i < gaps across → j < gaps up
+    → AreCorners p across up ((j + 1) * length across + (i + 1)) corners → below ≡ get_or corners (j * length across + i + 1) below
+    → ((d : ℤ) → total ≡ pos (block_area p across up 0 j (i + 1) (j + 1) d))
+    → FitsSigned w64 (read below +ℤ total) × ((d : ℤ) → read (read below +ℤ total) ≡ pos (block_area p across up 0 0 (i + 1) (j + 1) d))
+corner_above p across up corners i j below total x_are y_are i_in j_in are below_is total_is = ((at below).0, λ d. (at d).1)
+  where
+    early : j * length across + (i + 1) < (j + 1) * length across + (i + 1)
+    early = omega (arith, i_in)
+
+    small : (k : ℕ) (d : ℤ) → k < length up → block_area p across up 0 0 (i + 1) k d ≤ 2 ^ 62
+    small k d k_in = block_small p across up 0 0 (i + 1) k d x_are y_are (omega arith) (omega (arith, i_in)) (omega arith) k_in
+
+    corner : (d : ℤ) → below ≡ pos (block_area p across up 0 0 (i + 1) j d)
+    corner d =
+        let place : j * length across + i + 1 ≡ j * length across + (i + 1) = omega arith in
+        below_is ∙ (ap (λ n. get_or corners n below) place ∙ (get_or_default corners _ below d (rw are.count early) ∙ are.each (i + 1) j d (omega (arith, i_in)) early))
+
+    at : (d : ℤ) → FitsSigned w64 (read below +ℤ total) × (read (read below +ℤ total) ≡ pos (block_area p across up 0 0 (i + 1) (j + 1) d))
+    at d = sum_of _ _ _ _ _ (count_read below _ (corner d) (small j d (omega (arith, j_in)))) (total_is d)
+        (area_taller p (get_or across 0 d) (get_or across (i + 1) d) (get_or up 0 d) (get_or up j d) (get_or up (j + 1) d) (line_le up 0 j d y_are (omega arith) (omega (arith, j_in))) (line_le up j (j + 1) d y_are (omega arith) (omega (arith, j_in))))
+        (small (j + 1) d (omega (arith, j_in)))
+
+-- the corner at the left line
+pub added_first : (p : ℤ → ℤ → Bool) (across up old new : List ℤ) (j : ℕ) → AreLines across → AreCorners p across up ((j + 1) * length across) old → new ≡ old ++ pos 0 ∷ [] → AreAdded p across up j 0 (pos 0) new
+added_first p across up old new j x_are are new_is = record {
+  total_is = λ d. ap pos (sym (no_width p (get_or across 0 d) (get_or up j d) (get_or up (j + 1) d)));
+  are = rw new_is (corners_more p across up old 0 (j + 1) (pos 0) (let some : 2 ≤ length across = x_are.some in omega (arith, some)) (subst (λ n. AreCorners p across up n old) at are)
+      (λ d. ap pos (sym (no_width p (get_or across 0 d) (get_or up 0 d) (get_or up (j + 1) d)))));
+}
+  where
+    at : (j + 1) * length across ≡ (j + 1) * length across + 0
+    at = omega arith
+
+-- one corner more
+pub added_more : (p : ℤ → ℤ → Bool) (across up old new : List ℤ) (i j : ℕ) (total value total' : ℤ) → i < gaps across → AreAdded p across up j i total old → new ≡ old ++ value ∷ []
+    → ((d : ℤ) → value ≡ pos (block_area p across up 0 0 (i + 1) (j + 1) d)) → ((d : ℤ) → total' ≡ pos (block_area p across up 0 j (i + 1) (j + 1) d)) → AreAdded p across up j (i + 1) total' new
+added_more p across up old new i j total value total' i_in added new_is value_is total_is = record {
+  total_is = total_is;
+  are = rw new_is (corners_more p across up old (i + 1) (j + 1) value (omega (arith, i_in)) added.are value_is);
+}
+
+-- the corners on the lowest line
+pub lowest_line : (p : ℤ → ℤ → Bool) (across up : List ℤ) → AreCorners p across up ((0 + 1) * length across) (replicate (length across) (pos 0))
+lowest_line p across up = record {
+  count = length-replicate (length across) (pos 0) ∙ omega arith;
+  each = λ i j d i_in lt.
+      let first : j ≡ 0 = by_lt j 1 (λ none. omega (arith, none)) (λ some. absurd (let le : 1 * length across ≤ j * length across = mul-le-mul some (same (length across)) in omega (arith, le, lt))) in
+      let at : j * length across + i ≡ i = ap (λ n. n * length across + i) first ∙ omega arith in
+      ap (λ n. get_or (replicate (length across) (pos 0)) n d) at
+      ∙ (get_or-replicate (length across) i (pos 0) d i_in
+      ∙ ap pos (sym (ap (λ n. block_area p across up 0 0 i n d) first ∙ no_height p (get_or across 0 d) (get_or across i d) (get_or up 0 d))));
+}
+  where
+    same : (n : ℕ) → n ≤ n
+    same n = omega arith

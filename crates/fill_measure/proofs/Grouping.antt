@@ -1,0 +1,128 @@
+-- Groups of neighbouring rows of cells, and all rows from them.
+use Rattle.std.proofs.Common.{◌≡◌, ℕ, suc, ◌+◌, ◌-◌, ◌*◌, ◌≤◌, ◌<◌, min, ℤ, pos, Bool, List, [], ◌∷◌, ◌++◌, length, get_or, take, drop, Result, Ok, IfOk, refl, arith, ap, subst, ◌∙◌, sym}
+use Rattle.std.proofs.lemmas.List.{get_or_append_left, get_or-take, get_or-drop, length-append, length-drop, length-take-le}
+use Rattle.std.proofs.Math.Nat.{mul-le-mul}
+use Rattle.std.proofs.Math.Seq.{get_or-append_right, get_or-append_seam}
+use Rattle.fill_area.proofs.Begun.{by_lt}
+use Rattle.fill_cells.specs.Mesh.{AreLines, AreCells, gaps, cell_area}
+use Rattle.fill_measure.proofs.CornerSums.{corner_in}
+use Rattle.fill_measure.specs.steps.Groups.{AreRows}
+
+-- the lines of some neighbouring rows, as the code takes them
+abbrev pub part_of : List ℤ → ℕ → ℕ → List ℤ
+part_of up from count = take (count + 1) (take (length up - from) (drop from up))
+
+part_length : (up : List ℤ) (from count : ℕ) → AreLines up → from + count ≤ gaps up → length (part_of up from count) ≡ count + 1
+part_length up from count are within =
+    let some : 2 ≤ length up = are.some in
+    let rest : length (drop from up) ≡ length up - from = length-drop from up in
+    let all : length (take (length up - from) (drop from up)) ≡ length up - from = length-take-le (length up - from) (drop from up) (omega (arith, rest)) in
+    length-take-le (count + 1) (take (length up - from) (drop from up)) (omega (arith, all, within, some))
+
+part_at : (up : List ℤ) (from count i : ℕ) (d : ℤ) → AreLines up → from + count ≤ gaps up → i < count + 1 → get_or (part_of up from count) i d ≡ get_or up (from + i) d
+part_at up from count i d are within lt =
+    let some : 2 ≤ length up = are.some in
+    get_or-take (count + 1) (take (length up - from) (drop from up)) i d lt
+    ∙ (get_or-take (length up - from) (drop from up) i d (omega (arith, within, lt, some)) ∙ get_or-drop from up i d)
+
+pub part_lines : (up : List ℤ) (from count : ℕ) → AreLines up → 0 < count → from + count ≤ gaps up → AreLines (part_of up from count)
+part_lines up from count are some within = record {
+  some = omega (arith, len, some);
+  coordinates = λ i d lt. rw (at i d (omega (arith, lt, len))) (are.coordinates (from + i) d (in_up i (omega (arith, lt, len))));
+  rising = λ i j d below lt. rw (at i d (omega (arith, below, lt, len)), at j d (omega (arith, lt, len))) (are.rising (from + i) (from + j) d (omega (arith, below)) (in_up j (omega (arith, lt, len))));
+}
+  where
+    len : length (part_of up from count) ≡ count + 1
+    len = part_length up from count are within
+
+    at : (i : ℕ) (d : ℤ) → i < count + 1 → get_or (part_of up from count) i d ≡ get_or up (from + i) d
+    at i d lt = part_at up from count i d are within lt
+
+    in_up : (i : ℕ) → i < count + 1 → from + i < length up
+    in_up i lt = let some : 2 ≤ length up = are.some in omega (arith, lt, within, some)
+
+-- the cells between these lines are those rows
+pub part_rows : (p : ℤ → ℤ → Bool) (across up areas : List ℤ) (from count : ℕ) → AreLines up → from + count ≤ gaps up → AreCells p across (part_of up from count) areas → AreRows p across up from count areas
+part_rows p across up areas from count are within cells = record {
+  count = cells.count ∙ ap (λ n. n * gaps across) gaps_is;
+  each = λ i j d i_in j_in. cells.each i j d i_in (rw gaps_is j_in) ∙ rw (at j d (omega (arith, j_in)), at (j + 1) d (omega (arith, j_in)), sym (above j)) refl;
+}
+  where
+    gaps_is : gaps (part_of up from count) ≡ count
+    gaps_is = let len = part_length up from count are within in omega (arith, len)
+
+    above : (j : ℕ) → from + j + 1 ≡ from + (j + 1)
+    above j = omega arith
+
+    at : (i : ℕ) (d : ℤ) → i < count + 1 → get_or (part_of up from count) i d ≡ get_or up (from + i) d
+    at i d lt = part_at up from count i d are within lt
+
+-- rows after the first `m`
+rows_more : (p : ℤ → ℤ → Bool) (across up old more : List ℤ) (m n : ℕ) → AreRows p across up 0 m old → AreRows p across up m n more → AreRows p across up 0 (m + n) (old ++ more)
+rows_more p across up old more m n first later = record {
+  count = length-append old more ∙ omega (arith, first.count, later.count);
+  each = λ i j d i_in j_in. by_lt j m
+      (λ low. get_or_append_left old more d (j * gaps across + i) (rw first.count (corner_in (gaps across) m i j i_in low)) ∙ first.each i j d i_in low)
+      (λ high.
+      let is : j ≡ m + (j - m) = omega (arith, high) in
+      let back : m + (j - m) ≡ 0 + j = omega (arith, high) in
+      let past : m * gaps across ≤ j * gaps across + i = let le : m * gaps across ≤ j * gaps across = mul-le-mul high (same (gaps across)) in omega (arith, le) in
+      get_or-append_right old more (j * gaps across + i) d (omega (arith, first.count, past))
+      ∙ (ap (λ n. get_or more n d) (ap (λ n. n * gaps across + i - length old) is ∙ place m (j - m) (gaps across) i (length old) first.count)
+      ∙ (later.each i (j - m) d i_in (omega (arith, high, j_in)) ∙ ap (λ n. pos (cell_area p across up i n d)) back)));
+}
+  where
+    same : (n : ℕ) → n ≤ n
+    same n = omega arith
+
+    place : (m k g i l : ℕ) → l ≡ m * g → (m + k) * g + i - l ≡ k * g + i
+    place m k g i l e = omega (arith, e)
+
+-- one group more
+pub group_more : (p : ℤ → ℤ → Bool) (across up old more new : List ℤ) (k height : ℕ) → AreRows p across up 0 (min (k * height) (gaps up)) old
+    → AreRows p across up (k * height) (min height (gaps up - k * height)) more → new ≡ old ++ more → AreRows p across up 0 (min ((k + 1) * height) (gaps up)) new
+group_more p across up old more new k height first later new_is =
+    rw new_is (subst (λ n. AreRows p across up 0 n (old ++ more)) (whole k height (gaps up)) (rows_more p across up old more (min (k * height) (gaps up)) (min height (gaps up - k * height)) first moved))
+  where
+    whole : (k h r : ℕ) → min (k * h) r + min h (r - k * h) ≡ min ((k + 1) * h) r
+    whole k h r = omega arith
+
+    begins : (a h r j : ℕ) → j < min h (r - a) → a ≡ min a r
+    begins a h r j lt = omega (arith, lt)
+
+    moved : AreRows p across up (min (k * height) (gaps up)) (min height (gaps up - k * height)) more
+    moved = record {
+      count = later.count;
+      each = λ i j d i_in j_in. later.each i j d i_in j_in ∙ ap (λ n. pos (cell_area p across up i (n + j) d)) (begins (k * height) height (gaps up) j j_in);
+    }
+
+pub no_rows : (p : ℤ → ℤ → Bool) (across up : List ℤ) (n : ℕ) → AreRows p across up 0 (min (0 * n) (gaps up)) []
+no_rows p across up n = subst (λ m. AreRows p across up 0 m []) (none n (gaps up)) (record { count = omega arith; each = λ i j d i_in j_in. absurd (omega (arith, j_in)) })
+  where
+    none : (n m : ℕ) → 0 ≡ min (0 * n) m
+    none n m = omega arith
+
+-- all rows
+pub all_rows : (p : ℤ → ℤ → Bool) (across up cells : List ℤ) (k height : ℕ) → gaps up ≤ k * height → AreRows p across up 0 (min (k * height) (gaps up)) cells → AreCells p across up cells
+all_rows p across up cells k height enough rows = record {
+  count = rows.count ∙ ap (λ n. n * gaps across) all;
+  each = λ i j d i_in j_in. rows.each i j d i_in (rw all j_in) ∙ ap (λ n. pos (cell_area p across up i n d)) (first j);
+}
+  where
+    all : min (k * height) (gaps up) ≡ gaps up
+    all = omega (arith, enough)
+
+    first : (j : ℕ) → 0 + j ≡ j
+    first j = omega arith
+
+-- what holds of each group that succeeded holds of the one that is next
+pub next_group : {V E : Type 0} (P : ℕ → V → Type 0) (all done rest : List (Result V E)) (x : Result V E) (v : V) → done ++ x ∷ rest ≡ all → x ≡ Ok v
+    → ((k : ℕ) (d : Result V E) → k < length all → IfOk (get_or all k d) (P k)) → P (length done) v
+next_group P all done rest x v parts is each =
+    let at : get_or all (length done) x ≡ Ok v = ap (λ xs. get_or xs (length done) x) (sym parts) ∙ (get_or-append_seam done x rest x ∙ is) in
+    let within : length done < length all = let len : length all ≡ length done + suc (length rest) = ap length (sym parts) ∙ length-append done (x ∷ rest) in omega (arith, len) in
+    subst (λ r. IfOk r (P (length done))) at (each (length done) x within)
+
+-- where nothing is left, all groups have come
+pub all_came : {X : Type 0} (done rest all : List X) (n : ℕ) → done ++ rest ≡ all → n ≡ length rest → n ≡ 0 → length done ≡ length all
+all_came done rest all n parts left none = let len : length all ≡ length done + length rest = ap length (sym parts) ∙ length-append done rest in omega (arith, len, left, none)

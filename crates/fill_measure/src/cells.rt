@@ -1,0 +1,67 @@
+//! The areas of all cells of a mesh, measured in parallel.
+ghost use Rattle.std.specs.Prelude.{◌+◌, ◌*◌, ◌<◌, ◌≤◌, ℕ, IfOk, slice_index_or, length};
+ghost use Rattle.fill_cells.specs.Mesh.{gaps};
+ghost use Rattle.fill_measure.specs.steps.Meshes.{AreCellsOf, AreRowsOf, AreGroupOf};
+
+use crate::mesh::Mesh;
+use fill_cells::cell_areas;
+use std::alloc::{AllocError, Global};
+use std::thread;
+use std::thread::Threads;
+
+/// The rows of cells are cut into at most so many groups of neighbours.
+const MOST_GROUPS: usize = 16;
+
+impl Mesh<'_> {
+    /// How many covered squares lie in each cell, row by row. Groups of rows are measured in parallel.
+    pub(crate) fn cells(
+        &self,
+        rt: &(impl Threads + Sync),
+        alloc: Global,
+    ) -> Result<Vec<i64>, AllocError>
+        ensures { IfOk result (λ v. AreCellsOf self.now v.items) }
+    {
+        let lower = &self.up[..self.up.len() - 1];
+        let height = lower.len().div_ceil(MOST_GROUPS);
+        let groups = thread::map_chunks(
+            rt,
+            alloc,
+            lower,
+            height,
+            &|from: usize, part: &[i64]| -> Result<Vec<i64>, AllocError>
+                requires some { 0 < length part.now }
+                requires within { from + length part.now ≤ gaps self.now.up.now }
+                ensures { IfOk result (λ v. AreRowsOf self.entry.now from (length part.entry.now) v.items) }
+            { self.rows(alloc, from, part.len()) },
+        )?;
+        self.joined(alloc, height, groups)
+    }
+
+    /// How many covered squares lie in each cell of `count` rows from row `from` on.
+    fn rows(&self, alloc: Global, from: usize, count: usize) -> Result<Vec<i64>, AllocError>
+        requires some { 0 < count }
+        requires within { from + count ≤ gaps self.now.up.now }
+        ensures { IfOk result (λ v. AreRowsOf self.now from count v.items) }
+    {
+        cell_areas(alloc, self.rects, self.across, &self.up[from..][..=count])
+    }
+
+    /// The numbers of all groups of `height` rows, one group after the other. The last group may have fewer rows.
+    fn joined(
+        &self,
+        alloc: Global,
+        height: usize,
+        groups: Vec<Result<Vec<i64>, AllocError>>,
+    ) -> Result<Vec<i64>, AllocError>
+        requires all { gaps self.now.up.now ≤ length groups.items * height }
+        requires rows { (k : ℕ) (d : _) → k < length groups.items → IfOk (slice_index_or groups.items k d) (λ v. AreGroupOf self.now height k v.items) }
+        ensures { IfOk result (λ v. AreCellsOf self.now v.items) }
+    {
+        let mut cells = Vec::new(alloc);
+        for group in groups {
+            let group = group?;
+            cells.extend_from_slice(&group)?;
+        }
+        Ok(cells)
+    }
+}

@@ -1,0 +1,37 @@
+//! Where the sides of the windows along an axis stand among its lines.
+ghost use Rattle.std.specs.Prelude.{IfOk};
+ghost use Rattle.fill_area.specs.Axes.{IsAxis};
+ghost use Rattle.fill_cells.specs.Mesh.{AreLines};
+ghost use Rattle.fill_measure.specs.steps.Ends.{HoldEnds};
+ghost use Rattle.fill_measure.specs.steps.Sides.{AreSides};
+
+use crate::lines::{index_of, span};
+use fill_area::Axis;
+use std::alloc::{AllocError, Global};
+
+/// The indices of the lines at which a window begins and ends.
+#[derive(Clone, Copy)]
+pub(crate) struct Sides {
+    /// The index of the line at which it begins.
+    pub(crate) begin: usize,
+    /// The index of the line at which it ends.
+    pub(crate) end: usize,
+}
+
+/// The sides of each span of the axis, whose ends are lines.
+pub(crate) fn sides_of(alloc: Global, axis: Axis, lines: &[i64]) -> Result<Vec<Sides>, AllocError>
+    requires axis { IsAxis axis }
+    requires lines { AreLines lines.now }
+    requires ends { HoldEnds lines.now axis axis.count }
+    ensures { IfOk result (λ v. AreSides axis lines.now axis.count v.items) }
+{
+    let mut sides = Vec::with_capacity(alloc, axis.count as usize)?;
+    for a in 0..axis.count {
+        let (begin, end) = span(axis, a);
+        sides.push(Sides {
+            begin: index_of(lines, begin),
+            end: index_of(lines, end),
+        })?;
+    }
+    Ok(sides)
+}

@@ -1,0 +1,93 @@
+//! Windows measured straight from rectangles, beside those measured by a region, and by hand.
+use crate::measure_rects;
+use fill_area::{Windows, measure_all};
+use fill_base::{Point, Rect};
+use fill_region::Region;
+use std::alloc::Global;
+use std::test::Fail;
+use std::thread::Threads;
+
+/// So many rectangles at mixed places from -32 to 63, up to 32 wide and 16 tall, so that many overlap.
+fn mixed_rects(alloc: Global, count: u32) -> Result<Vec<Rect>, Fail> {
+    let mut rects = Vec::new(alloc);
+    let mut state: u64 = 88_172_645_463_325_252;
+    for _ in 0..count {
+        state = state
+            .wrapping_mul(6_364_136_223_846_793_005)
+            .wrapping_add(1_442_695_040_888_963_407);
+        let left = ((state >> 20) & 63) as i64 - 32;
+        let bottom = ((state >> 30) & 63) as i64 - 32;
+        let width = ((state >> 40) & 31) as i64 + 1;
+        let height = ((state >> 50) & 15) as i64 + 1;
+        rects.push(Rect::new(left, bottom, left + width, bottom + height)?)?;
+    }
+    Ok(rects)
+}
+
+/// Whether the windows have the areas of the region of the rectangles.
+fn are_those_of_the_region(
+    rt: &(impl Threads + Sync),
+    alloc: Global,
+    rects: &[Rect],
+    windows: &Windows,
+) -> Result<bool, Fail> {
+    let region = Region::from_rects(alloc, rects)?;
+    let areas = measure_all(rt, alloc, &region, windows)?;
+    let straight = measure_rects(rt, alloc, rects, windows)?;
+    Ok(straight == areas)
+}
+
+#[test]
+fn each_grid_has_the_areas_of_the_region(rt: HostRuntime) -> Result<(), Fail> {
+    // Corner, size, step and count: overlapping by half and by three quarters, touching, with gaps, of odd steps, beside all
+    // rectangles, one over all, and a narrow one.
+    let alloc = rt.alloc();
+    for (corner, size, step, count) in [
+        ((-40, -40), (20, 16), (10, 8), (12, 13)),
+        ((-33, -35), (16, 12), (4, 3), (30, 40)),
+        ((-32, -32), (8, 8), (8, 8), (16, 16)),
+        ((-36, -31), (5, 3), (9, 7), (14, 18)),
+        ((-40, -40), (13, 11), (7, 5), (18, 25)),
+        ((200, 300), (8, 8), (4, 4), (5, 5)),
+        ((-64, -64), (256, 256), (1, 1), (1, 1)),
+        ((3, -64), (1, 256), (1, 1), (1, 1)),
+    ] {
+        let (x, y) = corner;
+        let windows = Windows::new(Point { x, y }, size, step, count)?;
+        for number in [0u32, 1, 2, 40, 700] {
+            let rects = mixed_rects(alloc, number)?;
+            let same = are_those_of_the_region(&rt, alloc, &rects, &windows)?;
+            assert!(rt; same, "{corner:?} {size:?} {step:?} {count:?} {number}");
+        }
+    }
+    Ok(())
+}
+
+#[test]
+fn squares_of_two_rectangles_count_once(rt: HostRuntime) -> Result<(), Fail> {
+    // Windows of 6 by 4 at steps of 4 by 2, by hand: the first has 5 columns of 3 lines of the first rectangle, and one of
+    // its squares is in both.
+    let windows = Windows::new(Point { x: 0, y: 0 }, (6, 4), (4, 2), (2, 2))?;
+    let rects = [
+        Rect::new(1, 1, 6, 4)?,
+        Rect::new(5, 2, 9, 5)?,
+        Rect::new(5, 2, 9, 5)?,
+    ];
+    let areas = measure_rects(&rt, rt.alloc(), &rects, &windows)?;
+    assert_eq!(rt; areas.as_slice(), [15, 12, 11, 14].as_slice());
+    Ok(())
+}
+
+#[test]
+fn rectangles_across_all_rows_and_a_million_windows(rt: HostRuntime) -> Result<(), Fail> {
+    let alloc = rt.alloc();
+    let windows = Windows::new(Point { x: -500, y: -500 }, (1, 1), (1, 1), (1000, 1000))?;
+    let rects = [
+        Rect::new(-600, -600, -490, 600)?,
+        Rect::new(-600, 17, 600, 18)?,
+        Rect::new(0, -501, 3, 501)?,
+    ];
+    let same = are_those_of_the_region(&rt, alloc, &rects, &windows)?;
+    assert!(rt; same);
+    Ok(())
+}
