@@ -1,12 +1,12 @@
 -- Which gaps between rising lines a range meets.
-use Rattle.std.proofs.Common.{◌≡◌, ◌≢◌, ◌⊎◌, Bool, true, false, ℕ, ◌+◌, ◌-◌, ◌≤◌, ◌<◌, ℤ, pos, ◌≤ℤ◌, ◌<ℤ◌, List, length, get_or, refl, arith, ap, ◌∙◌, sym, subst, w64, FitsSigned}
+use Rattle.std.proofs.Common.{◌≡◌, true, false, ℕ, ◌+◌, ◌-◌, ◌≤◌, ◌<◌, ℤ, pos, ◌≤ℤ◌, ◌<ℤ◌, List, length, get_or, arith, sym, subst, w64, FitsSigned}
 use Rattle.std.specs.Prelude.{int_le, int_lt}
 use Rattle.std.specs.List.Sorted.{IsPartitionedBy, IsPartitionPoint}
 use Rattle.std.proofs.lemmas.Int.{ints}
 use Rattle.std.proofs.lemmas.List.{get_or_default}
 use Rattle.fill_area.proofs.Begun.{by_lt}
-use Rattle.fill_base.specs.Coordinates.{lowest, highest, IsCoordinate}
-use Rattle.fill_base.proofs.Signed.{read, read_is, coordinate_fits, lt_le, le_trans, not_lt}
+use Rattle.fill_base.specs.Coordinates.{IsCoordinate}
+use Rattle.fill_base.proofs.Signed.{read, read_is, coordinate_fits, lt_le, not_lt}
 use Rattle.fill_cells.specs.Mesh.{AreLines, gaps}
 use Rattle.fill_cells.specs.steps.Parts.{AreMet}
 

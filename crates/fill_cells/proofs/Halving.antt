@@ -1,5 +1,5 @@
 -- The area in both halves of a rectangle.
-use Rattle.std.proofs.Common.{◌≡◌, Bool, true, ℕ, ◌+◌, ◌*◌, ◌^◌, ◌≤◌, ◌<◌, ℤ, pos, ◌+ℤ◌, ◌≤ℤ◌, ◌<ℤ◌, List, refl, arith, ap, ◌∙◌, sym, cond, w64, FitsSigned}
+use Rattle.std.proofs.Common.{◌≡◌, Bool, true, ℕ, ◌+◌, ◌*◌, ◌^◌, ◌≤◌, ◌<◌, ℤ, pos, ◌+ℤ◌, ◌≤ℤ◌, ◌<ℤ◌, List, refl, arith, ap, ◌∙◌, cond, w64, FitsSigned}
 use Rattle.std.proofs.lemmas.Int.{ints}
 use Rattle.fill_base.specs.declared.rect.Rect.{Rect}
 use Rattle.fill_base.specs.Coordinates.{lowest, highest}
@@ -9,7 +9,7 @@ use Rattle.fill_base.proofs.Between.{is_between_true}
 use Rattle.fill_base.proofs.Counting.{sum_between_split, sum_between_add, sum_between_same, count_between_same, sum_between_le, count_between_le}
 use Rattle.fill_base.proofs.Signed.{read, read_is, lt_le, side_short, product_small, pos_fits}
 use Rattle.fill_region.specs.Squares.{covered}
-use Rattle.fill_cells.specs.steps.Halves.{half_way, AreHalves}
+use Rattle.fill_cells.specs.steps.Halves.{AreHalves}
 use Rattle.fill_cells.specs.steps.Within.{AreWithin}
 
 -- an area adds up at a column

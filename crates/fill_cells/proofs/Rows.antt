@@ -1,5 +1,5 @@
 -- Rows of cells put one after another.
-use Rattle.std.proofs.Common.{◌≡◌, Bool, true, false, ◌&&◌, ℕ, ◌+◌, ◌-◌, ◌*◌, ◌^◌, ◌≤◌, ◌<◌, ℤ, pos, ◌≤ℤ◌, ◌<ℤ◌, List, [], ◌∷◌, ◌++◌, length, get_or, refl, arith, ap, ◌∙◌, sym, subst, w64, FitsSigned}
+use Rattle.std.proofs.Common.{◌≡◌, Bool, true, ℕ, ◌+◌, ◌-◌, ◌*◌, ◌^◌, ◌≤◌, ◌<◌, ℤ, pos, ◌≤ℤ◌, ◌<ℤ◌, List, [], ◌∷◌, ◌++◌, length, get_or, refl, arith, ap, ◌∙◌, sym, subst}
 use Rattle.std.specs.Global.{Vec}
 use Rattle.std.proofs.lemmas.Int.{ints}
 use Rattle.std.proofs.lemmas.Nat.{mul-add-lt}
@@ -7,16 +7,15 @@ use Rattle.std.proofs.lemmas.List.{get_or_default, get_or_append_left, length-ap
 use Rattle.std.proofs.Math.Seq.{get_or-append_seam}
 use Rattle.fill_area.proofs.Begun.{by_lt}
 use Rattle.fill_base.specs.declared.rect.Rect.{Rect}
-use Rattle.fill_base.specs.Coordinates.{lowest, highest}
-use Rattle.fill_base.specs.Counts.{is_between, count_between}
+use Rattle.fill_base.specs.Counts.{count_between}
 use Rattle.fill_base.specs.Squares.{squares, area_between, area_of}
 use Rattle.fill_base.proofs.Between.{is_between_true}
 use Rattle.fill_base.proofs.Counting.{sum_between_same, count_between_same}
-use Rattle.fill_base.proofs.Signed.{read, read_is, coordinate_fits, lt_le, le_trans, pos_fits}
+use Rattle.fill_base.proofs.Signed.{read, read_is, le_trans, pos_fits}
 use Rattle.fill_region.specs.Squares.{covered}
 use Rattle.fill_cells.specs.declared.direction.Direction.TheVariants.{Across, Up}
 use Rattle.fill_cells.specs.Mesh.{gaps, cell_area, AreLines, AreCells}
-use Rattle.fill_cells.specs.steps.Parts.{part_squares, AreShares}
+use Rattle.fill_cells.specs.steps.Parts.{AreShares}
 use Rattle.fill_cells.specs.steps.Rows.{AreCellsPut}
 use Rattle.fill_cells.proofs.Gaps.{line_le, line_read}
 use Rattle.fill_cells.proofs.Halving.{same_within, area_small}

@@ -1,5 +1,5 @@
 -- A book that is opened, edited and filled gives the texts of a fill, or was given too few turns or too little history.
-use Rattle.std.proofs.Common.{◌≡◌, refl, ap, ap₂, sym, subst, ◌∙◌, ℕ, ◌+◌, ◌*◌, ◌^◌, ◌≤◌, ◌<◌, arith, inl, inr, List, [], ◌++◌, length, map, Option, Result, Ok, Err, IfOk}
+use Rattle.std.proofs.Common.{◌≡◌, ap, ap₂, sym, subst, ◌∙◌, ℕ, ◌+◌, ◌*◌, ◌^◌, ◌≤◌, ◌<◌, arith, inl, inr, List, [], ◌++◌, length, map, Option, Result, Ok, Err, IfOk}
 use Rattle.std.proofs.lemmas.List.{append-nil, length-map}
 use Rattle.fill_region.specs.Bands.{Band, holds}
 use Rattle.fill_text.specs.Rules.{Values}

@@ -15,11 +15,16 @@ fn mixed_rects(alloc: Global, count: u32) -> Result<Vec<Rect>, Fail> {
         state = state
             .wrapping_mul(6_364_136_223_846_793_005)
             .wrapping_add(1_442_695_040_888_963_407);
-        let left = ((state >> 20) & 63) as i64 - 32;
-        let bottom = ((state >> 30) & 63) as i64 - 32;
-        let width = ((state >> 40) & 31) as i64 + 1;
-        let height = ((state >> 50) & 15) as i64 + 1;
-        rects.push(Rect::new(left, bottom, left + width, bottom + height)?)?;
+        let left = ((state >> 20) & 63) as u32;
+        let bottom = ((state >> 30) & 63) as u32;
+        let right = left + ((state >> 40) & 31) as u32 + 1;
+        let top = bottom + ((state >> 50) & 15) as u32 + 1;
+        rects.push(Rect::new(
+            i64::from(left) - 32,
+            i64::from(bottom) - 32,
+            i64::from(right) - 32,
+            i64::from(top) - 32,
+        )?)?;
     }
     Ok(rects)
 }

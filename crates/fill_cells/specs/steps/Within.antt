@@ -1,5 +1,5 @@
 -- Lists of rectangles that stand for a set of squares within a part of the plane.
-use Rattle.std.specs.Prelude.{◌≡◌, ◌||◌, ℕ, ◌<◌, ℤ, Bool, true, List, length, get_or}
+use Rattle.std.specs.Prelude.{◌≡◌, ◌||◌, ℤ, Bool, true, List}
 use Rattle.fill_base.specs.declared.rect.Rect.{Rect}
 use Rattle.fill_base.specs.Squares.{squares}
 use Rattle.fill_region.specs.Squares.{covered}

@@ -3,7 +3,7 @@ use Rattle.fill_region.specs.Squares.{covered}
 use Rattle.fill_base.proofs.Signed.{read}
 use Rattle.fill_cells.specs.Mesh.{gaps}
 use Rattle.fill_cells.proofs.Gaps.{line_read}
-use Rattle.fill_cells.proofs.Rows.{rows_none, rows_more, rows_all, lines_apart}
+use Rattle.fill_cells.proofs.Rows.{rows_more, rows_all, lines_apart}
 use Rattle.fill_cells.proofs.cells.cell_areas.Goals as goal
 
 pub put_row-requires-clause-ordered : goal.put_row-requires-clause-ordered

@@ -3,7 +3,7 @@ use Rattle.fill_region.specs.Squares.{covered}
 use Rattle.fill_base.proofs.Signed.{read, read_is}
 use Rattle.fill_cells.specs.Mesh.{gaps}
 use Rattle.fill_cells.proofs.Gaps.{line_read}
-use Rattle.fill_cells.proofs.Rows.{put_none, put_more, put_all, cell_is}
+use Rattle.fill_cells.proofs.Rows.{put_more, put_all, cell_is}
 use Rattle.fill_cells.proofs.cells.put_row.Goals as goal
 
 pub loop-i-preserved : goal.loop-i-preserved

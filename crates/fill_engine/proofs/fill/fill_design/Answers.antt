@@ -2,7 +2,7 @@ use Rattle.std.proofs.Common.{ap, Err}
 use Rattle.std.proofs.lemmas.Result.{err_from_is_err_and}
 use Rattle.fill_text.specs.ValuesOfRules.{values_of}
 use Rattle.fill_core.specs.Shares.{Held}
-use Rattle.fill_engine.specs.declared.refusal.RunFault.TheVariants.{Mixed, Unfinished}
+use Rattle.fill_engine.specs.declared.refusal.RunFault.TheVariants.{Unfinished}
 use Rattle.fill_engine.proofs.Checking.{as_error}
 use Rattle.fill_engine.proofs.Filling.{blank_fresh, both_ok, edits_short, only_one, texts_are, texts_of_run, tiles_short}
 use Rattle.fill_engine.proofs.fill.fill_design.Goals as goal
