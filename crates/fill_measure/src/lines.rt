@@ -1,5 +1,5 @@
 //! The lines at which the windows along an axis begin or end.
-ghost use Rattle.std.specs.Prelude.{◌≡◌, ℕ, ℤ, ◌<◌, IfOk, All, length, get_or};
+ghost use Rattle.std.specs.Prelude.{◌≡◌, ℤ, ◌<◌, IfOk, All, length, get_or};
 ghost use Rattle.std.specs.List.{Contains};
 ghost use Rattle.fill_area.specs.Axes.{IsAxis, IsExtent};
 ghost use Rattle.fill_base.specs.Coordinates.{IsCoordinate};
