@@ -3,3 +3,7 @@ pub mod Halving
 pub mod Gaps
 pub mod Sharing
 pub mod Rows
+pub mod Tallying
+pub mod Rowwise
+pub mod Ends
+pub mod Counted

@@ -5,13 +5,13 @@ ghost use Rattle.fill_base.specs.Squares.{area_of};
 ghost use Rattle.fill_region.specs.Squares.{covered};
 ghost use Rattle.fill_cells.specs.steps.Halves.{AreHalves};
 
+use crate::lines::{by_left, ends_of, lines_at};
 use crate::pieces::within;
-use fill_area::area_in;
+use crate::tallies::{tallied, total};
 use fill_base::Rect;
-use fill_region::Region;
 use std::alloc::{AllocError, Global};
 
-/// So many rectangles are swept at once.
+/// So many rectangles are counted at once.
 const FEW: usize = 1024;
 
 /// How many unit squares of the part some rectangle covers. Many rectangles are cut at the middle of the part and counted in its
@@ -30,17 +30,19 @@ pub fn covered_area(alloc: Global, rects: &[Rect], part: &Rect) -> Result<i64, A
             let above = covered_area(alloc, &in_second, &second)?;
             Ok(below + above)
         }
-        None => swept_area(alloc, rects, part),
+        None => counted_area(alloc, rects, part),
     }
 }
 
-/// The same by the region of the rectangles.
-fn swept_area(alloc: Global, rects: &[Rect], part: &Rect) -> Result<i64, AllocError>
+/// The same row by row between the lines at which the part or a rectangle begins or ends.
+fn counted_area(alloc: Global, rects: &[Rect], part: &Rect) -> Result<i64, AllocError>
     ensures { IfOk result (λ n. n ≡ pos (area_of (covered rects.now) part.now)) }
 {
-    let region = Region::from_rects(alloc, rects)?;
-    let area = area_in(&region, part);
-    Ok(area)
+    let ends = ends_of(alloc, rects, part)?;
+    let lines = lines_at(ends);
+    let sorted = by_left(alloc, rects)?;
+    let tallies = tallied(alloc, &sorted, &lines, part.x1(), part.x2())?;
+    Ok(total(&tallies, &lines))
 }
 
 /// The halves of a part in which many rectangles begin or end, cut across those edges of which there are more.
@@ -58,9 +60,7 @@ fn halves(rects: &[Rect], part: &Rect) -> Option<(Rect, Rect)>
         .iter()
         .filter(|rect| rect.y1() > part.y1() || rect.y2() < part.y2())
         .count();
-    if across == 0 || up == 0 {
-        None
-    } else if across >= up {
+    if across >= up {
         halves_across(part)
     } else {
         halves_up(part)

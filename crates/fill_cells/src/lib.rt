@@ -5,8 +5,12 @@
 mod area;
 mod cells;
 mod direction;
+mod lines;
 mod pieces;
 mod shares;
+mod tallies;
+mod tally;
 
 pub use area::covered_area;
 pub use cells::cell_areas;
+pub use lines::lines_at;

@@ -81,7 +81,7 @@ fn share_at(
 }
 
 /// The gaps between lines that have a number from `lo` on and below `hi`.
-fn gaps_met(lines: &[i64], lo: i64, hi: i64) -> Range<usize>
+pub(crate) fn gaps_met(lines: &[i64], lo: i64, hi: i64) -> Range<usize>
     requires { AreLines lines.now }
     ensures { AreMet lines.now lo hi result.start result.end }
 {
