@@ -1,14 +1,19 @@
 //! Windows measured straight from rectangles in plain Rust, for the benchmarks alone: the lines of the windows make a mesh, the
 //! rectangles are shared out to its rows and cells, and each window is a difference of sums. The algorithm is that of the proved crates.
-use crate::sweep::{from_rects, Bands, Rect, Windows};
+use crate::sweep::{Rect, Windows};
 use std::ops::Range;
 use std::sync::Mutex;
 
 /// The rows of cells are cut into at most so many groups, which threads take one after another.
 const MOST_GROUPS: usize = 16;
 
-/// So many rectangles are swept at once.
+/// So many rectangles are counted at once.
 const FEW: usize = 1024;
+
+/// Where there are fewer windows than this, and so many rectangles or more, further lines cut the axis into so many parts.
+const FEW_SPANS: usize = 64;
+const MANY_RECTS: usize = 4096;
+const PARTS: i32 = 256;
 
 fn clip(rect: &Rect, part: &Rect) -> Option<Rect> {
     let both = Rect {
@@ -88,9 +93,33 @@ fn shared_out(
     lists
 }
 
-fn area(bands: &Bands) -> i64 {
-    let row = |edges: &[i32]| edges.chunks_exact(2).map(|ends| i64::from(ends[1]) - i64::from(ends[0])).sum::<i64>();
-    bands.windows(2).map(|pair| (i64::from(pair[1].0) - i64::from(pair[0].0)) * row(&pair[0].1)).sum()
+/// What the rectangles so far cover of a row of squares: no square at `reach` or right of it, and `length` in all.
+#[derive(Clone, Copy)]
+struct Tally {
+    reach: i32,
+    length: i64,
+}
+
+/// How many squares of the part the rectangles cover, row by row between the lines at which one begins or ends.
+fn counted_area(rects: &[Rect], part: &Rect) -> i64 {
+    let mut lines = Vec::with_capacity(2 + 2 * rects.len());
+    lines.extend([part.y1, part.y2]);
+    lines.extend(rects.iter().flat_map(|rect| [rect.y1, rect.y2]).map(|line| line.clamp(part.y1, part.y2)));
+    lines.sort_unstable();
+    lines.dedup();
+    let mut sorted = rects.to_vec();
+    sorted.sort_by_key(|rect| rect.x1);
+    let mut tallies = vec![Tally { reach: part.x1, length: 0 }; lines.len() - 1];
+    for rect in &sorted {
+        for k in gaps_met(&lines, rect.y1, rect.y2) {
+            let tally = &mut tallies[k];
+            let (from, to) = (tally.reach.max(rect.x1), part.x2.min(rect.x2));
+            if from < to {
+                *tally = Tally { reach: to, length: tally.length + i64::from(to - from) };
+            }
+        }
+    }
+    tallies.iter().enumerate().map(|(k, tally)| tally.length * i64::from(lines[k + 1] - lines[k])).sum()
 }
 
 /// The halves of a part in which many rectangles begin or end.
@@ -100,9 +129,7 @@ fn halves(rects: &[Rect], part: &Rect) -> Option<(Rect, Rect)> {
     }
     let across = rects.iter().filter(|rect| rect.x1 > part.x1 || rect.x2 < part.x2).count();
     let up = rects.iter().filter(|rect| rect.y1 > part.y1 || rect.y2 < part.y2).count();
-    if across == 0 || up == 0 {
-        None
-    } else if across >= up {
+    if across >= up {
         let middle = part.x1 + (part.x2 - part.x1) / 2;
         (middle > part.x1).then(|| (Rect { x2: middle, ..*part }, Rect { x1: middle, ..*part }))
     } else {
@@ -115,7 +142,7 @@ fn halves(rects: &[Rect], part: &Rect) -> Option<(Rect, Rect)> {
 fn covered_area(rects: &[Rect], part: &Rect) -> i64 {
     match halves(rects, part) {
         Some((first, second)) => covered_area(&within(rects, &first), &first) + covered_area(&within(rects, &second), &second),
-        None => area(&from_rects(rects)),
+        None => counted_area(rects, part),
     }
 }
 
@@ -132,8 +159,13 @@ fn cell_areas(rects: &[Rect], across: &[i32], up: &[i32], areas: &mut [i64]) {
 }
 
 /// The lines at which windows along an axis begin or end.
-fn lines_of(first: i32, size: i32, step: i32, count: usize) -> Vec<i32> {
+fn lines_of(first: i32, size: i32, step: i32, count: usize, rects: usize) -> Vec<i32> {
     let mut lines: Vec<i32> = (0..count as i32).flat_map(|a| [first + a * step, first + a * step + size]).collect();
+    if count < FEW_SPANS && rects >= MANY_RECTS {
+        let last = first + (count as i32 - 1) * step + size;
+        let part = (last - first) / PARTS;
+        lines.extend((1..PARTS).map(|k| first + k * part));
+    }
     lines.sort_unstable();
     lines.dedup();
     lines
@@ -141,8 +173,8 @@ fn lines_of(first: i32, size: i32, step: i32, count: usize) -> Vec<i32> {
 
 /// The areas of all windows, row by row.
 pub fn measure_rects(rects: &[Rect], windows: &Windows) -> Vec<i64> {
-    let across = lines_of(windows.origin.0, windows.size.0, windows.step.0, windows.columns);
-    let up = lines_of(windows.origin.1, windows.size.1, windows.step.1, windows.rows);
+    let across = lines_of(windows.origin.0, windows.size.0, windows.step.0, windows.columns, rects.len());
+    let up = lines_of(windows.origin.1, windows.size.1, windows.step.1, windows.rows, rects.len());
     let (columns, rows) = (across.len() - 1, up.len() - 1);
     let height = rows.div_ceil(MOST_GROUPS);
     let mut cells = vec![0i64; columns * rows];

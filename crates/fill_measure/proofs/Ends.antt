@@ -1,19 +1,12 @@
 -- The lines at which the spans of an axis begin and end.
-use Rattle.std.proofs.Common.{◌≡◌, ℕ, ◌+◌, ◌≤◌, ◌<◌, ℤ, pos, ◌+ℤ◌, ◌≤ℤ◌, ◌<ℤ◌, List, [], ◌∷◌, ◌++◌, true, false, length, get_or, refl, arith, ap, ◌∙◌, sym, below_more, Less}
+use Rattle.std.proofs.Common.{◌≡◌, ℕ, ◌+◌, ◌^◌, ◌<◌, ℤ, pos, ◌+ℤ◌, ◌≤ℤ◌, ◌<ℤ◌, ◌↔◌, List, [], ◌∷◌, ◌++◌, true, false, length, get_or, refl, arith, ap, ◌∙◌, below_more, w64, FitsSigned}
 use Rattle.std.specs.Prelude.{int_lt}
-use Rattle.std.specs.List.{All, Contains, dedup}
-use Rattle.std.specs.List.Sorted.{IsSorted, IsPermutation, IsPartitionedBy, IsPartitionPoint}
-use Rattle.std.specs.List.Retain.{IsFiltered, DiffersFromLast}
-use Rattle.std.specs.Ordering.{int_cmp, int_eq, eq_by_cmp}
-use Rattle.std.proofs.lemmas.Int.{ints}
-use Rattle.std.proofs.lemmas.Bool.Decides.{Decides-int_eq}
-use Rattle.std.proofs.lemmas.Cmp.{int_cmp_total, int_eq_equiv}
+use Rattle.std.specs.Int.{int_min}
+use Rattle.std.specs.List.{All, Contains}
+use Rattle.std.specs.List.Sorted.{IsPartitionedBy, IsPartitionPoint}
+use Rattle.std.proofs.lemmas.Int.{ints, clamps}
 use Rattle.std.proofs.lemmas.List.{get_or_default}
 use Rattle.std.proofs.lemmas.List.Elements.{All-push, Contains-append_left, Contains-push}
-use Rattle.std.proofs.lemmas.List.Filters.{All-dedup, dedup_is}
-use Rattle.std.proofs.lemmas.List.Kept.{Contains-dedup, IsStrictlySortedBy-dedup}
-use Rattle.std.proofs.lemmas.List.Sorted.{All-permutation, Contains-permutation}
-use Rattle.std.proofs.lemmas.Map.Keys.{Less-from_sorted}
 use Rattle.fill_base.specs.Coordinates.{lowest, highest, IsCoordinate}
 use Rattle.fill_base.proofs.Signed.{read, read_is, coordinate_fits, lt_le, le_trans, is_lt, not_lt}
 use Rattle.fill_area.proofs.Begun.{by_lt}
@@ -41,47 +34,42 @@ ends_more axis a lo hi old mid new before is mid_is new_is =
     kept : (z : ℤ) → Contains old z → Contains ((old ++ lo ∷ []) ++ hi ∷ []) z
     kept z h = Contains-append_left (old ++ lo ∷ []) (hi ∷ []) z (Contains-append_left old (lo ∷ []) z h)
 
-less_lt : (x y : ℤ) → int_cmp x y ≡ Less → x <ℤ y
-less_lt x y h = grind (arith, ints)
-
-eq_is : (x y : ℤ) → int_eq x y ≡ true → x ≡ y
-eq_is x y h = (Decides-int_eq x y).0 h
-
-ties : (x y : ℤ) → int_eq x y ≡ eq_by_cmp int_cmp x y
-ties x y = refl
-
--- two numbers in a list of less than two are one
-one_number : (lines : List ℤ) (x y : ℤ) → Contains lines x → Contains lines y → x <ℤ y → 2 ≤ length lines
-one_number lines x y has_x has_y lt = by_lt (length lines) 2
-    (λ short. absurd (apart x y lt (sym (at x has_x short) ∙ (get_or_default lines 0 x y (omega (arith, has_x.1)) ∙ at y has_y short))))
-    (λ long. long)
-  where
-    at : (z : ℤ) → Contains lines z → length lines < 2 → get_or lines 0 z ≡ z
-    at z has short = let first : has.0 ≡ 0 = omega (arith, has.1, short) in ap (λ k. get_or lines k z) (sym first) ∙ has.2
-
-    apart : (x y : ℤ) → x <ℤ y → x ≡ y → ⊥
-    apart x y lt e = omega (arith, ints)
-
--- the ends in order and each once
-pub are_lines : (axis : Axis) (ends sorted lines : List ℤ) → IsAxis axis → All IsCoordinate ends → HoldEnds ends axis axis.count
-    → IsPermutation ends sorted → IsSorted int_cmp sorted → IsFiltered (DiffersFromLast int_eq) [] sorted lines → AreLines lines × HoldEnds lines axis axis.count
-are_lines axis ends sorted lines is_axis coordinates hold moved rises kept =
-    let is : lines ≡ dedup int_eq sorted = dedup_is int_eq sorted lines kept in
-    let held : HoldEnds lines axis axis.count = record {
-      begins = λ a lt. rw is (Contains-dedup int_eq_equiv eq_is sorted (axis_begin axis a) (Contains-permutation ends sorted _ moved (hold.begins a lt)));
-      ends = λ a lt. rw is (Contains-dedup int_eq_equiv eq_is sorted (axis_end axis a) (Contains-permutation ends sorted _ moved (hold.ends a lt)));
-    } in
-    let coordinates' : All IsCoordinate lines = rw is (All-dedup int_eq IsCoordinate sorted (All-permutation IsCoordinate ends sorted moved coordinates)) in (
-      record {
-        some = one_number lines _ _ (held.begins 0 is_axis.count_is.least) (held.ends 0 is_axis.count_is.least) (longer _ axis.length is_axis.length_is.least);
-        coordinates = λ i d lt. coordinates' i d lt;
-        rising = λ i j d below within. less_lt _ _ (Less-from_sorted int_cmp lines i j d (rw is (IsStrictlySortedBy-dedup int_cmp_total ties sorted rises)) below within);
-      },
-      held,
-    )
+-- the lines at numbers that hold both ends of each span
+pub lines_held : (axis : Axis) (ends more lines : List ℤ) → IsAxis axis → HoldEnds ends axis axis.count → ((z : ℤ) → Contains ends z → Contains more z)
+    → ((x y : ℤ) → Contains more x → Contains more y → x <ℤ y → AreLines lines) → ((z : ℤ) → Contains more z ↔ Contains lines z) → AreLines lines × HoldEnds lines axis axis.count
+lines_held axis ends more lines is_axis hold kept lines_of same =
+    (lines_of _ _ (kept _ (hold.begins 0 is_axis.count_is.least)) (kept _ (hold.ends 0 is_axis.count_is.least)) (longer _ axis.length is_axis.length_is.least),
+    record { begins = λ a lt. (same _).0 (kept _ (hold.begins a lt)); ends = λ a lt. (same _).0 (kept _ (hold.ends a lt)) })
   where
     longer : (z length : ℤ) → pos 1 ≤ℤ length → z <ℤ (z +ℤ length)
     longer z length one = omega (arith, ints)
+
+-- one part further
+pub stepped_fits : (line step last m : ℤ) → IsCoordinate line → IsCoordinate last → pos 0 ≤ℤ step → step ≤ℤ pos (2 ^ 31) → m ≡ int_min (read last) (read (read line +ℤ read step)) → IsCoordinate (read m)
+stepped_fits line step last m line_is last_is least most is =
+    let fits : FitsSigned w64 step = step_fits step least most in
+    let sum : FitsSigned w64 (line +ℤ step) = sum_fits line step line_is.least line_is.most least most in
+    let m_is : m ≡ int_min last (line +ℤ step) = is ∙ rw (read_is last (coordinate_fits last last_is.least last_is.most), read_is line (coordinate_fits line line_is.least line_is.most), read_is step fits, read_is (line +ℤ step) sum) refl in
+    let here = between line step last line_is.least last_is.least last_is.most least in
+    rw (m_is, read_is (int_min last (line +ℤ step)) (coordinate_fits _ here.0 here.1)) (record { least = here.0; most = here.1 })
+  where
+    step_fits : (step : ℤ) → pos 0 ≤ℤ step → step ≤ℤ pos (2 ^ 31) → FitsSigned w64 step
+    step_fits step h k = omega (arith, ints)
+
+    sum_fits : (line step : ℤ) → lowest ≤ℤ line → line ≤ℤ highest → pos 0 ≤ℤ step → step ≤ℤ pos (2 ^ 31) → FitsSigned w64 (line +ℤ step)
+    sum_fits line step h i j k = omega (arith, ints)
+
+    between : (line step last : ℤ) → lowest ≤ℤ line → lowest ≤ℤ last → last ≤ℤ highest → pos 0 ≤ℤ step → (lowest ≤ℤ int_min last (line +ℤ step)) × (int_min last (line +ℤ step) ≤ℤ highest)
+    between line step last h i j k = (omega (arith, ints, clamps), omega (arith, ints, clamps))
+
+-- a coordinate, as the code reads it
+pub coordinate_read : (z : ℤ) → IsCoordinate z → IsCoordinate (read z)
+coordinate_read z is = rw (read_is z (coordinate_fits z is.least is.most)) is
+
+-- one further line put
+pub between_more : (line : ℤ) (begun old new : List ℤ) → IsCoordinate line → All IsCoordinate old × ((z : ℤ) → Contains begun z → Contains old z) → new ≡ old ++ line ∷ []
+    → All IsCoordinate new × ((z : ℤ) → Contains begun z → Contains new z)
+between_more line begun old new is before new_is = rw new_is (All-push IsCoordinate old line before.0 is, λ z has. Contains-append_left old (line ∷ []) z (before.1 z has))
 
 lt_is : (x y : ℤ) → x <ℤ y → int_lt x y ≡ true
 lt_is x y h = grind (arith, ints)

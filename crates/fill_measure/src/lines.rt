@@ -1,5 +1,5 @@
 //! The lines at which the windows along an axis begin or end.
-ghost use Rattle.std.specs.Prelude.{◌≡◌, ℤ, ◌<◌, IfOk, All, length, get_or};
+ghost use Rattle.std.specs.Prelude.{◌≡◌, ◌^◌, ℤ, pos, ◌≤ℤ◌, ◌<◌, IfOk, OnOk, All, length, get_or};
 ghost use Rattle.std.specs.List.{Contains};
 ghost use Rattle.fill_area.specs.Axes.{IsAxis, IsExtent};
 ghost use Rattle.fill_base.specs.Coordinates.{IsCoordinate};
@@ -7,18 +7,72 @@ ghost use Rattle.fill_cells.specs.Mesh.{AreLines};
 ghost use Rattle.fill_measure.specs.steps.Ends.{HoldEnds};
 
 use fill_area::Axis;
+use fill_cells::lines_at;
 use std::alloc::{AllocError, Global};
 
-/// The lines at which a span of the axis begins or ends, each once, from the lowest on.
-pub(crate) fn lines_of(alloc: Global, axis: Axis) -> Result<Vec<i64>, AllocError>
+/// Where there are fewer windows than this, further lines are put between them.
+const FEW_SPANS: u32 = 64;
+
+/// So many parts of the axis the further lines make.
+const PARTS: i64 = 256;
+
+/// Below so many rectangles the lines of the windows are enough.
+const MANY_RECTS: usize = 4096;
+
+/// The lines at which a span of the axis begins or ends, each once, from the lowest on. For many rectangles in few spans there are
+/// further lines between, so that few rectangles lie in a cell and all processors have rows to measure.
+pub(crate) fn lines_of(alloc: Global, axis: Axis, rects: usize) -> Result<Vec<i64>, AllocError>
     requires { IsAxis axis }
     ensures lines { IfOk result (λ v. AreLines v.items) }
     ensures ends { IfOk result (λ v. HoldEnds v.items axis axis.count) }
 {
-    let mut lines = ends_of(alloc, axis)?;
-    lines.sort_unstable();
-    lines.dedup();
-    Ok(lines)
+    let mut ends = ends_of(alloc, axis)?;
+    put_between(&mut ends, axis, rects)?;
+    Ok(lines_at(ends))
+}
+
+/// Puts lines that cut the axis, from the first span's begin to the last one's end, into parts of one length, where the spans are
+/// few and the rectangles many.
+fn put_between(numbers: &mut Vec<i64>, axis: Axis, rects: usize) -> Result<(), AllocError>
+    requires axis { IsAxis axis }
+    requires coordinates { All IsCoordinate numbers.old.items }
+    ensures coordinates { OnOk result (All IsCoordinate numbers.new.items) }
+    ensures kept { OnOk result ((z : ℤ) → Contains numbers.old.items z → Contains numbers.new.items z) }
+{
+    if axis.count >= FEW_SPANS || rects < MANY_RECTS {
+        return Ok(());
+    }
+    let (first, _) = span(axis, 0);
+    let (_, last) = span(axis, axis.count - 1);
+    let step = part_length(first, last);
+    let mut line = first;
+    for _ in 1..PARTS {
+        line = stepped(line, step, last);
+        numbers.push(line)?;
+    }
+    Ok(())
+}
+
+/// How long a part is.
+fn part_length(first: i64, last: i64) -> i64
+    requires first { IsCoordinate first }
+    requires last { IsCoordinate last }
+    requires ordered { first ≤ℤ last }
+    ensures least { pos 0 ≤ℤ result }
+    ensures most { result ≤ℤ pos (2 ^ 31) }
+{
+    (last - first) / PARTS
+}
+
+/// The line one part further, and not past the last one.
+fn stepped(line: i64, step: i64, last: i64) -> i64
+    requires line { IsCoordinate line }
+    requires last { IsCoordinate last }
+    requires least { pos 0 ≤ℤ step }
+    requires most { step ≤ℤ pos (2 ^ 31) }
+    ensures { IsCoordinate result }
+{
+    last.min(line + step)
 }
 
 /// Both ends of each span, in the order of the spans.

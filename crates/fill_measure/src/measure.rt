@@ -25,8 +25,8 @@ pub fn measure_rects(
     ensures areas { IfOk result (λ v. AreMeasured (covered rects.now) windows.now v.items) }
     ensures bounded { IfOk result (λ v. All IsArea v.items) }
 {
-    let across = lines_of(alloc, windows.across())?;
-    let up = lines_of(alloc, windows.up())?;
+    let across = lines_of(alloc, windows.across(), rects.len())?;
+    let up = lines_of(alloc, windows.up(), rects.len())?;
     let mesh = Mesh {
         rects,
         across: &across,

@@ -1,8 +1,8 @@
-use Rattle.fill_measure.proofs.Ends.{are_lines}
+use Rattle.fill_measure.proofs.Ends.{lines_held}
 use Rattle.fill_measure.proofs.lines.lines_of.Goals as goal
 
 pub returns : goal.returns
 returns c =
-    let are = are_lines c.args.axis c.in_ok-lines.lines.items c.sort_unstable.new.self.items c.dedup.new.self.items c.requires c.in_ok-lines.ensures.coordinates c.in_ok-lines.ensures.ends
-    c.sort_unstable.ensures.permutation c.sort_unstable.ensures.sorted c.dedup.ensures.filtered in
+    let are = lines_held c.args.axis c.in_ok-ends.ends.items c.put_between.new.numbers.items c.lines_at.result.items c.requires c.in_ok-ends.ensures.ends c.in_ok-put_between.ensures.kept
+    c.lines_at.ensures.lines c.lines_at.ensures.same in
     record { lines = are.0; ends = are.1 }
