@@ -59,7 +59,7 @@ fn each_grid_has_the_areas_of_the_region(rt: HostRuntime) -> Result<(), Fail> {
     ] {
         let (x, y) = corner;
         let windows = Windows::new(Point { x, y }, size, step, count)?;
-        for number in [0u32, 1, 2, 40, 700] {
+        for number in [0u32, 1, 2, 40, 700, 5000] {
             let rects = mixed_rects(alloc, number)?;
             let same = are_those_of_the_region(&rt, alloc, &rects, &windows)?;
             assert!(rt; same, "{corner:?} {size:?} {step:?} {count:?} {number}");
