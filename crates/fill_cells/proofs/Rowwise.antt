@@ -315,7 +315,7 @@ summed_more tallies lines k t sum new are k_in count item summed row is = record
     pos_is {m} {n} h = omega (arith, ints)
 
     together : (all low row number m n c : ℕ) → all ≡ low + row → number ≡ low → row ≡ n * c → m ≡ c → {n' : ℕ} → n' ≡ n → number + m * n' ≡ all
-    together all low row number m n c split lower here counted {n'} is = split' 
+    together all low row number m n c split lower here counted {n'} is = split'
       where
         times : (a b : ℕ) → a * b ≡ b * a
         times a b = mul_comm a b

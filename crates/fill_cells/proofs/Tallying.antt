@@ -120,18 +120,18 @@ grown p left right from reach x1 x2 length step is some =
     old_is : count_between p left right ≡ count_between p left (int_max reach x1) + (span_len (int_max reach x1) (int_min right x2) * 0 + span_len (int_min right x2) right * 0)
     old_is = count_split p left (int_max reach x1) (int_min right x2) right a_low (order some) (high right x2)
         ∙ ap (λ n. count_between p left (int_max reach x1) + n) (rw (
-            count_between_const p (int_max reach x1) (int_min right x2) false (order some) (λ x l h. bare p left right from reach x1 x2 x step l (under right x2 x h)),
-            count_between_const p (int_min right x2) right false (high right x2) (λ x l h. bare p left right from reach x1 x2 x step (trans _ _ x (order some) l) h),
+          count_between_const p (int_max reach x1) (int_min right x2) false (order some) (λ x l h. bare p left right from reach x1 x2 x step l (under right x2 x h)),
+          count_between_const p (int_min right x2) right false (high right x2) (λ x l h. bare p left right from reach x1 x2 x step (trans _ _ x (order some) l) h),
         ) refl)
 
     new_is : count_between q left right ≡ count_between p left (int_max reach x1) + (span_len (int_max reach x1) (int_min right x2) * 1 + span_len (int_min right x2) right * 0)
     new_is = count_split q left (int_max reach x1) (int_min right x2) right a_low (order some) (high right x2)
         ∙ rw (
-            count_between_same q p left (int_max reach x1) a_low (λ x l h. before p left right from reach x1 x2 x step l (less x _ right h (order a_in)) h),
-            count_between_const q (int_max reach x1) (int_min right x2) true (order some)
-            (λ x l h. or_right_true (p x) (is_between x1 x2 x) (is_between_true x1 x2 x (from_1 reach x1 x l) (in_2 right x2 x h))),
-            count_between_const q (int_min right x2) right false (high right x2)
-            (λ x l h. or_right_false (p x) (is_between x1 x2 x) (is_between_above x1 x2 x (past_2 right x2 x l h)) ∙ bare p left right from reach x1 x2 x step (trans _ _ x (order some) l) h),
+          count_between_same q p left (int_max reach x1) a_low (λ x l h. before p left right from reach x1 x2 x step l (less x _ right h (order a_in)) h),
+          count_between_const q (int_max reach x1) (int_min right x2) true (order some)
+              (λ x l h. or_right_true (p x) (is_between x1 x2 x) (is_between_true x1 x2 x (from_1 reach x1 x l) (in_2 right x2 x h))),
+          count_between_const q (int_min right x2) right false (high right x2)
+              (λ x l h. or_right_false (p x) (is_between x1 x2 x) (is_between_above x1 x2 x (past_2 right x2 x l h)) ∙ bare p left right from reach x1 x2 x step (trans _ _ x (order some) l) h),
         ) refl
 
     summed : (length a b : ℤ) (old new c : ℕ) → length ≡ pos old → a ≤ℤ b → old ≡ c + (span_len a b * 0 + span_len b right * 0) → new ≡ c + (span_len a b * 1 + span_len b right * 0)

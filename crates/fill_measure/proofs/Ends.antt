@@ -37,9 +37,10 @@ ends_more axis a lo hi old mid new before is mid_is new_is =
 -- the lines at numbers that hold both ends of each span
 pub lines_held : (axis : Axis) (ends more lines : List ℤ) → IsAxis axis → HoldEnds ends axis axis.count → ((z : ℤ) → Contains ends z → Contains more z)
     → ((x y : ℤ) → Contains more x → Contains more y → x <ℤ y → AreLines lines) → ((z : ℤ) → Contains more z ↔ Contains lines z) → AreLines lines × HoldEnds lines axis axis.count
-lines_held axis ends more lines is_axis hold kept lines_of same =
-    (lines_of _ _ (kept _ (hold.begins 0 is_axis.count_is.least)) (kept _ (hold.ends 0 is_axis.count_is.least)) (longer _ axis.length is_axis.length_is.least),
-    record { begins = λ a lt. (same _).0 (kept _ (hold.begins a lt)); ends = λ a lt. (same _).0 (kept _ (hold.ends a lt)) })
+lines_held axis ends more lines is_axis hold kept lines_of same = (
+  lines_of _ _ (kept _ (hold.begins 0 is_axis.count_is.least)) (kept _ (hold.ends 0 is_axis.count_is.least)) (longer _ axis.length is_axis.length_is.least),
+  record { begins = λ a lt. (same _).0 (kept _ (hold.begins a lt)); ends = λ a lt. (same _).0 (kept _ (hold.ends a lt)) },
+)
   where
     longer : (z length : ℤ) → pos 1 ≤ℤ length → z <ℤ (z +ℤ length)
     longer z length one = omega (arith, ints)

@@ -20,6 +20,6 @@ returns-else-y1-line c =
     let line = read (get_or c.args.lines.now c.args.k (pos 0)) in
     not_added_at c.args.lines.now rect c.args.right c.args.k c.args.tallies.now c.requires.lines c.requires.within
     (elim c.else-y1-line.branch [
-      else-y1-line-via-then-y1-line+else-line-y2 w ↦ above_rect rect w.y2.result line (y2_fits rect) w.y2.ensures w.if-line-y2.false
+      | else-y1-line-via-then-y1-line+else-line-y2 w ↦ above_rect rect w.y2.result line (y2_fits rect) w.y2.ensures w.if-line-y2.false
       | else-y1-line-via-else-y1-line w ↦ below_rect rect c.y1.result line (y1_fits rect) c.y1.ensures w.if-y1-line.false
     ])
