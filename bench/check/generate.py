@@ -1,7 +1,9 @@
 #!/usr/bin/env python3
 """Writes a design of one metal layer and the rules for its windows.
 
-usage: generate.py COUNT flat|deep FOLDER        writes FOLDER/design.gds and FOLDER/rules.csv
+usage: generate.py COUNT flat|deep FOLDER        writes FOLDER/design.gds and rule files: FOLDER/rules.csv for 10,000 windows that
+                                                 overlap by half, rules_70000.csv for some 70,000 side by side, and
+                                                 rules_1000000.csv for a million that overlap by three quarters
 
 The design is a block of placed cells with about COUNT copies of shapes. `deep` has five levels: cells of three to six
 shapes, groups of eight cells, rows of four groups, blocks of eight rows (every second one upside down, with a rail for
@@ -148,13 +150,13 @@ def write_design(path_, library, placed, form):
         out.write(record(0x07, 0) + record(0x04, 0))
 
 
-def write_rules(path_, width, height):
-    """Some 10,000 windows that overlap by half."""
+def write_rules(path_, width, height, count, overlap):
+    """`count` windows each way, each as long as `overlap` steps."""
     # Even steps, so that half the overlap of two windows, which KLayout asks for, is a whole number of units.
-    step_x, step_y = (min(side // 101, LONGEST // 2) // 2 * 2 for side in (width, height))
+    step_x, step_y = (min(side // (count + overlap - 1), LONGEST // overlap) // 2 * 2 for side in (width, height))
     rules = dict(frame_x1=0, frame_y1=0, frame_x2=width, frame_y2=height, box_w=2000, box_h=2000, step_x=8000, step_y=8000,
-                 origin_x=0, origin_y=0, spacing=200, fill_spacing=2000, win_w=2 * step_x, win_h=2 * step_y,
-                 win_step_x=step_x, win_step_y=step_y, win_x=0, win_y=0, win_nx=100, win_ny=100, min=180000, max=210000,
+                 origin_x=0, origin_y=0, spacing=200, fill_spacing=2000, win_w=overlap * step_x, win_h=overlap * step_y,
+                 win_step_x=step_x, win_step_y=step_y, win_x=0, win_y=0, win_nx=count, win_ny=count, min=180000, max=210000,
                  tile_nx=64, tile_ny=64, layer=METAL[0], datatype=METAL[1], fill_layer=METAL[0], fill_datatype=1, top="TOP",
                  fill_lib="FILL", fill_cell="FILL_BOX", fill_top="FILL_TOP")
     with open(path_, "w") as out:
@@ -170,7 +172,8 @@ def main(count, form, folder):
     wide = max(1, round(blocks / high))
     placed = [[draw.choice((0, 0, 0, 1, 2, 3, 4, 5)) for _ in range(wide)] for _ in range(high)]
     write_design(os.path.join(folder, "design.gds"), library, placed, form)
-    write_rules(os.path.join(folder, "rules.csv"), wide * library.width, high * library.height)
+    for name, windows, overlap in ("rules.csv", 100, 2), ("rules_70000.csv", 265, 1), ("rules_1000000.csv", 1000, 4):
+        write_rules(os.path.join(folder, name), wide * library.width, high * library.height, windows, overlap)
 
 
 main(int(sys.argv[1]), sys.argv[2], sys.argv[3])

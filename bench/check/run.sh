@@ -1,11 +1,11 @@
 #!/usr/bin/env bash
 # Times the whole of `densfill check` on generated designs of 100,000, 1,000,000 and 3,900,000 copies of shapes, flat and
-# in five levels, over 10,000 windows, beside the same algorithms in plain Rust (plain.rs), on one processor and on all: `plain`
-# keeps the whole library as values before it fills a shape, as `densfill` does, and `direct` fills each shape as it is read.
+# in five levels, over 10,000 windows that overlap by half, some 70,000 side by side and a million that overlap by three quarters,
+# beside the same algorithms in plain Rust (plain.rs), on one processor and on all: `plain` keeps the whole library as values before it fills a shape, as `densfill` does, and `direct` fills each shape as it is read.
 # Seconds are the best of three runs, peaks in MB those of the whole process. Where two reports differ in a byte, the run
 # fails; so the report of a flat design is compared with that of the deep one, too.
 #
-# Where `klayout` is installed (Debian's package of that name), a second table has KLayout's own ways, run once each: the
+# Where `klayout` is installed (Debian's package of that name), a second table has KLayout's own ways over the 10,000 windows, run once each: the
 # areas of all windows by its tiling processor (areas.py), and the low windows by with_density (density.drc). Its areas and
 # its low windows must be those of the report.
 #
@@ -20,42 +20,48 @@ rustc --edition 2021 -O -o "$work/plain" "$here/plain.rs"
 run() {
     local out=$work/$1.csv
     case $1 in
-        densfill) "$root/bin/densfill" check "$work/rules.csv" "$work/design.gds" > "$out" ;;
-        plain) "$work/plain" "$work/rules.csv" "$work/design.gds" library > "$out" ;;
-        direct) "$work/plain" "$work/rules.csv" "$work/design.gds" > "$out" ;;
+        densfill) "$root/bin/densfill" check "$rules" "$work/design.gds" > "$out" ;;
+        plain) "$work/plain" "$rules" "$work/design.gds" library > "$out" ;;
+        direct) "$work/plain" "$rules" "$work/design.gds" > "$out" ;;
         areas.py | density.drc)
-            QT_QPA_PLATFORM=offscreen klayout -b -r "$here/$1" -rd design="$work/design.gds" -rd rules="$work/rules.csv" \
+            QT_QPA_PLATFORM=offscreen klayout -b -r "$here/$1" -rd design="$work/design.gds" -rd rules="$rules" \
                 -rd threads="$2" -rd out="$out" ;;
     esac
 }
 export -f run
 export here root work
 
-printf '%-6s %10s %10s %12s %8s %6s %9s %12s %9s %10s\n' \
-    form copies processors "densfill s" "plain s" ratio "direct s" "densfill MB" "plain MB" "direct MB"
+printf '%-6s %10s %10s %10s %12s %8s %6s %9s %12s %9s %10s\n' \
+    form copies windows processors "densfill s" "plain s" ratio "direct s" "densfill MB" "plain MB" "direct MB"
 [ $# -gt 0 ] || set -- 100000 1000000 3900000
 for count in "$@"; do
     for form in flat deep; do
         python3 "$here/generate.py" "$count" "$form" "$work"
-        for processors in $(one_and_all); do
-            ours=$(measure densfill "$processors" 3)
-            theirs=$(measure plain "$processors" 3)
-            direct=$(measure direct "$processors" 3)
-            cmp "$work/densfill.csv" "$work/plain.csv"
-            cmp "$work/densfill.csv" "$work/direct.csv"
-            echo "$form $count $processors $ours $theirs $direct" |
-                awk '{ printf "%-6s %10d %10d %12.2f %8.2f %6.2f %9.2f %12d %9d %10d\n", $1, $2, $3, $4, $6, ($6 > 0 ? $4 / $6 : 0), $8, $5, $7, $9 }'
-            command -v klayout > "$work/found" || continue
-            areas=$(measure areas.py "$processors" 1)
-            low=$(measure density.drc "$processors" 1)
-            cut -d, -f1,2,7 "$work/densfill.csv" | cmp - "$work/areas.py.csv"
-            awk -F, '/LOW/ { print "(" $3 "," $4 ";" $5 "," $6 ")" }' "$work/densfill.csv" | LC_ALL=C sort > "$work/low"
-            LC_ALL=C sort "$work/density.drc.csv" | cmp - "$work/low"
-            echo "$form $count $processors $areas $low $ours" >> "$work/klayout"
+        for windows in 10000 70000 1000000; do
+            export rules=$work/rules_$windows.csv
+            [ $windows != 10000 ] || rules=$work/rules.csv
+            for processors in $(one_and_all); do
+                ours=$(measure densfill "$processors" 3)
+                theirs=$(measure plain "$processors" 3)
+                direct=$(measure direct "$processors" 3)
+                cmp "$work/densfill.csv" "$work/plain.csv"
+                cmp "$work/densfill.csv" "$work/direct.csv"
+                echo "$form $count $windows $processors $ours $theirs $direct" |
+                    awk '{ printf "%-6s %10d %10d %10d %12.2f %8.2f %6.2f %9.2f %12d %9d %10d\n", $1, $2, $3, $4, $5, $7, ($7 > 0 ? $5 / $7 : 0), $9, $6, $8, $10 }'
+                [ $windows = 10000 ] && command -v klayout > "$work/found" || continue
+                areas=$(measure areas.py "$processors" 1)
+                low=$(measure density.drc "$processors" 1)
+                cut -d, -f1,2,7 "$work/densfill.csv" | cmp - "$work/areas.py.csv"
+                awk -F, '/LOW/ { print "(" $3 "," $4 ";" $5 "," $6 ")" }' "$work/densfill.csv" | LC_ALL=C sort > "$work/low"
+                LC_ALL=C sort "$work/density.drc.csv" | cmp - "$work/low"
+                echo "$form $count $processors $areas $low $ours" >> "$work/klayout"
+            done
+            mv "$work/plain.csv" "$work/${form}_$windows.csv"
         done
-        mv "$work/plain.csv" "$work/$form.csv"
     done
-    cmp "$work/flat.csv" "$work/deep.csv"
+    for windows in 10000 70000 1000000; do
+        cmp "$work/flat_$windows.csv" "$work/deep_$windows.csv"
+    done
 done
 [ ! -s "$work/klayout" ] || awk '
     BEGIN {
