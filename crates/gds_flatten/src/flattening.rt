@@ -65,10 +65,11 @@ pub fn flatten_rects(
     let found = survey(alloc, &graph, top)?;
     let built = cells_of(alloc, cells, &graph, &found.steps, layer, data_type)?;
     let counts = counts_of(alloc, &built, &found.order)?;
-    if number_at(&counts, top) >= TOO_MANY {
+    let number = number_at(&counts, top);
+    if number >= TOO_MANY {
         return Err(FlattenError::TooManyShapes);
     }
-    let mut rects = Vec::new(alloc);
+    let mut rects = Vec::with_capacity(alloc, number)?;
     carry_cell(
         &built,
         &counts,

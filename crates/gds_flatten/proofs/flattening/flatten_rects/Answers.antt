@@ -33,8 +33,8 @@ returns-in_err-built-clause-refused c =
     (subst (λ xs. (c.in_err-built.field-0.0 ≡ Memory) ⊎ IsFaultAmong c.args.library.now.cells.entries c.args.layer c.args.data_type xs c.in_err-built.field-0.0)
     c.deref-3.ensures.value c.in_err-built.ensures.refused))
 
-pub returns-then-number_at-ge-TOO_MANY-clause-refused : goal.returns-then-number_at-ge-TOO_MANY-clause-refused
-returns-then-number_at-ge-TOO_MANY-clause-refused c =
+pub returns-then-number-ge-TOO_MANY-clause-refused : goal.returns-then-number-ge-TOO_MANY-clause-refused
+returns-then-number-ge-TOO_MANY-clause-refused c =
     let at = c.in_ok-top.ensures.found.1 in
     let is = ap rows c.deref.ensures.value ∙ c.in_ok-graph.ensures in
     let surveyed = told_surveyed c.args.library.now.cells.entries c.args.top.now c.in_ok-top.top (rows c.deref.result.now) (state_of c.in_ok-found.found) at is c.in_ok-found.ensures.surveyed in
@@ -43,9 +43,9 @@ returns-then-number_at-ge-TOO_MANY-clause-refused c =
     let right = counts_right c.args.library.now.cells.entries c.args.layer c.args.data_type (index_of c.args.library.now.cells.entries c.args.top.now) (state_of c.in_ok-found.found) surveyed
     c.in_ok-built.built.items built c.deref-4.result.now c.deref-5.result.now c.in_ok-counts.counts.items c.deref-4.ensures.value c.deref-5.ensures.value
     c.in_ok-counts.ensures.right in
-    let told = c.number_at.ensures ∙ ap (λ xs. item xs c.in_ok-top.top) c.deref-6.ensures.value ∙ ap (item c.in_ok-counts.counts.items) at in
+    let told = c.number_at-number.ensures ∙ ap (λ xs. item xs c.in_ok-top.top) c.deref-6.ensures.value ∙ ap (item c.in_ok-counts.counts.items) at in
     many_refused c.args.library.now.cells.entries c.args.top.now c.args.layer c.args.data_type c.in_ok-top.ensures.found.0 (state_of c.in_ok-found.found) surveyed c.in_ok-built.built.items built
-    c.in_ok-counts.counts.items right (omega (arith, told, c.if-number_at-ge-TOO_MANY.true))
+    c.in_ok-counts.counts.items right (omega (arith, told, c.if-number-ge-TOO_MANY.true))
 
 pub carry_cell-requires-clause-counted : goal.carry_cell-requires-clause-counted
 carry_cell-requires-clause-counted c =
@@ -73,9 +73,9 @@ returns-in_err-carry_cell-clause-refused c =
     let right = counts_right c.args.library.now.cells.entries c.args.layer c.args.data_type (index_of c.args.library.now.cells.entries c.args.top.now) (state_of c.in_ok-found.found) surveyed
     c.in_ok-built.built.items built c.deref-4.result.now c.deref-5.result.now c.in_ok-counts.counts.items c.deref-4.ensures.value c.deref-5.ensures.value
     c.in_ok-counts.ensures.right in
-    let told = c.number_at.ensures ∙ ap (λ xs. item xs c.in_ok-top.top) c.deref-6.ensures.value ∙ ap (item c.in_ok-counts.counts.items) at in
+    let told = c.number_at-number.ensures ∙ ap (λ xs. item xs c.in_ok-top.top) c.deref-6.ensures.value ∙ ap (item c.in_ok-counts.counts.items) at in
     let few : 4000001 ≤ item c.in_ok-counts.counts.items (index_of c.args.library.now.cells.entries c.args.top.now) → ⊥ =
-    (λ many. absurd (omega (arith, many, told, c.if-number_at-ge-TOO_MANY.false))) in
+    (λ many. absurd (omega (arith, many, told, c.if-number-ge-TOO_MANY.false))) in
     rw (p.1, p.2) (range_refused c.args.library.now.cells.entries c.args.top.now c.args.layer c.args.data_type c.in_ok-top.ensures.found.0 (state_of c.in_ok-found.found) surveyed c.in_ok-built.built.items built
     c.in_ok-counts.counts.items right few c.in_err-carry_cell.field-0.0
     (walked (λ cs. (c.in_err-carry_cell.field-0.0 ≡ Memory) ⊎ ((c.in_err-carry_cell.field-0.0 ≡ OutOfRange) × (AllStayInRange cs → ⊥)))
@@ -92,9 +92,9 @@ returns-clause-fine c =
     let right = counts_right c.args.library.now.cells.entries c.args.layer c.args.data_type (index_of c.args.library.now.cells.entries c.args.top.now) (state_of c.in_ok-found.found) surveyed
     c.in_ok-built.built.items built c.deref-4.result.now c.deref-5.result.now c.in_ok-counts.counts.items c.deref-4.ensures.value c.deref-5.ensures.value
     c.in_ok-counts.ensures.right in
-    let told = c.number_at.ensures ∙ ap (λ xs. item xs c.in_ok-top.top) c.deref-6.ensures.value ∙ ap (item c.in_ok-counts.counts.items) at in
+    let told = c.number_at-number.ensures ∙ ap (λ xs. item xs c.in_ok-top.top) c.deref-6.ensures.value ∙ ap (item c.in_ok-counts.counts.items) at in
     let few : 4000001 ≤ item c.in_ok-counts.counts.items (index_of c.args.library.now.cells.entries c.args.top.now) → ⊥ =
-    (λ many. absurd (omega (arith, many, told, c.if-number_at-ge-TOO_MANY.false))) in
+    (λ many. absurd (omega (arith, many, told, c.if-number-ge-TOO_MANY.false))) in
     countable c.args.library.now.cells.entries c.args.top.now c.args.layer c.args.data_type c.in_ok-top.ensures.found.0 (state_of c.in_ok-found.found) surveyed c.in_ok-built.built.items built
     c.in_ok-counts.counts.items right few
 
@@ -109,8 +109,8 @@ returns-clause-inside c =
     c.in_ok-built.built.items built c.deref-4.result.now c.deref-5.result.now c.in_ok-counts.counts.items c.deref-4.ensures.value c.deref-5.ensures.value
     c.in_ok-counts.ensures.right in
     (all_drawn c.args.library.now.cells.entries c.args.top.now c.args.layer c.args.data_type c.in_ok-top.ensures.found.0 (state_of c.in_ok-found.found) surveyed c.in_ok-built.built.items built
-    c.in_ok-counts.counts.items right c.new-rects.result.items c.carry_cell.new.out.items c.new-rects.ensures.items
-    (walked (λ cs. IsDrawn cs c.new-rects.result.items c.carry_cell.new.out.items)
+    c.in_ok-counts.counts.items right c.in_ok-rects.rects.items c.carry_cell.new.out.items c.in_ok-rects.ensures.items
+    (walked (λ cs. IsDrawn cs c.in_ok-rects.rects.items c.carry_cell.new.out.items)
     c.in_ok-built.built.items c.deref-7.result.now c.shift.result (index_of c.args.library.now.cells.entries c.args.top.now) c.in_ok-top.top
     c.deref-7.ensures.value c.shift.ensures at c.in_ok-carry_cell.ensures.drawn)).0
 
@@ -125,7 +125,7 @@ returns-clause-squares c =
     c.in_ok-built.built.items built c.deref-4.result.now c.deref-5.result.now c.in_ok-counts.counts.items c.deref-4.ensures.value c.deref-5.ensures.value
     c.in_ok-counts.ensures.right in
     (all_drawn c.args.library.now.cells.entries c.args.top.now c.args.layer c.args.data_type c.in_ok-top.ensures.found.0 (state_of c.in_ok-found.found) surveyed c.in_ok-built.built.items built
-    c.in_ok-counts.counts.items right c.new-rects.result.items c.carry_cell.new.out.items c.new-rects.ensures.items
-    (walked (λ cs. IsDrawn cs c.new-rects.result.items c.carry_cell.new.out.items)
+    c.in_ok-counts.counts.items right c.in_ok-rects.rects.items c.carry_cell.new.out.items c.in_ok-rects.ensures.items
+    (walked (λ cs. IsDrawn cs c.in_ok-rects.rects.items c.carry_cell.new.out.items)
     c.in_ok-built.built.items c.deref-7.result.now c.shift.result (index_of c.args.library.now.cells.entries c.args.top.now) c.in_ok-top.top
     c.deref-7.ensures.value c.shift.ensures at c.in_ok-carry_cell.ensures.drawn)).1
