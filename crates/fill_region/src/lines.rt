@@ -1,38 +1,68 @@
 //! The squares of many rectangles as bands: one sweep upwards over the lines at which a rectangle
 //! begins or ends.
-ghost use Rattle.std.specs.Prelude.{◌≡◌, ℤ, ◌<ℤ◌, ◌≤ℤ◌, IfOk, OnOk, [], length, ◌≤◌};
+ghost use Rattle.std.specs.Prelude.{◌≡◌, ℤ, ◌<ℤ◌, ◌≤ℤ◌, IfOk, IfSome, IfNone, OnOk, [], length, ◌≤◌};
 ghost use Rattle.std.specs.List.Sorted.{IsPermutation, IsPartitionPoint};
 ghost use Rattle.fill_spans.specs.Columns.{IsRisingBy};
 ghost use Rattle.fill_region.specs.Bands.{holds, IsRegion};
 ghost use Rattle.fill_region.specs.Squares.{covered};
 ghost use Rattle.fill_region.specs.steps.Lines.{IsNextLine, IsCrossed};
 
-use crate::bands::put_row;
+use crate::bands::{merged, put_row};
 use fill_base::Rect;
-use fill_spans::Spans;
 use fill_spans::sweep::CEILING;
+use fill_spans::{Operation, Spans};
 use std::alloc::{AllocError, Global};
 
-/// The bands of the squares that some rectangle holds. At each line at which a rectangle begins or
-/// ends, the rectangles that cross it make one row.
-pub(crate) fn swept(alloc: Global, rects: &[Rect]) -> Result<Vec<(i32, Spans)>, AllocError>
+/// So many rectangles are swept at once, however much they overlap.
+const FEW: usize = 1024;
+
+/// So many rectangles may be passed over for each rectangle of the list and for each edge that is written.
+const WORTH: usize = 16;
+
+/// The bands of the squares that some rectangle holds. A pile, whose rectangles lie all over one another,
+/// is swept in halves, which are united: what they leave is little.
+pub(crate) fn bands_of(alloc: Global, rects: &[Rect]) -> Result<Vec<(i32, Spans)>, AllocError>
     ensures region { IfOk result (λ v. IsRegion v.items) }
     ensures squares { IfOk result (λ v. (x y : ℤ) → holds v.items x y ≡ covered rects.now x y) }
+{
+    match swept(alloc, rects)? {
+        Some(bands) => Ok(bands),
+        None => {
+            let (first, second) = rects.split_at(rects.len() / 2);
+            let first = bands_of(alloc, first)?;
+            let second = bands_of(alloc, second)?;
+            merged(alloc, Operation::Union, &first, &second)
+        }
+    }
+}
+
+/// The same by one sweep. At each line at which a rectangle begins or ends, the rectangles that cross it
+/// make one row. `None` where they are a pile: far more than the edges of the rows.
+fn swept(alloc: Global, rects: &[Rect]) -> Result<Option<Vec<(i32, Spans)>>, AllocError>
+    ensures region { IfOk result (λ o. IfSome o (λ v. IsRegion v.items)) }
+    ensures squares { IfOk result (λ o. IfSome o (λ v. (x y : ℤ) → holds v.items x y ≡ covered rects.now x y)) }
+    ensures many { IfOk result (λ o. IfNone o (2 ≤ length rects.now)) }
 {
     let sorted = by_bottom(alloc, rects)?;
     let mut later = sorted.as_slice();
     let mut crossing = Vec::new(alloc);
     let mut bands = Vec::new(alloc);
+    let mut worth = rects.len().saturating_mul(WORTH);
     let mut line = next_line(later, &crossing);
     'sweep: while line < i64::from(CEILING) {
         let (begun, rest) = later.split_at(begun_at(later, line));
         cross(&mut crossing, begun, line)?;
         let row = Spans::across(alloc, &crossing)?;
+        worth = worth.saturating_add(row.edges().len().saturating_mul(WORTH));
+        if rects.len() > FEW && worth < crossing.len() {
+            return Ok(None);
+        }
+        worth = worth.saturating_sub(crossing.len());
         put_row(alloc, &mut bands, line as i32, row)?;
         later = rest;
         line = next_line(later, &crossing);
     }
-    Ok(bands)
+    Ok(Some(bands))
 }
 
 /// The rectangles by their lower edges.

@@ -10,7 +10,7 @@ ghost use Rattle.fill_region.specs.Squares.{covered};
 ghost use Rattle.fill_region.specs.Pieces.{sides_of, band_pieces, AreInOrder};
 
 use crate::bands::{first_above, merged, pair, put_row};
-use crate::lines::swept;
+use crate::lines::bands_of;
 use crate::pieces::pieces_of;
 use fill_base::Rect;
 use fill_spans::{Operation, Spans};
@@ -66,11 +66,15 @@ impl Region {
     }
 
     /// The squares that some rectangle holds, by one sweep upwards: a sort, and at each line at which a
-    /// rectangle begins or ends a walk over those that cross it.
+    /// rectangle begins or ends a walk over those that cross it. A pile of rectangles that lie all over one
+    /// another is swept in halves, which are united.
+    ///
+    /// # Errors
+    /// `AllocError` where there is no memory for the bands.
     pub fn from_rects(alloc: Global, rects: &[Rect]) -> Result<Region, AllocError>
         ensures squares { IfOk result (λ r. (x y : ℤ) → holds r x y ≡ covered rects.now x y) }
     {
-        let bands = swept(alloc, rects)?;
+        let bands = bands_of(alloc, rects)?;
         Ok(Region { bands })
     }
 

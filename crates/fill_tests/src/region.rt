@@ -172,3 +172,23 @@ fn overlapping_rectangles_in_pieces(rt: HostRuntime) -> Result<(), Fail> {
     assert!(rt; region.union(alloc, &Region::one(alloc, &low)?)? == region);
     Ok(())
 }
+
+/// 3,000 squares along a diagonal, each 1,000 wide: a pile, which is swept in halves. Each of its 3,999 lines has a row of its own.
+#[test]
+fn pile_along_a_diagonal(rt: HostRuntime) -> Result<(), Fail> {
+    let alloc = rt.alloc();
+    let mut rects = Vec::new(alloc);
+    for k in 0..3000i64 {
+        rects.push(rect(&rt, [k, k, k + 1000, k + 1000]))?;
+    }
+    let pile = Region::from_rects(alloc, &rects)?;
+    let pieces = pile.pieces(alloc)?;
+    assert_eq!(rt; pieces.len(), 3999);
+    let mut area = 0i64;
+    for piece in &pieces {
+        area = area.wrapping_add(piece.area());
+    }
+    // The first square whole, and of each other the 1,999 squares that the one before it doesn't hold.
+    assert_eq!(rt; area, 6_995_001);
+    Ok(())
+}
