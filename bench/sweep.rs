@@ -224,6 +224,23 @@ pub fn is_clear(bands: &Bands, place: &Rect, spacing: i32) -> bool {
     near.into_iter().all(|band| !meets(&band.1, x1, x2))
 }
 
+/// Marks the ranges of columns that have a square of the region between two lines, by one walk along each band.
+pub fn mark_met(bands: &Bands, ranges: &[(i32, i32)], bottom: i32, top: i32, marks: &mut [bool]) {
+    let above = bands.partition_point(|band| band.0 <= bottom);
+    for (_, edges) in bands[above.saturating_sub(1)..].iter().take_while(|band| band.0 < top) {
+        let mut next = 0;
+        for (mark, (lo, hi)) in marks.iter_mut().zip(ranges).filter(|(mark, _)| !**mark) {
+            while next < edges.len() && edges[next] <= *lo {
+                next += 1;
+            }
+            *mark = next % 2 == 1 || edges.get(next).is_some_and(|edge| edge < hi);
+        }
+        if marks.iter().all(|mark| *mark) {
+            return;
+        }
+    }
+}
+
 /// The rectangles of a layer's file: the left, lower, right and upper edge of each, in four bytes each.
 pub fn read(path: &str) -> Vec<Rect> {
     let bytes = std::fs::read(path).expect("the file");

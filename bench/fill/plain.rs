@@ -11,7 +11,7 @@ use design::{flatten, head, read_library};
 use rules::{Lines, Rules};
 use std::io::Write;
 use std::ops::Range;
-use sweep::{clip, from_rects, is_clear, measure_all, Bands, Rect};
+use sweep::{clip, from_rects, mark_met, measure_all, Bands, Rect};
 
 /// One axis of a raster: places from the first to the last whose box lies in the frame, in groups of tiles.
 struct Axis {
@@ -95,12 +95,15 @@ impl Fill {
         let metal = clip(metal, &halo);
         let windows = &lines.windows;
         let mut marks = vec![0u64; (columns.len() * rows.len()).div_ceil(64)];
+        let reach = |edge: i32, size: i32| (edge - spacing, edge + size + spacing);
+        let reaches: Vec<_> = columns.clone().map(|i| reach(self.across.edge(i), self.across.size)).collect();
+        let mut near = vec![false; reaches.len()];
         for j in rows.clone() {
-            for i in columns.clone() {
+            near.fill(false);
+            let (y1, y2) = reach(self.up.edge(j), self.up.size);
+            mark_met(&metal, &reaches, y1, y2, &mut near);
+            for i in columns.clone().filter(|i| !near[(i - columns.start) as usize]) {
                 let place = self.rect(i, j);
-                if !is_clear(&metal, &place, spacing) {
-                    continue;
-                }
                 let across = (windows.origin.0, windows.size.0, windows.step.0, windows.columns);
                 let up = (windows.origin.1, windows.size.1, windows.step.1, windows.rows);
                 let held = containing(across, place.x1, place.x2);

@@ -1,5 +1,5 @@
 //! The same work as `job.rt.txt` without proofs, for the benchmark alone: each tile's job has the metal of its halo and the low
-//! windows near it, and marks the wanted places by a clearance search for each.
+//! windows near it, and marks the wanted places by a walk along the metal near to each row of places.
 #[path = "../rules.rs"]
 mod rules;
 #[path = "../sweep.rs"]
@@ -7,7 +7,7 @@ mod sweep;
 
 use std::sync::Mutex;
 use std::time::Instant;
-use sweep::{clip, from_rects, is_clear, read, Bands, Rect};
+use sweep::{clip, from_rects, mark_met, read, Bands, Rect};
 
 /// The numbers of the rules.
 struct Rules {
@@ -66,12 +66,15 @@ fn propose(rules: &Rules, metal: &Bands, low: &[bool], tile: i32) -> usize {
     let places = ((right - left) * (top - bottom)) as usize;
     let mut marks = vec![0u64; places.div_ceil(64)];
     let mut count = 0;
+    let reach = |k: i32| (edge(k) - rules.spacing, edge(k) + rules.side + rules.spacing);
+    let reaches: Vec<(i32, i32)> = (left..right).map(reach).collect();
+    let mut near = vec![false; reaches.len()];
     for j in bottom..top {
-        for i in left..right {
+        near.fill(false);
+        let (y1, y2) = reach(j);
+        mark_met(&metal, &reaches, y1, y2, &mut near);
+        for i in (left..right).filter(|i| !near[(i - left) as usize]) {
             let place = Rect { x1: edge(i), y1: edge(j), x2: edge(i) + rules.side, y2: edge(j) + rules.side };
-            if !is_clear(&metal, &place, rules.spacing) {
-                continue;
-            }
             let (first, past) = rules.containing(place.x1, place.x2);
             let (lowest, above) = rules.containing(place.y1, place.y2);
             let mut rows = lowest..above;

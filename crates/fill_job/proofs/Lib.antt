@@ -4,3 +4,4 @@ pub mod Conflicts
 pub mod Marking
 pub mod LowWindows
 pub mod TileReads
+pub mod Reaching

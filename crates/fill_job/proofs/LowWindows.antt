@@ -3,7 +3,6 @@ use Rattle.std.proofs.Common.{◌≡◌, refl, ap, sym, ◌∙◌, ℕ, ◌≤�
 use Rattle.std.specs.Prelude.{IsTrue, int_le, unsigned_abs}
 use Rattle.std.proofs.lemmas.Bool.{and_from, and_parts, cases_Bool}
 use Rattle.std.proofs.lemmas.Int.{ints}
-use Rattle.fill_base.specs.Limits.{IsSpacing}
 use Rattle.fill_base.specs.Sides.{sides_of}
 use Rattle.fill_base.specs.Squares.{squares}
 use Rattle.fill_base.specs.declared.rect.Rect.{Rect}
@@ -111,38 +110,14 @@ in_low_is plan low i j r e1 e2 e3 e4 =
 
 -- ---- suitable places
 
-pub conflicts_is : (plan : Plan) (p : PointSet) (i j : ℤ) (r : Rect) → IsSpacing plan.spacing → r.x1 ≡ box_begin plan.raster.across i → r.y1 ≡ box_begin plan.raster.up j → r.x2 ≡ box_end plan.raster.across i → r.y2 ≡ box_end plan.raster.up j
-    → IsTrue (conflicts plan p i j) ↔ InConflict p (squares r) plan.spacing
-unfolding conflicts
-conflicts_is plan p i j r is e1 e2 e3 e4 =
-    let s = plan.spacing in
-    let found = some_within_decides p (r.x1 -ℤ s) (r.y1 -ℤ s) (r.x2 +ℤ s) (r.y2 +ℤ s) (grown_le r.x1 r.x2 s r.wide is.least) (grown_le r.y1 r.y2 s r.tall is.least) in
-    let near = grown_conflict p r s is.least in
-    let e : conflicts plan p i j ≡ some_within p (r.x1 -ℤ s) (r.y1 -ℤ s) (r.x2 +ℤ s) (r.y2 +ℤ s) = rw (e1, e2, e3, e4) refl in
-    ((λ h. near.0 (found.0 (sym e ∙ h))), (λ c. e ∙ found.1 (near.1 c)))
-
-opposite : {P : Type 0} (a b : Bool) → (IsTrue a ↔ ¬ P) → (IsTrue b ↔ P) → a ≡ not b
-opposite true true x y = absurd (x.0 refl (y.0 refl))
-opposite true false x y = refl
-opposite false true x y = refl
-opposite false false x y = absurd (let e : false ≡ true = x.1 (λ p. let f : false ≡ true = y.1 p in cc) in cc)
-
-pub suitable_is : (plan : Plan) (metal low : List Band) (i j : ℤ) (r : Rect) (a b : Bool) → IsSpacing plan.spacing
+-- a place that no metal is near to is suitable where its box lies in a low window
+pub free_is : (plan : Plan) (metal low : List Band) (i j : ℤ) (r : Rect) (near b : Bool)
     → r.x1 ≡ box_begin plan.raster.across i → r.y1 ≡ box_begin plan.raster.up j → r.x2 ≡ box_end plan.raster.across i → r.y2 ≡ box_end plan.raster.up j
-    → (IsTrue a ↔ ¬ InConflict (holds metal) (squares r) plan.spacing) → (IsTrue b ↔ HoldsIn plan.windows low (sides_of r)) → a && b ≡ is_suitable plan (holds metal) (windows_in low) i j
-suitable_is plan metal low i j r a b is e1 e2 e3 e4 clear held =
-    let free = opposite a (conflicts plan (holds metal) i j) clear (conflicts_is plan (holds metal) i j r is e1 e2 e3 e4) in
+    → near ≡ conflicts plan (holds metal) i j → near ≡ false → (IsTrue b ↔ HoldsIn plan.windows low (sides_of r)) → b ≡ is_suitable plan (holds metal) (windows_in low) i j
+free_is plan metal low i j r near b e1 e2 e3 e4 near_is free held =
     let at = in_low_is plan low i j r e1 e2 e3 e4 in
     let within = both_or_none b (in_window_of plan (windows_in low) i j) (λ h. at.1 (held.0 h)) (λ h. held.1 (at.0 h)) in
-    rw (free, within) refl
-
--- and where the box is too near to the metal, whatever the windows are
-pub unsuitable_is : (plan : Plan) (metal low : List Band) (i j : ℤ) (r : Rect) (a : Bool) → IsSpacing plan.spacing
-    → r.x1 ≡ box_begin plan.raster.across i → r.y1 ≡ box_begin plan.raster.up j → r.x2 ≡ box_end plan.raster.across i → r.y2 ≡ box_end plan.raster.up j
-    → (IsTrue a ↔ ¬ InConflict (holds metal) (squares r) plan.spacing) → a ≡ false → a ≡ is_suitable plan (holds metal) (windows_in low) i j
-unsuitable_is plan metal low i j r a is e1 e2 e3 e4 clear off =
-    let free = opposite a (conflicts plan (holds metal) i j) clear (conflicts_is plan (holds metal) i j r is e1 e2 e3 e4) in
-    rw (← free, off) refl
+    rw (sym near_is ∙ free, within) refl
 
 -- ---- equal read sets
 

@@ -79,7 +79,9 @@ impl Job {
         let Ok(mut marks) = Marks::none(alloc, &self.basis.rules.raster(), self.tile) else {
             return Err(self);
         };
-        self.basis.mark_tile(self.tile, &mut marks);
+        let Ok(()) = self.basis.mark_tile(alloc, self.tile, &mut marks) else {
+            return Err(self);
+        };
         Ok(Proposal {
             version: self.version,
             tile: self.tile,

@@ -1,21 +1,23 @@
 //! Which places are wanted by what was read.
-ghost use Rattle.std.specs.Prelude.{◌≡◌, ◌↔◌, ◌&&◌, ◌||◌, ◌<◌, ℤ, true, false, IsTrue};
+ghost use Rattle.std.specs.Prelude.{◌≡◌, ◌↔◌, ◌&&◌, ◌||◌, ◌<◌, ℤ, ◌<ℤ◌, true, false, length, IsTrue, IfOk, OnOk};
 ghost use Rattle.std.specs.Ordering.{int_eq};
-ghost use Rattle.fill_base.specs.Counts.{is_between};
+ghost use Rattle.fill_base.specs.Counts.{is_between, span_len};
 ghost use Rattle.fill_base.specs.Sides.{sides_of};
 ghost use Rattle.fill_region.specs.Bands.{holds};
 ghost use Rattle.fill_raster.specs.Lattice.{in_raster, in_tile, tiles};
 ghost use Rattle.fill_raster.specs.Marks.{in_block, is_marked};
 ghost use Rattle.fill_text.specs.Rules as rules;
 ghost use Rattle.fill_text.specs.ValuesOfRules.{values_of};
-ghost use Rattle.fill_job.specs.Plans.{is_suitable, wanted};
+ghost use Rattle.fill_job.specs.Plans.{conflicts, is_suitable, wanted};
 ghost use Rattle.fill_job.specs.Basis.{plan_by, read_by, windows_in};
+ghost use Rattle.fill_job.specs.steps.Reaches.{AreReaches, AreNear};
 ghost use Rattle.fill_job.specs.steps.Windows.{HoldsIn};
 
 use crate::basis::Basis;
 use fill_base::Rect;
 use fill_raster::{Marks, Place};
-use fill_size::is_clear;
+use fill_size::{is_clear, mark_met};
+use std::alloc::{AllocError, Global};
 
 impl Basis {
     /// Whether both have the same rules, metal and low windows.
@@ -42,50 +44,123 @@ impl Basis {
         !is_clear(&self.low, &range, 0)
     }
 
-    /// Whether the box of a place of the raster keeps the spacing to the metal and lies wholly in a low window.
-    fn is_suitable(&self, place: Place) -> bool
-        requires { in_raster (plan_by self.now).raster place.i place.j ≡ true }
+    /// Whether a place of the raster, near to metal or not, keeps the spacing to it and lies wholly in a low window.
+    fn is_suitable(&self, place: Place, near: bool) -> bool
+        requires raster { in_raster (plan_by self.now).raster place.i place.j ≡ true }
+        requires near { near ≡ conflicts (plan_by self.now) (holds self.now.metal) place.i place.j }
         ensures { result ≡ is_suitable (plan_by self.now) (holds self.now.metal) (windows_in self.now.low) place.i place.j }
     {
-        let rect = self.rules.raster().box_of(place);
-        is_clear(&self.metal, &rect, self.rules.spacing()) && self.is_in_low(&rect)
+        !near && self.is_in_low(&self.rules.raster().box_of(place))
+    }
+
+    /// The columns that the boxes of a part of a row reach, each with the spacing on both sides: the same for every row.
+    fn reaches(
+        &self,
+        alloc: Global,
+        left: i64,
+        right: i64,
+        j: i64,
+    ) -> Result<Vec<(i64, i64)>, AllocError>
+        requires some { left <ℤ right }
+        requires places { (i : ℤ) → is_between left right i ≡ true → in_raster (plan_by self.now).raster i j ≡ true }
+        ensures { IfOk result (λ v. AreReaches (plan_by self.now) left right v.items) }
+    {
+        let spacing = self.rules.spacing();
+        let mut reaches = Vec::new(alloc);
+        for i in left..right {
+            let rect = self.rules.raster().box_of(Place { i, j });
+            reaches.push((rect.x1() - spacing, rect.x2() + spacing))?;
+        }
+        Ok(reaches)
+    }
+
+    /// Marks the places of a part of a row that metal is too near to, by one walk along each row of metal around their boxes.
+    fn mark_near(&self, left: i64, right: i64, j: i64, reaches: &[(i64, i64)], near: &mut [bool])
+        requires some { left <ℤ right }
+        requires places { (i : ℤ) → is_between left right i ≡ true → in_raster (plan_by self.now).raster i j ≡ true }
+        requires reaches { AreReaches (plan_by self.now) left right reaches.now }
+        requires count { length near.old ≡ span_len left right }
+        ensures count { length near.new ≡ span_len left right }
+        ensures near { AreNear (plan_by self.now) (holds self.now.metal) left j near.new }
+    {
+        let rect = self.rules.raster().box_of(Place { i: left, j });
+        let spacing = self.rules.spacing();
+        near.fill(false);
+        mark_met(
+            &self.metal,
+            reaches,
+            rect.y1() - spacing,
+            rect.y2() + spacing,
+            near,
+        );
     }
 
     /// Marks the suitable places of a part of a row of the raster.
-    fn mark_row(&self, left: i64, right: i64, j: i64, marks: &mut Marks)
+    fn mark_row(&self, left: i64, right: i64, j: i64, near: &[bool], marks: &mut Marks)
         requires places { (i : ℤ) → is_between left right i ≡ true → in_raster (plan_by self.now).raster i j ≡ true }
         requires block { (i : ℤ) → is_between left right i ≡ true → in_block marks.old.block i j ≡ true }
+        requires count { length near.now ≡ span_len left right }
+        requires near { AreNear (plan_by self.now) (holds self.now.metal) left j near.now }
         ensures block { marks.new.block ≡ marks.old.block }
         ensures marked { (k l : ℤ) → is_marked marks.new k l ≡ (is_marked marks.old k l || (int_eq l j && (is_between left right k && is_suitable (plan_by self.now) (holds self.now.metal) (windows_in self.now.low) k l))) }
     {
+        let mut index = 0;
         for i in left..right {
             let place = Place { i, j };
-            if self.is_suitable(place) {
+            if self.is_suitable(place, near[index]) {
                 marks.set(place);
             }
+            index += 1;
         }
     }
 
     /// Marks the suitable places of a range of columns and a range of rows of the raster.
-    fn mark_rows(&self, left: i64, right: i64, bottom: i64, top: i64, marks: &mut Marks)
+    fn mark_rows(
+        &self,
+        left: i64,
+        right: i64,
+        bottom: i64,
+        top: i64,
+        reaches: &[(i64, i64)],
+        near: &mut [bool],
+        marks: &mut Marks,
+    )
+        requires some { left <ℤ right }
         requires places { (i j : ℤ) → (is_between left right i && is_between bottom top j) ≡ true → in_raster (plan_by self.now).raster i j ≡ true }
+        requires reaches { AreReaches (plan_by self.now) left right reaches.now }
+        requires count { length near.old ≡ span_len left right }
         requires block { (i j : ℤ) → (is_between left right i && is_between bottom top j) ≡ true → in_block marks.old.block i j ≡ true }
         requires none { (i j : ℤ) → is_marked marks.old i j ≡ false }
         ensures { (i j : ℤ) → is_marked marks.new i j ≡ (is_between bottom top j && (is_between left right i && is_suitable (plan_by self.now) (holds self.now.metal) (windows_in self.now.low) i j)) }
     {
         for j in bottom..top {
-            self.mark_row(left, right, j, marks);
+            self.mark_near(left, right, j, reaches, near);
+            self.mark_row(left, right, j, near, marks);
         }
     }
 
     /// Marks the wanted places of a tile.
-    pub(crate) fn mark_tile(&self, tile: u32, marks: &mut Marks)
+    ///
+    /// # Errors
+    /// `AllocError` where memory is refused.
+    pub(crate) fn mark_tile(
+        &self,
+        alloc: Global,
+        tile: u32,
+        marks: &mut Marks,
+    ) -> Result<(), AllocError>
         requires tile { tile < tiles (plan_by self.now).raster }
         requires block { (i j : ℤ) → in_block marks.old.block i j ≡ in_tile (plan_by self.now).raster tile i j }
         requires none { (i j : ℤ) → is_marked marks.old i j ≡ false }
-        ensures { (i j : ℤ) → is_marked marks.new i j ≡ wanted (plan_by self.now) (holds self.now.metal) (windows_in self.now.low) tile i j }
+        ensures { OnOk result ((i j : ℤ) → is_marked marks.new i j ≡ wanted (plan_by self.now) (holds self.now.metal) (windows_in self.now.low) tile i j) }
     {
         let (columns, rows) = self.rules.raster().places(tile);
-        self.mark_rows(columns.start, columns.end, rows.start, rows.end, marks);
+        let (left, right) = (columns.start, columns.end);
+        let reaches = self.reaches(alloc, left, right, rows.start)?;
+        let mut near = Vec::from_elem(alloc, false, reaches.len())?;
+        self.mark_rows(
+            left, right, rows.start, rows.end, &reaches, &mut near, marks,
+        );
+        Ok(())
     }
 }

@@ -1,4 +1,5 @@
 pub mod Ranges
+pub mod RangeWalks
 pub mod Scanning
 pub mod Growing
 pub mod Widening

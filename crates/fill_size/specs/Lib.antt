@@ -1,2 +1,3 @@
 pub mod Distance
 pub mod Growth
+pub mod Ranges

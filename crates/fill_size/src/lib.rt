@@ -4,9 +4,11 @@
 #![tactic(auto)]
 
 pub mod clearance;
+pub mod meeting;
 pub mod sizing;
 
 pub use clearance::{conflicts, is_clear};
+pub use meeting::mark_met;
 pub use sizing::{fits, sized};
 
 #[cfg(test)]

@@ -1,10 +1,11 @@
-use Rattle.std.proofs.Common.{◌≡◌, refl, ap, sym, ◌∙◌, pos, ◌+ℤ◌}
+use Rattle.std.proofs.Common.{◌≡◌, refl, ap, sym, ◌∙◌, pos, ◌+ℤ◌, false, length}
 use Rattle.fill_base.proofs.Between.{is_between_true}
 use Rattle.fill_base.proofs.Signed.{read, read_is, is_lt}
 use Rattle.fill_region.specs.Bands.{holds}
 use Rattle.fill_raster.specs.Marks.{is_marked}
 use Rattle.fill_job.specs.Basis.{plan_by, windows_in}
-use Rattle.fill_job.specs.Plans.{is_suitable}
+use Rattle.fill_job.specs.Plans.{conflicts, is_suitable}
+use Rattle.fill_job.proofs.Reaching.{no_index, index_within, index_place, index_fits, next_index}
 use Rattle.fill_job.proofs.Marking.{row_begins, column_marked, column_passed, row_ends, next_within, first_within, next_fits, not_lt}
 use Rattle.fill_job.proofs.basis.Basis.mark_row.Goals as goal
 use Rattle.fill_job.proofs.basis.Basis.mark_row.Goals.{then-is_suitable, else-is_suitable}
@@ -16,15 +17,37 @@ loop-i-init c =
     rw (read_is c.args.left c.ranges.left, read_is c.args.right c.ranges.right) (record {
       from = at.0;
       to = at.1;
+      index = no_index c.args.left;
       block = refl;
       marked = λ k m. row_begins (is_marked c.args.marks.now) s c.args.left (read c.args.j) k m;
     })
 
-pub is_suitable-requires : goal.is_suitable-requires
-is_suitable-requires c =
+pub bounds-near-index : goal.bounds-near-index
+bounds-near-index c =
+    let lt = is_lt c.loop-i.i c.args.right (rw (c.loop-i.i-is, read_is c.args.right c.ranges.right) at c.loop-i-test.true) in
+    let index = rw (c.loop-i.i-is, read_is c.args.left c.ranges.left) at c.loop-i.invariant.index in
+    index_within c.args.left c.args.right c.loop-i.i c.loop-i.index (length c.args.near.now) index lt c.requires.count
+
+pub is_suitable-requires-clause-raster : goal.is_suitable-requires-clause-raster
+is_suitable-requires-clause-raster c =
     let from = rw (c.loop-i.i-is, read_is c.args.left c.ranges.left) at c.loop-i.invariant.from in
     let lt = is_lt c.loop-i.i c.args.right (rw (c.loop-i.i-is, read_is c.args.right c.ranges.right) at c.loop-i-test.true) in
     rw (c.loop-i.i-is, read_is c.args.j c.ranges.j) (c.requires.places c.loop-i.i (is_between_true c.args.left c.args.right c.loop-i.i from lt))
+
+pub is_suitable-requires-clause-near : goal.is_suitable-requires-clause-near
+is_suitable-requires-clause-near c =
+    let p = plan_by c.args.self.now in
+    let lt = is_lt c.loop-i.i c.args.right (rw (c.loop-i.i-is, read_is c.args.right c.ranges.right) at c.loop-i-test.true) in
+    let index = rw (c.loop-i.i-is, read_is c.args.left c.ranges.left) at c.loop-i.invariant.index in
+    let within = index_within c.args.left c.args.right c.loop-i.i c.loop-i.index (length c.args.near.now) index lt c.requires.count in
+    rw (c.loop-i.i-is, read_is c.args.j c.ranges.j)
+    (c.requires.near c.loop-i.index false within ∙ ap (λ x. conflicts p (holds c.args.self.now.metal) x c.args.j) (index_place c.args.left c.loop-i.i c.loop-i.index index))
+
+pub overflow_add-index : goal.overflow_add-index
+overflow_add-index c =
+    let lt = is_lt c.loop-i.i c.args.right (rw (c.loop-i.i-is, read_is c.args.right c.ranges.right) at c.loop-i-test.true) in
+    let index = rw (c.loop-i.i-is, read_is c.args.left c.ranges.left) at c.loop-i.invariant.index in
+    index_fits c.args.left c.args.right c.loop-i.i c.loop-i.index c.ranges.left c.ranges.right index lt
 
 pub set-requires : goal.set-requires
 set-requires c =
@@ -46,6 +69,7 @@ loop-i-preserved c =
     rw (c.loop-i.i-is, read_is c.args.left c.ranges.left, read_is c.args.right c.ranges.right, next) (record {
       from = step.0;
       to = step.1;
+      index = next_index c.args.left i c.loop-i.index (rw (c.loop-i.i-is, read_is c.args.left c.ranges.left) at c.loop-i.invariant.index);
       block = elim c.if-is_suitable.branch [
         | then-is_suitable w ↦ ap (λ m. m.block) w.marks-is ∙ (w.set.ensures.block ∙ inv.block)
         | else-is_suitable w ↦ ap (λ m. m.block) w.marks-is ∙ inv.block

@@ -20,6 +20,13 @@ loop-j-init c =
       marked = λ k m. rows_begin (is_marked c.args.marks.now) s (read c.args.left) (read c.args.right) c.args.bottom k m (c.requires.none k m);
     })
 
+pub mark_near-requires-clause-places : goal.mark_near-requires-clause-places
+mark_near-requires-clause-places c =
+    let from = rw (c.loop-j.j-is, read_is c.args.bottom c.ranges.bottom) at c.loop-j.invariant.from in
+    let lt = is_lt c.loop-j.j c.args.top (rw (c.loop-j.j-is, read_is c.args.top c.ranges.top) at c.loop-j-test.true) in
+    rw (c.loop-j.j-is, read_is c.args.left c.ranges.left, read_is c.args.right c.ranges.right)
+    (λ i inside. c.requires.places i c.loop-j.j (and_from _ _ inside (is_between_true c.args.bottom c.args.top c.loop-j.j from lt)))
+
 pub mark_row-requires-clause-places : goal.mark_row-requires-clause-places
 mark_row-requires-clause-places c =
     let from = rw (c.loop-j.j-is, read_is c.args.bottom c.ranges.bottom) at c.loop-j.invariant.from in

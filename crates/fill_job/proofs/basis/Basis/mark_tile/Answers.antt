@@ -1,5 +1,5 @@
 use Rattle.std.proofs.Common.{◌∙◌, sym, rules, FitsSigned, w64}
-use Rattle.std.proofs.lemmas.Bool.{and_parts}
+use Rattle.std.proofs.lemmas.Bool.{and_from, and_parts}
 use Rattle.fill_base.specs.Counts.{is_between}
 use Rattle.fill_base.proofs.Signed.{read_is}
 use Rattle.fill_region.specs.Bands.{holds}
@@ -7,7 +7,17 @@ use Rattle.fill_raster.specs.Lattice.{in_tile}
 use Rattle.fill_job.specs.Basis.{plan_by, windows_in}
 use Rattle.fill_job.specs.Plans.{is_suitable}
 use Rattle.fill_job.proofs.Marking.{tile_marked}
+use Rattle.fill_job.proofs.Reaching.{first_in}
 use Rattle.fill_job.proofs.basis.Basis.mark_tile.Goals as goal
+
+pub reaches-requires-clause-places : goal.reaches-requires-clause-places
+reaches-requires-clause-places c =
+    let left : FitsSigned w64 c.places.result.0.start = search rules in
+    let right : FitsSigned w64 c.places.result.0.end = search rules in
+    let bottom : FitsSigned w64 c.places.result.1.start = search rules in
+    let places = rw c.raster.ensures.raster at c.places.ensures.places in
+    rw (read_is _ left, read_is _ right, read_is _ bottom)
+    (λ i h. (and_parts _ _ (sym (places i c.places.result.1.start) ∙ and_from _ _ h (first_in c.places.result.1.start c.places.result.1.end c.places.ensures.rows))).0)
 
 pub mark_rows-requires-clause-places : goal.mark_rows-requires-clause-places
 mark_rows-requires-clause-places c =

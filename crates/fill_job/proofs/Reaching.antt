@@ -1,0 +1,180 @@
+-- The places of a part of a row, and the metal near to their boxes.
+use Rattle.std.proofs.Common.{◌≡◌, refl, ap, sym, ◌∙◌, ℕ, ◌+◌, ◌^◌, ◌<◌, ℤ, pos, ◌+ℤ◌, ◌-ℤ◌, ◌*ℤ◌, ◌≤ℤ◌, ◌<ℤ◌, arith, inl, inr, ◌⊎◌, List, length, get_or, [], ◌∷◌, ◌++◌, replicate, Bool, true, false, ◌↔◌, subst, below_more, w64, Fits, FitsSigned}
+use Rattle.std.specs.Int.{int_max}
+use Rattle.std.specs.Prelude.{IsTrue, int_le}
+use Rattle.std.proofs.lemmas.Bool.{and_parts}
+use Rattle.std.proofs.lemmas.Int.{ints, clamps}
+use Rattle.std.proofs.Math.Seq.{get_or-append_seam}
+use Rattle.std.proofs.lemmas.List.{get_or-replicate, get_or_append_left, length-append}
+use Rattle.fill_base.specs.Coordinates.{lowest, highest}
+use Rattle.fill_base.specs.Counts.{is_between, span_len}
+use Rattle.fill_base.specs.Limits.{IsSpacing, IsLength}
+use Rattle.fill_base.specs.declared.rect.Rect.{Rect}
+use Rattle.fill_base.proofs.Areas.{read_x1, read_x2, read_y1, read_y2}
+use Rattle.fill_base.proofs.Between.{is_between_true}
+use Rattle.fill_base.proofs.Signed.{read, read_is}
+use Rattle.fill_raster.specs.Axes.{box_begin, box_end}
+use Rattle.fill_raster.specs.Lattice.{Lattice, IsLattice, in_raster}
+use Rattle.fill_raster.specs.declared.axis.Axis.{Axis}
+use Rattle.fill_raster.proofs.Floors.{product_le}
+use Rattle.fill_size.specs.Distance.{HasSquare}
+use Rattle.fill_size.specs.Ranges.{AreRising, AreMarked}
+use Rattle.fill_size.proofs.Ranges.{spacing_read}
+use Rattle.fill_job.specs.Plans.{Plan, PointSet, conflicts}
+use Rattle.fill_job.specs.steps.Reaches.{reach, AreReaches, AreNear}
+use Rattle.fill_job.proofs.Conflicts.{some_within_decides, grown_le}
+use Rattle.fill_job.proofs.LowWindows.{both_or_none}
+
+some_wide : (b n : ℤ) → IsLength n → b <ℤ (b +ℤ n)
+some_wide b n long = let l : pos 1 ≤ℤ n = long.least in omega (arith, ints)
+
+-- a place is in conflict where the metal has a square in its grown box
+conflicts_found : (plan : Plan) (p : PointSet) (i j : ℤ) → IsLattice plan.raster → IsSpacing plan.spacing
+    → IsTrue (conflicts plan p i j) ↔ HasSquare p (box_begin plan.raster.across i -ℤ plan.spacing) (box_begin plan.raster.up j -ℤ plan.spacing) (box_end plan.raster.across i +ℤ plan.spacing) (box_end plan.raster.up j +ℤ plan.spacing)
+unfolding conflicts
+conflicts_found plan p i j raster spacing =
+    let r = plan.raster in let s = plan.spacing in
+    some_within_decides p (box_begin r.across i -ℤ s) (box_begin r.up j -ℤ s) (box_end r.across i +ℤ s) (box_end r.up j +ℤ s)
+    (grown_le (box_begin r.across i) (box_end r.across i) s (some_wide (box_begin r.across i) r.across.length raster.across.length_is) spacing.least)
+    (grown_le (box_begin r.up j) (box_end r.up j) s (some_wide (box_begin r.up j) r.up.length raster.up.length_is) spacing.least)
+
+is_le : (a b : ℤ) → int_le a b ≡ true → a ≤ℤ b
+is_le a b h = grind (arith, ints)
+
+-- the box of a place on the raster lies within the frame
+box_within : (r : Lattice) (i j : ℤ) → IsLattice r → in_raster r i j ≡ true → (lowest ≤ℤ box_begin r.across i) × (box_end r.across i ≤ℤ highest)
+box_within r i j is on =
+    let parts = and_parts _ _ (and_parts _ _ on).0 in
+    let low = is_le _ _ parts.0 in let high = is_le _ _ parts.1 in
+    (le_le _ _ _ is.across.least low, le_le _ _ _ high is.across.most)
+  where
+    le_le : (a b c : ℤ) → a ≤ℤ b → b ≤ℤ c → a ≤ℤ c
+    le_le a b c h k = omega (arith, ints)
+
+place_in : (left right : ℤ) (a : ℕ) → left <ℤ right → a < span_len left right → is_between left right (left +ℤ pos a) ≡ true
+place_in left right a some lt = is_between_true left right (left +ℤ pos a) (omega (arith, ints)) (omega (arith, ints))
+
+grown_within : (lo hi s : ℤ) → lowest ≤ℤ lo → hi ≤ℤ highest → pos 0 ≤ℤ s → s ≤ℤ pos 1048576 → ((pos 0 -ℤ pos (2 ^ 31)) ≤ℤ (lo -ℤ s)) × ((hi +ℤ s) ≤ℤ pos (2 ^ 31))
+grown_within lo hi s low high least most = (omega (arith, ints), omega (arith, ints))
+
+grown_some : (lo n s : ℤ) → IsLength n → pos 0 ≤ℤ s → (lo -ℤ s) <ℤ ((lo +ℤ n) +ℤ s)
+grown_some lo n s long least = let l : pos 1 ≤ℤ n = long.least in omega (arith, ints)
+
+box_rises : (a : Axis) (i k s : ℤ) → IsLength a.step → i ≤ℤ k → (box_begin a i -ℤ s) ≤ℤ (box_begin a k -ℤ s)
+box_rises a i k s step le = moved a.origin (i *ℤ a.step) (k *ℤ a.step) s (product_le i k a.step step.least le)
+  where
+    moved : (o m n s : ℤ) → m ≤ℤ n → ((o +ℤ m) -ℤ s) ≤ℤ ((o +ℤ n) -ℤ s)
+    moved o m n s h = omega (arith, ints)
+
+-- the columns that the boxes of a part of a row reach come one after the other
+pub reaches_rising : (plan : Plan) (left right j : ℤ) (reaches : List (ℤ × ℤ)) → left <ℤ right → IsLattice plan.raster → IsSpacing plan.spacing → ((i : ℤ) → is_between left right i ≡ true → in_raster plan.raster i j ≡ true)
+    → AreReaches plan left right reaches → AreRising reaches
+reaches_rising plan left right j reaches some is spacing places are =
+    let r = plan.raster in let s = plan.spacing in
+    record {
+      some = λ a d lt. rw (are.each a d lt) (grown_some (box_begin r.across (left +ℤ pos a)) r.across.length s is.across.length_is spacing.least);
+      rising = λ a b d le lt. rw (are.each a d (omega arith), are.each b d lt) (box_rises r.across (left +ℤ pos a) (left +ℤ pos b) s is.across.step_is (omega (arith, ints)));
+      least = λ a d lt. rw (are.each a d lt) (grown a (rw are.count at lt)).0;
+      most = λ a d lt. rw (are.each a d lt) (grown a (rw are.count at lt)).1;
+    }
+  where
+    grown : (a : ℕ) → a < span_len left right → ((pos 0 -ℤ pos (2 ^ 31)) ≤ℤ (box_begin plan.raster.across (left +ℤ pos a) -ℤ plan.spacing)) × ((box_end plan.raster.across (left +ℤ pos a) +ℤ plan.spacing) ≤ℤ pos (2 ^ 31))
+    grown a lt =
+        let w = box_within plan.raster (left +ℤ pos a) j is (places (left +ℤ pos a) (place_in left right a some lt)) in
+        grown_within _ _ plan.spacing w.0 w.1 spacing.least spacing.most
+
+-- the lines that a box reaches, as the code reads them
+pub lines_read : (r : Rect) (s y1 y2 : ℤ) → IsSpacing s → y1 ≡ r.y1 → y2 ≡ r.y2 → (read (read y1 -ℤ read s) ≡ r.y1 -ℤ s) × (read (read y2 +ℤ read s) ≡ r.y2 +ℤ s)
+lines_read r s y1 y2 is e1 e2 =
+    let least = is.least in let most = is.most in let low = r.bottom in let tall = r.tall in let high = r.top in
+    let down : FitsSigned w64 (r.y1 -ℤ s) = omega (arith, ints) in
+    let up : FitsSigned w64 (r.y2 +ℤ s) = omega (arith, ints) in
+    rw (e1, e2, read_y1 r, read_y2 r, spacing_read s is) (read_is _ down, read_is _ up)
+
+pub lines_ordered : (r : Rect) (s : ℤ) → IsSpacing s → (r.y1 -ℤ s) ≤ℤ (r.y2 +ℤ s)
+lines_ordered r s is = grown_le r.y1 r.y2 s r.tall is.least
+
+pub first_in : (left right : ℤ) → left <ℤ right → is_between left right left ≡ true
+first_in left right lt = is_between_true left right left (omega (arith, ints)) lt
+
+-- where nothing was marked before, the ranges that meet the metal are those of the places that it is near to
+pub near_places : (plan : Plan) (p : PointSet) (left right j : ℤ) (reaches : List (ℤ × ℤ)) (n : ℕ) (marks : List Bool) → IsLattice plan.raster → IsSpacing plan.spacing → AreReaches plan left right reaches
+    → n ≡ span_len left right → length marks ≡ n
+    → AreMarked (λ lo hi. HasSquare p lo (box_begin plan.raster.up j -ℤ plan.spacing) hi (box_end plan.raster.up j +ℤ plan.spacing)) reaches (replicate n false) marks → AreNear plan p left j marks
+near_places plan p left right j reaches n marks is spacing are n_is count marked a m lt =
+    let d : ℤ × ℤ = (pos 0, pos 0) in
+    let inner : a < length reaches = omega (arith, are.count, n_is, count, lt) in
+    let found = conflicts_found plan p (left +ℤ pos a) j is spacing in
+    let test = marked a d m inner in
+    both_or_none (get_or marks a m) (conflicts plan p (left +ℤ pos a) j)
+    (λ h. found.1 (rw (are.each a d inner) at (only (test.0 h))))
+    (λ h. test.1 (inr (rw (are.each a d inner) (found.0 h))))
+  where
+    only : {P : Type 0} → IsTrue (get_or (replicate n false) a m) ⊎ P → P
+    only (inl h) = absurd (let e : false ≡ true = sym (get_or-replicate n a false m (omega (arith, count, lt))) ∙ h in cc)
+    only (inr h) = h
+
+-- ---- the index of a place from the first of its part of a row
+
+pub no_index : (left : ℤ) → pos 0 ≡ left -ℤ left
+no_index left = omega (arith, ints)
+
+pub index_within : (left right i : ℤ) (index n : ℕ) → pos index ≡ i -ℤ left → i <ℤ right → n ≡ span_len left right → index < n
+index_within left right i index n is lt count = omega (arith, ints, count, is)
+
+pub index_place : (left i : ℤ) (index : ℕ) → pos index ≡ i -ℤ left → left +ℤ pos index ≡ i
+index_place left i index is = omega (arith, ints, is)
+
+pub index_fits : (left right i : ℤ) (index : ℕ) → FitsSigned w64 left → FitsSigned w64 right → pos index ≡ i -ℤ left → i <ℤ right → Fits w64 (index + 1)
+index_fits left right i index fl fr is lt = omega (arith, ints, is)
+
+pub next_index : (left i : ℤ) (index : ℕ) → pos index ≡ i -ℤ left → pos (index + 1) ≡ (i +ℤ pos 1) -ℤ left
+next_index left i index is = omega (arith, ints, is)
+
+-- ---- the columns that boxes reach, one place after the other
+
+pub no_reaches : (plan : Plan) (left : ℤ) → AreReaches plan left left []
+no_reaches plan left = record { count = none left; each = λ a d lt. absurd (omega arith) }
+  where
+    none : (left : ℤ) → 0 ≡ span_len left left
+    none left = omega (arith, ints)
+
+columns_read : (r : Rect) (s x1 x2 : ℤ) → IsSpacing s → x1 ≡ r.x1 → x2 ≡ r.x2 → (read (read x1 -ℤ read s) ≡ r.x1 -ℤ s) × (read (read x2 +ℤ read s) ≡ r.x2 +ℤ s)
+columns_read r s x1 x2 is e1 e2 =
+    let least = is.least in let most = is.most in let low = r.left in let wide = r.wide in let high = r.right in
+    let down : FitsSigned w64 (r.x1 -ℤ s) = omega (arith, ints) in
+    let up : FitsSigned w64 (r.x2 +ℤ s) = omega (arith, ints) in
+    rw (e1, e2, read_x1 r, read_x2 r, spacing_read s is) (read_is _ down, read_is _ up)
+
+pub columns_fit : (r : Rect) (s x1 : ℤ) → IsSpacing s → x1 ≡ r.x1 → FitsSigned w64 (read x1 -ℤ read s)
+columns_fit r s x1 is e1 =
+    let least = is.least in let most = is.most in let low = r.left in let wide = r.wide in let high = r.right in
+    let down : FitsSigned w64 (r.x1 -ℤ s) = omega (arith, ints) in
+    rw (e1, read_x1 r, spacing_read s is) down
+
+abbrev pair : ℤ → ℤ → ℤ × ℤ
+pair a b = (a, b)
+
+pub reach_more : (plan : Plan) (left i : ℤ) (reaches new : List (ℤ × ℤ)) (r : Rect) (s x1 x2 : ℤ) → AreReaches plan left i reaches → left ≤ℤ i → s ≡ plan.spacing → IsSpacing plan.spacing
+    → r.x1 ≡ box_begin plan.raster.across i → r.x2 ≡ box_end plan.raster.across i → x1 ≡ r.x1 → x2 ≡ r.x2 → new ≡ reaches ++ pair (read (read x1 -ℤ read s)) (read (read x2 +ℤ read s)) ∷ [] → AreReaches plan left (i +ℤ pos 1) new
+reach_more plan left i reaches new r s x1 x2 are le s_is is left_is right_is e1 e2 new_is =
+    let n : i ≡ left +ℤ pos (length reaches) = place_of i (length reaches) le are.count in
+    let columns = columns_read r plan.spacing x1 x2 is e1 e2 in
+    let put : pair (read (read x1 -ℤ read s)) (read (read x2 +ℤ read s)) ≡ reach plan i = rw (s_is, columns.0, columns.1, left_is, right_is) refl in
+    let now : new ≡ reaches ++ reach plan i ∷ [] = rw put at new_is in
+    record {
+      count = ap length now ∙ (length-append reaches (reach plan i ∷ []) ∙ longer (length reaches) le are.count);
+      each = λ a d lt. rw now (below_more (λ b. (e : ℤ × ℤ) → get_or (reaches ++ reach plan i ∷ []) b e ≡ reach plan (left +ℤ pos b)) (length reaches)
+          (λ b lower e. get_or_append_left reaches (reach plan i ∷ []) e b lower ∙ are.each b e lower)
+          (λ e. get_or-append_seam reaches (reach plan i) [] e ∙ ap (reach plan) n)
+          a (rw (ap length now ∙ length-append reaches (reach plan i ∷ [])) at lt) d);
+    }
+  where
+    place_of : (i : ℤ) (n : ℕ) → left ≤ℤ i → n ≡ span_len left i → i ≡ left +ℤ pos n
+    place_of i n le count = omega (arith, ints, count)
+
+    longer : (n : ℕ) → left ≤ℤ i → n ≡ span_len left i → n + 1 ≡ span_len left (i +ℤ pos 1)
+    longer n le count = omega (arith, ints, count)
+
+pub reaches_all : (plan : Plan) (left right i : ℤ) (reaches : List (ℤ × ℤ)) → left <ℤ right → i ≤ℤ int_max left right → right ≤ℤ i → AreReaches plan left i reaches → AreReaches plan left right reaches
+reaches_all plan left right i reaches some most past are = let is : i ≡ right = omega (arith, ints, clamps) in subst (λ x. AreReaches plan left x reaches) is are
