@@ -14,7 +14,7 @@ use Rattle.fill_base.specs.Limits.{IsSpacing}
 use Rattle.fill_size.specs.Distance.{IsNear, Reaches, HasSquare, IsSized, StaysInRange}
 use Rattle.fill_size.specs.Growth.{FitsGrown, IsAdded}
 use Rattle.fill_size.proofs.Widening.{covered_more}
-use Rattle.fill_size.proofs.Ranges.{squares_inside, spacing_read, grown_read, shrunk_read, squares_true, nearest}
+use Rattle.fill_size.proofs.Ranges.{squares_inside, spacing_read, squares_true, nearest}
 
 not_both : (b : Bool) → b ≡ true → b ≡ false → ⊥
 not_both b h k = let e : true ≡ false = sym h ∙ k in cc

@@ -1,12 +1,12 @@
 -- Walks along the edges of a row and along ranges of columns.
-use Rattle.std.proofs.Common.{◌≡◌, ℕ, suc, ◌+◌, ◌%◌, ◌^◌, ◌≤◌, ◌<◌, ℤ, pos, ◌-ℤ◌, ◌≤ℤ◌, ◌<ℤ◌, ◌⊎◌, inl, inr, ◌↔◌, List, length, get_or, set, arith, ap, refl, sym, ◌∙◌, Bool, true, false, ◌||◌, w64, FitsSigned, subst, below_more}
+use Rattle.std.proofs.Common.{◌≡◌, ℕ, ◌+◌, ◌%◌, ◌^◌, ◌≤◌, ◌<◌, ℤ, pos, ◌-ℤ◌, ◌≤ℤ◌, ◌<ℤ◌, ◌⊎◌, inl, inr, ◌↔◌, List, length, get_or, set, arith, refl, sym, ◌∙◌, Bool, true, false, w64, FitsSigned, subst, below_more}
 use Rattle.std.specs.Prelude.{IsTrue}
 use Rattle.std.proofs.lemmas.Bool.Decides.{nat_tests}
 use Rattle.std.proofs.lemmas.Int.{ints, by_lt_z}
 use Rattle.std.proofs.lemmas.List.{get_or_default, get_or-set_same, get_or-set_other, length-set}
 use Rattle.fill_base.proofs.Signed.{read, read_is, lt_le, le_trans}
-use Rattle.fill_spans.specs.Spans.{odd, inside, next_edge, IsCanonical}
-use Rattle.fill_spans.specs.EdgeLookup.{IsFirstAbove, IsEdgeBelow, HasMember}
+use Rattle.fill_spans.specs.Spans.{odd, next_edge, IsCanonical}
+use Rattle.fill_spans.specs.EdgeLookup.{IsFirstAbove, HasMember}
 use Rattle.fill_spans.proofs.Searching.{inside_first_above, some_member, gap_member}
 use Rattle.fill_region.specs.Bands.{Band, holds}
 use Rattle.fill_region.specs.Rows.{Upwards, IsNextRow, AreOver}
@@ -62,6 +62,15 @@ member_later es lo hi k below canonical first some out test = (
   (λ m. not_false below (λ no.
       let none : k < length es → hi ≤ℤ next_edge es k = (λ within. not_lt_le (next_edge es k) hi (λ lt. let e : true ≡ false = sym (test.1 (within, lt)) ∙ no in cc)) in
       let e : true ≡ false = sym ((gap_member es lo hi k canonical some first none).1 m) ∙ not_odd_is k out in cc)),
+)
+
+pub or_unmarked : {P : Type 0} (mark now : Bool) → mark ≡ false → (IsTrue now ↔ P) → IsTrue now ↔ (IsTrue mark ⊎ P)
+or_unmarked mark now off test = (
+  (λ h. inr (test.0 h)),
+  (λ s. elim s [
+    | inl h ↦ let e : true ≡ false = sym h ∙ off in absurd (cc)
+    | inr p ↦ test.1 p
+  ]),
 )
 
 begin_fits : (lo hi : ℤ) → (pos 0 -ℤ pos (2 ^ 31)) ≤ℤ lo → lo <ℤ hi → hi ≤ℤ pos (2 ^ 31) → FitsSigned w64 lo × FitsSigned w64 hi

@@ -1,5 +1,5 @@
 -- Distances between unit squares, in x and in y apart (the square metric).
-use Rattle.std.specs.Prelude.{◌≡◌, ℤ, pos, ◌+ℤ◌, ◌-ℤ◌, ◌≤ℤ◌, ◌<ℤ◌, Bool, true}
+use Rattle.std.specs.Prelude.{◌≡◌, ℤ, ◌+ℤ◌, ◌-ℤ◌, ◌≤ℤ◌, ◌<ℤ◌, Bool, true}
 use Rattle.fill_base.specs.Coordinates.{lowest, highest}
 
 -- two coordinates are at most `d` apart

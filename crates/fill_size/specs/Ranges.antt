@@ -1,5 +1,5 @@
 -- Ranges of columns, each from its first number on and below its second.
-use Rattle.std.specs.Prelude.{◌≡◌, ℕ, ◌≤◌, ◌<◌, ◌^◌, ℤ, pos, ◌-ℤ◌, ◌≤ℤ◌, ◌<ℤ◌, ◌⊎◌, ◌↔◌, Bool, List, IsTrue, length, get_or}
+use Rattle.std.specs.Prelude.{ℕ, ◌≤◌, ◌<◌, ◌^◌, ℤ, pos, ◌-ℤ◌, ◌≤ℤ◌, ◌<ℤ◌, ◌⊎◌, ◌↔◌, Bool, List, IsTrue, length, get_or}
 
 -- each range has a column, none begins before one that stands before it, and their numbers are from -2^31 to 2^31
 pub record AreRising (ranges : List (ℤ × ℤ)) : Type 0 where

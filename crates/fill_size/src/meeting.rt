@@ -64,7 +64,8 @@ fn marked(edges: &[i32], next: usize, lo: i64, hi: i64, mark: bool) -> (usize, b
         return (next, true);
     }
     let next = first_above(edges, next, lo);
-    (next, has_member(edges, next, lo, hi))
+    let has_edge = is_below(edges, next, hi);
+    (next, next % 2 == 1 || has_edge)
 }
 
 /// The index of the first edge above `x`, from `next` on.
@@ -81,17 +82,6 @@ fn first_above(edges: &[i32], next: usize, x: i64) -> usize
         next += 1;
     }
     next
-}
-
-/// Whether the set has a member from `lo` on and below `hi`, where `next` is the index of the first edge above `lo`.
-fn has_member(edges: &[i32], next: usize, lo: i64, hi: i64) -> bool
-    requires canonical { IsCanonical edges.now }
-    requires first { IsFirstAbove edges.now lo next }
-    requires some { lo <ℤ hi }
-    ensures { IsTrue result ↔ HasMember edges.now lo hi }
-{
-    let begins = is_below(edges, next, hi);
-    next % 2 == 1 || begins
 }
 
 /// Whether there is an edge at the index, and it is below `hi`.

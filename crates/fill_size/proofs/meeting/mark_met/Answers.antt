@@ -1,4 +1,4 @@
-use Rattle.std.proofs.Common.{◌∙◌, sym, arith}
+use Rattle.std.proofs.Common.{arith}
 use Rattle.fill_base.proofs.Signed.{read_is}
 use Rattle.fill_size.proofs.RangeWalks.{met_on, met_all, met_over}
 use Rattle.fill_size.proofs.meeting.mark_met.Goals as goal

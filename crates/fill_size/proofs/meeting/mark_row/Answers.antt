@@ -1,4 +1,4 @@
-use Rattle.std.proofs.Common.{pos, ◌≤ℤ◌, ◌<ℤ◌, get_or}
+use Rattle.std.proofs.Common.{pos}
 use Rattle.fill_size.proofs.RangeWalks.{range_read, walked_on, walk_ended}
 use Rattle.fill_size.proofs.meeting.mark_row.Goals as goal
 
