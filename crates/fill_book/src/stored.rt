@@ -18,10 +18,10 @@ use crate::filled::Filled;
 use crate::low::low_windows;
 use crate::places::Places;
 use crate::tiles::TileSet;
-use fill_area::measure_all;
 use fill_core::Reply;
 use fill_job::laws::rules_make_a_plan;
 use fill_job::{Job, Proposal};
+use fill_measure::measure_region;
 use fill_raster::{Marks, Raster};
 use fill_region::Region;
 use fill_text::{Edit, Rules};
@@ -95,7 +95,7 @@ impl Stored {
     {
         rules_make_a_plan(rules);
         let (raster, windows) = (rules.raster(), rules.windows());
-        let totals = measure_all(rt, alloc, &metal, &windows)?;
+        let totals = measure_region(rt, alloc, &metal, &windows)?;
         Ok(Stored {
             low: low_windows(alloc, &windows, rules.min(), &totals)?,
             filled: Filled::none(alloc, raster)?,

@@ -3,3 +3,4 @@ pub mod Ends
 pub mod Grouping
 pub mod Placing
 pub mod Windowing
+pub mod Cutting

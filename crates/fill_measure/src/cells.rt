@@ -1,9 +1,12 @@
 //! The areas of all cells of a mesh, measured in parallel.
-ghost use Rattle.std.specs.Prelude.{◌+◌, ◌*◌, ◌<◌, ◌≤◌, ℕ, IfOk, slice_index_or, length};
+ghost use Rattle.std.specs.Prelude.{◌≡◌, ◌+◌, ◌*◌, ◌<◌, ◌≤◌, ℕ, IfOk, slice_index_or, length};
+ghost use Rattle.fill_region.specs.Squares.{covered};
 ghost use Rattle.fill_cells.specs.Mesh.{gaps};
 ghost use Rattle.fill_measure.specs.steps.Meshes.{AreCellsOf, AreRowsOf, AreGroupOf};
+ghost use Rattle.fill_measure.specs.steps.Shapes.{squares_of};
 
 use crate::mesh::Mesh;
+use fill_base::Rect;
 use fill_cells::cell_areas;
 use std::alloc::{AllocError, Global};
 use std::thread;
@@ -13,12 +16,14 @@ use std::thread::Threads;
 const MOST_GROUPS: usize = 16;
 
 impl Mesh<'_> {
-    /// How many covered squares lie in each cell, row by row. Groups of rows are measured in parallel.
+    /// How many covered squares of a mesh of rectangles lie in each cell, row by row. Groups of rows are measured in parallel.
     pub(crate) fn cells(
         &self,
         rt: &(impl Threads + Sync),
         alloc: Global,
+        rects: &[Rect],
     ) -> Result<Vec<i64>, AllocError>
+        requires shapes { squares_of self.now.shapes ≡ covered rects.now }
         ensures { IfOk result (λ v. AreCellsOf self.now v.items) }
     {
         let lower = &self.up[..self.up.len() - 1];
@@ -31,19 +36,27 @@ impl Mesh<'_> {
             &|from: usize, part: &[i64]| -> Result<Vec<i64>, AllocError>
                 requires some { 0 < length part.now }
                 requires within { from + length part.now ≤ gaps self.now.up.now }
+                requires shapes { squares_of self.now.shapes ≡ covered rects.now }
                 ensures { IfOk result (λ v. AreRowsOf self.entry.now from (length part.entry.now) v.items) }
-            { self.rows(alloc, from, part.len()) },
+            { self.rows(alloc, rects, from, part.len()) },
         )?;
         self.joined(alloc, height, groups)
     }
 
     /// How many covered squares lie in each cell of `count` rows from row `from` on.
-    fn rows(&self, alloc: Global, from: usize, count: usize) -> Result<Vec<i64>, AllocError>
+    fn rows(
+        &self,
+        alloc: Global,
+        rects: &[Rect],
+        from: usize,
+        count: usize,
+    ) -> Result<Vec<i64>, AllocError>
         requires some { 0 < count }
+        requires shapes { squares_of self.now.shapes ≡ covered rects.now }
         requires within { from + count ≤ gaps self.now.up.now }
         ensures { IfOk result (λ v. AreRowsOf self.now from count v.items) }
     {
-        cell_areas(alloc, self.rects, self.across, &self.up[from..][..=count])
+        cell_areas(alloc, rects, self.across, &self.up[from..][..=count])
     }
 
     /// The numbers of all groups of `height` rows, one group after the other. The last group may have fewer rows.

@@ -4,6 +4,7 @@
 
 mod cells;
 mod corners;
+mod cuts;
 mod lines;
 mod measure;
 mod mesh;
@@ -12,4 +13,4 @@ mod sides;
 mod tests;
 mod windows;
 
-pub use measure::measure_rects;
+pub use measure::{measure_rects, measure_region};

@@ -4,6 +4,7 @@ ghost use Rattle.std.specs.List.{Contains};
 ghost use Rattle.fill_area.specs.Axes.{IsAxis, IsExtent};
 ghost use Rattle.fill_base.specs.Coordinates.{IsCoordinate};
 ghost use Rattle.fill_cells.specs.Mesh.{AreLines};
+ghost use Rattle.fill_measure.specs.steps.Cuts.{AreEven};
 ghost use Rattle.fill_measure.specs.steps.Ends.{HoldEnds};
 
 use fill_area::Axis;
@@ -88,6 +89,22 @@ fn ends_of(alloc: Global, axis: Axis) -> Result<Vec<i64>, AllocError>
         ends.push(end)?;
     }
     Ok(ends)
+}
+
+/// The lines at which spans side by side begin, and the one at which the last of them ends.
+pub(crate) fn side_by_side(alloc: Global, axis: Axis) -> Result<Vec<i64>, AllocError>
+    requires axis { IsAxis axis }
+    requires touching { axis.length ≡ axis.step }
+    ensures { IfOk result (λ v. AreEven axis v.items) }
+{
+    let mut lines = Vec::with_capacity(alloc, axis.count as usize + 1)?;
+    for a in 0..axis.count {
+        let (begin, _) = span(axis, a);
+        lines.push(begin)?;
+    }
+    let (_, end) = span(axis, axis.count - 1);
+    lines.push(end)?;
+    Ok(lines)
 }
 
 /// Both ends of the span at index `a`.

@@ -1,12 +1,16 @@
-//! All windows of a grid, measured straight from rectangles.
+//! All windows of a grid, measured straight from rectangles, or from a region with one walk over its rows however much they overlap.
 ghost use Rattle.std.specs.Prelude.{IfOk, All};
 ghost use Rattle.fill_area.specs.Density.{AreMeasured, IsArea};
+ghost use Rattle.fill_region.specs.Bands.{holds};
 ghost use Rattle.fill_region.specs.Squares.{covered};
+ghost use Rattle.fill_measure.specs.steps.Cuts.{IsCut};
 
-use crate::lines::lines_of;
-use crate::mesh::Mesh;
-use fill_area::Windows;
+use crate::cuts::cut_windows;
+use crate::lines::{lines_of, side_by_side};
+use crate::mesh::{Mesh, Shapes};
+use fill_area::{Windows, measure_all};
 use fill_base::Rect;
+use fill_region::Region;
 use std::alloc::{AllocError, Global};
 use std::thread::Threads;
 
@@ -28,11 +32,57 @@ pub fn measure_rects(
     let across = lines_of(alloc, windows.across(), rects.len())?;
     let up = lines_of(alloc, windows.up(), rects.len())?;
     let mesh = Mesh {
-        rects,
+        shapes: Shapes::Rects(rects),
         across: &across,
         up: &up,
     };
-    let cells = mesh.cells(rt, alloc)?;
+    let cells = mesh.cells(rt, alloc, rects)?;
+    let corners = mesh.corners(alloc, &cells)?;
+    mesh.window_areas(alloc, windows, &corners)
+}
+
+/// How many squares of each window are in the region: `measure_all`, word for word. Where the windows overlap and a size is a multiple
+/// of its step on both axes, their steps cut them into whole cells; those are measured, and each window is a difference of sums, so that the
+/// region's rows are walked once and not once for each window over a row.
+///
+/// # Errors
+/// `AllocError` where memory is refused.
+pub fn measure_region(
+    rt: &(impl Threads + Sync),
+    alloc: Global,
+    region: &Region,
+    windows: &Windows,
+) -> Result<Vec<i64>, AllocError>
+    ensures areas { IfOk result (λ v. AreMeasured (holds region.now) windows.now v.items) }
+    ensures bounded { IfOk result (λ v. All IsArea v.items) }
+{
+    match cut_windows(windows) {
+        Some(cut) => measure_cut(rt, alloc, region, windows, &cut),
+        None => measure_all(rt, alloc, region, windows),
+    }
+}
+
+/// The same by the cells that the windows are cut into.
+fn measure_cut(
+    rt: &(impl Threads + Sync),
+    alloc: Global,
+    region: &Region,
+    windows: &Windows,
+    cut: &Windows,
+) -> Result<Vec<i64>, AllocError>
+    requires across { IsCut windows.now.across cut.now.across }
+    requires up { IsCut windows.now.up cut.now.up }
+    ensures areas { IfOk result (λ v. AreMeasured (holds region.now) windows.now v.items) }
+    ensures bounded { IfOk result (λ v. All IsArea v.items) }
+{
+    let across = side_by_side(alloc, cut.across())?;
+    let up = side_by_side(alloc, cut.up())?;
+    let cells = measure_all(rt, alloc, region, cut)?;
+    let mesh = Mesh {
+        shapes: Shapes::Region(region),
+        across: &across,
+        up: &up,
+    };
     let corners = mesh.corners(alloc, &cells)?;
     mesh.window_areas(alloc, windows, &corners)
 }

@@ -1,13 +1,23 @@
-//! Rectangles under a mesh of lines.
+//! Shapes under a mesh of lines.
 ghost use Rattle.fill_cells.specs.Mesh.{AreLines};
 
 use fill_base::Rect;
+use fill_region::Region;
 
-/// Rectangles, and the lines across and upwards that cut them into cells.
+/// What has squares under a mesh.
+#[derive(Clone, Copy)]
+pub(crate) enum Shapes<'a> {
+    /// Rectangles, which may overlap.
+    Rects(&'a [Rect]),
+    /// A region.
+    Region(&'a Region),
+}
+
+/// Shapes, and the lines across and upwards that cut them into cells.
 #[derive(Clone, Copy)]
 pub(crate) struct Mesh<'a> {
-    /// The rectangles, which may overlap.
-    pub(crate) rects: &'a [Rect],
+    /// The shapes.
+    pub(crate) shapes: Shapes<'a>,
     /// The lines across, from left to right.
     pub(crate) across: &'a [i64],
     /// The lines upwards.

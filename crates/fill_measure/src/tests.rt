@@ -1,5 +1,5 @@
 //! Windows measured straight from rectangles, beside those measured by a region, and by hand.
-use crate::measure_rects;
+use crate::{measure_rects, measure_region};
 use fill_area::{Windows, measure_all};
 use fill_base::{Point, Rect};
 use fill_region::Region;
@@ -29,7 +29,7 @@ fn mixed_rects(alloc: Global, count: u32) -> Result<Vec<Rect>, Fail> {
     Ok(rects)
 }
 
-/// Whether the windows have the areas of the region of the rectangles.
+/// Whether the windows have the areas of the region of the rectangles, measured straight from them and by the region's cells.
 fn are_those_of_the_region(
     rt: &(impl Threads + Sync),
     alloc: Global,
@@ -39,7 +39,8 @@ fn are_those_of_the_region(
     let region = Region::from_rects(alloc, rects)?;
     let areas = measure_all(rt, alloc, &region, windows)?;
     let straight = measure_rects(rt, alloc, rects, windows)?;
-    Ok(straight == areas)
+    let by_cells = measure_region(rt, alloc, &region, windows)?;
+    Ok(straight == areas && by_cells == areas)
 }
 
 #[test]

@@ -1,9 +1,9 @@
 //! The areas of windows whose sides are lines of a mesh.
 ghost use Rattle.std.specs.Prelude.{IfOk, All, length};
 ghost use Rattle.fill_area.specs.Density.{AreMeasured, IsArea};
-ghost use Rattle.fill_region.specs.Squares.{covered};
 ghost use Rattle.fill_measure.specs.steps.Meshes.{AreCornersOf};
 ghost use Rattle.fill_measure.specs.steps.Ends.{HoldEnds};
+ghost use Rattle.fill_measure.specs.steps.Shapes.{squares_of};
 
 use crate::mesh::Mesh;
 use crate::sides::sides_of;
@@ -21,7 +21,7 @@ impl Mesh<'_> {
         requires across { HoldEnds self.now.across.now windows.now.across windows.now.across.count }
         requires up { HoldEnds self.now.up.now windows.now.up windows.now.up.count }
         requires corners { AreCornersOf self.now (length self.now.up.now) corners.now }
-        ensures areas { IfOk result (λ v. AreMeasured (covered self.now.rects.now) windows.now v.items) }
+        ensures areas { IfOk result (λ v. AreMeasured (squares_of self.now.shapes) windows.now v.items) }
         ensures bounded { IfOk result (λ v. All IsArea v.items) }
     {
         let columns = sides_of(alloc, windows.across(), self.across)?;

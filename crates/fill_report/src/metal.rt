@@ -10,7 +10,8 @@ use crate::error::OutOfMemory;
 use crate::line::Measures;
 use crate::window::put_window;
 use csv::{ByteRecord, Writer};
-use fill_area::{Windows, measure_all};
+use fill_area::Windows;
+use fill_measure::measure_region;
 use fill_region::Region;
 use fill_text::Rules;
 use std::alloc::Global;
@@ -49,7 +50,7 @@ fn windows_report(
     requires most { IsShare most }
     ensures { IfOk result (λ v. v.items ≡ report_text (holds region.now) nothing windows.now least most) }
 {
-    let totals = measure_all(rt, alloc, region, windows)?;
+    let totals = measure_region(rt, alloc, region, windows)?;
     drawn_lines(alloc, windows, &totals, least, most)
 }
 

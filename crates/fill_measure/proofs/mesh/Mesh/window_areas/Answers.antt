@@ -1,5 +1,5 @@
 use Rattle.std.proofs.Common.{◌≡◌, ◌*◌, arith, subst}
-use Rattle.fill_region.specs.Squares.{covered}
+use Rattle.fill_measure.specs.steps.Shapes.{squares_of}
 use Rattle.fill_area.proofs.Measuring.{measured, bounded}
 use Rattle.fill_area.specs.declared.axis.Axis.{Axis}
 use Rattle.fill_measure.proofs.Windowing.{first_more}
@@ -9,7 +9,7 @@ use Rattle.fill_measure.proofs.mesh.Mesh.window_areas.Goals as goal
 pub loop-k-preserved : goal.loop-k-preserved
 loop-k-preserved c =
     let mesh = c.args.self.now in
-    first_more (covered mesh.rects.now) c.args.windows.now mesh.across.now mesh.up.now c.in_ok-columns.columns.items c.in_ok-rows.rows.items c.loop-k.k _ _ c.index.result.now c.index-in-loop-k.result.now c.area.result c.loop-k.areas.items _
+    first_more (squares_of mesh.shapes) c.args.windows.now mesh.across.now mesh.up.now c.in_ok-columns.columns.items c.in_ok-rows.rows.items c.loop-k.k _ _ c.index.result.now c.index-in-loop-k.result.now c.area.result c.loop-k.areas.items _
     mesh.across_lines mesh.up_lines
     (subst (λ (x : Axis). AreSides x mesh.across.now x.count c.in_ok-columns.columns.items) c.across.ensures.value c.in_ok-columns.ensures)
     (subst (λ (x : Axis). AreSides x mesh.up.now x.count c.in_ok-rows.rows.items) c.up.ensures.value c.in_ok-rows.ensures)
@@ -20,11 +20,11 @@ returns-clause-areas c =
     let windows = c.args.windows.now in
     let all : c.loop-k.k ≡ windows.across.count * windows.up.count = omega (arith, c.loop-k-test.false, c.loop-k.auto.k-end, c.len-k-end.ensures.count) in
     let first = rw all at c.loop-k.invariant in
-    measured (covered c.args.self.now.rects.now) windows c.loop-k.areas.items c.len.ensures.grid first.count first.each
+    measured (squares_of c.args.self.now.shapes) windows c.loop-k.areas.items c.len.ensures.grid first.count first.each
 
 pub returns-clause-bounded : goal.returns-clause-bounded
 returns-clause-bounded c =
     let windows = c.args.windows.now in
     let all : c.loop-k.k ≡ windows.across.count * windows.up.count = omega (arith, c.loop-k-test.false, c.loop-k.auto.k-end, c.len-k-end.ensures.count) in
     let first = rw all at c.loop-k.invariant in
-    bounded (covered c.args.self.now.rects.now) windows c.loop-k.areas.items c.len.ensures.grid first.count first.each
+    bounded (squares_of c.args.self.now.shapes) windows c.loop-k.areas.items c.len.ensures.grid first.count first.each
