@@ -42,6 +42,35 @@ fn time_windows(what: &str, bands: &Bands, windows: &Windows) {
     say(what, areas.iter().sum(), start.elapsed());
 }
 
+/// The areas of windows by those of the cells that their steps cut.
+fn measure_cells(bands: &Bands, windows: &Windows) -> Vec<i64> {
+    let (k, l) = ((windows.size.0 / windows.step.0) as usize, (windows.size.1 / windows.step.1) as usize);
+    let (columns, rows) = (windows.columns + k - 1, windows.rows + l - 1);
+    let cut = Windows { origin: windows.origin, size: windows.step, step: windows.step, columns, rows };
+    let width = columns + 1;
+    let mut corners = vec![0i64; width];
+    for (j, row) in measure_all(bands, &cut).chunks(columns).enumerate() {
+        let mut total = 0;
+        corners.push(0);
+        for (i, cell) in row.iter().enumerate() {
+            total += cell;
+            corners.push(corners[j * width + i + 1] + total);
+        }
+    }
+    let below = |a: usize, b: usize| corners[b * width + a + k] - corners[b * width + a];
+    let area = |n: usize| {
+        let (a, b) = (n % windows.columns, n / windows.columns);
+        below(a, b + l) - below(a, b)
+    };
+    (0..windows.columns * windows.rows).map(area).collect()
+}
+
+fn time_cells(what: &str, bands: &Bands, windows: &Windows) {
+    let start = Instant::now();
+    let areas = measure_cells(bands, windows);
+    say(what, areas.iter().sum(), start.elapsed());
+}
+
 fn time_rects(what: &str, rects: &[Rect], windows: &Windows) {
     let start = Instant::now();
     let areas = measure_rects(rects, windows);
@@ -64,6 +93,9 @@ fn main() {
     time_windows("windows_100000", &bands, &windows_over(side, 250, 400, 2));
     time_windows("windows_1000000", &bands, &windows_over(side, 1000, 1000, 4));
     time_windows("corner_10000", &bands, &windows_over(4 * side, 100, 100, 2));
+    time_cells("cells_10000", &bands, &windows_over(side, 100, 100, 2));
+    time_cells("cells_100000", &bands, &windows_over(side, 250, 400, 2));
+    time_cells("cells_1000000", &bands, &windows_over(side, 1000, 1000, 4));
     time_rects("rects_1", &rects, &windows_over(side, 1, 1, 1));
     time_rects("rects_10000", &rects, &windows_over(side, 100, 100, 2));
     time_rects("rects_100000", &rects, &windows_over(side, 250, 400, 2));

@@ -4,6 +4,7 @@
 #   bands         how many bands the region has
 #   from_rects    makes the region of all rectangles; what comes out is its number of edges
 #   windows_N     measures N windows over the block, few heavy ones or many light ones that overlap by half; the sum
+#   cells_N       the same windows by the cells that their steps cut
 #   rects_N       the same windows straight from the rectangles, with no region in between
 #   corner_N      windows by the region where all metal lies in one corner of the windows
 #   is_clear      looks whether a million boxes on a raster over the block are clear; how many are
