@@ -67,8 +67,8 @@ impl Axis {
         self.first + i64::from(self.count - 1) * self.step + self.length
     }
 
-    /// Both ends of the span at index `a`.
-    pub(crate) fn extent(self, a: u32) -> (i64, i64)
+    /// Both ends of the span at index `a`, in database units.
+    pub fn extent(self, a: u32) -> (i64, i64)
         requires axis { IsAxis self }
         requires index { a < self.count }
         ensures { IsExtent self a result.0 result.1 }

@@ -1,5 +1,5 @@
-//! Density windows measured straight from rectangles, on all processors, with no region in between. A window's area is the count
-//! of its unit squares that some rectangle holds: the layers above rely on that.
+//! Density windows measured by the cells that their sides cut: straight from rectangles, on all processors, with no region in
+//! between, or from a region. A window's area is the count of its unit squares that the shapes hold: the layers above rely on that.
 #![tactic(auto)]
 
 mod cells;

@@ -1,7 +1,7 @@
 //! The lines at which the windows along an axis begin or end.
 ghost use Rattle.std.specs.Prelude.{◌≡◌, ◌^◌, ℤ, pos, ◌≤ℤ◌, ◌<◌, IfOk, OnOk, All, length, get_or};
 ghost use Rattle.std.specs.List.{Contains};
-ghost use Rattle.fill_area.specs.Axes.{IsAxis, IsExtent};
+ghost use Rattle.fill_area.specs.Axes.{IsAxis};
 ghost use Rattle.fill_base.specs.Coordinates.{IsCoordinate};
 ghost use Rattle.fill_cells.specs.Mesh.{AreLines};
 ghost use Rattle.fill_measure.specs.steps.Cuts.{AreEven};
@@ -43,8 +43,8 @@ fn put_between(numbers: &mut Vec<i64>, axis: Axis, rects: usize) -> Result<(), A
     if axis.count >= FEW_SPANS || rects < MANY_RECTS {
         return Ok(());
     }
-    let (first, _) = span(axis, 0);
-    let (_, last) = span(axis, axis.count - 1);
+    let (first, _) = axis.extent(0);
+    let (_, last) = axis.extent(axis.count - 1);
     let step = part_length(first, last);
     let mut line = first;
     for _ in 1..PARTS {
@@ -84,7 +84,7 @@ fn ends_of(alloc: Global, axis: Axis) -> Result<Vec<i64>, AllocError>
 {
     let mut ends = Vec::with_capacity(alloc, 2 * axis.count as usize)?;
     for a in 0..axis.count {
-        let (begin, end) = span(axis, a);
+        let (begin, end) = axis.extent(a);
         ends.push(begin)?;
         ends.push(end)?;
     }
@@ -99,22 +99,12 @@ pub(crate) fn side_by_side(alloc: Global, axis: Axis) -> Result<Vec<i64>, AllocE
 {
     let mut lines = Vec::with_capacity(alloc, axis.count as usize + 1)?;
     for a in 0..axis.count {
-        let (begin, _) = span(axis, a);
+        let (begin, _) = axis.extent(a);
         lines.push(begin)?;
     }
-    let (_, end) = span(axis, axis.count - 1);
+    let (_, end) = axis.extent(axis.count - 1);
     lines.push(end)?;
     Ok(lines)
-}
-
-/// Both ends of the span at index `a`.
-pub(crate) fn span(axis: Axis, a: u32) -> (i64, i64)
-    requires axis { IsAxis axis }
-    requires index { a < axis.count }
-    ensures { IsExtent axis a result.0 result.1 }
-{
-    let begin = axis.first + i64::from(a) * axis.step;
-    (begin, begin + axis.length)
 }
 
 /// The index of a line among the lines.

@@ -5,7 +5,7 @@ ghost use Rattle.fill_cells.specs.Mesh.{AreLines};
 ghost use Rattle.fill_measure.specs.steps.Ends.{HoldEnds};
 ghost use Rattle.fill_measure.specs.steps.Sides.{AreSides};
 
-use crate::lines::{index_of, span};
+use crate::lines::index_of;
 use fill_area::Axis;
 use std::alloc::{AllocError, Global};
 
@@ -27,7 +27,7 @@ pub(crate) fn sides_of(alloc: Global, axis: Axis, lines: &[i64]) -> Result<Vec<S
 {
     let mut sides = Vec::with_capacity(alloc, axis.count as usize)?;
     for a in 0..axis.count {
-        let (begin, end) = span(axis, a);
+        let (begin, end) = axis.extent(a);
         sides.push(Sides {
             begin: index_of(lines, begin),
             end: index_of(lines, end),

@@ -1,4 +1,4 @@
--- What the numbers of a mesh say of the squares that its rectangles cover.
+-- What the numbers of a mesh say of the squares that its shapes have.
 use Rattle.std.specs.Prelude.{ℕ, ◌-◌, ◌*◌, min, ℤ, List, length}
 use Rattle.fill_measure.specs.steps.Shapes.{squares_of}
 use Rattle.fill_cells.specs.Mesh.{AreCells, gaps}
