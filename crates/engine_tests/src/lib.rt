@@ -9,4 +9,8 @@ mod inputs;
 #[cfg(test)]
 mod library;
 #[cfg(test)]
+mod line;
+#[cfg(test)]
+mod metal;
+#[cfg(test)]
 mod reports;

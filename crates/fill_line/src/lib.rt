@@ -273,6 +273,3 @@ fn no_line(alloc: Global) -> Result<clap::Error, AllocError>
     let mut grammar = grammar(alloc)?;
     grammar.error(ErrorKind::MissingSubcommand, "a subcommand is missing")
 }
-
-#[cfg(test)]
-mod tests;

@@ -57,15 +57,15 @@ part_rows p across up areas from count are within cells = record {
     at : (i : ℕ) (d : ℤ) → i < count + 1 → get_or (part_of up from count) i d ≡ get_or up (from + i) d
     at i d lt = part_at up from count i d are within lt
 
--- rows after the first `m`
-rows_more : (p : ℤ → ℤ → Bool) (across up old more : List ℤ) (m n : ℕ) → AreRows p across up 0 m old → AreRows p across up m n more → AreRows p across up 0 (m + n) (old ++ more)
-rows_more p across up old more m n first later = record {
+-- `n` rows after `m` others
+pub rows_after : (p : ℤ → ℤ → Bool) (across up old more : List ℤ) (from m n : ℕ) → AreRows p across up from m old → AreRows p across up (from + m) n more → AreRows p across up from (m + n) (old ++ more)
+rows_after p across up old more from m n first later = record {
   count = length-append old more ∙ omega (arith, first.count, later.count);
   each = λ i j d i_in j_in. by_lt j m
       (λ low. get_or_append_left old more d (j * gaps across + i) (rw first.count (corner_in (gaps across) m i j i_in low)) ∙ first.each i j d i_in low)
       (λ high.
       let is : j ≡ m + (j - m) = omega (arith, high) in
-      let back : m + (j - m) ≡ 0 + j = omega (arith, high) in
+      let back : from + m + (j - m) ≡ from + j = omega (arith, high) in
       let past : m * gaps across ≤ j * gaps across + i = let le : m * gaps across ≤ j * gaps across = mul-le-mul high (same (gaps across)) in omega (arith, le) in
       get_or-append_right old more (j * gaps across + i) d (omega (arith, first.count, past))
       ∙ (ap (λ n. get_or more n d) (ap (λ n. n * gaps across + i - length old) is ∙ place m (j - m) (gaps across) i (length old) first.count)
@@ -78,19 +78,28 @@ rows_more p across up old more m n first later = record {
     place : (m k g i l : ℕ) → l ≡ m * g → (m + k) * g + i - l ≡ k * g + i
     place m k g i l e = omega (arith, e)
 
+-- all of some rows, from their halves
+pub halves_joined : (p : ℤ → ℤ → Bool) (across up lower upper new : List ℤ) (from half count : ℕ) → half ≤ count → AreRows p across up from half lower → AreRows p across up (from + half) (count - half) upper
+    → new ≡ lower ++ upper → AreRows p across up from count new
+halves_joined p across up lower upper new from half count le first later new_is =
+    rw new_is (subst (λ n. AreRows p across up from n (lower ++ upper)) (whole half count le) (rows_after p across up lower upper from half (count - half) first later))
+  where
+    whole : (m n : ℕ) → m ≤ n → m + (n - m) ≡ n
+    whole m n le = omega (arith, le)
+
 -- one group more
 pub group_more : (p : ℤ → ℤ → Bool) (across up old more new : List ℤ) (k height : ℕ) → AreRows p across up 0 (min (k * height) (gaps up)) old
     → AreRows p across up (k * height) (min height (gaps up - k * height)) more → new ≡ old ++ more → AreRows p across up 0 (min ((k + 1) * height) (gaps up)) new
 group_more p across up old more new k height first later new_is =
-    rw new_is (subst (λ n. AreRows p across up 0 n (old ++ more)) (whole k height (gaps up)) (rows_more p across up old more (min (k * height) (gaps up)) (min height (gaps up - k * height)) first moved))
+    rw new_is (subst (λ n. AreRows p across up 0 n (old ++ more)) (whole k height (gaps up)) (rows_after p across up old more 0 (min (k * height) (gaps up)) (min height (gaps up - k * height)) first moved))
   where
     whole : (k h r : ℕ) → min (k * h) r + min h (r - k * h) ≡ min ((k + 1) * h) r
     whole k h r = omega arith
 
-    begins : (a h r j : ℕ) → j < min h (r - a) → a ≡ min a r
+    begins : (a h r j : ℕ) → j < min h (r - a) → a ≡ 0 + min a r
     begins a h r j lt = omega (arith, lt)
 
-    moved : AreRows p across up (min (k * height) (gaps up)) (min height (gaps up - k * height)) more
+    moved : AreRows p across up (0 + min (k * height) (gaps up)) (min height (gaps up - k * height)) more
     moved = record {
       count = later.count;
       each = λ i j d i_in j_in. later.each i j d i_in j_in ∙ ap (λ n. pos (cell_area p across up i (n + j) d)) (begins (k * height) height (gaps up) j j_in);

@@ -12,8 +12,8 @@ use std::alloc::{AllocError, Global};
 use std::thread;
 use std::thread::Threads;
 
-/// The rows of cells are cut into at most so many groups of neighbours.
-const MOST_GROUPS: usize = 16;
+/// The rows of cells are cut into at most so many groups of neighbours, each measured by a thread of its own.
+const MOST_GROUPS: usize = 8;
 
 impl Mesh<'_> {
     /// How many covered squares of a mesh of rectangles lie in each cell, row by row. Groups of rows are measured in parallel.
@@ -43,8 +43,32 @@ impl Mesh<'_> {
         self.joined(alloc, height, groups)
     }
 
-    /// How many covered squares lie in each cell of `count` rows from row `from` on.
+    /// How many covered squares lie in each cell of `count` rows from row `from` on: of the lower half first, so that no more than
+    /// half of what lies in the rows is held at a time.
     fn rows(
+        &self,
+        alloc: Global,
+        rects: &[Rect],
+        from: usize,
+        count: usize,
+    ) -> Result<Vec<i64>, AllocError>
+        requires some { 0 < count }
+        requires shapes { squares_of self.now.shapes ≡ covered rects.now }
+        requires within { from + count ≤ gaps self.now.up.now }
+        ensures { IfOk result (λ v. AreRowsOf self.now from count v.items) }
+    {
+        let half = count / 2;
+        if half == 0 {
+            return self.few_rows(alloc, rects, from, count);
+        }
+        let mut cells = self.few_rows(alloc, rects, from, half)?;
+        let upper = self.few_rows(alloc, rects, from + half, count - half)?;
+        cells.extend_from_slice(&upper)?;
+        Ok(cells)
+    }
+
+    /// The same at once.
+    fn few_rows(
         &self,
         alloc: Global,
         rects: &[Rect],

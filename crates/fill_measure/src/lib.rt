@@ -9,8 +9,6 @@ mod lines;
 mod measure;
 mod mesh;
 mod sides;
-#[cfg(test)]
-mod tests;
 mod windows;
 
 pub use measure::{measure_rects, measure_region};

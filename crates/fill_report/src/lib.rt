@@ -14,6 +14,3 @@ pub use error::OutOfMemory;
 pub use line::{Density, Measures};
 pub use metal::report_of;
 pub use shapes::report_of_rects;
-
-#[cfg(test)]
-mod tests;

@@ -10,6 +10,3 @@ pub mod sizing;
 pub use clearance::{conflicts, is_clear};
 pub use meeting::mark_met;
 pub use sizing::{fits, sized};
-
-#[cfg(test)]
-mod tests;

@@ -11,6 +11,3 @@ mod walk;
 
 pub use operation::Operation;
 pub use spans::Spans;
-
-#[cfg(test)]
-mod tests;

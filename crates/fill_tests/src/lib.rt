@@ -5,8 +5,14 @@
 #[cfg(test)]
 mod area;
 #[cfg(test)]
+mod measure;
+#[cfg(test)]
 mod raster;
 #[cfg(test)]
 mod region;
+#[cfg(test)]
+mod size;
+#[cfg(test)]
+mod spans;
 #[cfg(test)]
 mod text;

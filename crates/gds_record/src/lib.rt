@@ -16,6 +16,3 @@ pub use names::name;
 pub use numbers::{number, point, word};
 pub use reals::{BadReal, quarter_turns, unit_mag};
 pub use records::{Record, RecordError, next_record, no_spelling_begins_another, put_record};
-
-#[cfg(test)]
-mod tests;

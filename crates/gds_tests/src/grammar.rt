@@ -72,6 +72,23 @@ fn error_of(alloc: Global, bytes: &[u8]) -> Option<LibraryError> {
     }
 }
 
+/// The layer, the data type and the points of the only element of a cell, where that is a boundary.
+fn only_boundary(elements: &[Element]) -> Option<(u16, u16, &[Point])> {
+    match elements {
+        [Element::Boundary(b)] => Some((b.layer, b.data_type, b.points.as_slice())),
+        _ => None,
+    }
+}
+
+/// The corners of the wire.
+const WIRE: &[Point] = &[
+    Point { x: 9, y: 0 },
+    Point { x: 9, y: 20 },
+    Point { x: 20, y: 20 },
+    Point { x: 20, y: 0 },
+    Point { x: 9, y: 0 },
+];
+
 /// Asserts that the bytes are the library of one wire.
 fn is_one_wire(rt: &impl Abort, alloc: Global, bytes: &[u8]) -> Result<(), Fail> {
     let library = read_library(alloc, bytes)?;
@@ -79,24 +96,7 @@ fn is_one_wire(rt: &impl Abort, alloc: Global, bytes: &[u8]) -> Result<(), Fail>
     assert_eq!(rt; library.units[..8], [0x41, 0x10, 0, 0, 0, 0, 0, 0][..]);
     assert_eq!(rt; library.cells.len(), 1);
     let elements = library.cells.get(b"TOP".as_slice()).ok_or("no cell TOP")?;
-    assert_eq!(rt; elements.len(), 1);
-    for element in elements {
-        match element {
-            Element::Boundary(b) => {
-                assert_eq!(rt; b.layer, 7);
-                assert_eq!(rt; b.data_type, 0);
-                let points = [
-                    Point { x: 9, y: 0 },
-                    Point { x: 9, y: 20 },
-                    Point { x: 20, y: 20 },
-                    Point { x: 20, y: 0 },
-                    Point { x: 9, y: 0 },
-                ];
-                assert_eq!(rt; b.points.as_slice(), points.as_slice());
-            }
-            _ => assert!(rt; false, "no boundary"),
-        }
-    }
+    assert!(rt; only_boundary(elements) == Some((7, 0, WIRE)));
     Ok(())
 }
 
@@ -384,143 +384,156 @@ const ANGLE: &[u8] = &[0x00, 0x0c, 0x1c, 0x05, 0x42, 0x5a, 0, 0, 0, 0, 0, 0];
 
 const STRANS: &[u8] = &[0x00, 0x06, 0x1a, 0x01, 0x80, 0x00];
 
+const COLUMNS: &[u8] = &[0x00, 0x08, 0x13, 0x02, 0x00, 0x0a, 0x00, 0x01];
+
+/// The origin of an array, the end of its columns and that of its rows.
+const STEPS: &[u8] = &[
+    0x00, 0x1c, 0x10, 0x03, 0, 0, 0, 3, 0, 0, 0, 3, 0, 0, 0, 0x67, 0, 0, 0, 3, 0, 0, 0, 3, 0, 0, 0,
+    0x0d,
+];
+
+/// A reference, an array of references, and a reference that is reflected and turned.
+const PLACED: &[&[u8]] = &[
+    SREF, BOX4, ORIGIN, ENDEL, AREF, BOX4, COLUMNS, STEPS, ENDEL, SREF, ANGLE, BOX4, STRANS,
+    ORIGIN, ENDEL,
+];
+
+/// The flags and the angle of a reference to `BOX4` at (3, 3) that isn't magnified.
+fn turn_of(element: &Element) -> Option<(u16, Option<[u8; 8]>)> {
+    let Element::Ref(r) = element else {
+        return None;
+    };
+    let is_placed = r.cell.as_slice() == b"BOX4".as_slice() && r.origin == Point { x: 3, y: 3 };
+    (is_placed && r.transform.magnification.is_none()).then_some((
+        r.transform.flags,
+        r.transform.angle,
+    ))
+}
+
+/// The columns, the rows and the points of an array of references to `BOX4`.
+fn steps_of(element: &Element) -> Option<(u16, u16, [Point; 3])> {
+    let Element::Array(a) = element else {
+        return None;
+    };
+    (a.cell.as_slice() == b"BOX4".as_slice()).then_some((a.columns, a.rows, a.points))
+}
+
 #[test]
 fn references(rt: HostRuntime) -> Result<(), Fail> {
-    let columns: &[u8] = &[0x00, 0x08, 0x13, 0x02, 0x00, 0x0a, 0x00, 0x01];
-    let corners: &[u8] = &[
-        0x00, 0x1c, 0x10, 0x03, 0, 0, 0, 3, 0, 0, 0, 3, 0, 0, 0, 0x67, 0, 0, 0, 3, 0, 0, 0, 3, 0,
-        0, 0, 0x0d,
-    ];
-    let placed: &[&[u8]] = &[
-        SREF, BOX4, ORIGIN, ENDEL, AREF, BOX4, columns, corners, ENDEL, SREF, ANGLE, BOX4, STRANS,
-        ORIGIN, ENDEL,
-    ];
-    let library = read_library(rt.alloc(), &library_of(rt.alloc(), placed)?)?;
+    let library = read_library(rt.alloc(), &library_of(rt.alloc(), PLACED)?)?;
     let elements = library.cells.get(b"TOP".as_slice()).ok_or("no cell TOP")?;
-    assert_eq!(rt; elements.len(), 3);
-    let mut turned = 0u32;
-    for element in elements {
-        match element {
-            Element::Ref(r) => {
-                assert_eq!(rt; r.cell.as_slice(), b"BOX4".as_slice());
-                assert_eq!(rt; r.origin, Point { x: 3, y: 3 });
-                assert_eq!(rt; r.transform.magnification, None);
-                if r.transform.flags == 0x8000 {
-                    assert_eq!(rt; r.transform.angle, Some([0x42, 0x5a, 0, 0, 0, 0, 0, 0]));
-                    turned |= 1;
-                } else {
-                    assert_eq!(rt; r.transform.flags, 0);
-                    assert_eq!(rt; r.transform.angle, None);
-                    turned |= 2;
-                }
-            }
-            Element::Array(a) => {
-                assert_eq!(rt; a.cell.as_slice(), b"BOX4".as_slice());
-                assert_eq!(rt; a.columns, 10);
-                assert_eq!(rt; a.rows, 1);
-                let points = [
-                    Point { x: 3, y: 3 },
-                    Point { x: 103, y: 3 },
-                    Point { x: 3, y: 13 },
-                ];
-                assert_eq!(rt; a.points, points);
-                turned |= 4;
-            }
-            _ => assert!(rt; false, "no reference"),
-        }
-    }
-    assert_eq!(rt; turned, 7);
-    let two_points = library_of(rt.alloc(), &[AREF, BOX4, columns, ORIGIN, ENDEL])?;
-    assert_eq!(rt;
-        error_of(rt.alloc(), &two_points),
-        Some(LibraryError::BadXY)
-    );
+    let [first, array, turned] = elements.as_slice() else {
+        return Err("not three elements".into());
+    };
+    let points = [
+        Point { x: 3, y: 3 },
+        Point { x: 103, y: 3 },
+        Point { x: 3, y: 13 },
+    ];
+    let right = Some([0x42, 0x5a, 0, 0, 0, 0, 0, 0]);
+    assert!(rt; turn_of(first) == Some((0, None)));
+    assert!(rt; steps_of(array) == Some((10, 1, points)));
+    assert!(rt; turn_of(turned) == Some((0x8000, right)));
+    Ok(())
+}
+
+#[test]
+fn refused_references(rt: HostRuntime) -> Result<(), Fail> {
+    let two_points = library_of(rt.alloc(), &[AREF, BOX4, COLUMNS, ORIGIN, ENDEL])?;
+    assert!(rt; error_of(rt.alloc(), &two_points) == Some(LibraryError::BadXY));
     let turned_twice = library_of(rt.alloc(), &[SREF, ANGLE, ANGLE, BOX4, ORIGIN, ENDEL])?;
     let at_second = Some(LibraryError::Unexpected { at: 114 });
-    assert_eq!(rt; error_of(rt.alloc(), &turned_twice), at_second);
+    assert!(rt; error_of(rt.alloc(), &turned_twice) == at_second);
     Ok(())
 }
 
 /// The library of fill without a box: the cell of one box, and an empty cell above it.
-#[test]
-fn fill_without_a_box(rt: HostRuntime) -> Result<(), Fail> {
-    let name: &[u8] = &[0x00, 0x08, 0x02, 0x06, 0x46, 0x49, 0x4c, 0x4c];
-    let box_name: &[u8] = &[0x00, 0x08, 0x06, 0x06, 0x42, 0x4f, 0x58, 0x34];
-    let layer: &[u8] = &[0x00, 0x06, 0x0d, 0x02, 0x00, 0x0a];
-    let data_type: &[u8] = &[0x00, 0x06, 0x0e, 0x02, 0x00, 0x01];
-    let corners: &[u8] = &[
+const EMPTY_FILL: &[&[u8]] = &[
+    HEADER,
+    BGNLIB,
+    &[0x00, 0x08, 0x02, 0x06, 0x46, 0x49, 0x4c, 0x4c],
+    UNITS,
+    BGNSTR,
+    &[0x00, 0x08, 0x06, 0x06, 0x42, 0x4f, 0x58, 0x34],
+    BOUNDARY,
+    &[0x00, 0x06, 0x0d, 0x02, 0x00, 0x0a],
+    &[0x00, 0x06, 0x0e, 0x02, 0x00, 0x01],
+    &[
         0x00, 0x2c, 0x10, 0x03, 0, 0, 0, 0, 0, 0, 0, 0, 0, 0, 0, 0, 0, 0, 0, 4, 0, 0, 0, 4, 0, 0,
         0, 4, 0, 0, 0, 4, 0, 0, 0, 0, 0, 0, 0, 0, 0, 0, 0, 0,
-    ];
-    let top_name: &[u8] = &[
+    ],
+    ENDEL,
+    ENDSTR,
+    BGNSTR,
+    &[
         0x00, 0x0c, 0x06, 0x06, 0x46, 0x49, 0x4c, 0x4c, 0x54, 0x4f, 0x50, 0x00,
-    ];
-    let pieces: &[&[u8]] = &[
-        HEADER, BGNLIB, name, UNITS, BGNSTR, box_name, BOUNDARY, layer, data_type, corners, ENDEL,
-        ENDSTR, BGNSTR, top_name, ENDSTR, ENDLIB,
-    ];
-    let bytes = joined(rt.alloc(), pieces)?;
+    ],
+    ENDSTR,
+    ENDLIB,
+];
+
+/// The corners of a box of four by four.
+const FOUR_BY_FOUR: &[Point] = &[
+    Point { x: 0, y: 0 },
+    Point { x: 0, y: 4 },
+    Point { x: 4, y: 4 },
+    Point { x: 4, y: 0 },
+    Point { x: 0, y: 0 },
+];
+
+#[test]
+fn fill_without_a_box(rt: HostRuntime) -> Result<(), Fail> {
+    let bytes = joined(rt.alloc(), EMPTY_FILL)?;
     assert_eq!(rt; bytes.len(), 214);
     let library = read_library(rt.alloc(), &bytes)?;
-    assert_eq!(rt; library.cells.len(), 2);
-    let top = library
-        .cells
-        .get(b"FILLTOP".as_slice())
-        .ok_or("no cell FILLTOP")?;
-    assert_eq!(rt; top.len(), 0);
-    let elements = library.cells.get(b"BOX4".as_slice()).ok_or("no cell BOX4")?;
-    assert_eq!(rt; elements.len(), 1);
-    for element in elements {
-        match element {
-            Element::Boundary(b) => {
-                assert_eq!(rt; b.layer, 10);
-                assert_eq!(rt; b.data_type, 1);
-                let points = [
-                    Point { x: 0, y: 0 },
-                    Point { x: 0, y: 4 },
-                    Point { x: 4, y: 4 },
-                    Point { x: 4, y: 0 },
-                    Point { x: 0, y: 0 },
-                ];
-                assert_eq!(rt; b.points.as_slice(), points.as_slice());
-            }
-            _ => assert!(rt; false, "no boundary"),
-        }
-    }
+    let cells = &library.cells;
+    assert_eq!(rt; cells.len(), 2);
+    let top = cells.get(b"FILLTOP".as_slice()).ok_or("no cell FILLTOP")?;
+    assert!(rt; top.is_empty());
+    let elements = cells.get(b"BOX4".as_slice()).ok_or("no cell BOX4")?;
+    assert!(rt; only_boundary(elements) == Some((10, 1, FOUR_BY_FOUR)));
     Ok(())
+}
+
+const PATH: &[u8] = &[0x00, 0x04, 0x09, 0x00];
+
+/// A path with a begin extension, its records out of their usual order.
+const EXTENDED: &[&[u8]] = &[
+    PATH,
+    &[0x00, 0x08, 0x30, 0x03, 0, 0, 0, 5],
+    LAYER,
+    &[0x00, 0x08, 0x0f, 0x03, 0xff, 0xff, 0xff, 0xfc],
+    &[0x00, 0x06, 0x21, 0x02, 0x00, 0x04],
+    DATATYPE,
+    ORIGIN,
+    ENDEL,
+];
+
+/// Whether an element is that path.
+fn is_extended(element: &Element) -> bool {
+    let Element::Path(p) = element else {
+        return false;
+    };
+    (p.layer, p.data_type) == (7, 0)
+        && (p.path_type, p.width) == (Some(4), Some(-4))
+        && (p.begin_extension, p.end_extension) == (Some(5), None)
+        && p.points.as_slice() == [Point { x: 3, y: 3 }].as_slice()
 }
 
 #[test]
 fn paths(rt: HostRuntime) -> Result<(), Fail> {
-    let path: &[u8] = &[0x00, 0x04, 0x09, 0x00];
-    let path_type: &[u8] = &[0x00, 0x06, 0x21, 0x02, 0x00, 0x04];
-    let width: &[u8] = &[0x00, 0x08, 0x0f, 0x03, 0xff, 0xff, 0xff, 0xfc];
-    let begin: &[u8] = &[0x00, 0x08, 0x30, 0x03, 0, 0, 0, 5];
-    let wires: &[&[u8]] = &[
-        path, begin, LAYER, width, path_type, DATATYPE, ORIGIN, ENDEL,
-    ];
-    let library = read_library(rt.alloc(), &library_of(rt.alloc(), wires)?)?;
+    let library = read_library(rt.alloc(), &library_of(rt.alloc(), EXTENDED)?)?;
     let elements = library.cells.get(b"TOP".as_slice()).ok_or("no cell TOP")?;
-    assert_eq!(rt; elements.len(), 1);
-    for element in elements {
-        match element {
-            Element::Path(p) => {
-                assert_eq!(rt; (p.layer, p.data_type), (7, 0));
-                assert_eq!(rt; p.path_type, Some(4));
-                assert_eq!(rt; p.width, Some(-4));
-                assert_eq!(rt; p.begin_extension, Some(5));
-                assert_eq!(rt; p.end_extension, None);
-                assert_eq!(rt; p.points.as_slice(), [Point { x: 3, y: 3 }].as_slice());
-            }
-            _ => assert!(rt; false, "no path"),
-        }
-    }
+    assert!(rt; matches!(elements.as_slice(), [path] if is_extended(path)));
+    Ok(())
+}
+
+#[test]
+fn a_width_of_two_bytes(rt: HostRuntime) -> Result<(), Fail> {
     let narrow: &[u8] = &[0x00, 0x06, 0x0f, 0x03, 0, 4];
-    let faulty = library_of(rt.alloc(), &[path, LAYER, narrow, DATATYPE, ORIGIN, ENDEL])?;
-    assert_eq!(rt;
-        error_of(rt.alloc(), &faulty),
-        Some(LibraryError::Unexpected { at: 108 })
-    );
+    let faulty = library_of(rt.alloc(), &[PATH, LAYER, narrow, DATATYPE, ORIGIN, ENDEL])?;
+    let want = Some(LibraryError::Unexpected { at: 108 });
+    assert!(rt; error_of(rt.alloc(), &faulty) == want);
     Ok(())
 }
 

@@ -11,4 +11,6 @@ mod placements;
 #[cfg(test)]
 mod records;
 #[cfg(test)]
+mod scan;
+#[cfg(test)]
 mod shape;

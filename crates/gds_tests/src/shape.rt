@@ -1,7 +1,7 @@
 //! Boundaries and paths: their squares, counted by hand.
 
 use crate::records::{METAL, begin_cell, finished, head, name_of, put, put_points, put_shape};
-use fill_base::Point;
+use fill_base::{Point, Rect};
 use fill_region::Region;
 use gds_grammar::{Element, Library};
 use gds_shape::*;
@@ -403,59 +403,87 @@ fn outline_of(alloc: Global, points: &[(i32, i32)]) -> Result<Library, Fail> {
     finished(alloc, &mut bytes)
 }
 
+/// The sum of the areas of rectangles.
+fn sum_of(rects: &[Rect]) -> i64 {
+    rects.iter().fold(0, |sum: i64, rect: &Rect| -> i64 {
+        sum.wrapping_add(rect.area())
+    })
+}
+
+/// Whether all rectangles lie at the corner of all coordinates.
+fn are_at_the_corner(rects: &[Rect]) -> bool {
+    rects.iter().all(|rect| rect.x2() <= -1_073_741_812 && rect.y2() <= -1_073_741_812)
+}
+
+/// The extent of the outline of a library's cell 0 and the area of the outline at the corner.
+fn outline_at_the_corner(alloc: Global, library: &Library) -> Result<(Bounds, i64), Fail> {
+    let elements = library.cells.get(name_of(0).as_slice()).ok_or("no cell")?;
+    let [Element::Boundary(outline)] = elements.as_slice() else {
+        return Err("no outline".into());
+    };
+    if !is_manhattan(&outline.points) {
+        return Err("slanted".into());
+    }
+    let mut rects = Vec::new(alloc);
+    let extent = put_boundary_at_corner(alloc, &mut rects, &outline.points)?;
+    if !are_at_the_corner(&rects) {
+        return Err("not at the corner".into());
+    }
+    Ok((extent, sum_of(&rects)))
+}
+
+/// Eight by four squares, less five by two, far beyond the coordinates.
+const BEYOND: &[(i32, i32)] = &[
+    (2_000_000_000, 5),
+    (2_000_000_000, 9),
+    (2_000_000_003, 9),
+    (2_000_000_003, 7),
+    (2_000_000_008, 7),
+    (2_000_000_008, 5),
+    (2_000_000_000, 5),
+];
+
+/// Wider than all coordinates.
+const WIDER: &[(i32, i32)] = &[
+    (-2_000_000_000, 5),
+    (-2_000_000_000, 9),
+    (2_000_000_000, 9),
+    (2_000_000_000, 5),
+    (-2_000_000_000, 5),
+];
+
+/// Outlines, their extents, and how many squares are put at the corner.
+const OUTLINES: &[(&[(i32, i32)], Bounds, i64)] = &[
+    (
+        BEYOND,
+        Bounds {
+            left: 2_000_000_000,
+            bottom: 5,
+            right: 2_000_000_008,
+            top: 9,
+        },
+        22,
+    ),
+    (
+        WIDER,
+        Bounds {
+            left: -2_000_000_000,
+            bottom: 5,
+            right: 2_000_000_000,
+            top: 9,
+        },
+        0,
+    ),
+];
+
 /// An outline far from the origin is moved to the corner of all coordinates, and one that is wider
 /// than they are is not appended.
 #[test]
 fn outlines_at_the_corner(rt: HostRuntime) -> Result<(), Fail> {
-    let far = 2_000_000_000;
-    let cases: [(&[(i32, i32)], Bounds, i64); 2] = [
-        (
-            &[
-                (far, 5),
-                (far, 9),
-                (far + 3, 9),
-                (far + 3, 7),
-                (far + 8, 7),
-                (far + 8, 5),
-                (far, 5),
-            ],
-            Bounds {
-                left: 2_000_000_000,
-                bottom: 5,
-                right: 2_000_000_008,
-                top: 9,
-            },
-            22,
-        ),
-        (
-            &[(-far, 5), (-far, 9), (far, 9), (far, 5), (-far, 5)],
-            Bounds {
-                left: -2_000_000_000,
-                bottom: 5,
-                right: 2_000_000_000,
-                top: 9,
-            },
-            0,
-        ),
-    ];
-    for (points, want, area) in cases {
-        let library = outline_of(rt.alloc(), points)?;
-        for element in library.cells.get(name_of(0).as_slice()).ok_or("no cell")? {
-            if let Element::Boundary(outline) = element {
-                if !is_manhattan(&outline.points) {
-                    return Err("slanted".into());
-                }
-                let mut rects = Vec::new(rt.alloc());
-                let extent = put_boundary_at_corner(rt.alloc(), &mut rects, &outline.points)?;
-                assert_eq!(rt; extent, want);
-                let mut sum = 0i64;
-                for rect in &rects {
-                    sum = sum.wrapping_add(rect.area());
-                    assert!(rt; rect.x1() < -1_073_741_815 && rect.y1() < -1_073_741_819);
-                }
-                assert_eq!(rt; sum, area);
-            }
-        }
+    for (points, extent, area) in OUTLINES {
+        let library = outline_of(rt.alloc(), *points)?;
+        let found = outline_at_the_corner(rt.alloc(), &library)?;
+        assert!(rt; found == (*extent, *area), "{points:?}");
     }
     Ok(())
 }
@@ -496,55 +524,60 @@ fn segments_of_a_path(rt: HostRuntime) -> Result<(), Fail> {
     Ok(())
 }
 
+/// The extent of the path of a library's cell 0 and the area of the path at the corner.
+fn path_at_the_corner(alloc: Global, library: &Library) -> Result<(Option<Bounds>, i64), Fail> {
+    let elements = library.cells.get(name_of(0).as_slice()).ok_or("no cell")?;
+    let [Element::Path(path)] = elements.as_slice() else {
+        return Err("no path".into());
+    };
+    let mut rects = Vec::new(alloc);
+    let extent = put_path_at_corner(alloc, &mut rects, path)?;
+    if !are_at_the_corner(&rects) {
+        return Err("not at the corner".into());
+    }
+    let region = Region::from_rects(alloc, &rects)?;
+    Ok((extent, area_of(alloc, &region)?))
+}
+
+/// Paths, their extents, and how many squares are put at the corner.
+const PATHS: &[(Wire<'static>, Option<Bounds>, i64)] = &[
+    (
+        Wire {
+            points: &[(2_000_000_000, 5), (2_000_000_010, 5), (2_000_000_010, 15)],
+            ..CORNER
+        },
+        Some(Bounds {
+            left: 2_000_000_000,
+            bottom: 3,
+            right: 2_000_000_012,
+            top: 15,
+        }),
+        80,
+    ),
+    (
+        Wire {
+            points: &[(-2_000_000_000, 0), (2_000_000_000, 0)],
+            ..CORNER
+        },
+        Some(Bounds {
+            left: -2_000_000_000,
+            bottom: -2,
+            right: 2_000_000_000,
+            top: 2,
+        }),
+        0,
+    ),
+    (Wire { width: 0, ..CORNER }, None, 0),
+];
+
 /// A path far from the origin is moved to the corner of all coordinates, one that is wider than they
 /// are is not appended, and one without a width has no extent.
 #[test]
 fn paths_at_the_corner(rt: HostRuntime) -> Result<(), Fail> {
-    let far: &[(i32, i32)] = &[(2_000_000_000, 5), (2_000_000_010, 5), (2_000_000_010, 15)];
-    let wide: &[(i32, i32)] = &[(-2_000_000_000, 0), (2_000_000_000, 0)];
-    let cases: [(Wire<'_>, Option<Bounds>, i64); 3] = [
-        (
-            Wire {
-                points: far,
-                ..CORNER
-            },
-            Some(Bounds {
-                left: 2_000_000_000,
-                bottom: 3,
-                right: 2_000_000_012,
-                top: 15,
-            }),
-            80,
-        ),
-        (
-            Wire {
-                points: wide,
-                ..CORNER
-            },
-            Some(Bounds {
-                left: -2_000_000_000,
-                bottom: -2,
-                right: 2_000_000_000,
-                top: 2,
-            }),
-            0,
-        ),
-        (Wire { width: 0, ..CORNER }, None, 0),
-    ];
-    for (wire, want, area) in cases {
-        let library = library_of(rt.alloc(), wire)?;
-        for element in library.cells.get(name_of(0).as_slice()).ok_or("no cell")? {
-            if let Element::Path(path) = element {
-                let mut rects = Vec::new(rt.alloc());
-                let extent = put_path_at_corner(rt.alloc(), &mut rects, path)?;
-                assert_eq!(rt; extent, want);
-                for rect in &rects {
-                    assert!(rt; rect.x2() <= -1_073_741_812 && rect.y2() <= -1_073_741_812);
-                }
-                let region = Region::from_rects(rt.alloc(), &rects)?;
-                assert_eq!(rt; area_of(rt.alloc(), &region)?, area);
-            }
-        }
+    for (wire, extent, area) in PATHS {
+        let library = library_of(rt.alloc(), *wire)?;
+        let found = path_at_the_corner(rt.alloc(), &library)?;
+        assert!(rt; found == (*extent, *area));
     }
     Ok(())
 }

@@ -1,5 +1,5 @@
-use super::*;
 use fill_base::Point;
+use gds_record::*;
 use std::test::*;
 
 #[test]

@@ -1,4 +1,4 @@
-use Rattle.fill_size.proofs.tests.grown.Goals as goal
+use Rattle.fill_tests.proofs.size.grown.Goals as goal
 
 pub sized-requires-clause-fits : goal.sized-requires-clause-fits
 sized-requires-clause-fits c = c.fits.ensures.0 c.if-not-fits.false

@@ -1,7 +1,7 @@
 //! Windows measured straight from rectangles, beside those measured by a region, and by hand.
-use crate::{measure_rects, measure_region};
 use fill_area::{Windows, measure_all};
 use fill_base::{Point, Rect};
+use fill_measure::{measure_rects, measure_region};
 use fill_region::Region;
 use std::alloc::Global;
 use std::test::Fail;

@@ -1,5 +1,5 @@
-use crate::Spans;
 use fill_base::Rect;
+use fill_spans::Spans;
 use std::test::Fail;
 
 #[test]

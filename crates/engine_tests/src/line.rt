@@ -1,4 +1,6 @@
-use crate::{Line, LineError, read_line};
+//! The command line, as the program's users type it.
+
+use fill_line::{Line, LineError, read_line};
 use std::alloc::AllocError;
 use std::process::Abort;
 use std::test::Fail;
@@ -96,15 +98,22 @@ fn is_fill_refused(rt: &impl AllocGlobal, option: &str) -> bool {
     is_usage(read_line(rt.alloc(), words.as_slice()))
 }
 
+/// Options of `fill` that are usage faults.
+const BAD_OPTIONS: &[&str] = &[
+    "--workers=0",
+    "--workers=65",
+    "--workers=x",
+    "--workers",
+    "--limit=4294967296",
+    "--limit=-1",
+    "--limit=",
+];
+
 #[test]
 fn numbers_out_of_range_are_usage_faults(rt: HostRuntime) {
-    assert!(rt; is_fill_refused(&rt, "--workers=0"));
-    assert!(rt; is_fill_refused(&rt, "--workers=65"));
-    assert!(rt; is_fill_refused(&rt, "--workers=x"));
-    assert!(rt; is_fill_refused(&rt, "--workers"));
-    assert!(rt; is_fill_refused(&rt, "--limit=4294967296"));
-    assert!(rt; is_fill_refused(&rt, "--limit=-1"));
-    assert!(rt; is_fill_refused(&rt, "--limit="));
+    for option in BAD_OPTIONS {
+        assert!(rt; is_fill_refused(&rt, *option), "{option}");
+    }
     assert!(rt; !is_fill_refused(&rt, "--limit=7"));
 }
 
@@ -112,23 +121,25 @@ fn is_usage(line: Result<Line<'_>, LineError>) -> bool {
     matches!(line, Err(LineError::Usage(_)))
 }
 
+/// Lines that are usage faults.
+const BAD_LINES: &[&[&str]] = &[
+    &["densfill"],
+    &["densfill", "--help"],
+    &["densfill", "help"],
+    &["densfill", "rects", "-h"],
+    &["densfill", "rects", "a"],
+    &["densfill", "check", "a"],
+    &["densfill", "check", "--help"],
+    &["densfill", "rects", "a", "b", "c"],
+    &["densfill", "rects", "--workers", "4", "a", "b"],
+    &["densfill", "fill", "a", "b", "c"],
+];
+
 #[test]
 fn other_lines_are_usage_faults(rt: HostRuntime) {
-    assert!(rt; is_usage(read_line(rt.alloc(), ["densfill"].as_slice())));
-    assert!(rt; is_usage(read_line(rt.alloc(), ["densfill", "--help"].as_slice())));
-    assert!(rt; is_usage(read_line(rt.alloc(), ["densfill", "help"].as_slice())));
-    assert!(rt; is_usage(read_line(rt.alloc(), ["densfill", "rects", "-h"].as_slice())));
-    assert!(rt; is_usage(read_line(rt.alloc(), ["densfill", "rects", "a"].as_slice())));
-    assert!(rt; is_usage(read_line(rt.alloc(), ["densfill", "check", "a"].as_slice())));
-    assert!(rt; is_usage(read_line(rt.alloc(), ["densfill", "check", "--help"].as_slice())));
-    assert!(rt; is_usage(read_line(rt.alloc(), ["densfill", "rects", "a", "b", "c"].as_slice())));
-    assert!(rt;
-        is_usage(read_line(
-            rt.alloc(),
-            ["densfill", "rects", "--workers", "4", "a", "b"].as_slice()
-        ))
-    );
-    assert!(rt; is_usage(read_line(rt.alloc(), ["densfill", "fill", "a", "b", "c"].as_slice())));
+    for words in BAD_LINES {
+        assert!(rt; is_usage(read_line(rt.alloc(), *words)), "{words:?}");
+    }
 }
 
 /// Asserts the text of the refusal of these words.

@@ -1,8 +1,8 @@
 ghost use Rattle.fill_base.specs.Limits.{IsSpacing};
 
-use crate::{conflicts, fits, is_clear, sized};
 use fill_base::Rect;
 use fill_region::Region;
+use fill_size::{conflicts, fits, is_clear, sized};
 use std::alloc::{AllocError, Global};
 use std::process::Abort;
 use std::test::Fail;

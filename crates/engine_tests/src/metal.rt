@@ -1,6 +1,6 @@
-use crate::report_of;
 use fill_base::Rect;
 use fill_region::Region;
+use fill_report::report_of;
 use fill_text::read_rules;
 use std::alloc::Global;
 use std::test::Fail;
