@@ -2,7 +2,8 @@ pub mod Lists
 pub mod Halving
 pub mod Gaps
 pub mod Sharing
-pub mod Rows
+pub mod Listing
+pub mod RowAreas
 pub mod Tallying
 pub mod Rowwise
 pub mod Ends

@@ -1,7 +1,12 @@
 -- A mesh: lines across and lines upwards, and the cells between neighbouring ones.
-use Rattle.std.specs.Prelude.{◌≡◌, ℕ, ◌+◌, ◌-◌, ◌*◌, ◌<◌, ◌≤◌, ℤ, pos, ◌<ℤ◌, Bool, List, length, get_or}
+use Rattle.std.specs.Prelude.{◌≡◌, ℕ, ◌+◌, ◌-◌, ◌*◌, ◌<◌, ◌≤◌, ℤ, pos, ◌<ℤ◌, Bool, true, List, length, get_or}
+use Rattle.std.specs.Borrow.{Bor}
+use Rattle.std.specs.Global.{Vec}
+use Rattle.std.specs.List.{list_any}
+use Rattle.fill_base.specs.declared.rect.Rect.{Rect}
+use Rattle.fill_base.specs.Counts.{is_between}
 use Rattle.fill_base.specs.Coordinates.{IsCoordinate}
-use Rattle.fill_base.specs.Squares.{area_between}
+use Rattle.fill_base.specs.Squares.{squares, area_between}
 
 -- two coordinates or more, each above the one before
 pub record AreLines (lines : List ℤ) : Type 0 where
@@ -21,3 +26,25 @@ cell_area p across up i j d = area_between p (get_or across i d) (get_or up j d)
 pub record AreCells (p : ℤ → ℤ → Bool) (across up areas : List ℤ) : Type 0 where
   pub count : length areas ≡ gaps up * gaps across
   pub each : (i j : ℕ) (d : ℤ) → i < gaps across → j < gaps up → get_or areas (j * gaps across + i) d ≡ pos (cell_area p across up i j d)
+
+-- the areas of the cells of one row, from the line `from` to the line `to`
+pub record AreRowAreas (p : ℤ → ℤ → Bool) (across : List ℤ) (from to : ℤ) (areas : List ℤ) : Type 0 where
+  pub count : length areas ≡ gaps across
+  pub each : (i : ℕ) (d : ℤ) → i < gaps across → get_or areas i d ≡ pos (area_between p (get_or across i d) from (get_or across (i + 1) d) to)
+
+-- some rectangle to which the list refers holds the square
+abbrev pub covered_by : List (Bor Rect) → ℤ → ℤ → Bool
+covered_by rects x y = list_any (λ r. squares r.now x y) rects
+
+-- each list covers, in the part between two neighbouring lines, the squares of the set
+pub record AreListsOf (V : Type 0) (cover : V → ℤ → ℤ → Bool) (part : ℤ → ℤ → ℤ → ℤ → Bool) (lines : List ℤ) (p : ℤ → ℤ → Bool) (lists : List V) : Type 0 where
+  pub count : length lists ≡ gaps lines
+  pub each : (k : ℕ) (d : ℤ) (e : V) → k < gaps lines → (x y : ℤ) → part (get_or lines k d) (get_or lines (k + 1) d) x y ≡ true → cover (get_or lists k e) x y ≡ p x y
+
+-- the squares from the line `lo` on and below `hi`
+abbrev pub row_squares : ℤ → ℤ → ℤ → ℤ → Bool
+row_squares lo hi x y = is_between lo hi y
+
+-- for each row of cells a list that covers there the squares of the set
+abbrev pub AreRowLists : List ℤ → (ℤ → ℤ → Bool) → List (Vec (Bor Rect)) → Type 0
+AreRowLists up p lists = AreListsOf (Vec (Bor Rect)) (λ v. covered_by v.items) row_squares up p lists

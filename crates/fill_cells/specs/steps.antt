@@ -2,6 +2,5 @@
 pub mod Within
 pub mod Parts
 pub mod Halves
-pub mod Rows
 pub mod Tallies
 pub mod Ends

@@ -1,16 +1,17 @@
-//! The area that rectangles cover in each cell of a mesh, with no region in between. An area is a count of unit squares, each
+//! The area that rectangles cover in each cell of a mesh, row by row, with no region in between. An area is a count of unit squares, each
 //! counted once however many rectangles hold it: the layer above relies on that.
 #![tactic(auto)]
 
 mod area;
 mod cells;
-mod direction;
 mod lines;
 mod pieces;
+mod rows;
 mod shares;
 mod tallies;
 mod tally;
 
 pub use area::covered_area;
-pub use cells::cell_areas;
+pub use cells::row_areas;
 pub use lines::lines_at;
+pub use rows::by_row;

@@ -1,37 +1,35 @@
-//! Rectangles shared out to the parts between lines.
+//! Rectangles shared out to the cells of a row.
 ghost use Rattle.std.specs.Prelude.{◌≡◌, ◌+◌, ◌<◌, ◌≤◌, ℤ, ℕ, ◌≤ℤ◌, ◌<ℤ◌, get_or, length, [], All, IfOk, OnOk};
 ghost use Rattle.fill_base.specs.declared.rect.Rect.{Rect};
 ghost use Rattle.fill_region.specs.Squares.{covered};
 ghost use Rattle.fill_cells.specs.Mesh.{AreLines, gaps};
 ghost use Rattle.fill_cells.specs.steps.Parts.{AreShares, AreShared, IsSharedAt, AreMet};
 
-use crate::direction::Direction;
 use crate::pieces::hold;
 use fill_base::Rect;
 use std::alloc::{AllocError, Global};
 use std::ops::Range;
 
-/// The rectangles shared out to the parts of `bounds` between neighbouring lines: for each part a list that covers there what
-/// they cover. A rectangle costs a search for the first part that it meets, and a step for each part.
+/// The rectangles shared out to the cells of a row between neighbouring lines: for each cell a list that covers there what they
+/// cover. A rectangle costs a search for the first cell that it meets, and a step for each cell.
 pub(crate) fn shared_out(
     alloc: Global,
-    direction: Direction,
-    bounds: &Rect,
+    row: &Rect,
     lines: &[i64],
     rects: &[Rect],
 ) -> Result<Vec<Vec<Rect>>, AllocError>
     requires { AreLines lines.now }
-    ensures { IfOk result (λ v. AreShares direction bounds.now lines.now (covered rects.now) v.items) }
+    ensures { IfOk result (λ v. AreShares row.now lines.now (covered rects.now) v.items) }
 {
     let mut lists = empty_lists(alloc, lines.len() - 1)?;
     for rect in rects {
-        share(direction, bounds, lines, rect, &mut lists)?;
+        share(row, lines, rect, &mut lists)?;
     }
     Ok(lists)
 }
 
 /// So many empty lists.
-fn empty_lists(alloc: Global, count: usize) -> Result<Vec<Vec<Rect>>, AllocError>
+pub(crate) fn empty_lists<T: Drop>(alloc: Global, count: usize) -> Result<Vec<Vec<T>>, AllocError>
     ensures count { IfOk result (λ v. length v.items ≡ count) }
     ensures empty { IfOk result (λ v. All (λ list. list.items ≡ []) v.items) }
 {
@@ -42,29 +40,22 @@ fn empty_lists(alloc: Global, count: usize) -> Result<Vec<Vec<Rect>>, AllocError
     Ok(lists)
 }
 
-/// Puts a rectangle to the list of each part that it meets.
-fn share(
-    direction: Direction,
-    bounds: &Rect,
-    lines: &[i64],
-    rect: &Rect,
-    lists: &mut [Vec<Rect>],
-) -> Result<(), AllocError>
+/// Puts a rectangle to the list of each cell that it meets.
+fn share(row: &Rect, lines: &[i64], rect: &Rect, lists: &mut [Vec<Rect>]) -> Result<(), AllocError>
     requires lines { AreLines lines.now }
     requires count { length lists.old ≡ gaps lines.now }
-    ensures { OnOk result (AreShared direction bounds.now lines.now rect.now lists.old lists.new) }
+    ensures { OnOk result (AreShared row.now lines.now rect.now lists.old lists.new) }
 {
-    let met = gaps_met(lines, direction.begin(rect), direction.end(rect));
+    let met = gaps_met(lines, rect.x1(), rect.x2());
     for k in met.start..met.end {
-        share_at(direction, bounds, lines, rect, lists, k)?;
+        share_at(row, lines, rect, lists, k)?;
     }
     Ok(())
 }
 
-/// Puts a rectangle to the list of the part at `k`.
+/// Puts a rectangle to the list of the cell at `k`.
 fn share_at(
-    direction: Direction,
-    bounds: &Rect,
+    row: &Rect,
     lines: &[i64],
     rect: &Rect,
     lists: &mut [Vec<Rect>],
@@ -73,10 +64,10 @@ fn share_at(
     requires lines { AreLines lines.now }
     requires count { length lists.old ≡ gaps lines.now }
     requires within { k < gaps lines.now }
-    ensures { OnOk result (IsSharedAt direction bounds.now lines.now rect.now k lists.old lists.new) }
+    ensures { OnOk result (IsSharedAt row.now lines.now rect.now k lists.old lists.new) }
 {
-    let part = direction.part(bounds, lines[k], lines[k + 1]);
-    hold(&mut lists[k], rect, &part)?;
+    let cell = Rect::from_edges(lines[k], row.y1(), lines[k + 1], row.y2());
+    hold(&mut lists[k], rect, &cell)?;
     Ok(())
 }
 

@@ -1,47 +1,46 @@
--- The parts of a rectangle between lines across it or up it.
+-- Rectangles shared out to the parts of the plane between lines.
 use Rattle.std.specs.Prelude.{◌≡◌, ◌≢◌, ◌&&◌, ◌||◌, ℕ, ◌+◌, ◌<◌, ◌≤◌, ℤ, ◌<ℤ◌, Bool, true, List, length, get_or}
+use Rattle.std.specs.Borrow.{Bor}
 use Rattle.std.specs.Global.{Vec}
 use Rattle.fill_base.specs.declared.rect.Rect.{Rect}
 use Rattle.fill_base.specs.Counts.{is_between}
 use Rattle.fill_base.specs.Squares.{squares}
 use Rattle.fill_region.specs.Squares.{covered}
-use Rattle.fill_cells.specs.declared.direction.Direction.{Direction}
-use Rattle.fill_cells.specs.declared.direction.Direction.TheVariants.{Across, Up}
-use Rattle.fill_cells.specs.Mesh.{gaps}
+use Rattle.fill_cells.specs.Mesh.{gaps, covered_by, row_squares, AreListsOf}
 
--- where a rectangle begins and ends in a direction
-abbrev pub begin_of : Direction → Rect → ℤ
-begin_of Across r = r.x1
-begin_of Up r = r.y1
+-- the squares of a row of cells from the line `lo` on and below `hi`
+abbrev pub cell_squares : Rect → ℤ → ℤ → ℤ → ℤ → Bool
+cell_squares row lo hi x y = is_between lo hi x && is_between row.y1 row.y2 y
 
-abbrev pub end_of : Direction → Rect → ℤ
-end_of Across r = r.x2
-end_of Up r = r.y2
-
--- the squares of a rectangle from the line `lo` on and below `hi`
-abbrev pub part_squares : Direction → Rect → ℤ → ℤ → ℤ → ℤ → Bool
-part_squares Across r lo hi x y = is_between lo hi x && is_between r.y1 r.y2 y
-part_squares Up r lo hi x y = is_between r.x1 r.x2 x && is_between lo hi y
-
--- each list covers, in the part between two neighbouring lines, the squares of the set
-pub record AreShares (direction : Direction) (bounds : Rect) (lines : List ℤ) (p : ℤ → ℤ → Bool) (lists : List (Vec Rect)) : Type 0 where
-  pub count : length lists ≡ gaps lines
-  pub each : (k : ℕ) (d : ℤ) (e : Vec Rect) → k < gaps lines → (x y : ℤ)
-      → part_squares direction bounds (get_or lines k d) (get_or lines (k + 1) d) x y ≡ true → covered (get_or lists k e).items x y ≡ p x y
+-- each list covers, in the cell between two neighbouring lines, the squares of the set
+abbrev pub AreShares : Rect → List ℤ → (ℤ → ℤ → Bool) → List (Vec Rect) → Type 0
+AreShares row lines p lists = AreListsOf (Vec Rect) (λ v. covered v.items) (cell_squares row) lines p lists
 
 -- in each part the list covers what it did and the rectangle
-pub record AreShared (direction : Direction) (bounds : Rect) (lines : List ℤ) (rect : Rect) (old new : List (Vec Rect)) : Type 0 where
+pub record AreMoreIn (V : Type 0) (cover : V → ℤ → ℤ → Bool) (part : ℤ → ℤ → ℤ → ℤ → Bool) (lines : List ℤ) (rect : Rect) (old new : List V) : Type 0 where
   pub count : length new ≡ length old
-  pub each : (k : ℕ) (d : ℤ) (e : Vec Rect) → k < gaps lines → (x y : ℤ)
-      → part_squares direction bounds (get_or lines k d) (get_or lines (k + 1) d) x y ≡ true
-      → covered (get_or new k e).items x y ≡ (covered (get_or old k e).items x y || squares rect x y)
+  pub each : (k : ℕ) (d : ℤ) (e : V) → k < gaps lines → (x y : ℤ) → part (get_or lines k d) (get_or lines (k + 1) d) x y ≡ true
+      → cover (get_or new k e) x y ≡ (cover (get_or old k e) x y || squares rect x y)
 
--- the list of the part at `k` covers there what it did and the rectangle, and the other lists are as they were
-pub record IsSharedAt (direction : Direction) (bounds : Rect) (lines : List ℤ) (rect : Rect) (at : ℕ) (old new : List (Vec Rect)) : Type 0 where
+-- the list of the part at `at` covers there what it did and the rectangle, and the other lists are as they were
+pub record IsMoreAt (V : Type 0) (cover : V → ℤ → ℤ → Bool) (part : ℤ → ℤ → ℤ → ℤ → Bool) (lines : List ℤ) (rect : Rect) (at : ℕ) (old new : List V) : Type 0 where
   pub count : length new ≡ length old
-  pub others : (k : ℕ) (e : Vec Rect) → k ≢ at → get_or new k e ≡ get_or old k e
-  pub here : (d : ℤ) (e : Vec Rect) (x y : ℤ) → part_squares direction bounds (get_or lines at d) (get_or lines (at + 1) d) x y ≡ true
-      → covered (get_or new at e).items x y ≡ (covered (get_or old at e).items x y || squares rect x y)
+  pub others : (k : ℕ) (e : V) → k ≢ at → get_or new k e ≡ get_or old k e
+  pub here : (d : ℤ) (e : V) (x y : ℤ) → part (get_or lines at d) (get_or lines (at + 1) d) x y ≡ true
+      → cover (get_or new at e) x y ≡ (cover (get_or old at e) x y || squares rect x y)
+
+-- both for the lists of cells, and for those of rows
+abbrev pub AreShared : Rect → List ℤ → Rect → List (Vec Rect) → List (Vec Rect) → Type 0
+AreShared row lines rect old new = AreMoreIn (Vec Rect) (λ v. covered v.items) (cell_squares row) lines rect old new
+
+abbrev pub IsSharedAt : Rect → List ℤ → Rect → ℕ → List (Vec Rect) → List (Vec Rect) → Type 0
+IsSharedAt row lines rect at old new = IsMoreAt (Vec Rect) (λ v. covered v.items) (cell_squares row) lines rect at old new
+
+abbrev pub AreListed : List ℤ → Rect → List (Vec (Bor Rect)) → List (Vec (Bor Rect)) → Type 0
+AreListed up rect old new = AreMoreIn (Vec (Bor Rect)) (λ v. covered_by v.items) row_squares up rect old new
+
+abbrev pub IsListedAt : List ℤ → Rect → ℕ → List (Vec (Bor Rect)) → List (Vec (Bor Rect)) → Type 0
+IsListedAt up rect at old new = IsMoreAt (Vec (Bor Rect)) (λ v. covered_by v.items) row_squares up rect at old new
 
 -- each gap that has a number from `lo` on and below `hi` is one of those from `first` on and below `past`
 pub record AreMet (lines : List ℤ) (lo hi : ℤ) (first past : ℕ) : Type 0 where

@@ -1,19 +1,22 @@
-use Rattle.std.proofs.Common.{subst, sym, take, ◌+◌, ◌∙◌}
+use Rattle.std.proofs.Common.{ap, subst, sym, take, ◌+◌, ◌∙◌}
+use Rattle.std.specs.Global.{Vec}
+use Rattle.fill_base.specs.declared.rect.Rect.{Rect}
 use Rattle.fill_region.specs.Squares.{covered}
-use Rattle.fill_cells.specs.steps.Parts.{AreShares, AreShared}
-use Rattle.fill_cells.proofs.Sharing.{shares_none, shares_more, shares_all, kept_after}
+use Rattle.fill_cells.specs.steps.Parts.{cell_squares, AreShares, AreShared}
+use Rattle.fill_cells.proofs.Sharing.{lists_none, lists_more, lists_all, kept_after}
 use Rattle.fill_cells.proofs.shares.shared_out.Goals as goal
 
 pub loop-rect-init : goal.loop-rect-init
-loop-rect-init c = shares_none c.args.direction c.args.bounds.now c.args.lines.now c.args.rects.now c.in_ok-lists.lists.items c.in_ok-lists.ensures.count c.in_ok-lists.ensures.empty
+loop-rect-init c = lists_none (Vec Rect) (λ v. covered v.items) (cell_squares c.args.row.now) c.args.lines.now c.args.rects.now c.in_ok-lists.lists.items c.in_ok-lists.ensures.count
+    (λ k e k_in x y. ap (λ zs. covered zs x y) (c.in_ok-lists.ensures.empty k e k_in))
 
 pub loop-rect-preserved : goal.loop-rect-preserved
 loop-rect-preserved c =
-    kept_after (λ xs. AreShares c.args.direction c.args.bounds.now c.args.lines.now (covered (take (c.loop-rect.rect-index + 1) c.args.rects.now)) xs) c.loop-rect.lists.len c.share.new.lists _
+    kept_after (λ xs. AreShares c.args.row.now c.args.lines.now (covered (take (c.loop-rect.rect-index + 1) c.args.rects.now)) xs) c.loop-rect.lists.len c.share.new.lists _
     (sym c.deref_mut.ensures.len ∙ sym c.share.auto.lists)
-    (shares_more c.args.direction c.args.bounds.now c.args.lines.now c.args.rects.now c.rect-item.result c.loop-rect.rect-index c.loop-rect.lists.items c.share.new.lists
+    (lists_more (Vec Rect) (λ v. covered v.items) (cell_squares c.args.row.now) c.args.lines.now c.args.rects.now c.rect-item.result c.loop-rect.rect-index c.loop-rect.lists.items c.share.new.lists
     c.loop-rect-test.true c.rect-item.is c.loop-rect.invariant
-    (subst (λ xs. AreShared c.args.direction c.args.bounds.now c.args.lines.now c.rect-item.result xs c.share.new.lists) c.deref_mut.ensures.value c.in_ok-share.ensures))
+    (subst (λ xs. AreShared c.args.row.now c.args.lines.now c.rect-item.result xs c.share.new.lists) c.deref_mut.ensures.value c.in_ok-share.ensures))
 
 pub returns : goal.returns
-returns c = shares_all c.args.direction c.args.bounds.now c.args.lines.now c.args.rects.now c.loop-rect.rect-index c.loop-rect.lists.items c.loop-rect-test.false c.loop-rect.invariant
+returns c = lists_all (Vec Rect) (λ v. covered v.items) (cell_squares c.args.row.now) c.args.lines.now c.args.rects.now c.loop-rect.rect-index c.loop-rect.lists.items c.loop-rect-test.false c.loop-rect.invariant
