@@ -10,7 +10,8 @@ use Rattle.fill_base.specs.Squares.{area_between}
 use Rattle.fill_base.proofs.Signed.{read, read_is, pos_fits, side_short, product_small, lt_le}
 use Rattle.fill_base.proofs.Counting.{sum_between_split, sum_between_add, sum_between_le, count_between_le}
 use Rattle.fill_area.proofs.Begun.{by_lt}
-use Rattle.fill_cells.specs.Mesh.{AreLines, AreCells, gaps}
+use Rattle.fill_cells.specs.Mesh.{AreLines, gaps}
+use Rattle.fill_measure.specs.steps.Groups.{AreCells}
 use Rattle.fill_measure.specs.steps.Corners.{block_area, AreCorners}
 
 -- an area splits at a number between its sides

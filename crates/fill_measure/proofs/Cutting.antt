@@ -13,7 +13,8 @@ use Rattle.fill_area.specs.Axes.{IsAxis, IsExtent, axis_begin, axis_end}
 use Rattle.fill_area.specs.Density.{AreMeasured, window_area}
 use Rattle.fill_area.specs.Grid.{Grid}
 use Rattle.fill_area.specs.declared.axis.Axis.{Axis}
-use Rattle.fill_cells.specs.Mesh.{AreLines, AreCells, cell_area, gaps}
+use Rattle.fill_cells.specs.Mesh.{AreLines, gaps}
+use Rattle.fill_measure.specs.steps.Groups.{AreCells, cell_area}
 use Rattle.fill_measure.specs.steps.Cuts.{IsCut, AreEven}
 use Rattle.fill_measure.specs.steps.Ends.{HoldEnds}
 use Rattle.fill_measure.proofs.CornerSums.{corner_in}

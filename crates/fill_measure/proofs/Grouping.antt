@@ -4,58 +4,9 @@ use Rattle.std.proofs.lemmas.List.{get_or_append_left, get_or-take, get_or-drop,
 use Rattle.std.proofs.Math.Nat.{mul-le-mul}
 use Rattle.std.proofs.Math.Seq.{get_or-append_right, get_or-append_seam}
 use Rattle.fill_area.proofs.Begun.{by_lt}
-use Rattle.fill_cells.specs.Mesh.{AreLines, AreCells, gaps, cell_area}
+use Rattle.fill_cells.specs.Mesh.{AreLines, gaps}
 use Rattle.fill_measure.proofs.CornerSums.{corner_in}
-use Rattle.fill_measure.specs.steps.Groups.{AreRows}
-
--- the lines of some neighbouring rows, as the code takes them
-abbrev pub part_of : List ℤ → ℕ → ℕ → List ℤ
-part_of up from count = take (count + 1) (take (length up - from) (drop from up))
-
-part_length : (up : List ℤ) (from count : ℕ) → AreLines up → from + count ≤ gaps up → length (part_of up from count) ≡ count + 1
-part_length up from count are within =
-    let some : 2 ≤ length up = are.some in
-    let rest : length (drop from up) ≡ length up - from = length-drop from up in
-    let all : length (take (length up - from) (drop from up)) ≡ length up - from = length-take-le (length up - from) (drop from up) (omega (arith, rest)) in
-    length-take-le (count + 1) (take (length up - from) (drop from up)) (omega (arith, all, within, some))
-
-part_at : (up : List ℤ) (from count i : ℕ) (d : ℤ) → AreLines up → from + count ≤ gaps up → i < count + 1 → get_or (part_of up from count) i d ≡ get_or up (from + i) d
-part_at up from count i d are within lt =
-    let some : 2 ≤ length up = are.some in
-    get_or-take (count + 1) (take (length up - from) (drop from up)) i d lt
-    ∙ (get_or-take (length up - from) (drop from up) i d (omega (arith, within, lt, some)) ∙ get_or-drop from up i d)
-
-pub part_lines : (up : List ℤ) (from count : ℕ) → AreLines up → 0 < count → from + count ≤ gaps up → AreLines (part_of up from count)
-part_lines up from count are some within = record {
-  some = omega (arith, len, some);
-  coordinates = λ i d lt. rw (at i d (omega (arith, lt, len))) (are.coordinates (from + i) d (in_up i (omega (arith, lt, len))));
-  rising = λ i j d below lt. rw (at i d (omega (arith, below, lt, len)), at j d (omega (arith, lt, len))) (are.rising (from + i) (from + j) d (omega (arith, below)) (in_up j (omega (arith, lt, len))));
-}
-  where
-    len : length (part_of up from count) ≡ count + 1
-    len = part_length up from count are within
-
-    at : (i : ℕ) (d : ℤ) → i < count + 1 → get_or (part_of up from count) i d ≡ get_or up (from + i) d
-    at i d lt = part_at up from count i d are within lt
-
-    in_up : (i : ℕ) → i < count + 1 → from + i < length up
-    in_up i lt = let some : 2 ≤ length up = are.some in omega (arith, lt, within, some)
-
--- the cells between these lines are those rows
-pub part_rows : (p : ℤ → ℤ → Bool) (across up areas : List ℤ) (from count : ℕ) → AreLines up → from + count ≤ gaps up → AreCells p across (part_of up from count) areas → AreRows p across up from count areas
-part_rows p across up areas from count are within cells = record {
-  count = cells.count ∙ ap (λ n. n * gaps across) gaps_is;
-  each = λ i j d i_in j_in. cells.each i j d i_in (rw gaps_is j_in) ∙ rw (at j d (omega (arith, j_in)), at (j + 1) d (omega (arith, j_in)), sym (above j)) refl;
-}
-  where
-    gaps_is : gaps (part_of up from count) ≡ count
-    gaps_is = let len = part_length up from count are within in omega (arith, len)
-
-    above : (j : ℕ) → from + j + 1 ≡ from + (j + 1)
-    above j = omega arith
-
-    at : (i : ℕ) (d : ℤ) → i < count + 1 → get_or (part_of up from count) i d ≡ get_or up (from + i) d
-    at i d lt = part_at up from count i d are within lt
+use Rattle.fill_measure.specs.steps.Groups.{AreRows, AreCells, cell_area}
 
 -- `n` rows after `m` others
 pub rows_after : (p : ℤ → ℤ → Bool) (across up old more : List ℤ) (from m n : ℕ) → AreRows p across up from m old → AreRows p across up (from + m) n more → AreRows p across up from (m + n) (old ++ more)
@@ -78,14 +29,13 @@ rows_after p across up old more from m n first later = record {
     place : (m k g i l : ℕ) → l ≡ m * g → (m + k) * g + i - l ≡ k * g + i
     place m k g i l e = omega (arith, e)
 
--- all of some rows, from their halves
-pub halves_joined : (p : ℤ → ℤ → Bool) (across up lower upper new : List ℤ) (from half count : ℕ) → half ≤ count → AreRows p across up from half lower → AreRows p across up (from + half) (count - half) upper
-    → new ≡ lower ++ upper → AreRows p across up from count new
-halves_joined p across up lower upper new from half count le first later new_is =
-    rw new_is (subst (λ n. AreRows p across up from n (lower ++ upper)) (whole half count le) (rows_after p across up lower upper from half (count - half) first later))
-  where
-    whole : (m n : ℕ) → m ≤ n → m + (n - m) ≡ n
-    whole m n le = omega (arith, le)
+-- no row yet, and one more
+pub rows_none : (p : ℤ → ℤ → Bool) (across up areas : List ℤ) (from : ℕ) → areas ≡ [] → AreRows p across up from 0 areas
+rows_none p across up areas from is = record { count = ap length is ∙ omega arith; each = λ i j d i_in j_in. absurd (omega (arith, j_in)) }
+
+pub rows_more : (p : ℤ → ℤ → Bool) (across up old row new : List ℤ) (from k : ℕ) → AreRows p across up from k old → AreRows p across up (from + k) 1 row → new ≡ old ++ row
+    → AreRows p across up from (k + 1) new
+rows_more p across up old row new from k before one is = rw is (rows_after p across up old row from k 1 before one)
 
 -- one group more
 pub group_more : (p : ℤ → ℤ → Bool) (across up old more new : List ℤ) (k height : ℕ) → AreRows p across up 0 (min (k * height) (gaps up)) old

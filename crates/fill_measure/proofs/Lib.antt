@@ -4,3 +4,4 @@ pub mod Grouping
 pub mod Placing
 pub mod Windowing
 pub mod Cutting
+pub mod Listing

@@ -1,22 +1,23 @@
 //! The areas of all cells of a mesh, measured in parallel.
 ghost use Rattle.std.specs.Prelude.{◌≡◌, ◌+◌, ◌*◌, ◌<◌, ◌≤◌, ℕ, IfOk, slice_index_or, length};
 ghost use Rattle.fill_region.specs.Squares.{covered};
-ghost use Rattle.fill_cells.specs.Mesh.{gaps};
+ghost use Rattle.fill_cells.specs.Mesh.{AreRowLists, gaps};
 ghost use Rattle.fill_measure.specs.steps.Meshes.{AreCellsOf, AreRowsOf, AreGroupOf};
 ghost use Rattle.fill_measure.specs.steps.Shapes.{squares_of};
 
 use crate::mesh::Mesh;
 use fill_base::Rect;
-use fill_cells::cell_areas;
+use fill_cells::{by_row, row_areas};
 use std::alloc::{AllocError, Global};
 use std::thread;
 use std::thread::Threads;
 
 /// The rows of cells are cut into at most so many groups of neighbours, each measured by a thread of its own.
-const MOST_GROUPS: usize = 8;
+const MOST_GROUPS: usize = 16;
 
 impl Mesh<'_> {
-    /// How many covered squares of a mesh of rectangles lie in each cell, row by row. Groups of rows are measured in parallel.
+    /// How many covered squares of a mesh of rectangles lie in each cell, row by row. Groups of rows are measured in parallel, and a
+    /// thread holds the rectangles of one row at a time.
     pub(crate) fn cells(
         &self,
         rt: &(impl Threads + Sync),
@@ -26,6 +27,8 @@ impl Mesh<'_> {
         requires shapes { squares_of self.now.shapes ≡ covered rects.now }
         ensures { IfOk result (λ v. AreCellsOf self.now v.items) }
     {
+        let lists = by_row(alloc, rects, self.up)?;
+        let lists = lists.as_slice();
         let lower = &self.up[..self.up.len() - 1];
         let height = lower.len().div_ceil(MOST_GROUPS);
         let groups = thread::map_chunks(
@@ -34,53 +37,33 @@ impl Mesh<'_> {
             lower,
             height,
             &|from: usize, part: &[i64]| -> Result<Vec<i64>, AllocError>
-                requires some { 0 < length part.now }
                 requires within { from + length part.now ≤ gaps self.now.up.now }
-                requires shapes { squares_of self.now.shapes ≡ covered rects.now }
+                requires lists { AreRowLists self.now.up.now (squares_of self.now.shapes) lists.now }
                 ensures { IfOk result (λ v. AreRowsOf self.entry.now from (length part.entry.now) v.items) }
-            { self.rows(alloc, rects, from, part.len()) },
+            { self.rows(alloc, lists, from, part.len()) },
         )?;
         self.joined(alloc, height, groups)
     }
 
-    /// How many covered squares lie in each cell of `count` rows from row `from` on: of the lower half first, so that no more than
-    /// half of what lies in the rows is held at a time.
+    /// How many covered squares lie in each cell of `count` rows from row `from` on.
     fn rows(
         &self,
         alloc: Global,
-        rects: &[Rect],
+        lists: &[Vec<&Rect>],
         from: usize,
         count: usize,
     ) -> Result<Vec<i64>, AllocError>
-        requires some { 0 < count }
-        requires shapes { squares_of self.now.shapes ≡ covered rects.now }
+        requires lists { AreRowLists self.now.up.now (squares_of self.now.shapes) lists.now }
         requires within { from + count ≤ gaps self.now.up.now }
         ensures { IfOk result (λ v. AreRowsOf self.now from count v.items) }
     {
-        let half = count / 2;
-        if half == 0 {
-            return self.few_rows(alloc, rects, from, count);
+        let mut cells = Vec::with_capacity(alloc, count.saturating_mul(self.across.len() - 1))?;
+        for k in 0..count {
+            let j = from + k;
+            let row = row_areas(alloc, &lists[j], self.across, self.up[j], self.up[j + 1])?;
+            cells.extend_from_slice(&row)?;
         }
-        let mut cells = self.few_rows(alloc, rects, from, half)?;
-        let upper = self.few_rows(alloc, rects, from + half, count - half)?;
-        cells.extend_from_slice(&upper)?;
         Ok(cells)
-    }
-
-    /// The same at once.
-    fn few_rows(
-        &self,
-        alloc: Global,
-        rects: &[Rect],
-        from: usize,
-        count: usize,
-    ) -> Result<Vec<i64>, AllocError>
-        requires some { 0 < count }
-        requires shapes { squares_of self.now.shapes ≡ covered rects.now }
-        requires within { from + count ≤ gaps self.now.up.now }
-        ensures { IfOk result (λ v. AreRowsOf self.now from count v.items) }
-    {
-        cell_areas(alloc, rects, self.across, &self.up[from..][..=count])
     }
 
     /// The numbers of all groups of `height` rows, one group after the other. The last group may have fewer rows.

@@ -1,10 +1,10 @@
 -- What the numbers of a mesh say of the squares that its shapes have.
 use Rattle.std.specs.Prelude.{ℕ, ◌-◌, ◌*◌, min, ℤ, List, length}
 use Rattle.fill_measure.specs.steps.Shapes.{squares_of}
-use Rattle.fill_cells.specs.Mesh.{AreCells, gaps}
+use Rattle.fill_cells.specs.Mesh.{gaps}
 use Rattle.fill_measure.specs.declared.mesh.Mesh.{Mesh}
 use Rattle.fill_measure.specs.steps.Corners.{block_area, AreCorners}
-use Rattle.fill_measure.specs.steps.Groups.{AreRows}
+use Rattle.fill_measure.specs.steps.Groups.{AreRows, AreCells}
 
 -- the areas of all cells, row by row
 abbrev pub AreCellsOf : Mesh → List ℤ → Type 0
