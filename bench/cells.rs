@@ -1,11 +1,15 @@
-//! Windows measured straight from rectangles in plain Rust, for the benchmarks alone: the lines of the windows make a mesh, the
-//! rectangles are shared out to its rows and cells, and each window is a difference of sums. The algorithm is that of the proved crates.
+//! Windows measured straight from rectangles in plain Rust, for the benchmarks alone: the lines of the windows make a mesh, each of its
+//! rows lists the rectangles that meet it, these are shared out to its cells, and each window is a difference of sums. The algorithm
+//! is that of the proved crates.
 use crate::sweep::{Rect, Windows};
 use std::ops::Range;
 use std::sync::Mutex;
 
 /// The rows of cells are cut into at most so many groups, which threads take one after another.
 const MOST_GROUPS: usize = 16;
+
+/// A row is deep where the rectangles are together so many times as wide as it.
+const DEEP: i64 = 64;
 
 /// So many rectangles are counted at once.
 const FEW: usize = 1024;
@@ -76,50 +80,85 @@ fn gaps_met(lines: &[i32], lo: i32, hi: i32) -> Range<usize> {
     first..past
 }
 
-/// The rectangles shared out to the parts between lines, by where they begin and end and by the part at each gap.
-fn shared_out(
-    rects: &[Rect],
-    lines: &[i32],
-    ends: impl Fn(&Rect) -> (i32, i32),
-    part: impl Fn(usize) -> Rect,
-) -> Vec<Vec<Rect>> {
-    let mut lists = vec![Vec::new(); lines.len() - 1];
+/// The rectangles shared out to the cells of a row.
+fn shared_out(rects: &[Rect], across: &[i32], cell: impl Fn(usize) -> Rect) -> Vec<Vec<Rect>> {
+    let mut lists = vec![Vec::new(); across.len() - 1];
     for rect in rects {
-        let (lo, hi) = ends(rect);
-        for gap in gaps_met(lines, lo, hi) {
-            hold(&mut lists[gap], rect, &part(gap));
+        for gap in gaps_met(across, rect.x1, rect.x2) {
+            hold(&mut lists[gap], rect, &cell(gap));
         }
     }
     lists
 }
 
-/// What the rectangles so far cover of a row of squares: no square at `reach` or right of it, and `length` in all.
-#[derive(Clone, Copy)]
-struct Tally {
-    reach: i32,
-    length: i64,
-}
-
-/// How many squares of the part the rectangles cover, row by row between the lines at which one begins or ends.
-fn counted_area(rects: &[Rect], part: &Rect) -> i64 {
-    let mut lines = Vec::with_capacity(2 + 2 * rects.len());
-    lines.extend([part.y1, part.y2]);
-    lines.extend(rects.iter().flat_map(|rect| [rect.y1, rect.y2]).map(|line| line.clamp(part.y1, part.y2)));
-    lines.sort_unstable();
-    lines.dedup();
-    let mut sorted = rects.to_vec();
-    sorted.sort_by_key(|rect| rect.x1);
-    let mut tallies = vec![Tally { reach: part.x1, length: 0 }; lines.len() - 1];
-    for rect in &sorted {
-        for k in gaps_met(&lines, rect.y1, rect.y2) {
-            let tally = &mut tallies[k];
-            let (from, to) = (tally.reach.max(rect.x1), part.x2.min(rect.x2));
-            if from < to {
-                *tally = Tally { reach: to, length: tally.length + i64::from(to - from) };
-            }
+/// For each row the rectangles that meet it.
+fn by_row<'a>(rects: &'a [Rect], up: &[i32]) -> Vec<Vec<&'a Rect>> {
+    let mut lists = vec![Vec::new(); up.len() - 1];
+    for rect in rects {
+        for gap in gaps_met(up, rect.y1, rect.y2) {
+            lists[gap].push(rect);
         }
     }
-    tallies.iter().enumerate().map(|(k, tally)| tally.length * i64::from(lines[k + 1] - lines[k])).sum()
+    lists
+}
+
+/// The rectangles of a row, where they lie all over one another joined.
+fn listed(rects: &[&Rect], row: &Rect) -> Vec<Rect> {
+    let width = |rect: &Rect| i64::from(rect.x2.min(row.x2)) - i64::from(rect.x1.max(row.x1));
+    if rects.iter().map(|rect| width(rect).max(0)).sum::<i64>() > DEEP * i64::from(row.x2 - row.x1) {
+        let mut list = Vec::new();
+        rects.iter().for_each(|rect| hold(&mut list, rect, row));
+        list
+    } else {
+        rects.iter().map(|rect| **rect).collect()
+    }
+}
+
+/// Takes out those that end at the line or below, and in those that begin there, by their left edges.
+fn cross(crossing: &mut Vec<Rect>, begun: &[Rect], line: i32) {
+    crossing.retain(|rect| rect.y2 > line);
+    for rect in begun {
+        let at = crossing.partition_point(|other| other.x1 <= rect.x1);
+        crossing.insert(at, *rect);
+    }
+}
+
+/// The next line at which one begins or ends, or the top.
+fn next_line(later: &[Rect], crossing: &[Rect], top: i32) -> i32 {
+    let first = later.first().map_or(top, |rect| rect.y1.min(top));
+    crossing.iter().fold(first, |line, rect| line.min(rect.y2))
+}
+
+/// How many squares of a row between two columns those that cross it cover.
+fn row_length(crossing: &[Rect], left: i32, right: i32) -> i64 {
+    let (mut reach, mut length) = (left, 0);
+    for rect in crossing {
+        let (from, to) = (reach.max(rect.x1), right.min(rect.x2));
+        if from < to {
+            length += i64::from(to - from);
+            reach = to;
+        }
+    }
+    length
+}
+
+/// How many squares of the part the rectangles cover, by a sweep upwards.
+fn counted_area(rects: &[Rect], part: &Rect) -> i64 {
+    let mut sorted = rects.to_vec();
+    sorted.sort_unstable_by_key(|rect| rect.y1);
+    let mut later = sorted.as_slice();
+    let mut crossing = Vec::new();
+    let mut line = part.y1;
+    let mut area = 0;
+    while line < part.y2 {
+        let (begun, rest) = later.split_at(later.partition_point(|rect| rect.y1 <= line));
+        cross(&mut crossing, begun, line);
+        let next = next_line(rest, &crossing, part.y2);
+        area += row_length(&crossing, part.x1, part.x2) * i64::from(next - line);
+        later = rest;
+        line = next;
+    }
+    area
 }
 
 /// The halves of a part in which many rectangles begin or end.
@@ -146,15 +185,12 @@ fn covered_area(rects: &[Rect], part: &Rect) -> i64 {
     }
 }
 
-/// The areas of the cells of some rows, row by row.
-fn cell_areas(rects: &[Rect], across: &[i32], up: &[i32], areas: &mut [i64]) {
-    let (x1, x2) = (across[0], across[across.len() - 1]);
-    let rows = shared_out(rects, up, |rect| (rect.y1, rect.y2), |j| Rect { x1, y1: up[j], x2, y2: up[j + 1] });
-    for (j, row) in rows.iter().enumerate() {
-        let cell = |i: usize| Rect { x1: across[i], y1: up[j], x2: across[i + 1], y2: up[j + 1] };
-        for (i, list) in shared_out(row, across, |rect| (rect.x1, rect.x2), cell).iter().enumerate() {
-            areas[j * (across.len() - 1) + i] = covered_area(list, &cell(i));
-        }
+/// The areas of the cells of a row.
+fn row_areas(rects: &[&Rect], across: &[i32], from: i32, to: i32, areas: &mut [i64]) {
+    let row = Rect { x1: across[0], y1: from, x2: across[across.len() - 1], y2: to };
+    let cell = |i: usize| Rect { x1: across[i], y1: from, x2: across[i + 1], y2: to };
+    for (i, list) in shared_out(&listed(rects, &row), across, cell).iter().enumerate() {
+        areas[i] = covered_area(list, &cell(i));
     }
 }
 
@@ -176,6 +212,7 @@ pub fn measure_rects(rects: &[Rect], windows: &Windows) -> Vec<i64> {
     let across = lines_of(windows.origin.0, windows.size.0, windows.step.0, windows.columns, rects.len());
     let up = lines_of(windows.origin.1, windows.size.1, windows.step.1, windows.rows, rects.len());
     let (columns, rows) = (across.len() - 1, up.len() - 1);
+    let lists = by_row(rects, &up);
     let height = rows.div_ceil(MOST_GROUPS);
     let mut cells = vec![0i64; columns * rows];
     let threads = std::thread::available_parallelism().map_or(1, |count| count.get());
@@ -185,8 +222,10 @@ pub fn measure_rects(rects: &[Rect], windows: &Windows) -> Vec<i64> {
         for _ in 0..threads {
             scope.spawn(|| {
                 while let Some((k, areas)) = next() {
-                    let to = ((k + 1) * height).min(rows);
-                    cell_areas(rects, &across, &up[k * height..=to], areas);
+                    for (j, row) in areas.chunks_mut(columns).enumerate() {
+                        let at = k * height + j;
+                        row_areas(&lists[at], &across, up[at], up[at + 1], row);
+                    }
                 }
             });
         }
