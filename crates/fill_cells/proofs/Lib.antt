@@ -4,6 +4,7 @@ pub mod Gaps
 pub mod Sharing
 pub mod Rows
 pub mod Tallying
-pub mod Rowwise
-pub mod Ends
-pub mod Counted
+pub mod DistinctLines
+pub mod RowLengths
+pub mod Crossing
+pub mod Sweeping

@@ -4,4 +4,4 @@ pub mod Parts
 pub mod Halves
 pub mod Rows
 pub mod Tallies
-pub mod Ends
+pub mod Sweep

@@ -8,7 +8,7 @@ mod direction;
 mod lines;
 mod pieces;
 mod shares;
-mod tallies;
+mod sweep;
 mod tally;
 
 pub use area::covered_area;
