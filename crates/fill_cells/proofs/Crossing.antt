@@ -4,6 +4,7 @@ use Rattle.std.specs.Prelude.{int_lt, int_le}
 use Rattle.std.specs.Int.{int_min}
 use Rattle.std.specs.List.{filter, insert, slice_get}
 use Rattle.std.specs.List.Sorted.{IsPartitionedBy, IsPartitionPoint}
+use Rattle.std.proofs.Math.Bool.{or-false, or_assoc, or_comm}
 use Rattle.std.proofs.lemmas.Int.{ints, clamps}
 use Rattle.std.proofs.lemmas.List.{get_or-take, length-take-le, take_more, take_all}
 use Rattle.std.proofs.lemmas.List.Edits.{length-insert, get_or-insert_below, get_or-insert_at, get_or-insert_above}
@@ -51,25 +52,23 @@ filter_rising p (r ∷ rects) rising =
     chosen true without with_r = with_r
     chosen false without with_r = without
 
-or_false : (b : Bool) → (b || false) ≡ b
-or_false true = refl
-or_false false = refl
-
-or_swap : (a b : Bool) → (a || b) ≡ (b || a)
-or_swap true true = refl
-or_swap true false = refl
-or_swap false true = refl
-or_swap false false = refl
-
-or_assoc : (a b c : Bool) → ((a || b) || c) ≡ (a || (b || c))
-or_assoc true b c = refl
-or_assoc false b c = refl
+-- what holds of one rectangle more holds of those before and of it
+taken : (P : Rect → Type 0) (rects : List Rect) (k : ℕ) (q : Rect) → k < length rects → q ≡ get_or rects k q → All P (take (k + 1) rects) → All P (take k rects) × P q
+taken P rects k q more item all = (
+  λ j d lt.
+      let here : j < k = rw (length-take-le k rects (omega arith)) at lt in
+      subst P (get_or-take (k + 1) rects j d (omega arith) ∙ sym (get_or-take k rects j d here)) (all j d (inside j (omega arith))),
+  subst P (get_or-take (k + 1) rects k q (omega arith) ∙ sym item) (all k q (inside k (omega arith))),
+)
+  where
+    inside : (j : ℕ) → j < k + 1 → j < length (take (k + 1) rects)
+    inside j lt = rw (length-take-le (k + 1) rects (omega arith)) lt
 
 -- those that end at the line or below are taken out
 pub crossed_none : (line : ℤ) (old kept begun : List Rect) → kept ≡ filter (λ r. int_lt line r.y2) old → IsRisingBy (λ r. r.x1) old → IsCrossed line old (take 0 begun) kept
 crossed_none line old kept begun is rising = rw is (record {
   sorted = filter_rising (λ r. int_lt line r.y2) old rising;
-  squares = λ x y le. any-filter_same (λ r. squares r x y) (λ r. int_lt line r.y2) true (λ r h. past line r x y le h) old ∙ sym (or_false (covered old x y));
+  squares = λ x y le. any-filter_same (λ r. squares r x y) (λ r. int_lt line r.y2) true (λ r h. past line r x y le h) old ∙ sym (or-false (covered old x y));
   cross = λ low none k d lt. (
     All-filter (λ r. int_lt line r.y2) (λ r. r.y1 ≤ℤ line) old low k d lt,
     is_lt line (get_or (filter (λ r. int_lt line r.y2) old) k d).y2 (filter_passes (λ r. int_lt line r.y2) old k d lt),
@@ -90,18 +89,8 @@ crossed_more line old begun mid new k q lt item crossed entered = record {
   sorted = entered.sorted;
   squares = λ x y le. entered.squares x y le ∙ (ap (λ t. t || squares q x y) (crossed.squares x y le) ∙ (or_assoc (covered old x y) (covered (take k begun) x y) (squares q x y)
       ∙ ap (λ t. covered old x y || t) (sym (covered_pushed (take k begun) (take (k + 1) begun) q (take_more begun k q lt ∙ ap (λ r. take k begun ++ r ∷ []) (sym item)) x y))));
-  cross = λ low begins. entered.cross (last_begins begins) (crossed.cross low (λ j d j_in. some_begin j d j_in begins));
+  cross = λ low begins. let parts = taken (λ r. r.y1 ≤ℤ line) begun k q lt item begins in entered.cross parts.1 (crossed.cross low parts.0);
 }
-  where
-    some_begin : (j : ℕ) (d : Rect) → j < length (take k begun) → All (λ r. r.y1 ≤ℤ line) (take (k + 1) begun) → (get_or (take k begun) j d).y1 ≤ℤ line
-    some_begin j d j_in all =
-        let here : j < k = rw (length-take-le k begun (omega arith)) at j_in in
-        rw (get_or-take k begun j d here) (rw (get_or-take (k + 1) begun j d (omega arith)) at (all j d (rw (length-take-le (k + 1) begun (omega arith)) (omega arith))))
-
-    last_begins : All (λ r. r.y1 ≤ℤ line) (take (k + 1) begun) → q.y1 ≤ℤ line
-    last_begins all =
-        let e : get_or (take (k + 1) begun) k q ≡ q = get_or-take (k + 1) begun k q (omega arith) ∙ sym item in
-        rw e at (all k q (rw (length-take-le (k + 1) begun (omega arith)) (omega arith)))
 
 pub crossed_all : (line : ℤ) (old begun new : List Rect) (k : ℕ) → length begun ≤ k → IsCrossed line old (take k begun) new → IsCrossed line old begun new
 crossed_all line old begun new k all crossed = subst (λ rs. IsCrossed line old rs new) (take_all k begun all) crossed
@@ -111,7 +100,7 @@ pub entered : (line : ℤ) (rect : Rect) (old new : List Rect) (at : ℕ) → li
     → IsPartitionPoint (λ r. r.x1 ≤ℤ rect.x1) (λ r. rect.x1 <ℤ r.x1) old at → new ≡ insert old at rect → IsEntered line rect old new
 entered line rect old new at high rising within parted is = rw is (record {
   sorted = sorted;
-  squares = λ x y le. sym (list_any-IsPermutation (λ r. squares r x y) (rect ∷ old) (insert old at rect) (IsPermutation-insert old at rect)) ∙ or_swap (squares rect x y) (covered old x y);
+  squares = λ x y le. sym (list_any-IsPermutation (λ r. squares r x y) (rect ∷ old) (insert old at rect) (IsPermutation-insert old at rect)) ∙ or_comm (squares rect x y) (covered old x y);
   cross = λ begins all. All-permutation (Crosses line) (rect ∷ old) (insert old at rect) (IsPermutation-insert old at rect) (with_first begins all);
 })
   where
@@ -165,15 +154,6 @@ first_line (q ∷ rects) r top y1 line fits is some least rising =
     lt_both : (y a b : ℤ) → y <ℤ a → y <ℤ b → y <ℤ int_min a b
     lt_both y a b h k = omega (arith, ints, clamps)
 
--- none begins
-pub no_line : (rects : List Rect) (top : ℤ) → length rects ≡ 0 → IsNextLine rects [] top top
-no_line rects top none = record {
-  begins = λ k d lt. absurd (omega (arith, none, lt));
-  ends = λ k d lt. absurd (omega arith);
-  high = omega (arith, ints);
-  nearest = λ y low begins ends. low;
-}
-
 -- one more rectangle that may end first
 pub nearer_line : (later crossing : List Rect) (top : ℤ) (k : ℕ) (q : Rect) (line y2 line' : ℤ) → k < length crossing → q ≡ get_or crossing k q → y2 ≡ q.y2 → FitsSigned w64 line
     → line' ≡ int_min line (read y2) → IsNextLine later (take k crossing) top line → IsNextLine later (take (k + 1) crossing) top (read line')
@@ -184,7 +164,7 @@ nearer_line later crossing top k q line y2 line' more item is fits least n =
       begins = λ j d lt. le_left line q.y2 _ (n.begins j d lt);
       ends = All-more (λ r. int_min line q.y2 ≤ℤ r.y2) crossing k q more (λ j d lt. le_left line q.y2 _ (n.ends j d lt)) (ap_le q (get_or crossing k q) item);
       high = le_left line q.y2 top n.high;
-      nearest = λ y low begins ends. lt_both y line q.y2 (n.nearest y low begins (λ j d lt. some_ends y j d lt ends)) (last_ends y ends);
+      nearest = λ y low begins ends. let parts = taken (λ r. y <ℤ r.y2) crossing k q more item ends in lt_both y line q.y2 (n.nearest y low begins parts.0) parts.1;
     })
   where
     le_left : (a b c : ℤ) → a ≤ℤ c → int_min a b ≤ℤ c
@@ -198,13 +178,3 @@ nearer_line later crossing top k q line y2 line' more item is fits least n =
 
     lt_both : (y a b : ℤ) → y <ℤ a → y <ℤ b → y <ℤ int_min a b
     lt_both y a b h k = omega (arith, ints, clamps)
-
-    some_ends : (y : ℤ) (j : ℕ) (d : Rect) → j < length (take k crossing) → All (λ r. y <ℤ r.y2) (take (k + 1) crossing) → y <ℤ (get_or (take k crossing) j d).y2
-    some_ends y j d lt all =
-        let here : j < k = rw (length-take-le k crossing (omega arith)) at lt in
-        rw (get_or-take k crossing j d here) (rw (get_or-take (k + 1) crossing j d (omega arith)) at (all j d (rw (length-take-le (k + 1) crossing (omega arith)) (omega arith))))
-
-    last_ends : (y : ℤ) → All (λ r. y <ℤ r.y2) (take (k + 1) crossing) → y <ℤ q.y2
-    last_ends y all =
-        let e : get_or (take (k + 1) crossing) k q ≡ q = get_or-take (k + 1) crossing k q (omega arith) ∙ sym item in
-        rw e at (all k q (rw (length-take-le (k + 1) crossing (omega arith)) (omega arith)))

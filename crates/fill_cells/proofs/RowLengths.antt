@@ -1,6 +1,7 @@
 -- What rectangles from left to right cover of a row that all of them cross.
-use Rattle.std.proofs.Common.{◌≡◌, Bool, true, false, ◌||◌, ℕ, ◌+◌, ◌*◌, ◌≤◌, ◌<◌, ℤ, pos, ◌-ℤ◌, ◌≤ℤ◌, ◌<ℤ◌, List, [], ◌∷◌, ◌++◌, length, take, get_or, refl, arith, ap, ◌∙◌, sym, subst, All, w64, FitsSigned}
+use Rattle.std.proofs.Common.{◌≡◌, Bool, false, ◌||◌, ℕ, ◌+◌, ◌*◌, ◌≤◌, ◌<◌, ℤ, pos, ◌-ℤ◌, ◌≤ℤ◌, ◌<ℤ◌, List, [], ◌∷◌, ◌++◌, length, take, get_or, refl, arith, ap, ◌∙◌, sym, subst, All, w64, FitsSigned}
 use Rattle.std.specs.Prelude.{int_lt}
+use Rattle.std.proofs.Math.Bool.{or-false}
 use Rattle.std.proofs.lemmas.Int.{ints}
 use Rattle.std.proofs.lemmas.List.{get_or_default, get_or-take, length-take-le, take_more, take_all}
 use Rattle.std.proofs.lemmas.List.Folds.{list_any-append}
@@ -53,13 +54,9 @@ row_more rects q k left right old new rising lt item before reached = record {
     self : (z : ℤ) → z ≤ℤ z
     self z = omega (arith, ints)
 
-    or_false : (b : Bool) → (b || false) ≡ b
-    or_false true = refl
-    or_false false = refl
-
     column_more : (x : ℤ) → has_column (take (k + 1) rects) x ≡ (has_column (take k rects) x || is_between q.x1 q.x2 x)
     column_more x = ap (λ rs. has_column rs x) (take_more rects k q lt ∙ ap (λ r. take k rects ++ r ∷ []) (sym item))
-        ∙ (list_any-append (λ r. is_between r.x1 r.x2 x) (take k rects) (q ∷ []) ∙ ap (λ t. has_column (take k rects) x || t) (or_false (is_between q.x1 q.x2 x)))
+        ∙ (list_any-append (λ r. is_between r.x1 r.x2 x) (take k rects) (q ∷ []) ∙ ap (λ t. has_column (take k rects) x || t) (or-false (is_between q.x1 q.x2 x)))
 
     earlier : All (λ r. r.x1 ≤ℤ q.x1) (take k rects)
     earlier j d j_in = let under : j < k = rw (length-take-le k rects (omega (arith, lt))) at j_in in

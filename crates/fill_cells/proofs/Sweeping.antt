@@ -2,6 +2,7 @@
 use Rattle.std.proofs.Common.{◌≡◌, ℕ, suc, ◌+◌, ◌*◌, ◌^◌, ◌≤◌, ◌<◌, ℤ, pos, ◌+ℤ◌, ◌-ℤ◌, ◌*ℤ◌, ◌≤ℤ◌, ◌<ℤ◌, List, [], ◌∷◌, length, get_or, take, drop, refl, arith, ap, ◌∙◌, sym, subst, Bool, true, false, ◌||◌, ◌&&◌, w64, FitsSigned, All}
 use Rattle.std.specs.Prelude.{int_lt, unsigned_abs}
 use Rattle.std.specs.List.Sorted.{IsPermutation, IsPartitionPoint}
+use Rattle.std.proofs.Math.Bool.{or-false, or_assoc}
 use Rattle.std.proofs.Math.Nat.{mul_comm}
 use Rattle.std.proofs.lemmas.Bool.{and_right}
 use Rattle.std.proofs.lemmas.Int.{ints}
@@ -14,7 +15,7 @@ use Rattle.fill_base.specs.Counts.{is_between, span_len, count_between, sum_from
 use Rattle.fill_base.specs.Squares.{squares, area_between, area_of}
 use Rattle.fill_base.proofs.Between.{is_between_true, is_between_below}
 use Rattle.fill_base.proofs.Counting.{sum_between_const, count_between_same, count_between_le}
-use Rattle.fill_base.proofs.Signed.{read, read_is, coordinate_fits, lt_le, le_trans, is_lt, not_lt, side_is, side_short, pos_fits}
+use Rattle.fill_base.proofs.Signed.{read, read_is, coordinate_fits, lt_le, le_trans, is_lt, side_is, side_short, pos_fits}
 use Rattle.fill_spans.specs.Columns.{IsRisingBy, has_column}
 use Rattle.fill_region.specs.Squares.{covered}
 use Rattle.fill_region.proofs.UpwardSweep.{others_later, rest_sorted}
@@ -83,11 +84,7 @@ first_begin later begun line n parted within is = rw is (λ k d lt.
     rw (get_or-take n later k d here) (parted.0 k d (omega arith) here))
 
 join_three : (a b c d e : Bool) → a ≡ (b || c) → d ≡ (c || e) → (b || d) ≡ (a || e)
-join_three a b c d e h k = rw (h, k) (or_assoc b c e)
-  where
-    or_assoc : (b c e : Bool) → (b || (c || e)) ≡ ((b || c) || e)
-    or_assoc true c e = refl
-    or_assoc false c e = refl
+join_three a b c d e h k = rw (h, k) (sym (or_assoc b c e))
 
 -- the code's numbers of one turn: how far it goes, what the rows have, and all so far
 pub record IsCounted (line next area length : ℤ) (sum : ℕ) : Type 0 where
@@ -137,7 +134,7 @@ turned rects later begun rest crossing crossing' part line next area length' n s
     let ahead : (x y : ℤ) → line ≤ℤ y → covered rects x y ≡ (covered crossing' x y || covered rest x y) = λ x y le.
     s.ahead x y le ∙ join_three (covered crossing' x y) (covered crossing x y) (covered begun x y) (covered later x y) (covered rest x y) (crossed.squares x y le) (parts x y) in
     let row : (x y : ℤ) → line ≤ℤ y → y <ℤ next → covered rects x y ≡ has_column crossing' x = λ x y le lt.
-    ahead x y le ∙ (rw (none_yet rest x y (λ k d h. lt_le_lt y next (get_or rest k d).y1 lt (nearest.begins k d h))) (or_false (covered crossing' x y))
+    ahead x y le ∙ (rw (none_yet rest x y (λ k d h. lt_le_lt y next (get_or rest k d).y1 lt (nearest.begins k d h))) (or-false (covered crossing' x y))
     ∙ columns_are crossing' line x y le cross (λ k d h. lt_le_lt y next (get_or crossing' k d).y2 lt (nearest.ends k d h))) in
     let rows : area_between p part.x1 line part.x2 next ≡ span_len line next * m = sum_between_const (λ y. count_between (λ x. p x y) part.x1 part.x2) line next m (lt_le line next up)
     (λ y low high. count_between_same (λ x. p x y) (has_column crossing') part.x1 part.x2 (lt_le part.x1 part.x2 part.wide) (λ x l h. row x y low high)) in
@@ -165,10 +162,6 @@ turned rects later begun rest crossing crossing' part line next area length' n s
       });
     }
   where
-    or_false : (b : Bool) → (b || false) ≡ b
-    or_false true = refl
-    or_false false = refl
-
     short : (m : ℕ) → m ≤ span_len part.x1 part.x2 → m ≤ 2 ^ 31
     short m few = omega (arith, few, side_short part.x1 part.x2 part.left (lt_le part.x1 part.x2 part.wide) part.right)
 
@@ -183,15 +176,6 @@ turned_smaller rects rest crossing part line next area length low turn =
   where
     less : (a b c : ℤ) → a <ℤ b → b ≤ℤ c → unsigned_abs (c -ℤ b) < unsigned_abs (c -ℤ a)
     less a b c h k = omega (arith, ints)
-
--- the sweep has come to the top
-pub swept_all : (rects later crossing : List Rect) (part : Rect) (line area y2 : ℤ) → SweptTo rects later crossing part line area → y2 ≡ part.y2 → int_lt line (read y2) ≡ false
-    → area ≡ pos (area_of (covered rects) part)
-swept_all rects later crossing part line area y2 s is end =
-    s.counted ∙ ap (λ z. pos (area_between (covered rects) part.x1 part.y1 part.x2 z)) (same line part.y2 s.high (not_lt line part.y2 (rw (ap read is ∙ read_is part.y2 (y2_fits part)) at end)))
-  where
-    same : (a b : ℤ) → a ≤ℤ b → b ≤ℤ a → a ≡ b
-    same a b h k = omega (arith, ints)
 
 -- the sweep goes on, as the code compares
 pub goes_on : (part : Rect) (line y2 : ℤ) → y2 ≡ part.y2 → int_lt line (read y2) ≡ true → line <ℤ part.y2

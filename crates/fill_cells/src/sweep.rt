@@ -26,7 +26,9 @@ pub(crate) fn counted_area(alloc: Global, rects: &[Rect], part: &Rect) -> Result
         let (begun, rest) = later.split_at(begun_at(later, line));
         cross(&mut crossing, begun, line)?;
         let next = next_line(rest, &crossing, part.y2());
-        area += row_length(&crossing, part.x1(), part.x2()) * (next - line);
+        let columns = row_length(&crossing, part.x1(), part.x2());
+        let rows = next - line;
+        area += columns * rows;
         later = rest;
         line = next;
     }
