@@ -5,6 +5,7 @@ pub mod Sharing
 pub mod Listing
 pub mod RowAreas
 pub mod Tallying
-pub mod Rowwise
-pub mod Ends
-pub mod Counted
+pub mod DistinctLines
+pub mod RowLengths
+pub mod Crossing
+pub mod Sweeping

@@ -1,17 +1,16 @@
 -- A rectangle more in the tally of a row.
-use Rattle.std.proofs.Common.{◌≡◌, Bool, true, false, ◌||◌, ◌&&◌, ℕ, ◌+◌, ◌*◌, ◌≤◌, ◌<◌, ℤ, pos, ◌+ℤ◌, ◌-ℤ◌, ◌≤ℤ◌, ◌<ℤ◌, refl, arith, ap, ◌∙◌, sym, subst, cond, w64, FitsSigned}
+use Rattle.std.proofs.Common.{◌≡◌, Bool, true, false, ◌||◌, ℕ, ◌+◌, ◌*◌, ℤ, pos, ◌+ℤ◌, ◌-ℤ◌, ◌≤ℤ◌, ◌<ℤ◌, refl, arith, ap, ◌∙◌, sym, cond, w64, FitsSigned}
 use Rattle.std.specs.Prelude.{int_le, int_lt}
 use Rattle.std.specs.Int.{int_max, int_min}
 use Rattle.std.proofs.lemmas.Int.{ints, clamps, by_lt_z}
 use Rattle.fill_base.specs.declared.rect.Rect.{Rect}
 use Rattle.fill_base.specs.Coordinates.{lowest, highest}
 use Rattle.fill_base.specs.Counts.{is_between, span_len, count_between}
-use Rattle.fill_base.specs.Squares.{squares}
 use Rattle.fill_base.proofs.Between.{is_between_true, is_between_below, is_between_above}
 use Rattle.fill_base.proofs.Counting.{sum_between_split, count_between_const, count_between_same}
 use Rattle.fill_base.proofs.Signed.{read, read_is, coordinate_fits}
 use Rattle.fill_cells.specs.declared.tally.Tally.{Tally}
-use Rattle.fill_cells.specs.steps.Tallies.{IsTally, IsReached, IsAdded}
+use Rattle.fill_cells.specs.steps.Tallies.{IsTally, IsReached}
 use Rattle.fill_cells.proofs.Lists.{least_is, most_is, x1_fits, x2_fits}
 
 or_right_false : (a b : Bool) → b ≡ false → (a || b) ≡ a
@@ -209,28 +208,6 @@ tally_as p q left right from to tally same later is = record {
   where
     trans : (a b c : ℤ) → a ≤ℤ b → b ≤ℤ c → a ≤ℤ c
     trans a b c h k = omega (arith, ints)
-
-and_true : (a b : Bool) → b ≡ true → a && b ≡ a
-and_true true b h = h
-and_true false b h = refl
-
-and_false : (a b : Bool) → b ≡ false → a && b ≡ false
-and_false true b h = h
-and_false false b h = refl
-
--- a row that the rectangle crosses, and one that it does not
-pub added_across : (rect : Rect) (right y : ℤ) (old new : Tally) → rect.y1 ≤ℤ y → y <ℤ rect.y2 → IsReached rect right old new → IsAdded rect right y old new
-added_across rect right y old new low high more p left from is follows =
-    tally_as (λ x. p x || is_between rect.x1 rect.x2 x) (λ x. p x || squares rect x y) left right rect.x1 rect.x1 new
-    (λ x. ap (λ b. p x || b) (and_true (is_between rect.x1 rect.x2 x) (is_between rect.y1 rect.y2 y) (is_between_true rect.y1 rect.y2 y low high))) (self rect.x1) (more p left from is follows)
-  where
-    self : (z : ℤ) → z ≤ℤ z
-    self z = omega (arith, ints)
-
-pub added_apart : (rect : Rect) (right y : ℤ) (old : Tally) → is_between rect.y1 rect.y2 y ≡ false → IsAdded rect right y old old
-added_apart rect right y old apart p left from is follows =
-    tally_as p (λ x. p x || squares rect x y) left right from rect.x1 old
-    (λ x. or_right_false (p x) (squares rect x y) (and_false (is_between rect.x1 rect.x2 x) (is_between rect.y1 rect.y2 y) apart)) follows is
 
 reach_fits : (t : Tally) → FitsSigned w64 t.reach
 reach_fits t = coordinate_fits t.reach t.low t.high

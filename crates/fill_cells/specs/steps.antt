@@ -3,4 +3,4 @@ pub mod Within
 pub mod Parts
 pub mod Halves
 pub mod Tallies
-pub mod Ends
+pub mod Sweep

@@ -5,9 +5,8 @@ ghost use Rattle.fill_base.specs.Squares.{area_of};
 ghost use Rattle.fill_region.specs.Squares.{covered};
 ghost use Rattle.fill_cells.specs.steps.Halves.{AreHalves};
 
-use crate::lines::{by_left, ends_of, lines_at};
 use crate::pieces::within;
-use crate::tallies::{tallied, total};
+use crate::sweep::counted_area;
 use fill_base::Rect;
 use std::alloc::{AllocError, Global};
 
@@ -32,17 +31,6 @@ pub fn covered_area(alloc: Global, rects: &[Rect], part: &Rect) -> Result<i64, A
         }
         None => counted_area(alloc, rects, part),
     }
-}
-
-/// The same row by row between the lines at which the part or a rectangle begins or ends.
-fn counted_area(alloc: Global, rects: &[Rect], part: &Rect) -> Result<i64, AllocError>
-    ensures { IfOk result (λ n. n ≡ pos (area_of (covered rects.now) part.now)) }
-{
-    let ends = ends_of(alloc, rects, part)?;
-    let lines = lines_at(ends);
-    let sorted = by_left(alloc, rects)?;
-    let tallies = tallied(alloc, &sorted, &lines, part.x1(), part.x2())?;
-    Ok(total(&tallies, &lines))
 }
 
 /// The halves of a part in which many rectangles begin or end, cut across those edges of which there are more.

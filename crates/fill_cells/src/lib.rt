@@ -8,7 +8,7 @@ mod lines;
 mod pieces;
 mod rows;
 mod shares;
-mod tallies;
+mod sweep;
 mod tally;
 
 pub use area::covered_area;

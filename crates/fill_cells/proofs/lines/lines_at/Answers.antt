@@ -1,4 +1,4 @@
-use Rattle.fill_cells.proofs.Ends.{are_lines, same_lines}
+use Rattle.fill_cells.proofs.DistinctLines.{are_lines, same_lines}
 use Rattle.fill_cells.proofs.lines.lines_at.Goals as goal
 
 pub returns-clause-lines : goal.returns-clause-lines

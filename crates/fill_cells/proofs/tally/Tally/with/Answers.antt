@@ -1,5 +1,4 @@
-use Rattle.std.proofs.Common.{◌≡◌, ◌<ℤ◌, refl, ◌∙◌}
-use Rattle.std.specs.Int.{int_max, int_min}
+use Rattle.std.proofs.Common.{◌<ℤ◌, refl, ◌∙◌}
 use Rattle.fill_base.proofs.Signed.{read, not_le}
 use Rattle.fill_cells.proofs.Tallying.{grown_by, from_is, to_is, reached_more, reached_same, ends_ordered}
 use Rattle.fill_cells.proofs.tally.Tally.with.Goals as goal
