@@ -1,8 +1,7 @@
 -- The cells of a row put one after another.
-use Rattle.std.proofs.Common.{◌≡◌, Bool, true, false, ◌&&◌, ℕ, ◌+◌, ◌-◌, ◌*◌, ◌^◌, ◌≤◌, ◌<◌, ℤ, pos, ◌≤ℤ◌, ◌<ℤ◌, List, [], ◌∷◌, ◌++◌, length, get_or, refl, arith, ap, ◌∙◌, sym, subst}
+use Rattle.std.proofs.Common.{◌≡◌, Bool, true, false, ◌&&◌, ℕ, ◌+◌, ◌-◌, ◌^◌, ◌≤◌, ◌<◌, ℤ, pos, ◌≤ℤ◌, ◌<ℤ◌, List, [], ◌∷◌, ◌++◌, length, get_or, refl, arith, ap, ◌∙◌, sym, subst}
 use Rattle.std.specs.Global.{Vec}
 use Rattle.std.proofs.lemmas.Int.{ints}
-use Rattle.std.proofs.lemmas.Nat.{mul-add-lt}
 use Rattle.std.proofs.lemmas.List.{get_or_default, get_or_append_left, length-append}
 use Rattle.std.proofs.Math.Seq.{get_or-append_seam}
 use Rattle.fill_area.proofs.Begun.{by_lt}
@@ -15,7 +14,7 @@ use Rattle.fill_region.specs.Squares.{covered}
 use Rattle.fill_cells.specs.Mesh.{gaps, AreLines, AreRowAreas}
 use Rattle.fill_cells.specs.steps.Parts.{AreShares}
 use Rattle.fill_cells.specs.steps.Within.{AreWithin}
-use Rattle.fill_cells.proofs.Gaps.{line_le, line_read}
+use Rattle.fill_cells.proofs.Gaps.{line_le}
 use Rattle.fill_cells.proofs.Halving.{same_within, area_small}
 
 and_both : (a b : Bool) → a && b ≡ true → (a ≡ true) × (b ≡ true)

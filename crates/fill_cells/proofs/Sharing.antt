@@ -1,5 +1,5 @@
 -- A rectangle put to the lists of the parts that it meets.
-use Rattle.std.proofs.Common.{◌≡◌, Bool, true, false, ◌&&◌, ◌||◌, ℕ, ◌+◌, ◌≤◌, ◌<◌, ℤ, pos, ◌≤ℤ◌, ◌<ℤ◌, List, [], ◌∷◌, ◌++◌, length, take, get_or, set, refl, arith, ap, ◌∙◌, sym, subst, All, w64, FitsSigned}
+use Rattle.std.proofs.Common.{◌≡◌, Bool, true, false, ◌&&◌, ◌||◌, ℕ, ◌+◌, ◌≤◌, ◌<◌, ℤ, pos, ◌≤ℤ◌, ◌<ℤ◌, List, [], ◌∷◌, ◌++◌, length, take, get_or, set, refl, arith, ap, ◌∙◌, sym, subst}
 use Rattle.std.specs.Borrow.{Bor}
 use Rattle.std.specs.Global.{Vec}
 use Rattle.std.proofs.lemmas.Int.{ints}
@@ -12,9 +12,8 @@ use Rattle.fill_base.specs.Squares.{squares}
 use Rattle.fill_base.proofs.Between.{is_between_bounds}
 use Rattle.fill_base.proofs.Signed.{read, read_is}
 use Rattle.fill_region.specs.Squares.{covered}
-use Rattle.fill_cells.specs.Mesh.{AreLines, gaps, covered_by, row_squares, AreListsOf, AreRowLists}
-use Rattle.fill_cells.specs.steps.Parts.{cell_squares, AreShares, AreShared, IsSharedAt, AreListed, IsListedAt, AreMoreIn, IsMoreAt, AreMet}
-use Rattle.fill_cells.specs.steps.Within.{AreMore}
+use Rattle.fill_cells.specs.Mesh.{AreLines, gaps, covered_by, row_squares, AreListsOf}
+use Rattle.fill_cells.specs.steps.Parts.{cell_squares, AreShared, AreListed, AreMoreIn, IsMoreAt, AreMet}
 use Rattle.fill_cells.proofs.Gaps.{line_read}
 use Rattle.fill_cells.proofs.Lists.{covered_pushed, x1_fits, x2_fits, y1_fits, y2_fits}
 

@@ -10,7 +10,7 @@ use Rattle.std.proofs.lemmas.List.Elements.{Contains-get_or}
 use Rattle.fill_base.specs.Coordinates.{lowest, highest, IsCoordinate}
 use Rattle.fill_base.proofs.Signed.{read, read_is, coordinate_fits, lt_le, le_trans}
 use Rattle.fill_area.specs.Axes.{IsAxis, IsExtent, axis_begin, axis_end}
-use Rattle.fill_area.specs.Density.{AreMeasured, window_area}
+use Rattle.fill_area.specs.Density.{AreMeasured}
 use Rattle.fill_area.specs.Grid.{Grid}
 use Rattle.fill_area.specs.declared.axis.Axis.{Axis}
 use Rattle.fill_cells.specs.Mesh.{AreLines, gaps}

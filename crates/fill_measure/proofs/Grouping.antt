@@ -1,10 +1,10 @@
 -- Groups of neighbouring rows of cells, and all rows from them.
-use Rattle.std.proofs.Common.{◌≡◌, ℕ, suc, ◌+◌, ◌-◌, ◌*◌, ◌≤◌, ◌<◌, min, ℤ, pos, Bool, List, [], ◌∷◌, ◌++◌, length, get_or, take, drop, Result, Ok, IfOk, refl, arith, ap, subst, ◌∙◌, sym}
-use Rattle.std.proofs.lemmas.List.{get_or_append_left, get_or-take, get_or-drop, length-append, length-drop, length-take-le}
+use Rattle.std.proofs.Common.{◌≡◌, ℕ, suc, ◌+◌, ◌-◌, ◌*◌, ◌≤◌, ◌<◌, min, ℤ, pos, Bool, List, [], ◌∷◌, ◌++◌, length, get_or, Result, Ok, IfOk, arith, ap, subst, ◌∙◌, sym}
+use Rattle.std.proofs.lemmas.List.{get_or_append_left, length-append}
 use Rattle.std.proofs.Math.Nat.{mul-le-mul}
 use Rattle.std.proofs.Math.Seq.{get_or-append_right, get_or-append_seam}
 use Rattle.fill_area.proofs.Begun.{by_lt}
-use Rattle.fill_cells.specs.Mesh.{AreLines, gaps}
+use Rattle.fill_cells.specs.Mesh.{gaps}
 use Rattle.fill_measure.proofs.CornerSums.{corner_in}
 use Rattle.fill_measure.specs.steps.Groups.{AreRows, AreCells, cell_area}
 

@@ -1,4 +1,3 @@
-use Rattle.std.proofs.Common.{◌≡◌, pos}
 use Rattle.std.specs.Prelude.{unsigned_abs}
 use Rattle.fill_base.proofs.Signed.{read, read_is, coordinate_fits}
 use Rattle.fill_area.proofs.Axes.{length_fits}
