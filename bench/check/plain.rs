@@ -1,6 +1,7 @@
 //! `densfill check` without proofs, for the benchmark alone: reads the rule file and the design, carries the shapes of
-//! the layer to their copies, measures the windows straight from the rectangles on all processors and prints the report. It takes sound inputs for granted. With a third word it keeps the whole library as values before it
-//! fills a shape, as `densfill` does; without one it fills each shape of the layer as it is read.
+//! the layer to their copies, measures the windows straight from the rectangles on all processors and prints the report. It takes sound inputs for granted. With the third word `library` it keeps the whole library as values before it
+//! fills a shape, as `densfill` does; without one it fills each shape of the layer as it is read. With the word `rects` it prints the
+//! rectangles alone, as a layer's file of `bench/layer` has them.
 #[path = "../cells.rs"]
 mod cells;
 #[path = "../design.rs"]
@@ -17,12 +18,17 @@ use std::io::Write;
 
 fn main() {
     let paths: Vec<String> = std::env::args().skip(1).collect();
-    let [rules, design, way @ ..] = paths.as_slice() else { panic!("usage: plain RULES DESIGN [library]") };
+    let [rules, design, way @ ..] = paths.as_slice() else { panic!("usage: plain RULES DESIGN [library|rects]") };
     let rules = Rules::read(rules);
     let bytes = std::fs::read(design).expect("the design");
     let layer = rules.layer();
-    let cells = if way.is_empty() { read_cells(&bytes, layer) } else { read_library(bytes, layer) };
+    let is_way = |name: &str| way.iter().any(|word| word == name);
+    let cells = if is_way("library") { read_library(bytes, layer) } else { read_cells(&bytes, layer) };
     let rects = flatten(cells, rules.text("top"));
+    if is_way("rects") {
+        let bytes: Vec<u8> = rects.iter().flat_map(|r| [r.x1, r.y1, r.x2, r.y2]).flat_map(i32::to_le_bytes).collect();
+        return std::io::stdout().write_all(&bytes).expect("the rectangles");
+    }
     let lines = Lines::of(&rules);
     let areas = measure_rects(&rects, &lines.windows);
     let mut report = Vec::new();

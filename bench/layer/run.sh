@@ -1,5 +1,6 @@
 #!/usr/bin/env bash
-# Times the hot paths of regions on generated layers of 100,000, 1,000,000 and 4,000,000 rectangles, in Rattle and in
+# Times the hot paths of regions on generated layers of 100,000, 1,000,000 and 4,000,000 rectangles, and on those of the regular deep
+# designs of bench/check (95,184, 1,029,311 and 3,921,576 rectangles), in Rattle and in
 # plain Rust (plain.rs: the same algorithms without proofs), and prints one table:
 #   bands         how many bands the region has
 #   from_rects    makes the region of all rectangles; what comes out is its number of edges
@@ -8,7 +9,7 @@
 #   rects_N       the same windows straight from the rectangles, with no region in between
 #   corner_N      windows by the region where all metal lies in one corner of the windows
 #   is_clear      looks whether a million boxes on a raster over the block are clear; how many are
-# The million rectangles are measured with 1, 2 and all processors; `gain` is how many times faster than with one.
+# The million rectangles are measured with 1, 2 and all processors, the regular designs and the four millions with 1 and all; `gain` is how many times faster than with one.
 # Each number is the best of three processes, for the machine may be busy (the last line says how busy); a peak is that
 # of the whole process. Where the two programs differ in what came out, the run fails.
 #
@@ -34,12 +35,25 @@ time_both() {
 
 for size in 100000 1000000 4000000; do
     python3 "$here/generate.py" $size "$work/layer"
-    if [ $size = 1000000 ]; then
-        for processors in 1 2; do
-            [ $processors -ge "$all" ] || time_both $size $processors
-        done
-    fi
+    case $size in
+        100000) several= ;;
+        1000000) several="1 2" ;;
+        4000000) several=1 ;;
+    esac
+    for processors in $several; do
+        [ $processors -ge "$all" ] || time_both $size $processors
+    done
     time_both $size "$all"
+done
+
+rustc --edition 2021 -O -o "$work/flatten" "$here/../check/plain.rs"
+for size in 100000 1000000 3900000; do
+    python3 "$here/../check/generate.py" $size deep "$work"
+    "$work/flatten" "$work/rules.csv" "$work/design.gds" rects > "$work/layer"
+    count=$(($(stat -c %s "$work/layer") / 16))
+    for processors in $(one_and_all); do
+        time_both $count $processors
+    done
 done
 
 # Lines of $work/measured: size, processors, program, peak in KB, what was done, what came out, microseconds.
