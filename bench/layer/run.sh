@@ -9,11 +9,12 @@
 #   rects_N       the same windows straight from the rectangles, with no region in between
 #   corner_N      windows by the region where all metal lies in one corner of the windows
 #   is_clear      looks whether a million boxes on a raster over the block are clear; how many are
-# The million rectangles are measured with 1, 2 and all processors, the regular designs and the four millions with 1 and all; `gain` is how many times faster than with one.
+# The million rectangles are measured with 1, 2 and all processors, the regular designs and the four millions with 1 and all; `gain`
+# is how many times faster than with one.
 # Each number is the best of three processes, for the machine may be busy (the last line says how busy); a peak is that
 # of the whole process. Where the two programs differ in what came out, the run fails.
 #
-# usage: bench/layer/run.sh      (needs rt, rustc, python3, taskset, GNU time and 2 GB; some five minutes on four idle
+# usage: bench/layer/run.sh      (needs rt, rustc, python3, taskset, GNU time and 2 GB; some seven minutes on four idle
 #                                 processors, and as many again where the crates were not proved before)
 set -eu
 . "$(dirname "$0")/../common.sh"
