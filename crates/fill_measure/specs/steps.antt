@@ -4,5 +4,6 @@ pub mod Cuts
 pub mod Ends
 pub mod Groups
 pub mod Meshes
+pub mod Parts
 pub mod Shapes
 pub mod Sides

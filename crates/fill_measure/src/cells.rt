@@ -1,13 +1,15 @@
 //! The areas of all cells of a mesh, measured in parallel.
 ghost use Rattle.std.specs.Prelude.{◌≡◌, ◌+◌, ◌*◌, ◌<◌, ◌≤◌, ℕ, IfOk, slice_index_or, length};
 ghost use Rattle.fill_region.specs.Squares.{covered};
-ghost use Rattle.fill_cells.specs.Mesh.{AreRowLists, gaps};
+ghost use Rattle.fill_cells.specs.Mesh.{gaps};
 ghost use Rattle.fill_measure.specs.steps.Meshes.{AreCellsOf, AreRowsOf, AreGroupOf};
+ghost use Rattle.fill_measure.specs.steps.Parts.{ArePartLists};
 ghost use Rattle.fill_measure.specs.steps.Shapes.{squares_of};
 
+use crate::lists::{by_parts, row_of};
 use crate::mesh::Mesh;
 use fill_base::Rect;
-use fill_cells::{by_row, row_areas};
+use fill_cells::row_areas;
 use std::alloc::{AllocError, Global};
 use std::thread;
 use std::thread::Threads;
@@ -16,8 +18,8 @@ use std::thread::Threads;
 const MOST_GROUPS: usize = 16;
 
 impl Mesh<'_> {
-    /// How many covered squares of a mesh of rectangles lie in each cell, row by row. Groups of rows are measured in parallel, and a
-    /// thread holds the rectangles of one row at a time.
+    /// How many covered squares of a mesh of rectangles lie in each cell, row by row. Parts of the rectangles are shared
+    /// out to rows in parallel, and then groups of rows are measured so; a thread holds the rectangles of one row at a time.
     pub(crate) fn cells(
         &self,
         rt: &(impl Threads + Sync),
@@ -27,7 +29,7 @@ impl Mesh<'_> {
         requires shapes { squares_of self.now.shapes ≡ covered rects.now }
         ensures { IfOk result (λ v. AreCellsOf self.now v.items) }
     {
-        let lists = by_row(alloc, rects, self.up)?;
+        let lists = by_parts(rt, alloc, rects, self.up)?;
         let lists = lists.as_slice();
         let lower = &self.up[..self.up.len() - 1];
         let height = lower.len().div_ceil(MOST_GROUPS);
@@ -38,7 +40,7 @@ impl Mesh<'_> {
             height,
             &|from: usize, part: &[i64]| -> Result<Vec<i64>, AllocError>
                 requires within { from + length part.now ≤ gaps self.now.up.now }
-                requires lists { AreRowLists self.now.up.now (squares_of self.now.shapes) lists.now }
+                requires lists { ArePartLists self.now.up.now (squares_of self.now.shapes) lists.now }
                 ensures { IfOk result (λ v. AreRowsOf self.entry.now from (length part.entry.now) v.items) }
             { self.rows(alloc, lists, from, part.len()) },
         )?;
@@ -49,18 +51,19 @@ impl Mesh<'_> {
     fn rows(
         &self,
         alloc: Global,
-        lists: &[Vec<&Rect>],
+        lists: &[Vec<Vec<&Rect>>],
         from: usize,
         count: usize,
     ) -> Result<Vec<i64>, AllocError>
-        requires lists { AreRowLists self.now.up.now (squares_of self.now.shapes) lists.now }
+        requires lists { ArePartLists self.now.up.now (squares_of self.now.shapes) lists.now }
         requires within { from + count ≤ gaps self.now.up.now }
         ensures { IfOk result (λ v. AreRowsOf self.now from count v.items) }
     {
         let mut cells = Vec::with_capacity(alloc, count.saturating_mul(self.across.len() - 1))?;
         for k in 0..count {
             let j = from + k;
-            let row = row_areas(alloc, &lists[j], self.across, self.up[j], self.up[j + 1])?;
+            let rects = row_of(alloc, lists, j)?;
+            let row = row_areas(alloc, &rects, self.across, self.up[j], self.up[j + 1])?;
             cells.extend_from_slice(&row)?;
         }
         Ok(cells)

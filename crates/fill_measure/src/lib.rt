@@ -6,6 +6,7 @@ mod cells;
 mod corners;
 mod cuts;
 mod lines;
+mod lists;
 mod measure;
 mod mesh;
 mod sides;

@@ -1,0 +1,11 @@
+use Rattle.std.proofs.Common.{◌≡◌, ◌<◌, ◌||◌, ℤ}
+use Rattle.std.specs.Slice.Iter.{chunks_rest, chunks_size}
+use Rattle.fill_region.specs.Squares.{covered}
+use Rattle.fill_measure.specs.steps.Parts.{covered_by_parts}
+use Rattle.fill_measure.proofs.lists.parts_of.Given as goal
+
+abbrev pub invariant-loop-part : goal.invariant-loop-part
+invariant-loop-part l = record {
+  some : 0 < chunks_size l.part-iterator;
+  whole : (x y : ℤ) → (covered_by_parts l.parts.items x y || covered (chunks_rest l.part-iterator) x y) ≡ covered l.rects x y;
+}
