@@ -1,12 +1,19 @@
-//! Windows measured straight from rectangles in plain Rust, for the benchmarks alone: the lines of the windows make a mesh, each of its
-//! rows lists the rectangles that meet it, these are shared out to its cells, and each window is a difference of sums. The algorithm
-//! is that of the proved crates.
+//! Windows measured straight from rectangles in plain Rust, for the benchmarks alone: the lines of the windows make a mesh, parts of the
+//! rectangles are listed for the rows that they meet, those of a row are shared out to its cells, and each window is a difference of
+//! sums. The algorithm is that of the proved crates.
 use crate::sweep::{Rect, Windows};
 use std::ops::Range;
 use std::sync::Mutex;
 
 /// The rows of cells are cut into at most so many groups, which threads take one after another.
 const MOST_GROUPS: usize = 16;
+
+/// The rectangles are cut into at most so many parts, each of so many or of all that are left.
+const MOST_PARTS: usize = 16;
+const LEAST_PART: usize = 16_384;
+
+/// Lines are evenly spaced where a guess at one is at most so many steps off.
+const NEAR: i64 = 8;
 
 /// A row is deep where the rectangles are together so many times as wide as it.
 const DEEP: i64 = 64;
@@ -69,13 +76,31 @@ fn within(rects: &[Rect], part: &Rect) -> Vec<Rect> {
     list
 }
 
-/// The gaps between lines that a range meets.
-fn gaps_met(lines: &[i32], lo: i32, hi: i32) -> Range<usize> {
+/// How far neighbouring lines lie from one another on average where each lies about where that puts it, else 0.
+fn even_step(lines: &[i32]) -> i64 {
+    let (first, last) = (i64::from(lines[0]), lines.len() - 1);
+    let step = (i64::from(lines[last]) - first) / last as i64;
+    let is_even = |(k, line): (usize, &i32)| (i64::from(*line) - first - k as i64 * step).abs() <= NEAR * step;
+    if lines.iter().enumerate().all(is_even) { step } else { 0 }
+}
+
+/// The gaps between lines that a range meets. The first is guessed where lines are evenly spaced.
+fn gaps_met(lines: &[i32], step: i64, lo: i32, hi: i32) -> Range<usize> {
     let last = lines.len() - 1;
     if hi <= lines[0] || lines[last] <= lo {
         return 0..0;
     }
-    let first = lines.partition_point(|line| *line <= lo).saturating_sub(1);
+    let mut first = if step > 0 {
+        (((i64::from(lo) - i64::from(lines[0])).max(0) / step) as usize).min(last)
+    } else {
+        lines.partition_point(|line| *line <= lo).saturating_sub(1)
+    };
+    while first > 0 && lines[first] > lo {
+        first -= 1;
+    }
+    while first < last && lines[first + 1] <= lo {
+        first += 1;
+    }
     let past = (first..last).find(|gap| lines[*gap] >= hi).unwrap_or(last);
     first..past
 }
@@ -83,8 +108,9 @@ fn gaps_met(lines: &[i32], lo: i32, hi: i32) -> Range<usize> {
 /// The rectangles shared out to the cells of a row.
 fn shared_out(rects: &[Rect], across: &[i32], cell: impl Fn(usize) -> Rect) -> Vec<Vec<Rect>> {
     let mut lists = vec![Vec::new(); across.len() - 1];
+    let step = even_step(across);
     for rect in rects {
-        for gap in gaps_met(across, rect.x1, rect.x2) {
+        for gap in gaps_met(across, step, rect.x1, rect.x2) {
             hold(&mut lists[gap], rect, &cell(gap));
         }
     }
@@ -94,11 +120,36 @@ fn shared_out(rects: &[Rect], across: &[i32], cell: impl Fn(usize) -> Rect) -> V
 /// For each row the rectangles that meet it.
 fn by_row<'a>(rects: &'a [Rect], up: &[i32]) -> Vec<Vec<&'a Rect>> {
     let mut lists = vec![Vec::new(); up.len() - 1];
+    let step = even_step(up);
     for rect in rects {
-        for gap in gaps_met(up, rect.y1, rect.y2) {
+        for gap in gaps_met(up, step, rect.y1, rect.y2) {
             lists[gap].push(rect);
         }
     }
+    lists
+}
+
+/// Does the work of each item, on as many threads as there are processors.
+fn share_out<T: Send>(items: impl Iterator<Item = T> + Send, work: impl Fn(T) + Sync) {
+    let threads = std::thread::available_parallelism().map_or(1, |count| count.get());
+    let items = Mutex::new(items);
+    let next = || items.lock().expect("no thread panics").next();
+    std::thread::scope(|scope| {
+        for _ in 0..threads {
+            scope.spawn(|| {
+                while let Some(item) = next() {
+                    work(item);
+                }
+            });
+        }
+    });
+}
+
+/// For each part of the rectangles, those that meet each row.
+fn by_parts<'a>(rects: &'a [Rect], up: &[i32]) -> Vec<Vec<Vec<&'a Rect>>> {
+    let parts = rects.chunks(rects.len().div_ceil(MOST_PARTS).max(LEAST_PART));
+    let mut lists = vec![Vec::new(); parts.len()];
+    share_out(parts.zip(&mut lists), |(part, list)| *list = by_row(part, up));
     lists
 }
 
@@ -151,7 +202,8 @@ fn counted_area(rects: &[Rect], part: &Rect) -> i64 {
     let mut line = part.y1;
     let mut area = 0;
     while line < part.y2 {
-        let (begun, rest) = later.split_at(later.partition_point(|rect| rect.y1 <= line));
+        let count = later.iter().take_while(|rect| rect.y1 <= line).count();
+        let (begun, rest) = later.split_at(count);
         cross(&mut crossing, begun, line);
         let next = next_line(rest, &crossing, part.y2);
         area += row_length(&crossing, part.x1, part.x2) * i64::from(next - line);
@@ -212,22 +264,14 @@ pub fn measure_rects(rects: &[Rect], windows: &Windows) -> Vec<i64> {
     let across = lines_of(windows.origin.0, windows.size.0, windows.step.0, windows.columns, rects.len());
     let up = lines_of(windows.origin.1, windows.size.1, windows.step.1, windows.rows, rects.len());
     let (columns, rows) = (across.len() - 1, up.len() - 1);
-    let lists = by_row(rects, &up);
+    let parts = by_parts(rects, &up);
     let height = rows.div_ceil(MOST_GROUPS);
     let mut cells = vec![0i64; columns * rows];
-    let threads = std::thread::available_parallelism().map_or(1, |count| count.get());
-    let groups = Mutex::new(cells.chunks_mut(height * columns).enumerate());
-    let next = || groups.lock().expect("no thread panics").next();
-    std::thread::scope(|scope| {
-        for _ in 0..threads {
-            scope.spawn(|| {
-                while let Some((k, areas)) = next() {
-                    for (j, row) in areas.chunks_mut(columns).enumerate() {
-                        let at = k * height + j;
-                        row_areas(&lists[at], &across, up[at], up[at + 1], row);
-                    }
-                }
-            });
+    share_out(cells.chunks_mut(height * columns).enumerate(), |(k, areas)| {
+        for (j, row) in areas.chunks_mut(columns).enumerate() {
+            let at = k * height + j;
+            let rects: Vec<&Rect> = parts.iter().flat_map(|lists| &lists[at]).copied().collect();
+            row_areas(&rects, &across, up[at], up[at + 1], row);
         }
     });
     let mut corners = vec![0i64; (rows + 1) * (columns + 1)];

@@ -6,7 +6,7 @@ use Rattle.std.specs.List.{filter, insert, slice_get}
 use Rattle.std.specs.List.Sorted.{IsPartitionedBy, IsPartitionPoint}
 use Rattle.std.proofs.Math.Bool.{or-false, or_assoc, or_comm}
 use Rattle.std.proofs.lemmas.Int.{ints, clamps}
-use Rattle.std.proofs.lemmas.List.{get_or-take, length-take-le, take_more, take_all}
+use Rattle.std.proofs.lemmas.List.{get_or_default, get_or-take, length-take-le, take_more, take_all}
 use Rattle.std.proofs.lemmas.List.Edits.{length-insert, get_or-insert_below, get_or-insert_at, get_or-insert_above}
 use Rattle.std.proofs.lemmas.List.Elements.{All-more, All-filter, filter_passes}
 use Rattle.std.proofs.lemmas.List.Sorted.{All-permutation, list_any-IsPermutation, IsPermutation-insert}
@@ -34,6 +34,37 @@ left_parted rects column n point = ((λ k d low high. yes (get_or rects k d).x1 
   where
     yes : (a b : ℤ) → int_le a b ≡ true → a ≤ℤ b
     yes a b h = grind (arith, ints)
+
+-- one more rectangle that begins at a line or below
+pub begun_more : (rects : List Rect) (line : ℤ) (n : ℕ) (r : Rect) (y : ℤ) → n < length rects → r ≡ get_or rects n r → y ≡ r.y1 → int_le (read y) (read line) ≡ true
+    → ((k : ℕ) (d : Rect) → k < n → (get_or rects k d).y1 ≤ℤ read line) → (n + 1 ≤ length rects) × ((k : ℕ) (d : Rect) → k < n + 1 → (get_or rects k d).y1 ≤ℤ read line)
+begun_more rects line n r y lt is y_is le before = (omega (arith, lt), λ k d k_in. by_lt k n (λ below. before k d below) (λ above. same k d (omega (arith, k_in, above))))
+  where
+    le_is : (a b : ℤ) → int_le a b ≡ true → a ≤ℤ b
+    le_is a b h = grind (arith, ints)
+
+    here : r.y1 ≤ℤ read line
+    here = subst (λ z. z ≤ℤ read line) (ap read y_is ∙ read_is r.y1 (y1_fits r)) (le_is (read y) (read line) le)
+
+    same : (k : ℕ) (d : Rect) → k ≡ n → (get_or rects k d).y1 ≤ℤ read line
+    same k d k_is = subst (λ q. q.y1 ≤ℤ read line) (is ∙ (get_or_default rects n r d lt ∙ ap (λ m. get_or rects m d) (sym k_is))) here
+
+-- where the next one begins above the line, those before it are all that begin there or below
+pub begun_here : (rects : List Rect) (line : ℤ) (n : ℕ) (r : Rect) (y : ℤ) → IsRisingBy (λ r. r.y1) rects → FitsSigned w64 line → n < length rects → r ≡ get_or rects n r → y ≡ r.y1 → int_le (read y) (read line) ≡ false
+    → ((k : ℕ) (d : Rect) → k < n → (get_or rects k d).y1 ≤ℤ read line) → IsPartitionPoint (λ r. r.y1 ≤ℤ line) (λ r. line <ℤ r.y1) rects n
+begun_here rects line n r y rising fits lt is y_is above before =
+    ((λ k d low below. rw (read_is line fits) at (before k d below)), (λ k d from k_in. past line r.y1 (get_or rects k d).y1 here (subst (λ q. q.y1 ≤ℤ (get_or rects k d).y1) (get_or_default rects n d r lt ∙ sym is) (rising n k d from k_in))))
+  where
+    here : line <ℤ r.y1
+    here = rw (read_is line fits) at (subst (λ z. read line <ℤ z) (ap read y_is ∙ read_is r.y1 (y1_fits r)) (not_le (read line) (read y) above))
+
+    past : (line a b : ℤ) → line <ℤ a → a ≤ℤ b → line <ℤ b
+    past line a b h k = omega (arith, ints)
+
+-- where there is no next one, all do
+pub all_begun : (rects : List Rect) (line : ℤ) (n : ℕ) → FitsSigned w64 line → length rects ≤ n → ((k : ℕ) (d : Rect) → k < n → (get_or rects k d).y1 ≤ℤ read line)
+    → IsPartitionPoint (λ r. r.y1 ≤ℤ line) (λ r. line <ℤ r.y1) rects n
+all_begun rects line n fits all before = ((λ k d low below. rw (read_is line fits) at (before k d below)), (λ k d from k_in. absurd (omega (arith, all, from, k_in))))
 
 -- a rising list without some of its rectangles
 joined : (k : Rect) (rects : List Rect) → All (λ r. k.x1 ≤ℤ r.x1) rects → IsRisingBy (λ r. r.x1) rects → IsRisingBy (λ r. r.x1) (k ∷ rects)

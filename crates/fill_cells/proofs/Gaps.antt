@@ -1,7 +1,6 @@
 -- Which gaps between rising lines a range meets.
 use Rattle.std.proofs.Common.{◌≡◌, true, false, ℕ, ◌+◌, ◌-◌, ◌≤◌, ◌<◌, ℤ, pos, ◌≤ℤ◌, ◌<ℤ◌, List, length, get_or, arith, sym, subst, w64, FitsSigned}
 use Rattle.std.specs.Prelude.{int_le, int_lt}
-use Rattle.std.specs.List.Sorted.{IsPartitionedBy, IsPartitionPoint}
 use Rattle.std.proofs.lemmas.Int.{ints}
 use Rattle.std.proofs.lemmas.List.{get_or_default}
 use Rattle.fill_area.proofs.Begun.{by_lt}
@@ -80,23 +79,34 @@ before_past lines hi past k d are fits lt over k_in below = by_lt k past (λ yes
     apart : (hi a b : ℤ) → hi ≤ℤ a → a ≤ℤ b → b <ℤ hi → ⊥
     apart hi a b h k l = absurd (omega (arith, ints))
 
--- the lines at a number or below come first
-pub lines_parted : (lines : List ℤ) (x : ℤ) → AreLines lines → IsPartitionedBy (λ e. int_le e x) lines
-lines_parted lines x are i j d le lt at = here (get_or lines i d) (get_or lines j d) (line_le lines i j d are le lt) at
+-- a line that is not above a number, as the code compares them
+pub line_under : (lines : List ℤ) (lo : ℤ) (n : ℕ) (d : ℤ) → AreLines lines → FitsSigned w64 lo → n ≤ gaps lines → int_lt (read lo) (read (get_or lines n (pos 0))) ≡ false → get_or lines n d ≤ℤ lo
+line_under lines lo n d are fits within under =
+    rw (get_or_default lines n d (pos 0) inside) (rw (read_is lo fits, line_read lines n (pos 0) are inside) at (not_lt (read lo) (read (get_or lines n (pos 0))) under))
   where
-    here : (a b : ℤ) → a ≤ℤ b → int_le b x ≡ true → int_le a x ≡ true
-    here a b h k = grind (arith, ints)
+    inside : n < length lines
+    inside = let some : 2 ≤ length lines = are.some in omega (arith, within, some)
 
--- each gap that ends above a number is the last one that begins at it or below, or comes after it
-pub after_point : (lines : List ℤ) (lo : ℤ) (n m k : ℕ) (d : ℤ) → AreLines lines → n ≤ length lines → IsPartitionPoint (λ e. int_le e lo ≡ true) (λ e. int_le e lo ≡ false) lines n
-    → m ≡ n - 1 → k < gaps lines → lo <ℤ get_or lines (k + 1) d → m ≤ k
-after_point lines lo n m k d are within point is k_in above = by_lt (k + 1) n (λ before. absurd (apart (get_or lines (k + 1) d) (point.0 (k + 1) d (omega (arith, k_in)) before) above)) (λ after. omega (arith, is, after))
+pub line_from : (lines : List ℤ) (lo : ℤ) (n : ℕ) (d : ℤ) → AreLines lines → FitsSigned w64 lo → n < gaps lines → int_le (read (get_or lines (n + 1) (pos 0))) (read lo) ≡ true → get_or lines (n + 1) d ≤ℤ lo
+line_from lines lo n d are fits within under =
+    rw (get_or_default lines (n + 1) d (pos 0) inside) (rw (read_is lo fits, line_read lines (n + 1) (pos 0) are inside) at (le_is (read (get_or lines (n + 1) (pos 0))) (read lo) under))
   where
-    apart : (a : ℤ) → int_le a lo ≡ true → lo <ℤ a → ⊥
-    apart a h k = absurd (let le : a ≤ℤ lo = le_is a h in omega (arith, ints))
-      where
-        le_is : (a : ℤ) → int_le a lo ≡ true → a ≤ℤ lo
-        le_is a h = grind (arith, ints)
+    inside : n + 1 < length lines
+    inside = omega (arith, within)
+
+    le_is : (a b : ℤ) → int_le a b ≡ true → a ≤ℤ b
+    le_is a b h = grind (arith, ints)
+
+-- each gap that ends above a number begins at a line at the number or below, or above it
+pub after_line : (lines : List ℤ) (lo : ℤ) (m k : ℕ) (d : ℤ) → AreLines lines → m ≤ gaps lines → ((e : ℤ) → 0 < m → get_or lines m e ≤ℤ lo)
+    → k < gaps lines → lo <ℤ get_or lines (k + 1) d → m ≤ k
+after_line lines lo m k d are within below k_in above = by_lt k m (λ before. absurd (apart (get_or lines m d) (get_or lines (k + 1) d) (below d (omega (arith, before))) (line_le lines (k + 1) m d are (omega (arith, before)) inside) above)) (λ after. after)
+  where
+    inside : m < length lines
+    inside = let some : 2 ≤ length lines = are.some in omega (arith, within, some)
+
+    apart : (a b : ℤ) → a ≤ℤ lo → b ≤ℤ a → lo <ℤ b → ⊥
+    apart a b h k l = absurd (omega (arith, ints))
 
 -- the gaps from the first that ends above a number to the first that begins at another or above
 pub met_of : (lines : List ℤ) (lo hi : ℤ) (first past : ℕ) → FitsSigned w64 lo → FitsSigned w64 hi → past ≤ gaps lines

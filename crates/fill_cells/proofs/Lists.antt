@@ -1,8 +1,10 @@
 -- Lists of rectangles that stand for a set of squares within a part.
-use Rattle.std.proofs.Common.{◌≡◌, ◌==◌, Bool, true, false, ◌&&◌, ◌||◌, ℕ, ◌+◌, ◌≤◌, ◌<◌, ℤ, ◌≤ℤ◌, ◌<ℤ◌, List, [], ◌∷◌, ◌++◌, length, take, get_or, refl, arith, ap, ◌∙◌, sym, subst, int_eq, w64, FitsSigned}
+use Rattle.std.proofs.Common.{◌≡◌, ◌==◌, Bool, true, false, ◌&&◌, ◌||◌, ℕ, ◌+◌, ◌-◌, ◌≤◌, ◌<◌, ℤ, ◌≤ℤ◌, ◌<ℤ◌, List, [], ◌∷◌, ◌++◌, length, take, get_or, refl, arith, ap, ◌∙◌, sym, subst, int_eq, w64, FitsSigned, Some}
 use Rattle.std.specs.Int.{int_max, int_min}
+use Rattle.std.specs.List.{slice_get}
 use Rattle.std.proofs.lemmas.Int.{ints, clamps}
 use Rattle.std.proofs.lemmas.List.{take_more, take_all}
+use Rattle.std.proofs.lemmas.Option.{slice_get_within, get_or_from_slice_get}
 use Rattle.std.proofs.lemmas.List.Folds.{list_any-append, list_any_at}
 use Rattle.fill_base.specs.declared.rect.Rect.{Rect}
 use Rattle.fill_base.specs.Coordinates.{lowest}
@@ -10,7 +12,7 @@ use Rattle.fill_base.specs.Counts.{is_between}
 use Rattle.fill_base.specs.Squares.{squares}
 use Rattle.fill_base.proofs.Signed.{read, read_is, fits_min, fits_max}
 use Rattle.fill_region.specs.Squares.{covered}
-use Rattle.fill_cells.specs.steps.Within.{AreWithin, AreMore, IsWhole}
+use Rattle.fill_cells.specs.steps.Within.{AreWithin, AreMore, IsWhole, IsWithLast}
 
 or_false : (b : Bool) → (b || false) ≡ b
 or_false true = refl
@@ -51,16 +53,25 @@ pub joined_pushed : (xs new : List Rect) (a b r : Rect) → ((x y : ℤ) → squ
     → (x y : ℤ) → covered new x y ≡ (covered xs x y || (squares a x y || squares b x y))
 joined_pushed xs new a b r both is x y = covered_pushed xs new r is x y ∙ ap (λ t. covered xs x y || t) (both x y)
 
-pub both_pushed : (xs mid new : List Rect) (a b : Rect) → mid ≡ xs ++ a ∷ [] → new ≡ mid ++ b ∷ []
-    → (x y : ℤ) → covered new x y ≡ (covered xs x y || (squares a x y || squares b x y))
-both_pushed xs mid new a b first second x y =
-    covered_pushed mid new b second x y ∙ (ap (λ t. t || squares b x y) (covered_pushed xs mid a first x y) ∙ or_assoc (covered xs x y) (squares a x y) (squares b x y))
+-- the last of a list that has one, with a piece
+pub with_last_is : (list : List Rect) (piece last both : Rect) → slice_get list (length list - 1) ≡ Some last → ((x y : ℤ) → squares both x y ≡ (squares last x y || squares piece x y)) → IsWithLast list piece both
+with_last_is list piece last both is same = record {
+  some = let within = slice_get_within list (length list - 1) last is in omega (arith, within);
+  both = λ d x y. same x y ∙ ap (λ q. squares q x y || squares piece x y) (sym (get_or_from_slice_get list (length list - 1) last d is));
+}
 
--- the last rectangle taken off, and put again with another
-pub put_again : (old rest new : List Rect) (last piece : Rect) → old ≡ rest ++ last ∷ []
-    → ((x y : ℤ) → covered new x y ≡ (covered rest x y || (squares last x y || squares piece x y))) → (x y : ℤ) → covered new x y ≡ (covered old x y || squares piece x y)
-put_again old rest new last piece is more x y =
-    more x y ∙ (sym (or_assoc (covered rest x y) (squares last x y) (squares piece x y)) ∙ ap (λ t. t || squares piece x y) (sym (covered_pushed rest old last is x y)))
+-- the last rectangle taken off, and put again with a piece
+pub last_joined : (old rest new : List Rect) (piece both : Rect) (n : ℕ) → IsWithLast old piece both → n ≡ length old → rest ≡ take (n - 1) old → new ≡ rest ++ both ∷ []
+    → (x y : ℤ) → covered new x y ≡ (covered old x y || squares piece x y)
+last_joined old rest new piece both n is count rest_is new_is x y =
+    joined_pushed rest new (get_or old (length old - 1) piece) piece both (is.both piece) new_is x y
+    ∙ (sym (or_assoc (covered rest x y) (squares (get_or old (length old - 1) piece) x y) (squares piece x y))
+    ∙ ap (λ t. t || squares piece x y) (sym (covered_pushed rest old (get_or old (length old - 1) piece) parts x y)))
+  where
+    parts : old ≡ rest ++ get_or old (length old - 1) piece ∷ []
+    parts =
+        sym (take_all (length old - 1 + 1) old (omega (arith, is.some)))
+        ∙ (take_more old (length old - 1) piece (omega (arith, is.some)) ∙ ap (λ zs. zs ++ get_or old (length old - 1) piece ∷ []) (sym (rest_is ∙ ap (λ k. take (k - 1) old) count)))
 
 -- ranges that overlap or touch make one
 range_or : (a b c d x : ℤ) → a <ℤ b → c <ℤ d → a ≤ℤ d → c ≤ℤ b → is_between (int_min a c) (int_max b d) x ≡ (is_between a b x || is_between c d x)

@@ -2,7 +2,7 @@
 ghost use Rattle.std.specs.Prelude.{◌≡◌, ◌||◌, ◌++◌, ◌∷◌, [], ℤ, ◌≤ℤ◌, IfOk, OnOk, IfSome, IsTrue};
 ghost use Rattle.fill_base.specs.Squares.{squares};
 ghost use Rattle.fill_region.specs.Squares.{covered};
-ghost use Rattle.fill_cells.specs.steps.Within.{AreWithin, AreMore, IsWhole};
+ghost use Rattle.fill_cells.specs.steps.Within.{AreWithin, AreMore, IsWhole, IsWithLast};
 
 use fill_base::Rect;
 use std::alloc::{AllocError, Global};
@@ -59,9 +59,10 @@ fn hold_piece(list: &mut Vec<Rect>, piece: Rect, part: &Rect) -> Result<(), Allo
 fn put(list: &mut Vec<Rect>, piece: Rect) -> Result<(), AllocError>
     ensures { OnOk result ((x y : ℤ) → covered list.new.items x y ≡ (covered list.old.items x y || squares piece x y)) }
 {
-    match list.pop() {
-        Some(last) => {
-            put_after(list, last, piece)?;
+    match with_last(list, &piece) {
+        Some(both) => {
+            list.pop();
+            push(list, both)?;
             Ok(())
         }
         None => {
@@ -71,21 +72,12 @@ fn put(list: &mut Vec<Rect>, piece: Rect) -> Result<(), AllocError>
     }
 }
 
-/// Puts two pieces to the list, as one where they make one rectangle.
-fn put_after(list: &mut Vec<Rect>, last: Rect, piece: Rect) -> Result<(), AllocError>
-    ensures { OnOk result ((x y : ℤ) → covered list.new.items x y ≡ (covered list.old.items x y || (squares last x y || squares piece x y))) }
+/// The rectangle of the squares of the last of the list and of a piece, where both make one.
+fn with_last(list: &[Rect], piece: &Rect) -> Option<Rect>
+    ensures { IfSome result (λ r. IsWithLast list.now piece.now r) }
 {
-    match joined(&last, &piece) {
-        Some(both) => {
-            push(list, both)?;
-            Ok(())
-        }
-        None => {
-            push(list, last)?;
-            push(list, piece)?;
-            Ok(())
-        }
-    }
+    let last = list.last()?;
+    joined(last, piece)
 }
 
 /// Appends a rectangle.

@@ -6,14 +6,14 @@ ghost use Rattle.fill_cells.specs.steps.Parts.{AreListed, IsListedAt};
 ghost use Rattle.fill_cells.specs.steps.Within.{AreWithin};
 
 use crate::pieces::hold;
-use crate::shares::{empty_lists, gaps_met};
+use crate::shares::{empty_lists, even_step, gaps_met};
 use fill_base::Rect;
 use std::alloc::{AllocError, Global};
 
 /// A row is deep where the rectangles are together so many times as wide as it.
 const DEEP: i64 = 64;
 
-/// For each row between neighbouring lines the rectangles that meet it. One costs a search for the first row, and a step for each.
+/// For each row between neighbouring lines the rectangles that meet it. One costs a guess at the first row, and a step for each.
 ///
 /// # Errors
 /// `AllocError` where memory is refused.
@@ -26,19 +26,25 @@ pub fn by_row<'a>(
     ensures { IfOk result (λ v. AreRowLists up.now (covered rects.now) v.items) }
 {
     let mut lists = empty_lists(alloc, up.len() - 1)?;
+    let step = even_step(up);
     for rect in rects {
-        put(&mut lists, up, rect)?;
+        put(&mut lists, up, step, rect)?;
     }
     Ok(lists)
 }
 
 /// Puts a rectangle to the list of each row that it meets.
-fn put<'a>(lists: &mut [Vec<&'a Rect>], up: &[i64], rect: &'a Rect) -> Result<(), AllocError>
+fn put<'a>(
+    lists: &mut [Vec<&'a Rect>],
+    up: &[i64],
+    step: i64,
+    rect: &'a Rect,
+) -> Result<(), AllocError>
     requires lines { AreLines up.now }
     requires count { length lists.old ≡ gaps up.now }
     ensures { OnOk result (AreListed up.now rect.now lists.old lists.new) }
 {
-    let met = gaps_met(up, rect.y1(), rect.y2());
+    let met = gaps_met(up, step, rect.y1(), rect.y2());
     for k in met.start..met.end {
         put_at(lists, up, rect, k)?;
     }

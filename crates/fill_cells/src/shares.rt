@@ -10,8 +10,11 @@ use fill_base::Rect;
 use std::alloc::{AllocError, Global};
 use std::ops::Range;
 
+/// Lines are evenly spaced where a guess at one is at most so many steps off.
+const NEAR: u64 = 8;
+
 /// The rectangles shared out to the cells of a row between neighbouring lines: for each cell a list that covers there what they
-/// cover. A rectangle costs a search for the first cell that it meets, and a step for each cell.
+/// cover. A rectangle costs a guess at the first cell that it meets, and a step for each cell.
 pub(crate) fn shared_out(
     alloc: Global,
     row: &Rect,
@@ -22,8 +25,9 @@ pub(crate) fn shared_out(
     ensures { IfOk result (λ v. AreShares row.now lines.now (covered rects.now) v.items) }
 {
     let mut lists = empty_lists(alloc, lines.len() - 1)?;
+    let step = even_step(lines);
     for rect in rects {
-        share(row, lines, rect, &mut lists)?;
+        share(row, lines, step, rect, &mut lists)?;
     }
     Ok(lists)
 }
@@ -41,12 +45,18 @@ pub(crate) fn empty_lists<T: Drop>(alloc: Global, count: usize) -> Result<Vec<Ve
 }
 
 /// Puts a rectangle to the list of each cell that it meets.
-fn share(row: &Rect, lines: &[i64], rect: &Rect, lists: &mut [Vec<Rect>]) -> Result<(), AllocError>
+fn share(
+    row: &Rect,
+    lines: &[i64],
+    step: i64,
+    rect: &Rect,
+    lists: &mut [Vec<Rect>],
+) -> Result<(), AllocError>
     requires lines { AreLines lines.now }
     requires count { length lists.old ≡ gaps lines.now }
     ensures { OnOk result (AreShared row.now lines.now rect.now lists.old lists.new) }
 {
-    let met = gaps_met(lines, rect.x1(), rect.x2());
+    let met = gaps_met(lines, step, rect.x1(), rect.x2());
     for k in met.start..met.end {
         share_at(row, lines, rect, lists, k)?;
     }
@@ -71,8 +81,32 @@ fn share_at(
     Ok(())
 }
 
+/// How far neighbouring lines lie from one another on average where each lies about where that puts it, else 0.
+pub(crate) fn even_step(lines: &[i64]) -> i64
+    requires { AreLines lines.now }
+{
+    let last = lines.len() - 1;
+    let step = (lines[last] - lines[0]) / last as i64;
+    if are_even(lines, step) { step } else { 0 }
+}
+
+/// Whether no line lies farther than a few steps from where equal steps put it.
+fn are_even(lines: &[i64], step: i64) -> bool
+    requires { AreLines lines.now }
+{
+    let first = lines[0];
+    for (k, line) in lines.iter().enumerate() {
+        let even = (k as i64).saturating_mul(step);
+        let off = line.saturating_sub(first).abs_diff(even);
+        if off > NEAR.saturating_mul(step.unsigned_abs()) {
+            return false;
+        }
+    }
+    true
+}
+
 /// The gaps between lines that have a number from `lo` on and below `hi`.
-pub(crate) fn gaps_met(lines: &[i64], lo: i64, hi: i64) -> Range<usize>
+pub(crate) fn gaps_met(lines: &[i64], step: i64, lo: i64, hi: i64) -> Range<usize>
     requires { AreLines lines.now }
     ensures { AreMet lines.now lo hi result.start result.end }
 {
@@ -82,18 +116,54 @@ pub(crate) fn gaps_met(lines: &[i64], lo: i64, hi: i64) -> Range<usize>
     if lines[lines.len() - 1] <= lo {
         return 0..0;
     }
-    let first = first_past(lines, lo);
+    let below = line_below(lines, guess(lines, step, lo), lo);
+    let first = first_past(lines, below, lo);
     first..first_from(lines, first, hi)
 }
 
-/// The first gap that ends above `lo`, or the number of gaps where there is none.
-fn first_past(lines: &[i64], lo: i64) -> usize
+/// About where a number lies among lines: by the step from line to line where they are evenly spaced, which windows mostly are, else by
+/// halves.
+fn guess(lines: &[i64], step: i64, number: i64) -> usize
     requires { AreLines lines.now }
+    ensures { result ≤ gaps lines.now }
+{
+    if step > 0 {
+        let steps = number.saturating_sub(lines[0]).max(0) / step;
+        (steps.unsigned_abs() as usize).min(lines.len() - 1)
+    } else {
+        let above = lines.partition_point(|line| *line <= number);
+        above.saturating_sub(1)
+    }
+}
+
+/// The last line from one downwards that lies at `lo` or below, or the lowest line.
+fn line_below(lines: &[i64], from: usize, lo: i64) -> usize
+    requires lines { AreLines lines.now }
+    requires from { from ≤ gaps lines.now }
+    ensures within { result ≤ gaps lines.now }
+    ensures below { (d : ℤ) → 0 < result → get_or lines.now result d ≤ℤ lo }
+{
+    let mut below = from;
+    'lines: while below > 0 && lines[below] > lo {
+        below -= 1;
+    }
+    below
+}
+
+/// The first gap from a line upwards that ends above `lo`, or the number of gaps where there is none.
+fn first_past(lines: &[i64], from: usize, lo: i64) -> usize
+    requires lines { AreLines lines.now }
+    requires from { from ≤ gaps lines.now }
+    requires below { (d : ℤ) → 0 < from → get_or lines.now from d ≤ℤ lo }
     ensures within { result ≤ gaps lines.now }
     ensures first { (k : ℕ) (d : ℤ) → k < gaps lines.now → lo <ℤ get_or lines.now (k + 1) d → result ≤ k }
 {
-    let above = lines.partition_point(|line| *line <= lo);
-    above.saturating_sub(1)
+    let last = lines.len() - 1;
+    let mut first = from;
+    'gaps: while first < last && lines[first + 1] <= lo {
+        first += 1;
+    }
+    first
 }
 
 /// The first gap from `first` on that begins at `hi` or above, or the number of gaps where there is none.

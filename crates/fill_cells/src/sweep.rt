@@ -45,13 +45,17 @@ fn by_bottom(alloc: Global, rects: &[Rect]) -> Result<Vec<Rect>, AllocError>
     Ok(sorted)
 }
 
-/// How many rectangles begin at the line or below.
+/// How many rectangles begin at the line or below: mostly few, so they are looked at one after the other.
 fn begun_at(rects: &[Rect], line: i64) -> usize
     requires { IsRisingBy (λ r. r.y1) rects.now }
     ensures within { result ≤ length rects.now }
     ensures parted { IsPartitionPoint (λ r. r.y1 ≤ℤ line) (λ r. line <ℤ r.y1) rects.now result }
 {
-    rects.partition_point(|rect| rect.y1() <= line)
+    let mut begun = 0;
+    'begun: while begun < rects.len() && rects[begun].y1() <= line {
+        begun += 1;
+    }
+    begun
 }
 
 /// Takes out the rectangles that end at the line or below, and in those that begin there or below and reach above it. They stay

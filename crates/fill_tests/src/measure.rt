@@ -46,7 +46,7 @@ fn are_those_of_the_region(
 #[test]
 fn each_grid_has_the_areas_of_the_region(rt: HostRuntime) -> Result<(), Fail> {
     // Corner, size, step and count: overlapping by half and by three quarters, touching, with gaps, of odd steps, beside all
-    // rectangles, one over all, and a narrow one.
+    // rectangles, one over all, a narrow one, and those whose edges crowd in the middle.
     let alloc = rt.alloc();
     for (corner, size, step, count) in [
         ((-40, -40), (20, 16), (10, 8), (12, 13)),
@@ -57,6 +57,7 @@ fn each_grid_has_the_areas_of_the_region(rt: HostRuntime) -> Result<(), Fail> {
         ((200, 300), (8, 8), (4, 4), (5, 5)),
         ((-64, -64), (256, 256), (1, 1), (1, 1)),
         ((3, -64), (1, 256), (1, 1), (1, 1)),
+        ((-40, -40), (301, 7), (4, 3), (120, 10)),
     ] {
         let (x, y) = corner;
         let windows = Windows::new(Point { x, y }, size, step, count)?;

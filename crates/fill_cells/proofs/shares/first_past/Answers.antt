@@ -1,11 +1,13 @@
-use Rattle.std.proofs.Common.{rules}
-use Rattle.std.specs.Prelude.{int_le}
-use Rattle.std.proofs.lemmas.Int.{to_z-of_z}
-use Rattle.std.proofs.lemmas.List.Sorted.{IsPartitionPoint-from_clause}
-use Rattle.fill_cells.proofs.Gaps.{lines_parted, after_point}
+use Rattle.std.proofs.Common.{◌≤ℤ◌, ◌+◌, get_or, arith, sym, subst}
+use Rattle.fill_base.proofs.Signed.{read_is}
+use Rattle.fill_cells.proofs.Gaps.{after_line, line_from}
 use Rattle.fill_cells.proofs.shares.first_past.Goals as goal
 
-pub returns-clause-first : goal.returns-clause-first
-returns-clause-first c = λ k d. after_point c.args.lines.now c.args.lo c.partition_point-above.result c.saturating_sub.result k d c.requires c.partition_point-above.ensures.bound
-    (IsPartitionPoint-from_clause (λ e. int_le e c.args.lo) _ _ c.partition_point-above.ensures.partitioned (lines_parted c.args.lines.now c.args.lo c.requires) (λ a r q k. search (rules, to_z-of_z)))
-    c.saturating_sub.ensures
+pub gaps-preserved : goal.gaps-preserved
+gaps-preserved c = (omega (arith, c.gaps-test.true), λ d some. subst (λ z. get_or c.args.lines.now (c.gaps.first + 1) d ≤ℤ z) (sym (read_is c.args.lo c.ranges.lo)) (line_from c.args.lines.now c.args.lo c.gaps.first d c.requires.lines c.ranges.lo c.gaps-test.true c.if-lines-first.true))
+
+pub returns-else-lines-first-clause-first : goal.returns-else-lines-first-clause-first
+returns-else-lines-first-clause-first c = λ k d. after_line c.args.lines.now c.args.lo c.gaps.first k d c.requires.lines c.gaps.invariant.0 (rw (read_is c.args.lo c.ranges.lo) at c.gaps.invariant.1)
+
+pub returns-after-gaps-clause-first : goal.returns-after-gaps-clause-first
+returns-after-gaps-clause-first c = λ k d. after_line c.args.lines.now c.args.lo c.gaps.first k d c.requires.lines c.gaps.invariant.0 (rw (read_is c.args.lo c.ranges.lo) at c.gaps.invariant.1)

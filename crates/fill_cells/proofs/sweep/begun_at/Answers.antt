@@ -1,10 +1,11 @@
-use Rattle.std.proofs.Common.{rules}
-use Rattle.std.specs.Prelude.{int_le}
-use Rattle.std.proofs.lemmas.Int.{to_z-of_z}
-use Rattle.std.proofs.lemmas.List.Sorted.{IsPartitionPoint-from_clause}
-use Rattle.fill_region.proofs.Ordered.{begun_first, begun_parted}
+use Rattle.fill_cells.proofs.Crossing.{all_begun, begun_here, begun_more}
 use Rattle.fill_cells.proofs.sweep.begun_at.Goals as goal
 
-pub returns-clause-parted : goal.returns-clause-parted
-returns-clause-parted c = begun_parted c.args.rects.now c.args.line c.partition_point.result
-    (IsPartitionPoint-from_clause (λ r. int_le r.y1 c.args.line) _ _ c.partition_point.ensures.partitioned (begun_first c.args.rects.now c.args.line c.requires) (λ a r q k. search (rules, to_z-of_z)))
+pub begun-preserved : goal.begun-preserved
+begun-preserved c = begun_more c.args.rects.now c.args.line c.begun.begun c.index-rects-begun.result c.y1.result c.begun-test.true c.index-rects-begun.is c.y1.ensures c.if-y1-line.true c.begun.invariant.1
+
+pub returns-else-y1-line-clause-parted : goal.returns-else-y1-line-clause-parted
+returns-else-y1-line-clause-parted c = begun_here c.args.rects.now c.args.line c.begun.begun c.index-rects-begun.result c.y1.result c.requires c.ranges.line c.begun-test.true c.index-rects-begun.is c.y1.ensures c.if-y1-line.false c.begun.invariant.1
+
+pub returns-after-begun-clause-parted : goal.returns-after-begun-clause-parted
+returns-after-begun-clause-parted c = all_begun c.args.rects.now c.args.line c.begun.begun c.ranges.line c.begun-test.false c.begun.invariant.1
