@@ -7,7 +7,7 @@
 #   commit        brings the proposal; how many places are filled in all
 #   edit, add     adds a small square to the metal, when all tiles were in; how many boxes that takes out in all
 #   edit, cut     cuts one out
-#   all totals    asks for the total of metal and fill in each window, when all tiles were in; what comes out is their sum
+#   all totals    asks for the total of metal and fill in each window, when all tiles were in; what comes out is how many windows have some, three times
 #   measure_all   measures all windows of the metal; how many there are
 #   union         unites the metal with a small square
 # how often it was called, and how long all calls, one on average and the longest took. On one processor, and on all where a
