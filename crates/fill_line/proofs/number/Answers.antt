@@ -12,3 +12,8 @@ returns-clause-rule c = λ least most is.
     ∙ (ap (λ (a : Arg). record (rule_of a) { value_names = 1; parser = vp }) c.long.ensures
     ∙ (ap (λ (r : Rule). record r { long = Some c.args.name.now; value_names = 1; parser = vp }) c.new.ensures.rule
     ∙ ap (λ p. record (new_rule c.args.name.now) { long = Some c.args.name.now; value_names = 1; parser = p }) (c.value_parser.ensures.given.1 ∙ ap Some (c.value_parser.ensures.given.2 ∙ is))))))
+
+pub returns-clause-local : goal.returns-clause-local
+returns-clause-local c =
+    ap (λ (a : Arg). a.global) c.value_parser.ensures.others
+    ∙ (ap (λ (a : Arg). a.global) c.help.ensures ∙ (ap (λ (a : Arg). a.global) c.value_name.ensures ∙ (ap (λ (a : Arg). a.global) c.long.ensures ∙ c.new.ensures.optional.1)))
