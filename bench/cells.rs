@@ -105,16 +105,15 @@ fn gaps_met(lines: &[i32], step: i64, lo: i32, hi: i32) -> Range<usize> {
     first..past
 }
 
-/// The rectangles shared out to the cells of a row.
-fn shared_out(rects: &[Rect], across: &[i32], cell: impl Fn(usize) -> Rect) -> Vec<Vec<Rect>> {
-    let mut lists = vec![Vec::new(); across.len() - 1];
+/// Shares the rectangles out to the lists of a row's cells, whose memory is used again.
+fn share_to_cells(lists: &mut [Vec<Rect>], rects: &[Rect], across: &[i32], cell: impl Fn(usize) -> Rect) {
+    lists.iter_mut().for_each(Vec::clear);
     let step = even_step(across);
     for rect in rects {
         for gap in gaps_met(across, step, rect.x1, rect.x2) {
             hold(&mut lists[gap], rect, &cell(gap));
         }
     }
-    lists
 }
 
 /// For each row the rectangles that meet it.
@@ -229,8 +228,16 @@ fn halves(rects: &[Rect], part: &Rect) -> Option<(Rect, Rect)> {
     }
 }
 
+/// How many squares two rectangles share.
+fn shared_area(rect: &Rect, part: &Rect) -> i64 {
+    clip(rect, part).map_or(0, |piece| i64::from(piece.x2 - piece.x1) * i64::from(piece.y2 - piece.y1))
+}
+
 /// How many squares the rectangles of a part cover.
 fn covered_area(rects: &[Rect], part: &Rect) -> i64 {
+    if rects.len() < 2 {
+        return rects.first().map_or(0, |rect| shared_area(rect, part));
+    }
     match halves(rects, part) {
         Some((first, second)) => covered_area(&within(rects, &first), &first) + covered_area(&within(rects, &second), &second),
         None => counted_area(rects, part),
@@ -238,10 +245,11 @@ fn covered_area(rects: &[Rect], part: &Rect) -> i64 {
 }
 
 /// The areas of the cells of a row.
-fn row_areas(rects: &[&Rect], across: &[i32], from: i32, to: i32, areas: &mut [i64]) {
+fn row_areas(lists: &mut [Vec<Rect>], rects: &[&Rect], across: &[i32], from: i32, to: i32, areas: &mut [i64]) {
     let row = Rect { x1: across[0], y1: from, x2: across[across.len() - 1], y2: to };
     let cell = |i: usize| Rect { x1: across[i], y1: from, x2: across[i + 1], y2: to };
-    for (i, list) in shared_out(&listed(rects, &row), across, cell).iter().enumerate() {
+    share_to_cells(lists, &listed(rects, &row), across, cell);
+    for (i, list) in lists.iter().enumerate() {
         areas[i] = covered_area(list, &cell(i));
     }
 }
@@ -268,10 +276,11 @@ pub fn measure_rects(rects: &[Rect], windows: &Windows) -> Vec<i64> {
     let height = rows.div_ceil(MOST_GROUPS);
     let mut cells = vec![0i64; columns * rows];
     share_out(cells.chunks_mut(height * columns).enumerate(), |(k, areas)| {
+        let mut lists = vec![Vec::new(); columns];
         for (j, row) in areas.chunks_mut(columns).enumerate() {
             let at = k * height + j;
             let rects: Vec<&Rect> = parts.iter().flat_map(|lists| &lists[at]).copied().collect();
-            row_areas(&rects, &across, up[at], up[at + 1], row);
+            row_areas(&mut lists, &rects, &across, up[at], up[at + 1], row);
         }
     });
     let mut corners = vec![0i64; (rows + 1) * (columns + 1)];

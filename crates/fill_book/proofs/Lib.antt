@@ -1,5 +1,4 @@
 pub mod BoxAreas
-pub mod SharedAreas
 pub mod BoxSums
 pub mod Nearby
 pub mod Totals

@@ -23,7 +23,7 @@ use Rattle.fill_book.specs.declared.places.Places.{Places}
 use Rattle.fill_book.specs.steps.Taken.{AreApart, taken_in, taken_by_row, taken_by_rows}
 use Rattle.fill_book.proofs.BoxAreas.{sum_part}
 use Rattle.fill_book.proofs.BoxSums.{rows_are}
-use Rattle.fill_book.proofs.SharedAreas.{none_within}
+use Rattle.fill_cells.proofs.SharedAreas.{none_within}
 
 not_true : (b : Bool) → (b ≡ true → ⊥) → b ≡ false
 not_true true h = absurd (h refl)

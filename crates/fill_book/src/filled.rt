@@ -11,10 +11,10 @@ ghost use Rattle.fill_core.specs.Boxes.{count_places};
 ghost use Rattle.fill_book.specs.Filling.{Filling, IsCounted, KeepsClear, boxes_of, in_places, is_filled, left_by, metal_or_box};
 ghost use Rattle.fill_book.specs.steps.Taken.{AreApart, taken_in, taken_by_row, taken_by_rows};
 
-use crate::measure::shared_area;
 use crate::places::Places;
 use fill_area::{Windows, area_in, areas_in};
 use fill_base::{Place, Rect};
+use fill_cells::shared_area;
 use fill_raster::{Marks, Raster};
 use fill_region::Region;
 use std::alloc::{AllocError, Global};

@@ -5,7 +5,6 @@
 mod book;
 mod filled;
 mod low;
-mod measure;
 mod places;
 mod stored;
 mod tiles;

@@ -1,5 +1,6 @@
 pub mod Lists
 pub mod Halving
+pub mod SharedAreas
 pub mod Gaps
 pub mod Sharing
 pub mod Listing

@@ -1,7 +1,7 @@
 //! The area that rectangles cover in one part of the plane.
-ghost use Rattle.std.specs.Prelude.{◌≡◌, pos, ◌<ℤ◌, ◌≤ℤ◌, IfOk, IfSome};
+ghost use Rattle.std.specs.Prelude.{◌≡◌, ◌<◌, pos, length, ◌<ℤ◌, ◌≤ℤ◌, IfOk, IfSome};
 ghost use Rattle.fill_base.specs.Coordinates.{lowest, highest};
-ghost use Rattle.fill_base.specs.Squares.{area_of};
+ghost use Rattle.fill_base.specs.Squares.{area_of, squares};
 ghost use Rattle.fill_region.specs.Squares.{covered};
 ghost use Rattle.fill_cells.specs.steps.Halves.{AreHalves};
 
@@ -14,13 +14,16 @@ use std::alloc::{AllocError, Global};
 const FEW: usize = 1024;
 
 /// How many unit squares of the part some rectangle covers. Many rectangles are cut at the middle of the part and counted in its
-/// halves, so that a pile of large ones costs little: it is one rectangle wherever one of them covers all.
+/// halves, so that a pile of large ones costs little: it is one rectangle wherever one of them covers all. One alone takes no memory.
 ///
 /// # Errors
 /// `AllocError` where memory is refused.
 pub fn covered_area(alloc: Global, rects: &[Rect], part: &Rect) -> Result<i64, AllocError>
     ensures { IfOk result (λ n. n ≡ pos (area_of (covered rects.now) part.now)) }
 {
+    if rects.len() < 2 {
+        return Ok(lone_area(rects, part));
+    }
     match halves(rects, part) {
         Some((first, second)) => {
             let in_first = within(alloc, rects, &first)?;
@@ -30,6 +33,27 @@ pub fn covered_area(alloc: Global, rects: &[Rect], part: &Rect) -> Result<i64, A
             Ok(below + above)
         }
         None => counted_area(alloc, rects, part),
+    }
+}
+
+/// How many unit squares of the part a rectangle that is alone covers.
+fn lone_area(rects: &[Rect], part: &Rect) -> i64
+    requires { length rects.now < 2 }
+    ensures { result ≡ pos (area_of (covered rects.now) part.now) }
+{
+    match rects.first() {
+        Some(rect) => shared_area(rect, part),
+        None => 0,
+    }
+}
+
+/// How many unit squares two rectangles share.
+pub fn shared_area(rect: &Rect, part: &Rect) -> i64
+    ensures { result ≡ pos (area_of (squares rect.now) part.now) }
+{
+    match rect.clip(part) {
+        Some(piece) => piece.area(),
+        None => 0,
     }
 }
 

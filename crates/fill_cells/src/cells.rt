@@ -5,18 +5,19 @@ ghost use Rattle.fill_cells.specs.Mesh.{AreLines, AreRowAreas, covered_by};
 
 use crate::area::covered_area;
 use crate::rows::listed;
-use crate::shares::shared_out;
+use crate::shares::share_out;
 use fill_base::Rect;
 use std::alloc::{AllocError, Global};
 
 /// How many unit squares of each cell of a row some rectangle covers, from the left. The lines across, and those between which the row
 /// lies, are in database units. The rectangles are shared out to the cells, so that each costs a step for each cell that it meets, and
-/// few lie in a cell.
+/// few lie in a cell. The lists of the cells are left in `lists`, whatever was in them before: given to the next row, they save it their memory.
 ///
 /// # Errors
 /// `AllocError` where memory is refused.
 pub fn row_areas(
     alloc: Global,
+    lists: &mut Vec<Vec<Rect>>,
     rects: &[&Rect],
     across: &[i64],
     from: i64,
@@ -30,9 +31,9 @@ pub fn row_areas(
 {
     let row = Rect::from_edges(across[0], from, across[across.len() - 1], to);
     let listed = listed(alloc, rects, &row)?;
-    let cells = shared_out(alloc, &row, across, &listed)?;
-    let mut areas = Vec::with_capacity(alloc, cells.len())?;
-    for (i, cell) in cells.iter().enumerate() {
+    share_out(alloc, lists, &row, across, &listed)?;
+    let mut areas = Vec::with_capacity(alloc, lists.len())?;
+    for (i, cell) in lists.iter().enumerate() {
         let part = Rect::from_edges(across[i], from, across[i + 1], to);
         let area = covered_area(alloc, cell, &part)?;
         areas.push(area)?;

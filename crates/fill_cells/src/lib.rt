@@ -11,7 +11,7 @@ mod shares;
 mod sweep;
 mod tally;
 
-pub use area::covered_area;
+pub use area::{covered_area, shared_area};
 pub use cells::row_areas;
 pub use lines::lines_at;
 pub use rows::by_row;

@@ -13,23 +13,48 @@ use std::ops::Range;
 /// Lines are evenly spaced where a guess at one is at most so many steps off.
 const NEAR: u64 = 8;
 
-/// The rectangles shared out to the cells of a row between neighbouring lines: for each cell a list that covers there what they
-/// cover. A rectangle costs a guess at the first cell that it meets, and a step for each cell.
-pub(crate) fn shared_out(
+/// Shares the rectangles out to the cells of a row between neighbouring lines: each cell has a list that covers there what they
+/// cover. What the lists were before is forgotten, and their memory used again. A rectangle costs a guess at the first cell that it
+/// meets, and a step for each cell.
+pub(crate) fn share_out(
     alloc: Global,
+    lists: &mut Vec<Vec<Rect>>,
     row: &Rect,
     lines: &[i64],
     rects: &[Rect],
-) -> Result<Vec<Vec<Rect>>, AllocError>
+) -> Result<(), AllocError>
     requires { AreLines lines.now }
-    ensures { IfOk result (λ v. AreShares row.now lines.now (covered rects.now) v.items) }
+    ensures { OnOk result (AreShares row.now lines.now (covered rects.now) lists.new.items) }
 {
-    let mut lists = empty_lists(alloc, lines.len() - 1)?;
+    empty_all(alloc, lists, lines.len() - 1)?;
     let step = even_step(lines);
     for rect in rects {
-        share(row, lines, step, rect, &mut lists)?;
+        share(row, lines, step, rect, lists)?;
     }
-    Ok(lists)
+    Ok(())
+}
+
+/// Makes so many empty lists of those that there are, which keep their memory, and of new ones.
+fn empty_all(alloc: Global, lists: &mut Vec<Vec<Rect>>, count: usize) -> Result<(), AllocError>
+    ensures count { OnOk result (length lists.new.items ≡ count) }
+    ensures empty { OnOk result (All (λ list. list.items ≡ []) lists.new.items) }
+{
+    lists.truncate(count);
+    clear_each(lists);
+    for _ in lists.len()..count {
+        lists.push(Vec::new(alloc))?;
+    }
+    Ok(())
+}
+
+/// Empties each list.
+fn clear_each(lists: &mut [Vec<Rect>])
+    ensures count { length lists.new ≡ length lists.old }
+    ensures empty { All (λ list. list.items ≡ []) lists.new }
+{
+    for k in 0..lists.len() {
+        lists[k].clear();
+    }
 }
 
 /// So many empty lists.

@@ -47,7 +47,7 @@ impl Mesh<'_> {
         self.joined(alloc, height, groups)
     }
 
-    /// How many covered squares lie in each cell of `count` rows from row `from` on.
+    /// How many covered squares lie in each cell of `count` rows from row `from` on. The lists of a row's cells are used again for the next.
     fn rows(
         &self,
         alloc: Global,
@@ -60,10 +60,18 @@ impl Mesh<'_> {
         ensures { IfOk result (λ v. AreRowsOf self.now from count v.items) }
     {
         let mut cells = Vec::with_capacity(alloc, count.saturating_mul(self.across.len() - 1))?;
+        let mut held = Vec::new(alloc);
         for k in 0..count {
             let j = from + k;
             let rects = row_of(alloc, lists, j)?;
-            let row = row_areas(alloc, &rects, self.across, self.up[j], self.up[j + 1])?;
+            let row = row_areas(
+                alloc,
+                &mut held,
+                &rects,
+                self.across,
+                self.up[j],
+                self.up[j + 1],
+            )?;
             cells.extend_from_slice(&row)?;
         }
         Ok(cells)

@@ -1,7 +1,7 @@
 use Rattle.std.proofs.Common.{take}
 use Rattle.fill_region.specs.Squares.{covered}
 use Rattle.fill_cells.specs.steps.Parts.{AreShares}
-use Rattle.fill_cells.proofs.shares.shared_out.Given as goal
+use Rattle.fill_cells.proofs.shares.share_out.Given as goal
 
 abbrev pub invariant-loop-rect : goal.invariant-loop-rect
 invariant-loop-rect l = AreShares l.row l.lines (covered (take l.rect-index l.rects)) l.lists.items

@@ -4,11 +4,11 @@ use Rattle.fill_base.specs.declared.rect.Rect.{Rect}
 use Rattle.fill_region.specs.Squares.{covered}
 use Rattle.fill_cells.specs.steps.Parts.{cell_squares, AreShares, AreShared}
 use Rattle.fill_cells.proofs.Sharing.{lists_none, lists_more, lists_all, kept_after}
-use Rattle.fill_cells.proofs.shares.shared_out.Goals as goal
+use Rattle.fill_cells.proofs.shares.share_out.Goals as goal
 
 pub loop-rect-init : goal.loop-rect-init
-loop-rect-init c = lists_none (Vec Rect) (λ v. covered v.items) (cell_squares c.args.row.now) c.args.lines.now c.args.rects.now c.in_ok-lists.lists.items c.in_ok-lists.ensures.count
-    (λ k e k_in x y. ap (λ zs. covered zs x y) (c.in_ok-lists.ensures.empty k e k_in))
+loop-rect-init c = lists_none (Vec Rect) (λ v. covered v.items) (cell_squares c.args.row.now) c.args.lines.now c.args.rects.now c.empty_all.new.lists.items c.in_ok-empty_all.ensures.count
+    (λ k e k_in x y. ap (λ zs. covered zs x y) (c.in_ok-empty_all.ensures.empty k e k_in))
 
 pub loop-rect-preserved : goal.loop-rect-preserved
 loop-rect-preserved c =
