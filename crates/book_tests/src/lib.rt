@@ -1,4 +1,4 @@
-//! Tests of books: of the plain book, and of books that many threads share. They stand here so that
+//! Tests of jobs, histories and books: of the plain book, and of books that many threads share. They stand here so that
 //! a crate isn't proved a second time for the sake of its tests.
 #![tactic(auto)]
 
@@ -6,5 +6,9 @@
 mod book;
 #[cfg(test)]
 mod cases;
+#[cfg(test)]
+mod events;
+#[cfg(test)]
+mod jobs;
 #[cfg(test)]
 mod shared;

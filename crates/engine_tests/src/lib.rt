@@ -1,7 +1,9 @@
-//! Tests of what stands on all other crates: the library of the fill, and the subcommands on whole
-//! inputs. They stand here so that a crate isn't proved a second time for the sake of its tests.
+//! Tests of devices, and of what stands on all other crates: the library of the fill, and the
+//! subcommands on whole inputs. They stand here so that a crate isn't proved a second time for the sake of its tests.
 #![tactic(auto)]
 
+#[cfg(test)]
+mod devices;
 #[cfg(test)]
 mod fills;
 #[cfg(test)]

@@ -14,6 +14,3 @@ pub use event::{Entry, Event, Reply};
 pub use fill_text::Edit;
 pub use history::History;
 pub use pass::{Books, Pass};
-
-#[cfg(test)]
-mod tests;

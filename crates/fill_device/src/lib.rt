@@ -13,6 +13,3 @@ mod taps;
 pub use input::{InputError, read_input};
 pub use output::{DeviceError, write_text};
 pub use taps::Tap;
-
-#[cfg(test)]
-mod tests;

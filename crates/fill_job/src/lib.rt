@@ -11,6 +11,3 @@ mod wanted;
 
 pub use job::Job;
 pub use proposal::Proposal;
-
-#[cfg(test)]
-mod tests;

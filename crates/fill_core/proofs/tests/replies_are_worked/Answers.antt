@@ -1,5 +1,0 @@
-use Rattle.fill_core.proofs.Working.{replies_worked}
-use Rattle.fill_core.proofs.tests.replies_are_worked.Goals as goal
-
-pub returns : goal.returns
-returns c = replies_worked
