@@ -6,7 +6,7 @@ ghost use Rattle.fill_cells.specs.steps.Parts.{AreListed, IsListedAt};
 ghost use Rattle.fill_cells.specs.steps.Within.{AreWithin};
 
 use crate::pieces::hold;
-use crate::shares::{empty_lists, even_step, gaps_met};
+use crate::shares::{empty_all, even_step, gaps_met};
 use fill_base::Rect;
 use std::alloc::{AllocError, Global};
 
@@ -25,7 +25,8 @@ pub fn by_row<'a>(
     requires { AreLines up.now }
     ensures { IfOk result (λ v. AreRowLists up.now (covered rects.now) v.items) }
 {
-    let mut lists = empty_lists(alloc, up.len() - 1)?;
+    let mut lists = Vec::new(alloc);
+    empty_all(alloc, &mut lists, up.len() - 1)?;
     let step = even_step(up);
     for rect in rects {
         put(&mut lists, up, step, rect)?;

@@ -1,5 +1,5 @@
 //! Rectangles shared out to the cells of a row.
-ghost use Rattle.std.specs.Prelude.{◌≡◌, ◌+◌, ◌<◌, ◌≤◌, ℤ, ℕ, ◌≤ℤ◌, ◌<ℤ◌, get_or, length, [], All, IfOk, OnOk};
+ghost use Rattle.std.specs.Prelude.{◌≡◌, ◌+◌, ◌<◌, ◌≤◌, ℤ, ℕ, ◌≤ℤ◌, ◌<ℤ◌, get_or, length, [], All, OnOk};
 ghost use Rattle.fill_base.specs.declared.rect.Rect.{Rect};
 ghost use Rattle.fill_region.specs.Squares.{covered};
 ghost use Rattle.fill_cells.specs.Mesh.{AreLines, gaps};
@@ -35,7 +35,11 @@ pub(crate) fn share_out(
 }
 
 /// Makes so many empty lists of those that there are, which keep their memory, and of new ones.
-fn empty_all(alloc: Global, lists: &mut Vec<Vec<Rect>>, count: usize) -> Result<(), AllocError>
+pub(crate) fn empty_all<T: Drop>(
+    alloc: Global,
+    lists: &mut Vec<Vec<T>>,
+    count: usize,
+) -> Result<(), AllocError>
     ensures count { OnOk result (length lists.new.items ≡ count) }
     ensures empty { OnOk result (All (λ list. list.items ≡ []) lists.new.items) }
 {
@@ -48,25 +52,13 @@ fn empty_all(alloc: Global, lists: &mut Vec<Vec<Rect>>, count: usize) -> Result<
 }
 
 /// Empties each list.
-fn clear_each(lists: &mut [Vec<Rect>])
+fn clear_each<T: Drop>(lists: &mut [Vec<T>])
     ensures count { length lists.new ≡ length lists.old }
     ensures empty { All (λ list. list.items ≡ []) lists.new }
 {
     for k in 0..lists.len() {
         lists[k].clear();
     }
-}
-
-/// So many empty lists.
-pub(crate) fn empty_lists<T: Drop>(alloc: Global, count: usize) -> Result<Vec<Vec<T>>, AllocError>
-    ensures count { IfOk result (λ v. length v.items ≡ count) }
-    ensures empty { IfOk result (λ v. All (λ list. list.items ≡ []) v.items) }
-{
-    let mut lists = Vec::with_capacity(alloc, count)?;
-    for _ in 0..count {
-        lists.push(Vec::new(alloc))?;
-    }
-    Ok(lists)
 }
 
 /// Puts a rectangle to the list of each cell that it meets.

@@ -1,6 +1,6 @@
 use Rattle.std.proofs.Common.{ap, ◌∙◌, sym, pos}
 use Rattle.std.specs.Option.{option_copied}
-use Rattle.fill_base.proofs.Signed.{read_is, pos_fits}
+use Rattle.fill_base.proofs.Signed.{read_is}
 use Rattle.fill_cells.proofs.SharedAreas.{of_first, of_none}
 use Rattle.fill_cells.proofs.area.lone_area.Goals as goal
 

@@ -9,8 +9,8 @@ use Rattle.fill_cells.proofs.Sharing.{lists_none, lists_more, lists_all, kept_af
 use Rattle.fill_cells.proofs.rows.by_row.Goals as goal
 
 pub loop-rect-init : goal.loop-rect-init
-loop-rect-init c = lists_none (Vec (Bor Rect)) (λ v. covered_by v.items) row_squares c.args.up.now c.args.rects.now c.in_ok-lists.lists.items c.in_ok-lists.ensures.count
-    (λ k e k_in x y. ap (λ zs. covered_by zs x y) (c.in_ok-lists.ensures.empty k e k_in))
+loop-rect-init c = lists_none (Vec (Bor Rect)) (λ v. covered_by v.items) row_squares c.args.up.now c.args.rects.now c.empty_all.new.lists.items c.in_ok-empty_all.ensures.count
+    (λ k e k_in x y. ap (λ zs. covered_by zs x y) (c.in_ok-empty_all.ensures.empty k e k_in))
 
 pub loop-rect-preserved : goal.loop-rect-preserved
 loop-rect-preserved c =
