@@ -72,6 +72,15 @@ area_small p part =
     short : (a b : ℤ) → lowest ≤ℤ a → a <ℤ b → b ≤ℤ highest → span_len a b ≤ 2 ^ 31
     short a b low lt high = side_short a b low (lt_le a b lt) high
 
+-- two areas, as the code adds them
+pub summed : (w u v : ℕ) (m n : ℤ) → w ≡ u + v → w ≤ 2 ^ 62 → m ≡ pos u → n ≡ pos v → FitsSigned w64 (read m +ℤ read n) × (read (read m +ℤ read n) ≡ pos w)
+summed w u v m n is small m_is n_is =
+    let u_read : read m ≡ pos u = rw m_is (read_is (pos u) (pos_fits u (omega (arith, is, small)))) in
+    let v_read : read n ≡ pos v = rw n_is (read_is (pos v) (pos_fits v (omega (arith, is, small)))) in
+    let fits : FitsSigned w64 (pos u +ℤ pos v) = pos_fits (u + v) (omega (arith, is, small)) in
+    let whole : pos u +ℤ pos v ≡ pos w = omega (arith, ints, is) in
+    rw (u_read, v_read) (fits, read_is (pos u +ℤ pos v) fits ∙ whole)
+
 -- both halves' areas, as the code adds them
 pub halves_sum : (p : ℤ → ℤ → Bool) (whole a b : Rect) (first second : List Rect) (m n : ℤ) → AreHalves whole a b
     → AreWithin a p first → AreWithin b p second → m ≡ pos (area_of (covered first) a) → n ≡ pos (area_of (covered second) b)
@@ -81,11 +90,3 @@ halves_sum p whole a b first second m n halves in_first in_second m_is n_is =
     let b_is : area_of (covered second) b ≡ area_of p b = same_within (covered second) p b in_second in
     let sum : area_of p whole ≡ area_of p a + area_of p b = halves.area p in
     summed (area_of p whole) (area_of p a) (area_of p b) m n sum (area_small p whole) (m_is ∙ ap pos a_is) (n_is ∙ ap pos b_is)
-  where
-    summed : (w u v : ℕ) (m n : ℤ) → w ≡ u + v → w ≤ 2 ^ 62 → m ≡ pos u → n ≡ pos v → FitsSigned w64 (read m +ℤ read n) × (read (read m +ℤ read n) ≡ pos w)
-    summed w u v m n is small m_is n_is =
-        let u_read : read m ≡ pos u = rw m_is (read_is (pos u) (pos_fits u (omega (arith, is, small)))) in
-        let v_read : read n ≡ pos v = rw n_is (read_is (pos v) (pos_fits v (omega (arith, is, small)))) in
-        let fits : FitsSigned w64 (pos u +ℤ pos v) = pos_fits (u + v) (omega (arith, is, small)) in
-        let whole : pos u +ℤ pos v ≡ pos w = omega (arith, ints, is) in
-        rw (u_read, v_read) (fits, read_is (pos u +ℤ pos v) fits ∙ whole)

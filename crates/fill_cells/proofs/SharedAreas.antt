@@ -1,17 +1,19 @@
 -- What two rectangles share.
-use Rattle.std.proofs.Common.{◌≡◌, ◌<◌, refl, sym, ap, ◌∙◌, ℤ, pos, ◌-ℤ◌, ◌≤ℤ◌, ◌<ℤ◌, arith, Bool, true, false, ◌&&◌, ◌||◌, List, [], ◌∷◌, length, Some, None}
+use Rattle.std.proofs.Common.{◌≡◌, ℕ, ◌+◌, ◌^◌, ◌≤◌, ◌<◌, refl, sym, subst, ap, ◌∙◌, ℤ, pos, ◌+ℤ◌, ◌-ℤ◌, ◌≤ℤ◌, ◌<ℤ◌, arith, Bool, true, false, ◌&&◌, ◌||◌, cond, List, [], ◌∷◌, ◌++◌, length, get_or, take, w64, FitsSigned, Option, Some, None, IfNone}
+use Rattle.std.proofs.lemmas.List.{take_more}
+use Rattle.std.specs.Option.{is_some}
 use Rattle.std.proofs.lemmas.Bool.{and_from, and_parts}
-use Rattle.std.specs.List.{slice_get}
 use Rattle.std.proofs.lemmas.Int.{ints}
 use Rattle.fill_base.specs.declared.rect.Rect.{Rect}
 use Rattle.fill_base.specs.Counts.{is_between, count_between}
 use Rattle.fill_base.specs.Squares.{area_of, area_between, squares}
 use Rattle.fill_base.proofs.Between.{is_between_true, is_between_below, is_between_above, is_between_bounds}
-use Rattle.fill_base.proofs.Counting.{count_between_same, sum_between_same}
-use Rattle.fill_base.proofs.Signed.{le_trans, lt_le}
+use Rattle.fill_base.proofs.Counting.{count_between_same, sum_between_same, sum_between_add}
+use Rattle.fill_base.proofs.Signed.{read, read_is, pos_fits, le_trans, lt_le}
 use Rattle.fill_area.proofs.Measuring.{no_area}
 use Rattle.fill_region.specs.Squares.{covered}
-use Rattle.fill_cells.proofs.Halving.{area_split_across, area_split_up, same_within}
+use Rattle.fill_cells.proofs.Halving.{area_split_across, area_split_up, area_small, same_within, summed}
+use Rattle.fill_cells.proofs.Lists.{covered_pushed}
 
 and_no : (b : Bool) → b && false ≡ false
 and_no true = refl
@@ -86,20 +88,52 @@ none_within p w none = no_squares p w.x1 w.y1 w.x2 w.y2 (lt_le _ _ w.wide) (lt_l
     here : (x y : ℤ) → w.x1 ≤ℤ x → x <ℤ w.x2 → w.y1 ≤ℤ y → y <ℤ w.y2 → squares w x y ≡ true
     here x y left right bottom top = rw (is_between_true w.x1 w.x2 x left right, is_between_true w.y1 w.y2 y bottom top) refl
 
-or_no : (b : Bool) → (b || false) ≡ b
-or_no true = refl
-or_no false = refl
+one_of : (a b : Bool) → a && b ≡ false → cond (a || b) 1 0 ≡ cond a 1 0 + cond b 1 0
+one_of true true none = absurd (cc)
+one_of true false none = refl
+one_of false true none = refl
+one_of false false none = refl
 
--- a list of at most one rectangle has the area of its first
-pub of_first : (rects : List Rect) (rect part : Rect) → length rects < 2 → Some rect ≡ slice_get rects 0 → area_of (squares rect) part ≡ area_of (covered rects) part
-of_first [] rect part few first = absurd (cc)
-of_first (r ∷ []) rect part few first = same_within (squares rect) (covered (r ∷ [])) part (λ x y here. ap (λ q. squares q x y) (some_same rect r first) ∙ sym (or_no (squares r x y)))
+-- the areas of sets that share no square add up
+apart_sum : (p q : ℤ → ℤ → Bool) (part : Rect) → ((x y : ℤ) → p x y && q x y ≡ false) → area_of (λ x y. p x y || q x y) part ≡ area_of p part + area_of q part
+apart_sum p q part apart =
+    sum_between_add (λ y. count_between (λ x. p x y) part.x1 part.x2) (λ y. count_between (λ x. q x y) part.x1 part.x2) (λ y. count_between (λ x. p x y || q x y) part.x1 part.x2) part.y1 part.y2
+    (λ y. sum_between_add (λ x. cond (p x y) 1 0) (λ x. cond (q x y) 1 0) (λ x. cond (p x y || q x y) 1 0) part.x1 part.x2 (λ x. one_of (p x y) (q x y) (apart x y)))
+
+-- no rectangle has no area
+pub of_none : (part : Rect) → 0 ≡ area_of (covered []) part
+of_none part = sym (no_area part.x1 part.y1 part.x2 part.y2 (lt_le _ _ part.wide) (lt_le _ _ part.tall))
+
+-- a rectangle more, apart from those before it
+pub apart_more : (rects : List Rect) (k : ℕ) (r part : Rect) (m n : ℤ) → k < length rects → r ≡ get_or rects k r → ((x y : ℤ) → covered (take k rects) x y && squares r x y ≡ false)
+    → m ≡ pos (area_of (covered (take k rects)) part) → n ≡ pos (area_of (squares r) part)
+    → FitsSigned w64 (m +ℤ read n) × (read (m +ℤ read n) ≡ pos (area_of (covered (take (k + 1) rects)) part))
+apart_more rects k r part m n lt item apart m_is n_is =
+    let m_read : read m ≡ m = rw m_is (read_is (pos (area_of (covered (take k rects)) part)) (pos_fits (area_of (covered (take k rects)) part) (below _ (area_small (covered (take k rects)) part)))) in
+    subst (λ z. FitsSigned w64 (z +ℤ read n) × (read (z +ℤ read n) ≡ pos (area_of (covered (take (k + 1) rects)) part))) m_read
+    (summed (area_of (covered (take (k + 1) rects)) part) (area_of (covered (take k rects)) part) (area_of (squares r) part) m n
+    (same_within (covered (take (k + 1) rects)) (λ x y. covered (take k rects) x y || squares r x y) part (λ x y here. more x y) ∙ apart_sum (covered (take k rects)) (squares r) part apart)
+    (area_small (covered (take (k + 1) rects)) part) m_is n_is)
   where
-    some_same : (a b : Rect) → Some a ≡ Some b → a ≡ b
-    some_same a b is = cc
-of_first (r ∷ s ∷ rest) rect part few first = absurd (omega (arith, few))
+    below : (n : ℕ) → n ≤ 2 ^ 62 → n < 2 ^ 63
+    below n le = omega (arith, le)
 
--- and none where there is none
-pub of_none : (rects : List Rect) (part : Rect) → None ≡ slice_get rects 0 → 0 ≡ area_of (covered rects) part
-of_none [] part none = sym (no_area part.x1 part.y1 part.x2 part.y2 (lt_le _ _ part.wide) (lt_le _ _ part.tall))
-of_none (r ∷ rest) part none = absurd (cc)
+    more : (x y : ℤ) → covered (take (k + 1) rects) x y ≡ (covered (take k rects) x y || squares r x y)
+    more x y = covered_pushed (take k rects) (take (k + 1) rects) r (take_more rects k r lt ∙ ap (λ z. take k rects ++ z ∷ []) (sym item)) x y
+
+-- what is so where there is no value
+pub none_of : (P : Type 0) (piece : Option Rect) → IfNone piece P → false ≡ is_some piece → P
+none_of P None so none = so
+none_of P (Some r) so none = absurd (cc)
+
+-- a set that no rectangle of a list meets, after one more
+pub none_more : (others : List Rect) (k : ℕ) (other r : Rect) → k < length others → other ≡ get_or others k other
+    → ((x y : ℤ) → covered (take k others) x y && squares r x y ≡ false) → ((x y : ℤ) → squares other x y && squares r x y ≡ false)
+    → (x y : ℤ) → covered (take (k + 1) others) x y && squares r x y ≡ false
+none_more others k other r lt item before here x y =
+    ap (λ t. t && squares r x y) (covered_pushed (take k others) (take (k + 1) others) other (take_more others k other lt ∙ ap (λ z. take k others ++ z ∷ []) (sym item)) x y)
+    ∙ neither (covered (take k others) x y) (squares other x y) (squares r x y) (before x y) (here x y)
+  where
+    neither : (a b c : Bool) → a && c ≡ false → b && c ≡ false → (a || b) && c ≡ false
+    neither true b c first second = first
+    neither false b c first second = second

@@ -1,5 +1,5 @@
 //! The area that rectangles cover in one part of the plane.
-ghost use Rattle.std.specs.Prelude.{◌≡◌, ◌<◌, pos, length, ◌<ℤ◌, ◌≤ℤ◌, IfOk, IfSome};
+ghost use Rattle.std.specs.Prelude.{◌≡◌, ◌&&◌, false, ℤ, pos, ◌<ℤ◌, ◌≤ℤ◌, IfOk, IfSome};
 ghost use Rattle.fill_base.specs.Coordinates.{lowest, highest};
 ghost use Rattle.fill_base.specs.Squares.{area_of, squares};
 ghost use Rattle.fill_region.specs.Squares.{covered};
@@ -13,16 +13,20 @@ use std::alloc::{AllocError, Global};
 /// So many rectangles are counted at once.
 const FEW: usize = 1024;
 
-/// How many unit squares of the part some rectangle covers. Many rectangles are cut at the middle of the part and counted in its
-/// halves, so that a pile of large ones costs little: it is one rectangle wherever one of them covers all. One alone takes no memory.
+/// So many are looked at pair by pair first.
+const PAIRED: usize = 16;
+
+/// How many unit squares of the part some rectangle covers. Few rectangles that lie apart are summed, without any memory. Many are cut
+/// at the middle of the part and counted in its halves, so that a pile of large ones costs little: it is one rectangle wherever one of
+/// them covers all.
 ///
 /// # Errors
 /// `AllocError` where memory is refused.
 pub fn covered_area(alloc: Global, rects: &[Rect], part: &Rect) -> Result<i64, AllocError>
     ensures { IfOk result (λ n. n ≡ pos (area_of (covered rects.now) part.now)) }
 {
-    if rects.len() < 2 {
-        return Ok(lone_area(rects, part));
+    if let Some(area) = apart_area(rects, part) {
+        return Ok(area);
     }
     match halves(rects, part) {
         Some((first, second)) => {
@@ -36,15 +40,33 @@ pub fn covered_area(alloc: Global, rects: &[Rect], part: &Rect) -> Result<i64, A
     }
 }
 
-/// How many unit squares of the part a rectangle that is alone covers.
-fn lone_area(rects: &[Rect], part: &Rect) -> i64
-    requires { length rects.now < 2 }
-    ensures { result ≡ pos (area_of (covered rects.now) part.now) }
+/// How many unit squares of the part few rectangles cover of which no two share a square, else `None`.
+fn apart_area(rects: &[Rect], part: &Rect) -> Option<i64>
+    ensures { IfSome result (λ n. n ≡ pos (area_of (covered rects.now) part.now)) }
 {
-    match rects.first() {
-        Some(rect) => shared_area(rect, part),
-        None => 0,
+    if rects.len() > PAIRED {
+        return None;
     }
+    let mut area = 0;
+    for (k, rect) in rects.iter().enumerate() {
+        if meets_any(rect, &rects[..k]) {
+            return None;
+        }
+        area += shared_area(rect, part);
+    }
+    Some(area)
+}
+
+/// Whether a rectangle shares a square with one of the others.
+fn meets_any(rect: &Rect, others: &[Rect]) -> bool
+    ensures { false ≡ result → (x y : ℤ) → covered others.now x y && squares rect.now x y ≡ false }
+{
+    for other in others {
+        if other.clip(rect).is_some() {
+            return true;
+        }
+    }
+    false
 }
 
 /// How many unit squares two rectangles share.

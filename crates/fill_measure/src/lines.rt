@@ -14,9 +14,6 @@ use std::alloc::{AllocError, Global};
 /// Where there are fewer windows than this, further lines are put between them.
 const FEW_SPANS: u32 = 64;
 
-/// So many parts of the axis the further lines make.
-const PARTS: i64 = 256;
-
 /// Below so many rectangles the lines of the windows are enough.
 const MANY_RECTS: usize = 4096;
 
@@ -45,24 +42,38 @@ fn put_between(numbers: &mut Vec<i64>, axis: Axis, rects: usize) -> Result<(), A
     }
     let (first, _) = axis.extent(0);
     let (_, last) = axis.extent(axis.count - 1);
-    let step = part_length(first, last);
+    let parts = parts_for(rects);
+    let step = part_length(first, last, parts);
     let mut line = first;
-    for _ in 1..PARTS {
+    for _ in 1..parts {
         line = stepped(line, step, last);
         numbers.push(line)?;
     }
     Ok(())
 }
 
+/// How many parts the further lines make of the axis: some ten rectangles lie in a cell of so many by so many, more where they are
+/// very many.
+fn parts_for(rects: usize) -> i64
+    ensures { pos 1 ≤ℤ result }
+{
+    match rects {
+        0..=40_000 => 64,
+        40_001..=160_000 => 128,
+        _ => 256,
+    }
+}
+
 /// How long a part is.
-fn part_length(first: i64, last: i64) -> i64
+fn part_length(first: i64, last: i64, parts: i64) -> i64
     requires first { IsCoordinate first }
     requires last { IsCoordinate last }
     requires ordered { first ≤ℤ last }
+    requires some { pos 1 ≤ℤ parts }
     ensures least { pos 0 ≤ℤ result }
     ensures most { result ≤ℤ pos (2 ^ 31) }
 {
-    (last - first) / PARTS
+    (last - first) / parts
 }
 
 /// The line one part further, and not past the last one.
