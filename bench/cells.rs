@@ -18,13 +18,13 @@ const NEAR: i64 = 8;
 /// A row is deep where the rectangles are together so many times as wide as it.
 const DEEP: i64 = 64;
 
-/// So many rectangles are counted at once.
+/// So many rectangles are counted at once, and so many are looked at pair by pair first.
 const FEW: usize = 1024;
+const PAIRED: usize = 16;
 
-/// Where there are fewer windows than this, and so many rectangles or more, further lines cut the axis into so many parts.
+/// Where there are fewer windows than this, and so many rectangles or more, further lines cut the axis into parts.
 const FEW_SPANS: usize = 64;
 const MANY_RECTS: usize = 4096;
-const PARTS: i32 = 256;
 
 fn clip(rect: &Rect, part: &Rect) -> Option<Rect> {
     let both = Rect {
@@ -233,10 +233,25 @@ fn shared_area(rect: &Rect, part: &Rect) -> i64 {
     clip(rect, part).map_or(0, |piece| i64::from(piece.x2 - piece.x1) * i64::from(piece.y2 - piece.y1))
 }
 
+/// How many squares of the part few rectangles cover of which no two share a square.
+fn apart_area(rects: &[Rect], part: &Rect) -> Option<i64> {
+    if rects.len() > PAIRED {
+        return None;
+    }
+    let mut area = 0;
+    for (k, rect) in rects.iter().enumerate() {
+        if rects[..k].iter().any(|other| clip(other, rect).is_some()) {
+            return None;
+        }
+        area += shared_area(rect, part);
+    }
+    Some(area)
+}
+
 /// How many squares the rectangles of a part cover.
 fn covered_area(rects: &[Rect], part: &Rect) -> i64 {
-    if rects.len() < 2 {
-        return rects.first().map_or(0, |rect| shared_area(rect, part));
+    if let Some(area) = apart_area(rects, part) {
+        return area;
     }
     match halves(rects, part) {
         Some((first, second)) => covered_area(&within(rects, &first), &first) + covered_area(&within(rects, &second), &second),
@@ -259,8 +274,13 @@ fn lines_of(first: i32, size: i32, step: i32, count: usize, rects: usize) -> Vec
     let mut lines: Vec<i32> = (0..count as i32).flat_map(|a| [first + a * step, first + a * step + size]).collect();
     if count < FEW_SPANS && rects >= MANY_RECTS {
         let last = first + (count as i32 - 1) * step + size;
-        let part = (last - first) / PARTS;
-        lines.extend((1..PARTS).map(|k| first + k * part));
+        let parts = match rects {
+            0..=40_000 => 64,
+            40_001..=160_000 => 128,
+            _ => 256,
+        };
+        let part = (last - first) / parts;
+        lines.extend((1..parts).map(|k| first + k * part));
     }
     lines.sort_unstable();
     lines.dedup();
