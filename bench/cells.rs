@@ -277,7 +277,8 @@ fn lines_of(first: i32, size: i32, step: i32, count: usize, rects: usize) -> Vec
         let parts = match rects {
             0..=40_000 => 64,
             40_001..=160_000 => 128,
-            _ => 256,
+            160_001..=640_000 => 256,
+            _ => 512,
         };
         let part = (last - first) / parts;
         lines.extend((1..parts).map(|k| first + k * part));

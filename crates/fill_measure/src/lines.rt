@@ -52,15 +52,16 @@ fn put_between(numbers: &mut Vec<i64>, axis: Axis, rects: usize) -> Result<(), A
     Ok(())
 }
 
-/// How many parts the further lines make of the axis: some ten rectangles lie in a cell of so many by so many, more where they are
-/// very many.
+/// How many parts the further lines make of the axis: some ten rectangles lie in a cell of so many by so many, or fewer, and more
+/// where they are very many.
 fn parts_for(rects: usize) -> i64
     ensures { pos 1 ≤ℤ result }
 {
     match rects {
         0..=40_000 => 64,
         40_001..=160_000 => 128,
-        _ => 256,
+        160_001..=640_000 => 256,
+        _ => 512,
     }
 }
 
