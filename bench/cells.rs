@@ -15,6 +15,9 @@ const LEAST_PART: usize = 16_384;
 /// Lines are evenly spaced where a guess at one is at most so many steps off.
 const NEAR: i64 = 8;
 
+/// So long a way, in units, is that for which a pace counts gaps: `2^SHIFT`.
+const SHIFT: u32 = 32;
+
 /// A row is deep where the rectangles are together so many times as wide as it.
 const DEEP: i64 = 64;
 
@@ -76,25 +79,36 @@ fn within(rects: &[Rect], part: &Rect) -> Vec<Rect> {
     list
 }
 
-/// How far neighbouring lines lie from one another on average where each lies about where that puts it, else 0.
-fn even_step(lines: &[i32]) -> i64 {
+/// How many gaps lie in 2^32 units, where each line lies about where equal steps put it, else 0.
+fn even_pace(lines: &[i32]) -> u64 {
     let (first, last) = (i64::from(lines[0]), lines.len() - 1);
     let step = (i64::from(lines[last]) - first) / last as i64;
     let is_even = |(k, line): (usize, &i32)| (i64::from(*line) - first - k as i64 * step).abs() <= NEAR * step;
-    if lines.iter().enumerate().all(is_even) { step } else { 0 }
+    if lines.iter().enumerate().all(is_even) { (1 << SHIFT) / step as u64 + 1 } else { 0 }
 }
 
-/// The gaps between lines that a range meets. The first is guessed where lines are evenly spaced.
-fn gaps_met(lines: &[i32], step: i64, lo: i32, hi: i32) -> Range<usize> {
+/// About in which gap a number lies.
+fn guess(lines: &[i32], pace: u64, number: i32) -> usize {
+    let near = if pace > 0 {
+        let way = (i64::from(number) - i64::from(lines[0])).max(0) as u64;
+        (way.wrapping_mul(pace) >> SHIFT) as usize
+    } else {
+        lines.partition_point(|line| *line <= number).saturating_sub(1)
+    };
+    near.min(lines.len() - 2)
+}
+
+/// The gaps between lines that a range meets: mostly the one that is guessed.
+fn gaps_met(lines: &[i32], pace: u64, lo: i32, hi: i32) -> Range<usize> {
     let last = lines.len() - 1;
     if hi <= lines[0] || lines[last] <= lo {
         return 0..0;
     }
-    let mut first = if step > 0 {
-        (((i64::from(lo) - i64::from(lines[0])).max(0) / step) as usize).min(last)
-    } else {
-        lines.partition_point(|line| *line <= lo).saturating_sub(1)
-    };
+    let near = guess(lines, pace, lo);
+    if lines[near] <= lo && hi <= lines[near + 1] {
+        return near..near + 1;
+    }
+    let mut first = near;
     while first > 0 && lines[first] > lo {
         first -= 1;
     }
@@ -108,9 +122,9 @@ fn gaps_met(lines: &[i32], step: i64, lo: i32, hi: i32) -> Range<usize> {
 /// Shares the rectangles out to the lists of a row's cells, whose memory is used again.
 fn share_to_cells(lists: &mut [Vec<Rect>], rects: &[Rect], across: &[i32], cell: impl Fn(usize) -> Rect) {
     lists.iter_mut().for_each(Vec::clear);
-    let step = even_step(across);
+    let pace = even_pace(across);
     for rect in rects {
-        for gap in gaps_met(across, step, rect.x1, rect.x2) {
+        for gap in gaps_met(across, pace, rect.x1, rect.x2) {
             hold(&mut lists[gap], rect, &cell(gap));
         }
     }
@@ -119,9 +133,9 @@ fn share_to_cells(lists: &mut [Vec<Rect>], rects: &[Rect], across: &[i32], cell:
 /// For each row the rectangles that meet it.
 fn by_row<'a>(rects: &'a [Rect], up: &[i32]) -> Vec<Vec<&'a Rect>> {
     let mut lists = vec![Vec::new(); up.len() - 1];
-    let step = even_step(up);
+    let pace = even_pace(up);
     for rect in rects {
-        for gap in gaps_met(up, step, rect.y1, rect.y2) {
+        for gap in gaps_met(up, pace, rect.y1, rect.y2) {
             lists[gap].push(rect);
         }
     }

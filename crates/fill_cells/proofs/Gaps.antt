@@ -97,6 +97,27 @@ line_from lines lo n d are fits within under =
     le_is : (a b : ℤ) → int_le a b ≡ true → a ≤ℤ b
     le_is a b h = grind (arith, ints)
 
+-- the lines on both sides of a gap, as the code compares them
+pub line_at_most : (lines : List ℤ) (lo : ℤ) (k : ℕ) (d : ℤ) → AreLines lines → FitsSigned w64 lo → k < gaps lines → int_le (read (get_or lines k (pos 0))) (read lo) ≡ true → get_or lines k d ≤ℤ lo
+line_at_most lines lo k d are fits within under =
+    rw (get_or_default lines k d (pos 0) inside) (rw (read_is lo fits, line_read lines k (pos 0) are inside) at (le_is (read (get_or lines k (pos 0))) (read lo) under))
+  where
+    inside : k < length lines
+    inside = omega (arith, within)
+
+    le_is : (a b : ℤ) → int_le a b ≡ true → a ≤ℤ b
+    le_is a b h = grind (arith, ints)
+
+pub line_at_least : (lines : List ℤ) (hi : ℤ) (k : ℕ) (d : ℤ) → AreLines lines → FitsSigned w64 hi → k < gaps lines → int_le (read hi) (read (get_or lines (k + 1) (pos 0))) ≡ true → hi ≤ℤ get_or lines (k + 1) d
+line_at_least lines hi k d are fits within over =
+    rw (get_or_default lines (k + 1) d (pos 0) inside) (rw (read_is hi fits, line_read lines (k + 1) (pos 0) are inside) at (le_is (read hi) (read (get_or lines (k + 1) (pos 0))) over))
+  where
+    inside : k + 1 < length lines
+    inside = omega (arith, within)
+
+    le_is : (a b : ℤ) → int_le a b ≡ true → a ≤ℤ b
+    le_is a b h = grind (arith, ints)
+
 -- each gap that ends above a number begins at a line at the number or below, or above it
 pub after_line : (lines : List ℤ) (lo : ℤ) (m k : ℕ) (d : ℤ) → AreLines lines → m ≤ gaps lines → ((e : ℤ) → 0 < m → get_or lines m e ≤ℤ lo)
     → k < gaps lines → lo <ℤ get_or lines (k + 1) d → m ≤ k
@@ -107,6 +128,21 @@ after_line lines lo m k d are within below k_in above = by_lt k m (λ before. ab
 
     apart : (a b : ℤ) → a ≤ℤ lo → b ≤ℤ a → lo <ℤ b → ⊥
     apart a b h k l = absurd (omega (arith, ints))
+
+-- a range that lies in one gap meets that one alone
+pub held_by : (lines : List ℤ) (lo hi : ℤ) (near : ℕ) → AreLines lines → FitsSigned w64 lo → FitsSigned w64 hi → near < gaps lines
+    → ((d : ℤ) → (get_or lines near d ≤ℤ read lo) × (read hi ≤ℤ get_or lines (near + 1) d)) → AreMet lines lo hi near (near + 1)
+held_by lines lo hi near are lo_fits hi_fits within here = record {
+  within = omega (arith, within);
+  from_first = λ k d lt low high. after_line lines lo near k d are (omega (arith, within)) (λ e some. (held e).0) lt low;
+  to_past = λ k d lt low high. by_lt k (near + 1) (λ yes. yes) (λ no. absurd (apart hi (get_or lines (near + 1) d) (get_or lines k d) (held d).1 (line_le lines (near + 1) k d are no (omega (arith, lt))) high));
+}
+  where
+    held : (d : ℤ) → (get_or lines near d ≤ℤ lo) × (hi ≤ℤ get_or lines (near + 1) d)
+    held d = rw (read_is lo lo_fits, read_is hi hi_fits) at (here d)
+
+    apart : (hi a b : ℤ) → hi ≤ℤ a → a ≤ℤ b → b <ℤ hi → ⊥
+    apart hi a b h k l = absurd (omega (arith, ints))
 
 -- the gaps from the first that ends above a number to the first that begins at another or above
 pub met_of : (lines : List ℤ) (lo hi : ℤ) (first past : ℕ) → FitsSigned w64 lo → FitsSigned w64 hi → past ≤ gaps lines

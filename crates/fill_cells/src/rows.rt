@@ -6,7 +6,7 @@ ghost use Rattle.fill_cells.specs.steps.Parts.{AreListed, IsListedAt};
 ghost use Rattle.fill_cells.specs.steps.Within.{AreWithin};
 
 use crate::pieces::hold;
-use crate::shares::{empty_all, even_step, gaps_met};
+use crate::shares::{empty_all, even_pace, gaps_met};
 use fill_base::Rect;
 use std::alloc::{AllocError, Global};
 
@@ -27,9 +27,9 @@ pub fn by_row<'a>(
 {
     let mut lists = Vec::new(alloc);
     empty_all(alloc, &mut lists, up.len() - 1)?;
-    let step = even_step(up);
+    let pace = even_pace(up);
     for rect in rects {
-        put(&mut lists, up, step, rect)?;
+        put(&mut lists, up, pace, rect)?;
     }
     Ok(lists)
 }
@@ -38,14 +38,14 @@ pub fn by_row<'a>(
 fn put<'a>(
     lists: &mut [Vec<&'a Rect>],
     up: &[i64],
-    step: i64,
+    pace: u64,
     rect: &'a Rect,
 ) -> Result<(), AllocError>
     requires lines { AreLines up.now }
     requires count { length lists.old ≡ gaps up.now }
     ensures { OnOk result (AreListed up.now rect.now lists.old lists.new) }
 {
-    let met = gaps_met(up, step, rect.y1(), rect.y2());
+    let met = gaps_met(up, pace, rect.y1(), rect.y2());
     for k in met.start..met.end {
         put_at(lists, up, rect, k)?;
     }

@@ -1,5 +1,5 @@
 //! Rectangles shared out to the cells of a row.
-ghost use Rattle.std.specs.Prelude.{◌≡◌, ◌+◌, ◌<◌, ◌≤◌, ℤ, ℕ, ◌≤ℤ◌, ◌<ℤ◌, get_or, length, [], All, OnOk};
+ghost use Rattle.std.specs.Prelude.{◌≡◌, ◌+◌, ◌<◌, ◌≤◌, ℤ, ℕ, ◌≤ℤ◌, ◌<ℤ◌, get_or, length, [], All, OnOk, IsTrue};
 ghost use Rattle.fill_base.specs.declared.rect.Rect.{Rect};
 ghost use Rattle.fill_region.specs.Squares.{covered};
 ghost use Rattle.fill_cells.specs.Mesh.{AreLines, gaps};
@@ -12,6 +12,9 @@ use std::ops::Range;
 
 /// Lines are evenly spaced where a guess at one is at most so many steps off.
 const NEAR: u64 = 8;
+
+/// So long a way, in units, is that for which a pace counts gaps: `2^SHIFT`.
+const SHIFT: u32 = 32;
 
 /// Shares the rectangles out to the cells of a row between neighbouring lines: each cell has a list that covers there what they
 /// cover. What the lists were before is forgotten, and their memory used again. A rectangle costs a guess at the first cell that it
@@ -27,9 +30,9 @@ pub(crate) fn share_out(
     ensures { OnOk result (AreShares row.now lines.now (covered rects.now) lists.new.items) }
 {
     empty_all(alloc, lists, lines.len() - 1)?;
-    let step = even_step(lines);
+    let pace = even_pace(lines);
     for rect in rects {
-        share(row, lines, step, rect, lists)?;
+        share(row, lines, pace, rect, lists)?;
     }
     Ok(())
 }
@@ -65,7 +68,7 @@ fn clear_each<T: Drop>(lists: &mut [Vec<T>])
 fn share(
     row: &Rect,
     lines: &[i64],
-    step: i64,
+    pace: u64,
     rect: &Rect,
     lists: &mut [Vec<Rect>],
 ) -> Result<(), AllocError>
@@ -73,7 +76,7 @@ fn share(
     requires count { length lists.old ≡ gaps lines.now }
     ensures { OnOk result (AreShared row.now lines.now rect.now lists.old lists.new) }
 {
-    let met = gaps_met(lines, step, rect.x1(), rect.x2());
+    let met = gaps_met(lines, pace, rect.x1(), rect.x2());
     for k in met.start..met.end {
         share_at(row, lines, rect, lists, k)?;
     }
@@ -98,13 +101,17 @@ fn share_at(
     Ok(())
 }
 
-/// How far neighbouring lines lie from one another on average where each lies about where that puts it, else 0.
-pub(crate) fn even_step(lines: &[i64]) -> i64
+/// How many gaps lie in 2^32 units, where each line lies about where equal steps put it, else 0.
+pub(crate) fn even_pace(lines: &[i64]) -> u64
     requires { AreLines lines.now }
 {
     let last = lines.len() - 1;
     let step = (lines[last] - lines[0]) / last as i64;
-    if are_even(lines, step) { step } else { 0 }
+    if step > 0 && are_even(lines, step) {
+        (1 << SHIFT) / step.unsigned_abs() + 1
+    } else {
+        0
+    }
 }
 
 /// Whether no line lies farther than a few steps from where equal steps put it.
@@ -122,8 +129,8 @@ fn are_even(lines: &[i64], step: i64) -> bool
     true
 }
 
-/// The gaps between lines that have a number from `lo` on and below `hi`.
-pub(crate) fn gaps_met(lines: &[i64], step: i64, lo: i64, hi: i64) -> Range<usize>
+/// The gaps between lines that have a number from `lo` on and below `hi`: mostly the one that is guessed.
+pub(crate) fn gaps_met(lines: &[i64], pace: u64, lo: i64, hi: i64) -> Range<usize>
     requires { AreLines lines.now }
     ensures { AreMet lines.now lo hi result.start result.end }
 {
@@ -133,24 +140,37 @@ pub(crate) fn gaps_met(lines: &[i64], step: i64, lo: i64, hi: i64) -> Range<usiz
     if lines[lines.len() - 1] <= lo {
         return 0..0;
     }
-    let below = line_below(lines, guess(lines, step, lo), lo);
+    let near = guess(lines, pace, lo);
+    if holds(lines, near, lo, hi) {
+        return near..near + 1;
+    }
+    let below = line_below(lines, near, lo);
     let first = first_past(lines, below, lo);
     first..first_from(lines, first, hi)
 }
 
-/// About where a number lies among lines: by the step from line to line where they are evenly spaced, which windows mostly are, else by
-/// halves.
-fn guess(lines: &[i64], step: i64, number: i64) -> usize
+/// About in which gap a number lies: by the pace where lines are evenly spaced, which windows mostly are, else by halves.
+fn guess(lines: &[i64], pace: u64, number: i64) -> usize
     requires { AreLines lines.now }
-    ensures { result ≤ gaps lines.now }
+    ensures { result < gaps lines.now }
 {
-    if step > 0 {
-        let steps = number.saturating_sub(lines[0]).max(0) / step;
-        (steps.unsigned_abs() as usize).min(lines.len() - 1)
+    let near = if pace > 0 {
+        let way = number.saturating_sub(lines[0]).max(0).unsigned_abs();
+        (way.wrapping_mul(pace) >> SHIFT) as usize
     } else {
         let above = lines.partition_point(|line| *line <= number);
         above.saturating_sub(1)
-    }
+    };
+    near.min(lines.len() - 2)
+}
+
+/// Whether the numbers from `lo` on and below `hi` lie in the gap at `k`.
+fn holds(lines: &[i64], k: usize, lo: i64, hi: i64) -> bool
+    requires lines { AreLines lines.now }
+    requires within { k < gaps lines.now }
+    ensures { IsTrue result → (d : ℤ) → (get_or lines.now k d ≤ℤ lo) × (hi ≤ℤ get_or lines.now (k + 1) d) }
+{
+    lines[k] <= lo && hi <= lines[k + 1]
 }
 
 /// The last line from one downwards that lies at `lo` or below, or the lowest line.
