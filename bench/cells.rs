@@ -25,6 +25,9 @@ const DEEP: i64 = 64;
 const FEW: usize = 1024;
 const PAIRED: usize = 16;
 
+/// Up to so many towers are counted, and not searched.
+const COUNTED: usize = 64;
+
 /// Where there are fewer windows than this, and so many rectangles or more, further lines cut the axis into parts.
 const FEW_SPANS: usize = 64;
 const MANY_RECTS: usize = 4096;
@@ -178,52 +181,115 @@ fn listed(rects: &[&Rect], row: &Rect) -> Vec<Rect> {
     }
 }
 
-/// Takes out those that end at the line or below, and in those that begin there, by their left edges.
-fn cross(crossing: &mut Vec<Rect>, begun: &[Rect], line: i32) {
-    crossing.retain(|rect| rect.y2 > line);
-    for rect in begun {
-        let at = crossing.partition_point(|other| other.x1 <= rect.x1);
-        crossing.insert(at, *rect);
+/// How many squares of the part the rectangles cover: each adds what it has above the towers that stand for those before it.
+fn counted_area(towers: &mut Vec<Rect>, rects: &mut [Rect], part: &Rect) -> i64 {
+    rects.sort_unstable_by_key(|rect| rect.y1);
+    towers.clear();
+    rects.iter().filter_map(|rect| clip(rect, part)).map(|piece| raise(towers, piece)).sum()
+}
+
+/// Puts a rectangle to the towers. Answers how many squares it has that no tower had.
+fn raise(towers: &mut Vec<Rect>, rect: Rect) -> i64 {
+    let at = reached(towers, rect.x1);
+    if begins_past(towers, at, rect.x2) {
+        let to = past_ended(towers, at, rect.y1);
+        put_over(towers, at, to, rect);
+        return area(&rect);
     }
+    area(&rect) - settle(towers, at, rect)
 }
 
-/// The next line at which one begins or ends, or the top.
-fn next_line(later: &[Rect], crossing: &[Rect], top: i32) -> i32 {
-    let first = later.first().map_or(top, |rect| rect.y1.min(top));
-    crossing.iter().fold(first, |line, rect| line.min(rect.y2))
+/// How many towers end at the column or left of it.
+fn reached(towers: &[Rect], column: i32) -> usize {
+    if towers.len() > COUNTED {
+        return towers.partition_point(|tower| tower.x2 <= column);
+    }
+    towers.iter().map(|tower| usize::from(tower.x2 <= column)).sum()
 }
 
-/// How many squares of a row between two columns those that cross it cover.
-fn row_length(crossing: &[Rect], left: i32, right: i32) -> i64 {
-    let (mut reach, mut length) = (left, 0);
-    for rect in crossing {
-        let (from, to) = (reach.max(rect.x1), right.min(rect.x2));
-        if from < to {
-            length += i64::from(to - from);
-            reach = to;
+/// Whether the tower at `at`, if there is one, begins at the column or right of it.
+fn begins_past(towers: &[Rect], at: usize, column: i32) -> bool {
+    towers.get(at).is_none_or(|tower| column <= tower.x1)
+}
+
+/// Past the tower at `at`, if there is one and it ends at the line or below.
+fn past_ended(towers: &[Rect], at: usize, line: i32) -> usize {
+    at + usize::from(towers.get(at).is_some_and(|tower| tower.y2 <= line))
+}
+
+/// Puts a rectangle to the towers, of which the first ones end left of it. What is left of it goes from tower to tower; those that have
+/// no more than it, from `from` to `at`, give way to it together. Answers how many squares of the rectangle the towers had.
+fn settle(towers: &mut Vec<Rect>, first: usize, rect: Rect) -> i64 {
+    let (mut from, mut at) = (first, first);
+    let mut rest = rect;
+    let mut hidden = 0;
+    while at < towers.len() && towers[at].x1 < rest.x2 {
+        let tower = towers[at];
+        hidden += shared_area(&tower, &rect);
+        if is_over(&rest, &tower) {
+            at += 1;
+            continue;
         }
+        if rest.y2 <= tower.y2 {
+            from = pass(towers, from, at, &rest);
+            if rest.x2 <= tower.x2 {
+                return hidden;
+            }
+            rest = Rect { x1: tower.x2, ..rest };
+            at = from;
+            continue;
+        }
+        if rest.x2 < tower.x2 {
+            put_within(towers, from, at, rest);
+            return hidden;
+        }
+        put_over(towers, from, at + 1, Rect { x2: rest.x1, ..tower });
+        from += 1;
+        at = from;
     }
-    length
+    let to = past_ended(towers, at, rest.y1);
+    put_over(towers, from, to, rest);
+    hidden
 }
 
-/// How many squares of the part the rectangles cover, by a sweep upwards.
-fn counted_area(rects: &[Rect], part: &Rect) -> i64 {
-    let mut sorted = rects.to_vec();
-    sorted.sort_unstable_by_key(|rect| rect.y1);
-    let mut later = sorted.as_slice();
-    let mut crossing = Vec::new();
-    let mut line = part.y1;
-    let mut area = 0;
-    while line < part.y2 {
-        let count = later.iter().take_while(|rect| rect.y1 <= line).count();
-        let (begun, rest) = later.split_at(count);
-        cross(&mut crossing, begun, line);
-        let next = next_line(rest, &crossing, part.y2);
-        area += row_length(&crossing, part.x1, part.x2) * i64::from(next - line);
-        later = rest;
-        line = next;
+/// Whether a rectangle has, from its lower edge up, all that a tower has.
+fn is_over(rect: &Rect, tower: &Rect) -> bool {
+    tower.y2 <= rect.y1 || (tower.y2 < rect.y2 && rect.x1 <= tower.x1 && tower.x2 <= rect.x2)
+}
+
+/// Puts what a rectangle has left of a higher tower before it. Answers which tower is the next after it.
+fn pass(towers: &mut Vec<Rect>, from: usize, at: usize, rest: &Rect) -> usize {
+    let tower = towers[at];
+    if rest.x1 < tower.x1 {
+        put_over(towers, from, at, Rect { x2: tower.x1, ..*rest });
+        return from + 2;
     }
-    area
+    put_over(towers, from, at + 1, tower);
+    from + 1
+}
+
+/// Puts a rectangle above a lower tower that ends right of it. What the tower has beside it stays.
+fn put_within(towers: &mut Vec<Rect>, from: usize, at: usize, rest: Rect) {
+    let tower = towers[at];
+    towers[at] = Rect { x1: rest.x2, ..tower };
+    put_over(towers, from, at, rest);
+    if tower.x1 < rest.x1 {
+        towers.insert(from, Rect { x2: rest.x1, ..tower });
+    }
+}
+
+/// Puts a rectangle in place of the towers from one to another, which may be none.
+fn put_over(towers: &mut Vec<Rect>, from: usize, to: usize, rect: Rect) {
+    if from == to {
+        towers.insert(from, rect);
+        return;
+    }
+    towers[from] = rect;
+    if from + 1 < to {
+        let left = towers.len() - (to - from - 1);
+        towers.copy_within(to.., from + 1);
+        towers.truncate(left);
+    }
 }
 
 /// The halves of a part in which many rectangles begin or end.
@@ -242,9 +308,14 @@ fn halves(rects: &[Rect], part: &Rect) -> Option<(Rect, Rect)> {
     }
 }
 
+/// How many squares a rectangle has.
+fn area(rect: &Rect) -> i64 {
+    (i64::from(rect.x2) - i64::from(rect.x1)) * (i64::from(rect.y2) - i64::from(rect.y1))
+}
+
 /// How many squares two rectangles share.
 fn shared_area(rect: &Rect, part: &Rect) -> i64 {
-    clip(rect, part).map_or(0, |piece| i64::from(piece.x2 - piece.x1) * i64::from(piece.y2 - piece.y1))
+    clip(rect, part).map_or(0, |piece| area(&piece))
 }
 
 /// How many squares of the part few rectangles cover of which no two share a square.
@@ -263,13 +334,16 @@ fn apart_area(rects: &[Rect], part: &Rect) -> Option<i64> {
 }
 
 /// How many squares the rectangles of a part cover.
-fn covered_area(rects: &[Rect], part: &Rect) -> i64 {
+fn covered_area(towers: &mut Vec<Rect>, rects: &mut [Rect], part: &Rect) -> i64 {
     if let Some(area) = apart_area(rects, part) {
         return area;
     }
     match halves(rects, part) {
-        Some((first, second)) => covered_area(&within(rects, &first), &first) + covered_area(&within(rects, &second), &second),
-        None => counted_area(rects, part),
+        Some((first, second)) => {
+            let below = covered_area(towers, &mut within(rects, &first), &first);
+            below + covered_area(towers, &mut within(rects, &second), &second)
+        }
+        None => counted_area(towers, rects, part),
     }
 }
 
@@ -278,8 +352,9 @@ fn row_areas(lists: &mut [Vec<Rect>], rects: &[&Rect], across: &[i32], from: i32
     let row = Rect { x1: across[0], y1: from, x2: across[across.len() - 1], y2: to };
     let cell = |i: usize| Rect { x1: across[i], y1: from, x2: across[i + 1], y2: to };
     share_to_cells(lists, &listed(rects, &row), across, cell);
-    for (i, list) in lists.iter().enumerate() {
-        areas[i] = covered_area(list, &cell(i));
+    let mut towers = Vec::new();
+    for (i, list) in lists.iter_mut().enumerate() {
+        areas[i] = covered_area(&mut towers, list, &cell(i));
     }
 }
 

@@ -5,8 +5,6 @@ pub mod Gaps
 pub mod Sharing
 pub mod Listing
 pub mod RowAreas
-pub mod Tallying
 pub mod DistinctLines
-pub mod RowLengths
-pub mod Crossing
-pub mod Sweeping
+pub mod Towers
+pub mod SkylineAreas

@@ -1,8 +1,8 @@
 -- The cells of a row put one after another.
-use Rattle.std.proofs.Common.{◌≡◌, Bool, true, false, ◌&&◌, ℕ, ◌+◌, ◌-◌, ◌^◌, ◌≤◌, ◌<◌, ℤ, pos, ◌≤ℤ◌, ◌<ℤ◌, List, [], ◌∷◌, ◌++◌, length, get_or, refl, arith, ap, ◌∙◌, sym, subst}
+use Rattle.std.proofs.Common.{◌≡◌, Bool, true, false, ◌&&◌, ℕ, ◌+◌, ◌-◌, ◌^◌, ◌≤◌, ◌<◌, ℤ, pos, ◌≤ℤ◌, ◌<ℤ◌, List, [], ◌∷◌, ◌++◌, length, get_or, set, refl, arith, ap, ◌∙◌, sym, subst}
 use Rattle.std.specs.Global.{Vec}
 use Rattle.std.proofs.lemmas.Int.{ints}
-use Rattle.std.proofs.lemmas.List.{get_or_default, get_or_append_left, length-append}
+use Rattle.std.proofs.lemmas.List.{get_or_default, get_or-set_other, get_or_append_left, length-append, length-set}
 use Rattle.std.proofs.Math.Seq.{get_or-append_seam}
 use Rattle.fill_area.proofs.Begun.{by_lt}
 use Rattle.fill_base.specs.declared.rect.Rect.{Rect}
@@ -33,6 +33,20 @@ squares_bounds r x y held =
 pub record AreFirstAreas (p : ℤ → ℤ → Bool) (across : List ℤ) (from to : ℤ) (n : ℕ) (areas : List ℤ) : Type 0 where
   pub count : length areas ≡ n
   pub each : (i : ℕ) (d : ℤ) → i < n → get_or areas i d ≡ pos (area_between p (get_or across i d) from (get_or across (i + 1) d) to)
+
+-- the lists from `n` on are as they were shared out
+pub record AreLeft (n : ℕ) (shared lists : List (Vec Rect)) : Type 0 where
+  pub count : length lists ≡ length shared
+  pub later : (j : ℕ) (d : Vec Rect) → n ≤ j → get_or lists j d ≡ get_or shared j d
+
+pub left_all : (lists : List (Vec Rect)) → AreLeft 0 lists lists
+left_all lists = record { count = refl; later = λ j d le. refl }
+
+pub left_more : (n : ℕ) (shared lists : List (Vec Rect)) (v : Vec Rect) → AreLeft n shared lists → AreLeft (n + 1) shared (set lists n v)
+left_more n shared lists v left = record {
+  count = length-set lists n v ∙ left.count;
+  later = λ j d le. get_or-set_other lists n j v d (λ is. omega (arith, le, is)) ∙ left.later j d (omega (arith, le));
+}
 
 -- an area, as the code reads it
 area_read : (p : ℤ → ℤ → Bool) (part : Rect) (area : ℤ) → area ≡ pos (area_of p part) → read area ≡ pos (area_of p part)

@@ -15,11 +15,11 @@ use Rattle.fill_region.specs.Squares.{covered}
 use Rattle.fill_cells.proofs.Halving.{area_split_across, area_split_up, area_small, same_within, summed}
 use Rattle.fill_cells.proofs.Lists.{covered_pushed}
 
-and_no : (b : Bool) → b && false ≡ false
+pub and_no : (b : Bool) → b && false ≡ false
 and_no true = refl
 and_no false = refl
 
-and_yes : (b : Bool) → b && true ≡ b
+pub and_yes : (b : Bool) → b && true ≡ b
 and_yes true = refl
 and_yes false = refl
 
@@ -30,30 +30,39 @@ no_squares p left bottom right top wide tall none =
     (λ y low high. count_between_same (λ x. p x y) (λ x. false) left right wide (λ x from to. none x y from to low high))
     ∙ no_area left bottom right top wide tall
 
-record LiesIn (w part : Rect) : Type 0 where
+pub record LiesIn (w part : Rect) : Type 0 where
   pub left : w.x1 ≤ℤ part.x1
   pub right : part.x2 ≤ℤ w.x2
   pub bottom : w.y1 ≤ℤ part.y1
   pub top : part.y2 ≤ℤ w.y2
 
--- a rectangle within another has its own area there
-in_part : (part w : Rect) → LiesIn w part → area_of (squares part) part ≡ area_of (squares part) w
-in_part part w inside =
-    let p = squares part in let wide = lt_le _ _ part.wide in let tall = lt_le _ _ part.tall in
+-- a set that has no square outside a rectangle within another has its own area there
+in_part : (p : ℤ → ℤ → Bool) (part w : Rect) → LiesIn w part → ((x y : ℤ) → squares part x y ≡ false → p x y ≡ false) → area_of p part ≡ area_of p w
+in_part p part w inside outside =
+    let wide = lt_le _ _ part.wide in let tall = lt_le _ _ part.tall in
     let across = le_trans w.x1 part.x1 w.x2 inside.left (le_trans part.x1 part.x2 w.x2 wide inside.right) in
     let below = area_split_up p w.x1 w.x2 w.y1 part.y1 w.y2 inside.bottom (le_trans part.y1 part.y2 w.y2 tall inside.top) in
     let above = area_split_up p w.x1 w.x2 part.y1 part.y2 w.y2 tall inside.top in
     let before = area_split_across p w.x1 part.x1 w.x2 part.y1 part.y2 inside.left (le_trans part.x1 part.x2 w.x2 wide inside.right) in
     let after = area_split_across p part.x1 part.x2 w.x2 part.y1 part.y2 wide inside.right in
-    let none_below = no_squares p w.x1 w.y1 w.x2 part.y1 across inside.bottom (λ x y l r b t. rw (is_between_below part.y1 part.y2 y t) (and_no _)) in
-    let none_above = no_squares p w.x1 part.y2 w.x2 w.y2 across inside.top (λ x y l r b t. rw (is_between_above part.y1 part.y2 y b) (and_no _)) in
-    let none_before = no_squares p w.x1 part.y1 part.x1 part.y2 inside.left tall (λ x y l r b t. rw (is_between_below part.x1 part.x2 x r) refl) in
-    let none_after = no_squares p part.x2 part.y1 w.x2 part.y2 inside.right tall (λ x y l r b t. rw (is_between_above part.x1 part.x2 x l) refl) in
+    let none_below = no_squares p w.x1 w.y1 w.x2 part.y1 across inside.bottom (λ x y l r b t. outside x y (rw (is_between_below part.y1 part.y2 y t) (and_no _))) in
+    let none_above = no_squares p w.x1 part.y2 w.x2 w.y2 across inside.top (λ x y l r b t. outside x y (rw (is_between_above part.y1 part.y2 y b) (and_no _))) in
+    let none_before = no_squares p w.x1 part.y1 part.x1 part.y2 inside.left tall (λ x y l r b t. outside x y (rw (is_between_below part.x1 part.x2 x r) refl)) in
+    let none_after = no_squares p part.x2 part.y1 w.x2 part.y2 inside.right tall (λ x y l r b t. outside x y (rw (is_between_above part.x1 part.x2 x l) refl)) in
     omega (arith, below, above, before, after, none_below, none_above, none_before, none_after)
 
--- the area of what a rectangle has in a window
-pub shared_part : (r w part : Rect) → ((x y : ℤ) → squares part x y ≡ squares r x y && squares w x y) → area_of (squares part) part ≡ area_of (squares r) w
-shared_part r w part each = in_part part w inside ∙ sym (same_within (squares r) (squares part) w (λ x y here. sym (each x y ∙ rw here (and_yes (squares r x y)))))
+-- what a rectangle has in a window lies in the window
+pub lies_in : (r w part : Rect) → ((x y : ℤ) → squares part x y ≡ squares r x y && squares w x y) → LiesIn w part
+lies_in r w part each =
+    let low = corner part.x1 part.y1 (first _ _ part.wide) part.wide (first _ _ part.tall) part.tall in
+    let across = last _ _ part.wide in let up = last _ _ part.tall in
+    let high = corner (part.x2 -ℤ pos 1) (part.y2 -ℤ pos 1) across.0 across.1 up.0 up.1 in
+    record {
+      left = (is_between_bounds w.x1 w.x2 part.x1 low.0).0;
+      right = reached _ _ (is_between_bounds w.x1 w.x2 (part.x2 -ℤ pos 1) high.0).1;
+      bottom = (is_between_bounds w.y1 w.y2 part.y1 low.1).0;
+      top = reached _ _ (is_between_bounds w.y1 w.y2 (part.y2 -ℤ pos 1) high.1).1;
+    }
   where
     corner : (x y : ℤ) → part.x1 ≤ℤ x → x <ℤ part.x2 → part.y1 ≤ℤ y → y <ℤ part.y2 → (is_between w.x1 w.x2 x ≡ true) × (is_between w.y1 w.y2 y ≡ true)
     corner x y left right bottom top =
@@ -68,17 +77,19 @@ shared_part r w part each = in_part part w inside ∙ sym (same_within (squares 
     reached : (a b : ℤ) → (a -ℤ pos 1) <ℤ b → a ≤ℤ b
     reached a b h = omega (arith, ints)
 
-    inside : LiesIn w part
-    inside =
-        let low = corner part.x1 part.y1 (first _ _ part.wide) part.wide (first _ _ part.tall) part.tall in
-        let across = last _ _ part.wide in let up = last _ _ part.tall in
-        let high = corner (part.x2 -ℤ pos 1) (part.y2 -ℤ pos 1) across.0 across.1 up.0 up.1 in
-        record {
-          left = (is_between_bounds w.x1 w.x2 part.x1 low.0).0;
-          right = reached _ _ (is_between_bounds w.x1 w.x2 (part.x2 -ℤ pos 1) high.0).1;
-          bottom = (is_between_bounds w.y1 w.y2 part.y1 low.1).0;
-          top = reached _ _ (is_between_bounds w.y1 w.y2 (part.y2 -ℤ pos 1) high.1).1;
-        }
+-- the area of what a rectangle has of a set in a window
+pub hidden_part : (p : ℤ → ℤ → Bool) (r w part : Rect) → ((x y : ℤ) → squares part x y ≡ squares r x y && squares w x y)
+    → area_of p part ≡ area_of (λ x y. squares r x y && p x y) w
+hidden_part p r w part each =
+    let q : ℤ → ℤ → Bool = λ x y. squares part x y && p x y in
+    same_within p q part (λ x y here. sym (ap (λ b. b && p x y) here))
+    ∙ (in_part q part w (lies_in r w part each) (λ x y none. ap (λ b. b && p x y) none)
+    ∙ same_within q (λ x y. squares r x y && p x y) w (λ x y here. ap (λ b. b && p x y) (each x y ∙ rw here (and_yes (squares r x y)))))
+
+-- the area of what a rectangle has in a window
+pub shared_part : (r w part : Rect) → ((x y : ℤ) → squares part x y ≡ squares r x y && squares w x y) → area_of (squares part) part ≡ area_of (squares r) w
+shared_part r w part each = in_part (squares part) part w (lies_in r w part each) (λ x y none. none)
+    ∙ sym (same_within (squares r) (squares part) w (λ x y here. sym (each x y ∙ rw here (and_yes (squares r x y)))))
 
 -- a set without a square in the window
 pub none_within : (p : ℤ → ℤ → Bool) (w : Rect) → ((x y : ℤ) → p x y && squares w x y ≡ false) → area_of p w ≡ 0
@@ -95,7 +106,7 @@ one_of false true none = refl
 one_of false false none = refl
 
 -- the areas of sets that share no square add up
-apart_sum : (p q : ℤ → ℤ → Bool) (part : Rect) → ((x y : ℤ) → p x y && q x y ≡ false) → area_of (λ x y. p x y || q x y) part ≡ area_of p part + area_of q part
+pub apart_sum : (p q : ℤ → ℤ → Bool) (part : Rect) → ((x y : ℤ) → p x y && q x y ≡ false) → area_of (λ x y. p x y || q x y) part ≡ area_of p part + area_of q part
 apart_sum p q part apart =
     sum_between_add (λ y. count_between (λ x. p x y) part.x1 part.x2) (λ y. count_between (λ x. q x y) part.x1 part.x2) (λ y. count_between (λ x. p x y || q x y) part.x1 part.x2) part.y1 part.y2
     (λ y. sum_between_add (λ x. cond (p x y) 1 0) (λ x. cond (q x y) 1 0) (λ x. cond (p x y || q x y) 1 0) part.x1 part.x2 (λ x. one_of (p x y) (q x y) (apart x y)))

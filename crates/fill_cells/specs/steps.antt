@@ -2,5 +2,4 @@
 pub mod Within
 pub mod Parts
 pub mod Halves
-pub mod Tallies
-pub mod Sweep
+pub mod Skyline

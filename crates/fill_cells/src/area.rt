@@ -6,7 +6,7 @@ ghost use Rattle.fill_region.specs.Squares.{covered};
 ghost use Rattle.fill_cells.specs.steps.Halves.{AreHalves};
 
 use crate::pieces::within;
-use crate::sweep::counted_area;
+use crate::skyline::counted_area;
 use fill_base::Rect;
 use std::alloc::{AllocError, Global};
 
@@ -18,25 +18,30 @@ const PAIRED: usize = 16;
 
 /// How many unit squares of the part some rectangle covers. Few rectangles that lie apart are summed, without any memory. Many are cut
 /// at the middle of the part and counted in its halves, so that a pile of large ones costs little: it is one rectangle wherever one of
-/// them covers all.
+/// them covers all. The list may be in another order afterwards; `towers` is memory that is used again.
 ///
 /// # Errors
 /// `AllocError` where memory is refused.
-pub fn covered_area(alloc: Global, rects: &[Rect], part: &Rect) -> Result<i64, AllocError>
-    ensures { IfOk result (λ n. n ≡ pos (area_of (covered rects.now) part.now)) }
+pub(crate) fn covered_area(
+    alloc: Global,
+    towers: &mut Vec<Rect>,
+    rects: &mut [Rect],
+    part: &Rect,
+) -> Result<i64, AllocError>
+    ensures { IfOk result (λ n. n ≡ pos (area_of (covered rects.old) part.now)) }
 {
     if let Some(area) = apart_area(rects, part) {
         return Ok(area);
     }
     match halves(rects, part) {
         Some((first, second)) => {
-            let in_first = within(alloc, rects, &first)?;
-            let below = covered_area(alloc, &in_first, &first)?;
-            let in_second = within(alloc, rects, &second)?;
-            let above = covered_area(alloc, &in_second, &second)?;
+            let mut in_first = within(alloc, rects, &first)?;
+            let below = covered_area(alloc, towers, &mut in_first, &first)?;
+            let mut in_second = within(alloc, rects, &second)?;
+            let above = covered_area(alloc, towers, &mut in_second, &second)?;
             Ok(below + above)
         }
-        None => counted_area(alloc, rects, part),
+        None => counted_area(towers, rects, part),
     }
 }
 

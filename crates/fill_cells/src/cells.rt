@@ -33,9 +33,10 @@ pub fn row_areas(
     let listed = listed(alloc, rects, &row)?;
     share_out(alloc, lists, &row, across, &listed)?;
     let mut areas = Vec::with_capacity(alloc, lists.len())?;
-    for (i, cell) in lists.iter().enumerate() {
+    let mut towers = Vec::new(alloc);
+    for i in 0..lists.len() {
         let part = Rect::from_edges(across[i], from, across[i + 1], to);
-        let area = covered_area(alloc, cell, &part)?;
+        let area = covered_area(alloc, &mut towers, &mut lists[i], &part)?;
         areas.push(area)?;
     }
     Ok(areas)

@@ -8,10 +8,9 @@ mod lines;
 mod pieces;
 mod rows;
 mod shares;
-mod sweep;
-mod tally;
+mod skyline;
 
-pub use area::{covered_area, shared_area};
+pub use area::shared_area;
 pub use cells::row_areas;
 pub use lines::lines_at;
 pub use rows::by_row;

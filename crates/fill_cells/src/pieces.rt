@@ -48,8 +48,6 @@ fn hold_piece(list: &mut Vec<Rect>, piece: Rect, part: &Rect) -> Result<(), Allo
 {
     if piece == *part {
         list.clear();
-        put(list, piece)?;
-        return Ok(());
     }
     put(list, piece)?;
     Ok(())
