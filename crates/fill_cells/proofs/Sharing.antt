@@ -1,6 +1,5 @@
 -- A rectangle put to the lists of the parts that it meets.
 use Rattle.std.proofs.Common.{◌≡◌, Bool, true, false, ◌&&◌, ◌||◌, ℕ, ◌+◌, ◌≤◌, ◌<◌, ℤ, pos, ◌≤ℤ◌, ◌<ℤ◌, List, [], ◌∷◌, ◌++◌, length, take, get_or, set, refl, arith, ap, ◌∙◌, sym, subst}
-use Rattle.std.specs.Borrow.{Bor}
 use Rattle.std.specs.Global.{Vec}
 use Rattle.std.proofs.lemmas.Int.{ints}
 use Rattle.std.proofs.lemmas.List.{get_or_default, get_or-set_same, get_or-set_other, length-set, take_more, take_all}
@@ -12,7 +11,7 @@ use Rattle.fill_base.specs.Squares.{squares}
 use Rattle.fill_base.proofs.Between.{is_between_bounds}
 use Rattle.fill_base.proofs.Signed.{read, read_is}
 use Rattle.fill_region.specs.Squares.{covered}
-use Rattle.fill_cells.specs.Mesh.{AreLines, gaps, covered_by, row_squares, AreListsOf}
+use Rattle.fill_cells.specs.Mesh.{AreLines, gaps, covered_at, row_squares, AreListsOf}
 use Rattle.fill_cells.specs.steps.Parts.{cell_squares, AreShared, AreListed, AreMoreIn, IsMoreAt, AreMet}
 use Rattle.fill_cells.proofs.Gaps.{line_read}
 use Rattle.fill_cells.proofs.Lists.{covered_pushed, x1_fits, x2_fits, y1_fits, y2_fits}
@@ -101,10 +100,10 @@ shared_all row rect lines begin end first k past old new begin_is end_is met all
         rw (ap read begin_is ∙ read_is rect.x1 (x1_fits rect), ap read end_is ∙ read_is rect.x2 (x2_fits rect))
         (both_hold lo hi rect.x1 rect.x2 x (and_both (is_between lo hi x) (is_between row.y1 row.y2 y) inside).0 (and_both (is_between rect.x1 rect.x2 x) (is_between rect.y1 rect.y2 y) held).0)
 
-pub listed_all : (rect : Rect) (up : List ℤ) (begin end : ℤ) (first k past : ℕ) (old new : List (Vec (Bor Rect))) → begin ≡ rect.y1 → end ≡ rect.y2
-    → AreMet up (read begin) (read end) first past → past ≤ k → AreMoreTo (Vec (Bor Rect)) (λ v. covered_by v.items) row_squares up rect first k old new → AreListed up rect old new
-listed_all rect up begin end first k past old new begin_is end_is met all to =
-    more_to_all (Vec (Bor Rect)) (λ v. covered_by v.items) row_squares up rect (read begin) (read end) first k past old new meets met all to
+pub listed_all : (rects : List Rect) (rect : Rect) (up : List ℤ) (begin end : ℤ) (first k past : ℕ) (old new : List (Vec ℕ)) → begin ≡ rect.y1 → end ≡ rect.y2
+    → AreMet up (read begin) (read end) first past → past ≤ k → AreMoreTo (Vec ℕ) (λ v. covered_at rects v.items) row_squares up rect first k old new → AreListed rects up rect old new
+listed_all rects rect up begin end first k past old new begin_is end_is met all to =
+    more_to_all (Vec ℕ) (λ v. covered_at rects v.items) row_squares up rect (read begin) (read end) first k past old new meets met all to
   where
     meets : (lo hi x y : ℤ) → row_squares lo hi x y ≡ true → squares rect x y ≡ true → (read begin <ℤ hi) × (lo <ℤ read end)
     meets lo hi x y inside held =

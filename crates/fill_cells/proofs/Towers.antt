@@ -2,7 +2,7 @@
 use Rattle.std.proofs.Common.{◌≡◌, ℕ, suc, ◌+◌, ◌-◌, ◌≤◌, ◌<◌, ℤ, pos, ◌+ℤ◌, ◌≤ℤ◌, ◌<ℤ◌, List, [], ◌∷◌, ◌++◌, length, get_or, take, drop, set, refl, arith, ap, ◌∙◌, sym, subst, Bool, true, false, ◌||◌, ◌&&◌, All, w64, FitsSigned}
 use Rattle.std.specs.Prelude.{int_lt, int_le}
 use Rattle.fill_area.proofs.Begun.{by_lt}
-use Rattle.fill_base.proofs.Between.{is_between_above, is_between_bounds}
+use Rattle.fill_base.proofs.Between.{is_between_bounds}
 use Rattle.std.proofs.lemmas.Bool.{and_parts}
 use Rattle.fill_base.proofs.Signed.{read, read_is, is_lt, not_lt, not_le}
 use Rattle.fill_cells.proofs.Lists.{edge_is}
@@ -275,16 +275,9 @@ take_out A C t r h no_more = record {
   squares = λ x y le. rw (both_parts A C x y, both_parts A (t ∷ C) x y) (one_less (covered A x y) (squares t x y) (covered C x y) (squares r x y) (no_more x y le));
 }
 
--- a lower tower in the rectangle's columns has no more, nor one that ends below it
+-- a lower tower in the rectangle's columns has no more
 pub no_more_over : (t r : Rect) → r.x1 ≤ℤ t.x1 → t.x2 ≤ℤ r.x2 → t.y2 <ℤ r.y2 → IsNoMore t r
 no_more_over t r left right lower x y le = risen_over t.x1 t.x2 t.y1 t.y2 r.x1 r.x2 r.y1 r.y2 x y left right lower le
-
-pub no_more_below : (t r : Rect) → t.y2 ≤ℤ r.y1 → IsNoMore t r
-no_more_below t r ended x y le = rw (is_between_above t.y1 t.y2 y (le_trans t.y2 r.y1 y ended le)) (neither (is_between t.x1 t.x2 x) (squares r x y))
-  where
-    neither : (a b : Bool) → b ≡ ((a && false) || b)
-    neither true b = refl
-    neither false b = refl
 
 risen_right : (t1 t2 tb tt r1 r2 rb rt x y : ℤ) → r1 ≤ℤ t1 → t1 <ℤ r2 → r2 <ℤ t2 → tt <ℤ rt → rb ≤ℤ y
     → ((is_between r1 r2 x && is_between rb rt y) || (is_between r2 t2 x && is_between tb tt y)) ≡ ((is_between t1 t2 x && is_between tb tt y) || (is_between r1 r2 x && is_between rb rt y))
@@ -701,12 +694,3 @@ reads_lt a b u v fa fb first second lt = rw (first, second, read_is a fa, read_i
 
 pub not_upto : (a b u v : ℤ) → FitsSigned w64 a → FitsSigned w64 b → u ≡ a → v ≡ b → int_le (read u) (read v) ≡ false → b <ℤ a
 not_upto a b u v fa fb first second over = not_le b a (rw (first, second, read_is a fa, read_is b fb) at over)
-
-pub after_next : (old : List Rect) (at : ℕ) (m : ℤ) → All (λ q. m ≤ℤ q.x1) (drop (at + 1) old) → All (λ q. m ≤ℤ q.x1) (drop (suc at) old)
-after_next old at m right = subst (λ n. All (λ q. m ≤ℤ q.x1) (drop n old)) (one_on at) right
-  where
-    one_on : (n : ℕ) → n + 1 ≡ suc n
-    one_on n = omega arith
-
-pub at_end : (at n m : ℕ) → at ≤ n → m ≡ n → m ≤ at → at ≡ n
-at_end at n m le is past = omega (arith, past, le, is)

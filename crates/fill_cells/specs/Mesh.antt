@@ -1,12 +1,12 @@
 -- A mesh: lines across and lines upwards, and the cells between neighbouring ones.
-use Rattle.std.specs.Prelude.{◌≡◌, ℕ, ◌+◌, ◌-◌, ◌<◌, ◌≤◌, ℤ, pos, ◌<ℤ◌, Bool, true, List, length, get_or}
-use Rattle.std.specs.Borrow.{Bor}
+use Rattle.std.specs.Prelude.{◌≡◌, ℕ, ◌+◌, ◌-◌, ◌<◌, ◌≤◌, ℤ, pos, ◌<ℤ◌, Bool, true, List, length, get_or, take, drop}
 use Rattle.std.specs.Global.{Vec}
 use Rattle.std.specs.List.{list_any}
 use Rattle.fill_base.specs.declared.rect.Rect.{Rect}
 use Rattle.fill_base.specs.Counts.{is_between}
 use Rattle.fill_base.specs.Coordinates.{IsCoordinate}
-use Rattle.fill_base.specs.Squares.{squares, area_between}
+use Rattle.fill_base.specs.Squares.{area_between}
+use Rattle.fill_region.specs.Squares.{covered}
 
 -- two coordinates or more, each above the one before
 pub record AreLines (lines : List ℤ) : Type 0 where
@@ -23,9 +23,9 @@ pub record AreRowAreas (p : ℤ → ℤ → Bool) (across : List ℤ) (from to :
   pub count : length areas ≡ gaps across
   pub each : (i : ℕ) (d : ℤ) → i < gaps across → get_or areas i d ≡ pos (area_between p (get_or across i d) from (get_or across (i + 1) d) to)
 
--- some rectangle to which the list refers holds the square
-abbrev pub covered_by : List (Bor Rect) → ℤ → ℤ → Bool
-covered_by rects x y = list_any (λ r. squares r.now x y) rects
+-- some rectangle at one of these places of the list holds the square
+abbrev pub covered_at : List Rect → List ℕ → ℤ → ℤ → Bool
+covered_at rects places x y = list_any (λ k. covered (take 1 (drop k rects)) x y) places
 
 -- each list covers, in the part between two neighbouring lines, the squares of the set
 pub record AreListsOf (V : Type 0) (cover : V → ℤ → ℤ → Bool) (part : ℤ → ℤ → ℤ → ℤ → Bool) (lines : List ℤ) (p : ℤ → ℤ → Bool) (lists : List V) : Type 0 where
@@ -36,6 +36,6 @@ pub record AreListsOf (V : Type 0) (cover : V → ℤ → ℤ → Bool) (part : 
 abbrev pub row_squares : ℤ → ℤ → ℤ → ℤ → Bool
 row_squares lo hi x y = is_between lo hi y
 
--- for each row of cells a list that covers there the squares of the set
-abbrev pub AreRowLists : List ℤ → (ℤ → ℤ → Bool) → List (Vec (Bor Rect)) → Type 0
-AreRowLists up p lists = AreListsOf (Vec (Bor Rect)) (λ v. covered_by v.items) row_squares up p lists
+-- for each row of cells the places of rectangles that cover there what all of them do
+abbrev pub AreRowLists : List Rect → List ℤ → List (Vec ℕ) → Type 0
+AreRowLists rects up lists = AreListsOf (Vec ℕ) (λ v. covered_at rects v.items) row_squares up (covered rects) lists

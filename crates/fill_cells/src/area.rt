@@ -62,16 +62,22 @@ fn apart_area(rects: &[Rect], part: &Rect) -> Option<i64>
     Some(area)
 }
 
-/// Whether a rectangle shares a square with one of the others.
+/// Whether a rectangle shares a square with one of the others. All of them are looked at, with no branch that is guessed wrong.
 fn meets_any(rect: &Rect, others: &[Rect]) -> bool
     ensures { false ≡ result → (x y : ℤ) → covered others.now x y && squares rect.now x y ≡ false }
 {
+    let mut any = false;
     for other in others {
-        if other.clip(rect).is_some() {
-            return true;
-        }
+        any |= meets(other, rect);
     }
-    false
+    any
+}
+
+/// Whether two rectangles share a square.
+fn meets(a: &Rect, b: &Rect) -> bool
+    ensures { false ≡ result → (x y : ℤ) → squares a.now x y && squares b.now x y ≡ false }
+{
+    (a.x1() < b.x2()) & (b.x1() < a.x2()) & (a.y1() < b.y2()) & (b.y1() < a.y2())
 }
 
 /// How many unit squares two rectangles share.

@@ -1,7 +1,8 @@
 //! The area that rectangles cover in each cell of a row.
 ghost use Rattle.std.specs.Prelude.{◌≤ℤ◌, ◌<ℤ◌, IfOk};
 ghost use Rattle.fill_base.specs.Coordinates.{lowest, highest};
-ghost use Rattle.fill_cells.specs.Mesh.{AreLines, AreRowAreas, covered_by};
+ghost use Rattle.fill_region.specs.Squares.{covered};
+ghost use Rattle.fill_cells.specs.Mesh.{AreLines, AreRowAreas};
 
 use crate::area::covered_area;
 use crate::rows::listed;
@@ -18,7 +19,7 @@ use std::alloc::{AllocError, Global};
 pub fn row_areas(
     alloc: Global,
     lists: &mut Vec<Vec<Rect>>,
-    rects: &[&Rect],
+    rects: Vec<Rect>,
     across: &[i64],
     from: i64,
     to: i64,
@@ -27,7 +28,7 @@ pub fn row_areas(
     requires low { lowest ≤ℤ from }
     requires ordered { from <ℤ to }
     requires high { to ≤ℤ highest }
-    ensures { IfOk result (λ v. AreRowAreas (covered_by rects.now) across.now from to v.items) }
+    ensures { IfOk result (λ v. AreRowAreas (covered rects.items) across.now from to v.items) }
 {
     let row = Rect::from_edges(across[0], from, across[across.len() - 1], to);
     let listed = listed(alloc, rects, &row)?;

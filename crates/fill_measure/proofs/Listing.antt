@@ -1,6 +1,5 @@
 -- The areas of a row of cells, by the list of the rectangles that meet it.
 use Rattle.std.proofs.Common.{◌≡◌, Bool, true, ℕ, ◌+◌, ◌*◌, ◌<◌, ℤ, pos, ◌≤ℤ◌, ◌<ℤ◌, List, length, get_or, arith, ap, ◌∙◌, sym, subst}
-use Rattle.std.specs.Borrow.{Bor}
 use Rattle.std.proofs.lemmas.List.{get_or_default}
 use Rattle.fill_base.specs.declared.rect.Rect.{Rect}
 use Rattle.fill_base.specs.Coordinates.{IsCoordinate}
@@ -9,7 +8,8 @@ use Rattle.fill_base.specs.Squares.{area_between}
 use Rattle.fill_base.proofs.Between.{is_between_true}
 use Rattle.fill_base.proofs.Counting.{sum_between_same, count_between_same}
 use Rattle.fill_base.proofs.Signed.{read, read_is, coordinate_fits, lt_le}
-use Rattle.fill_cells.specs.Mesh.{AreLines, AreRowAreas, covered_by, row_squares, gaps}
+use Rattle.fill_region.specs.Squares.{covered}
+use Rattle.fill_cells.specs.Mesh.{AreLines, AreRowAreas, row_squares, gaps}
 use Rattle.fill_measure.specs.steps.Groups.{AreRows, cell_area}
 
 -- sets that agree between four lines have the same area there
@@ -26,9 +26,9 @@ line_is lines i d are lt =
     read_is (get_or lines i (pos 0)) (coordinate_fits (get_or lines i (pos 0)) is.least is.most) ∙ get_or_default lines i (pos 0) d lt
 
 -- one row, measured by a list that covers there the squares of the set
-pub row_is : (p : ℤ → ℤ → Bool) (across up row : List ℤ) (items : List (Bor Rect)) (j : ℕ) → AreLines across → AreLines up → j < gaps up
-    → ((d : ℤ) (x y : ℤ) → row_squares (get_or up j d) (get_or up (j + 1) d) x y ≡ true → covered_by items x y ≡ p x y)
-    → AreRowAreas (covered_by items) across (read (get_or up j (pos 0))) (read (get_or up (j + 1) (pos 0))) row → AreRows p across up j 1 row
+pub row_is : (p : ℤ → ℤ → Bool) (across up row : List ℤ) (items : List Rect) (j : ℕ) → AreLines across → AreLines up → j < gaps up
+    → ((d : ℤ) (x y : ℤ) → row_squares (get_or up j d) (get_or up (j + 1) d) x y ≡ true → covered items x y ≡ p x y)
+    → AreRowAreas (covered items) across (read (get_or up j (pos 0))) (read (get_or up (j + 1) (pos 0))) row → AreRows p across up j 1 row
 row_is p across up row items j lines ups j_in agree areas = record {
   count = areas.count ∙ omega arith;
   each = λ i k d i_in k_in. let zero : k ≡ 0 = omega (arith, k_in) in subst (λ n. get_or row (n * gaps across + i) d ≡ pos (cell_area p across up i (j + n) d)) (sym zero) (here i d i_in);
@@ -43,8 +43,8 @@ row_is p across up row items j lines ups j_in agree areas = record {
     rises : (lines : List ℤ) (i : ℕ) (d : ℤ) → AreLines lines → i < gaps lines → get_or lines i d ≤ℤ get_or lines (i + 1) d
     rises lines i d are i_in = lt_le (get_or lines i d) (get_or lines (i + 1) d) (are.rising i (i + 1) d (omega arith) (omega (arith, i_in)))
 
-    whole : (d : ℤ) (i : ℕ) → i < gaps across → area_between (covered_by items) (get_or across i d) (get_or up j d) (get_or across (i + 1) d) (get_or up (j + 1) d) ≡ cell_area p across up i j d
-    whole d i i_in = same_between (covered_by items) p (get_or across i d) (get_or up j d) (get_or across (i + 1) d) (get_or up (j + 1) d) (rises across i d lines i_in) (rises up j d ups j_in) (λ x y low high. agree d x y (is_between_true (get_or up j d) (get_or up (j + 1) d) y low high))
+    whole : (d : ℤ) (i : ℕ) → i < gaps across → area_between (covered items) (get_or across i d) (get_or up j d) (get_or across (i + 1) d) (get_or up (j + 1) d) ≡ cell_area p across up i j d
+    whole d i i_in = same_between (covered items) p (get_or across i d) (get_or up j d) (get_or across (i + 1) d) (get_or up (j + 1) d) (rises across i d lines i_in) (rises up j d ups j_in) (λ x y low high. agree d x y (is_between_true (get_or up j d) (get_or up (j + 1) d) y low high))
 
     here : (i : ℕ) (d : ℤ) → i < gaps across → get_or row (0 * gaps across + i) d ≡ pos (cell_area p across up i (j + 0) d)
     here i d i_in =

@@ -1,14 +1,18 @@
 -- Rectangles in parts, and the lists of rows that the parts give together.
-use Rattle.std.proofs.Common.{◌≡◌, Bool, true, false, ℕ, suc, ◌+◌, ◌<◌, ℤ, List, [], ◌∷◌, ◌++◌, ◌||◌, All, length, get_or, map, take, Result, Ok, IfOk, arith, ap, subst, ◌∙◌, sym, append_assoc, refl}
+use Rattle.std.proofs.Common.{◌≡◌, Bool, true, false, ℕ, suc, ◌+◌, ◌<◌, ◌≤◌, ℤ, List, [], ◌∷◌, ◌++◌, ◌||◌, All, length, get_or, map, take, drop, Result, Ok, IfOk, arith, ap, subst, ◌∙◌, sym, append_assoc, refl}
 use Rattle.std.specs.Borrow.{Bor}
 use Rattle.std.specs.Global.{Vec}
-use Rattle.std.proofs.lemmas.List.{get_or-map, map-append, append-nil, length-map, nil_from_length, get_or_default}
+use Rattle.std.specs.List.{list_any}
+use Rattle.std.proofs.lemmas.List.{drop_all, get_or-map, map-append, append-nil, length-map, nil_from_length, get_or_default}
 use Rattle.std.proofs.lemmas.List.Folds.{list_any-append, list_any_more}
 use Rattle.fill_base.specs.declared.rect.Rect.{Rect}
 use Rattle.fill_base.specs.Squares.{squares}
 use Rattle.fill_region.specs.Squares.{covered}
-use Rattle.fill_cells.specs.Mesh.{covered_by, row_squares, gaps, AreRowLists}
-use Rattle.fill_measure.specs.steps.Parts.{ArePartLists, covered_by_parts, listed_by_parts}
+use Rattle.fill_cells.proofs.Listing.{any_at, at_place}
+use Rattle.fill_cells.proofs.Lists.{covered_pushed}
+use Rattle.fill_cells.specs.Mesh.{covered_at, row_squares, gaps}
+use Rattle.fill_measure.specs.declared.lists.Part.{Part}
+use Rattle.fill_measure.specs.steps.Parts.{ArePartLists, IsPart, covered_by_parts, listed_by_parts}
 
 -- one value more, and all of them
 pub value_more : {V E : Type 0} (done new : List V) (rest all : List (Result V E)) (x : Result V E) (v : V) → map Ok done ++ x ∷ rest ≡ all → x ≡ Ok v → new ≡ done ++ v ∷ [] → map Ok new ++ rest ≡ all
@@ -42,47 +46,83 @@ part_last done left rects none before x y =
     or_none false = refl
 
 -- the lists of one part more for a row
-pub listed_more : (parts : List (Vec (Vec (Bor Rect)))) (part : Vec (Vec (Bor Rect))) (old new : List (Bor Rect)) (list : Vec (Bor Rect)) (items : List (Bor Rect)) (n j : ℕ) → n < length parts → part ≡ get_or parts n part → j < length part.items
-    → list ≡ get_or part.items j list → items ≡ list.items → new ≡ old ++ items
-    → ((e : Vec (Bor Rect)) (x y : ℤ) → covered_by old x y ≡ listed_by_parts j e (take n parts) x y) → (e : Vec (Bor Rect)) (x y : ℤ) → covered_by new x y ≡ listed_by_parts j e (take (n + 1) parts) x y
-listed_more parts part old new list items n j n_in part_is j_in list_is items_is new_is before e x y =
-    ap (λ zs. covered_by zs x y) (new_is ∙ ap (λ zs. old ++ zs) items_is)
-    ∙ (list_any-append (λ r. squares r.now x y) old list.items
-    ∙ (ap (λ b. b || covered_by list.items x y) (before e x y)
-    ∙ (ap (λ b. listed_by_parts j e (take n parts) x y || b) (ap (λ (v : Vec (Bor Rect)). covered_by v.items x y) (list_is ∙ get_or_default part.items j list e j_in) ∙ ap (λ (v : Vec (Vec (Bor Rect))). covered_by (get_or v.items j e).items x y) part_is)
-    ∙ sym (list_any_more (λ p. covered_by (get_or p.items j e).items x y) parts n part n_in))))
+pub listed_more : (parts : List Part) (part : Part) (old new : List Rect) (list : Vec ℕ) (places : List ℕ) (n j : ℕ) → n < length parts → part ≡ get_or parts n part → j < length part.rows.items
+    → list ≡ get_or part.rows.items j list → places ≡ list.items → ((x y : ℤ) → covered new x y ≡ (covered old x y || covered_at part.rects.now places x y))
+    → ((x y : ℤ) → covered old x y ≡ listed_by_parts j (take n parts) x y) → (x y : ℤ) → covered new x y ≡ listed_by_parts j (take (n + 1) parts) x y
+listed_more parts part old new list places n j n_in part_is j_in list_is places_is new_is before x y =
+    new_is x y
+    ∙ (ap (λ b. b || covered_at part.rects.now places x y) (before x y)
+    ∙ (ap (λ b. listed_by_parts j (take n parts) x y || b) (ap (λ ps. covered_at part.rects.now ps x y) (places_is ∙ ap (λ (v : Vec ℕ). v.items) list_is)
+    ∙ (sym (any_at (λ (v : Vec ℕ). covered_at part.rects.now v.items x y) part.rows.items j list j_in) ∙ ap holds part_is))
+    ∙ sym (list_any_more holds parts n part n_in)))
+  where
+    holds : Part → Bool
+    holds p = list_any (λ row. covered_at p.rects.now row.items x y) (take 1 (drop j p.rows.items))
 
 -- each part's lists cover in a row what its rectangles do, so all do together
-listed_is : (up : List ℤ) (j : ℕ) (d : ℤ) (e : Vec (Bor Rect)) (x y : ℤ) → j < gaps up → row_squares (get_or up j d) (get_or up (j + 1) d) x y ≡ true
-    → (parts : List (Bor (List Rect))) (lists : List (Vec (Vec (Bor Rect)))) → length lists ≡ length parts
-    → ((k : ℕ) (a : Vec (Vec (Bor Rect))) (b : Bor (List Rect)) → k < length parts → AreRowLists up (covered (get_or parts k b).now) (get_or lists k a).items)
-    → listed_by_parts j e lists x y ≡ covered_by_parts parts x y
-listed_is up j d e x y j_in here [] [] len each = refl
-listed_is up j d e x y j_in here [] (v ∷ vs) len each = absurd (omega (arith, len))
-listed_is up j d e x y j_in here (s ∷ ss) [] len each = absurd (omega (arith, len))
-listed_is up j d e x y j_in here (s ∷ ss) (v ∷ vs) len each =
-    ap (λ b. b || listed_by_parts j e vs x y) ((each 0 v s (omega arith)).each j d e j_in x y here)
-    ∙ ap (λ b. covered s.now x y || b) (listed_is up j d e x y j_in here ss vs (omega (arith, len)) (λ k a b lt. each (suc k) a b (omega (arith, lt))))
+listed_is : (up : List ℤ) (j : ℕ) (d : ℤ) (x y : ℤ) → j < gaps up → row_squares (get_or up j d) (get_or up (j + 1) d) x y ≡ true
+    → (parts : List (Bor (List Rect))) (lists : List Part) → length lists ≡ length parts
+    → ((k : ℕ) (a : Part) (b : Bor (List Rect)) → k < length parts → IsPart up (get_or parts k b).now (get_or lists k a))
+    → listed_by_parts j lists x y ≡ covered_by_parts parts x y
+listed_is up j d x y j_in here [] [] len each = refl
+listed_is up j d x y j_in here [] (v ∷ vs) len each = absurd (omega (arith, len))
+listed_is up j d x y j_in here (s ∷ ss) [] len each = absurd (omega (arith, len))
+listed_is up j d x y j_in here (s ∷ ss) (v ∷ vs) len each =
+    let first = each 0 v s (omega arith) in
+    let within : j < length v.rows.items = rw first.rows.count j_in in
+    let row = at_place v.rows.items j within in
+    ap (λ b. b || listed_by_parts j vs x y) (any_at (λ (r : Vec ℕ). covered_at v.rects.now r.items x y) v.rows.items j row.0 within
+    ∙ (ap (λ rs. covered_at rs (get_or v.rows.items j row.0).items x y) first.same ∙ first.rows.each j d row.0 j_in x y here))
+    ∙ ap (λ b. covered s.now x y || b) (listed_is up j d x y j_in here ss vs (omega (arith, len)) (λ k a b lt. each (suc k) a b (omega (arith, lt))))
 
-counts : (up : List ℤ) (parts : List (Bor (List Rect))) (lists : List (Vec (Vec (Bor Rect)))) → length lists ≡ length parts
-    → ((k : ℕ) (a : Vec (Vec (Bor Rect))) (b : Bor (List Rect)) → k < length parts → AreRowLists up (covered (get_or parts k b).now) (get_or lists k a).items)
-    → All (λ part. length part.items ≡ gaps up) lists
+counts : (up : List ℤ) (parts : List (Bor (List Rect))) (lists : List Part) → length lists ≡ length parts
+    → ((k : ℕ) (a : Part) (b : Bor (List Rect)) → k < length parts → IsPart up (get_or parts k b).now (get_or lists k a))
+    → All (λ part. length part.rows.items ≡ gaps up) lists
 counts up [] lists len each = λ k d lt. absurd (omega (arith, len, lt))
-counts up (s ∷ ss) lists len each = λ k d lt. (each k d s (omega (arith, len, lt))).count
+counts up (s ∷ ss) lists len each = λ k d lt. (each k d s (omega (arith, len, lt))).rows.count
 
 -- the lists of all parts, where each part gave those of its rectangles
-pub part_lists : {E : Type 0} (up : List ℤ) (rects : List Rect) (parts : List (Bor (List Rect))) (results : List (Result (Vec (Vec (Bor Rect))) E)) (lists : List (Vec (Vec (Bor Rect)))) → results ≡ map Ok lists → length results ≡ length parts
-    → ((k : ℕ) (r : Result (Vec (Vec (Bor Rect))) E) (b : Bor (List Rect)) → k < length parts → IfOk (get_or results k r) (λ v. AreRowLists up (covered (get_or parts k b).now) v.items))
+pub part_lists : {E : Type 0} (up : List ℤ) (rects : List Rect) (parts : List (Bor (List Rect))) (results : List (Result Part E)) (lists : List Part) → results ≡ map Ok lists → length results ≡ length parts
+    → ((k : ℕ) (r : Result Part E) (b : Bor (List Rect)) → k < length parts → IfOk (get_or results k r) (λ p. IsPart up (get_or parts k b).now p))
     → ((x y : ℤ) → covered_by_parts parts x y ≡ covered rects x y) → ArePartLists up (covered rects) lists
 part_lists up rects parts results lists are len each whole = record {
   count = counts up parts lists count listed;
-  each = λ j d e j_in x y here. listed_is up j d e x y j_in here parts lists count listed ∙ whole x y;
+  each = λ j d j_in x y here. listed_is up j d x y j_in here parts lists count listed ∙ whole x y;
 }
   where
     count : length lists ≡ length parts
     count = sym (length-map lists Ok) ∙ (ap length (sym are) ∙ len)
 
-    listed : (k : ℕ) (a : Vec (Vec (Bor Rect))) (b : Bor (List Rect)) → k < length parts → AreRowLists up (covered (get_or parts k b).now) (get_or lists k a).items
+    listed : (k : ℕ) (a : Part) (b : Bor (List Rect)) → k < length parts → IsPart up (get_or parts k b).now (get_or lists k a)
     listed k a b lt =
         let at : get_or results k (Ok a) ≡ Ok (get_or lists k a) = ap (λ rs. get_or rs k (Ok a)) are ∙ get_or-map Ok lists k a (Ok a) (omega (arith, count, lt)) in
-        subst (λ r. IfOk r (λ v. AreRowLists up (covered (get_or parts k b).now) v.items)) at (each k (Ok a) b lt)
+        subst (λ r. IfOk r (λ p. IsPart up (get_or parts k b).now p)) at (each k (Ok a) b lt)
+
+taken_more : (rects : List Rect) (places : List ℕ) (k : ℕ) → k < length places → (x y : ℤ)
+    → covered_at rects (take (k + 1) places) x y ≡ (covered_at rects (take k places) x y || covered (take 1 (drop (get_or places k 0) rects)) x y)
+taken_more rects places k k_in x y =
+    list_any_more (λ n. covered (take 1 (drop n rects)) x y) places k (get_or places k 0) k_in
+    ∙ ap (λ n. covered_at rects (take k places) x y || covered (take 1 (drop n rects)) x y) (get_or_default places k (get_or places k 0) 0 k_in)
+
+-- one place more looked at, where there is a rectangle or none
+pub put_more : (rects old row new : List Rect) (places : List ℕ) (k : ℕ) (r : Rect) → k < length places → get_or places k 0 < length rects → r ≡ get_or rects (get_or places k 0) r → new ≡ row ++ r ∷ []
+    → ((x y : ℤ) → covered row x y ≡ (covered old x y || covered_at rects (take k places) x y)) → (x y : ℤ) → covered new x y ≡ (covered old x y || covered_at rects (take (k + 1) places) x y)
+put_more rects old row new places k r k_in in_rects r_is new_is before x y =
+    covered_pushed row new r new_is x y
+    ∙ (ap (λ b. b || squares r x y) (before x y)
+    ∙ (or_assoc (covered old x y) (covered_at rects (take k places) x y) (squares r x y)
+    ∙ ap (λ b. covered old x y || b) (ap (λ b. covered_at rects (take k places) x y || b) (ap (λ q. squares q x y) r_is ∙ sym (any_at (λ q. squares q x y) rects (get_or places k 0) r in_rects)) ∙ sym (taken_more rects places k k_in x y))))
+  where
+    or_assoc : (a b c : Bool) → ((a || b) || c) ≡ (a || (b || c))
+    or_assoc true b c = refl
+    or_assoc false b c = refl
+
+pub none_more : (rects old row : List Rect) (places : List ℕ) (k : ℕ) → k < length places → length rects ≤ get_or places k 0
+    → ((x y : ℤ) → covered row x y ≡ (covered old x y || covered_at rects (take k places) x y)) → (x y : ℤ) → covered row x y ≡ (covered old x y || covered_at rects (take (k + 1) places) x y)
+none_more rects old row places k k_in past before x y =
+    before x y ∙ ap (λ b. covered old x y || b) (sym (taken_more rects places k k_in x y
+    ∙ (ap (λ zs. covered_at rects (take k places) x y || covered (take 1 zs) x y) (drop_all (get_or places k 0) rects past) ∙ or_none (covered_at rects (take k places) x y))))
+  where
+    or_none : (a : Bool) → (a || false) ≡ a
+    or_none true = refl
+    or_none false = refl

@@ -6,7 +6,7 @@ ghost use Rattle.fill_measure.specs.steps.Meshes.{AreCellsOf, AreRowsOf, AreGrou
 ghost use Rattle.fill_measure.specs.steps.Parts.{ArePartLists};
 ghost use Rattle.fill_measure.specs.steps.Shapes.{squares_of};
 
-use crate::lists::{by_parts, row_of};
+use crate::lists::{Part, by_parts, row_of};
 use crate::mesh::Mesh;
 use fill_base::Rect;
 use fill_cells::row_areas;
@@ -51,7 +51,7 @@ impl Mesh<'_> {
     fn rows(
         &self,
         alloc: Global,
-        lists: &[Vec<Vec<&Rect>>],
+        lists: &[Part],
         from: usize,
         count: usize,
     ) -> Result<Vec<i64>, AllocError>
@@ -67,7 +67,7 @@ impl Mesh<'_> {
             let row = row_areas(
                 alloc,
                 &mut held,
-                &rects,
+                rects,
                 self.across,
                 self.up[j],
                 self.up[j + 1],

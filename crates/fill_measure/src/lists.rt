@@ -1,10 +1,9 @@
 //! The rectangles that meet each row of cells, listed in parallel: parts of them are looked through at once, and a row has what all
 //! parts list for it.
-ghost use Rattle.std.specs.Prelude.{◌≡◌, ℤ, ◌<◌, length, map, slice_index_or, All, Ok, IfOk};
-ghost use Rattle.std.specs.List.{list_any};
+ghost use Rattle.std.specs.Prelude.{◌≡◌, ◌||◌, ◌^◌, ℤ, ◌<◌, ◌≤◌, length, map, All, Ok, IfOk, OnOk};
 ghost use Rattle.fill_region.specs.Squares.{covered};
-ghost use Rattle.fill_cells.specs.Mesh.{AreLines, AreRowLists, covered_by};
-ghost use Rattle.fill_measure.specs.steps.Parts.{ArePartLists, covered_by_parts};
+ghost use Rattle.fill_cells.specs.Mesh.{AreLines, covered_at};
+ghost use Rattle.fill_measure.specs.steps.Parts.{ArePartLists, IsPart, covered_by_parts, listed_by_parts};
 
 use fill_base::Rect;
 use fill_cells::by_row;
@@ -18,13 +17,25 @@ const MOST_PARTS: usize = 16;
 /// A part has so many rectangles, or all that are left.
 const LEAST_PART: usize = 16_384;
 
-/// For each part of the rectangles, the lists of those that meet each row between neighbouring lines.
+/// No part has more, so that four bytes hold a place in it.
+const MOST_IN_PART: usize = 1 << 32;
+
+/// A part of the rectangles, and which of them meet each row of cells.
+#[derive(Drop)]
+pub(crate) struct Part<'a> {
+    /// The rectangles.
+    rects: &'a [Rect],
+    /// For each row the places of those that meet it.
+    rows: Vec<Vec<u32>>,
+}
+
+/// The parts of the rectangles, each with the lists of those that meet each row between neighbouring lines.
 pub(crate) fn by_parts<'a>(
     rt: &(impl Threads + Sync),
     alloc: Global,
     rects: &'a [Rect],
     up: &[i64],
-) -> Result<Vec<Vec<Vec<&'a Rect>>>, AllocError>
+) -> Result<Vec<Part<'a>>, AllocError>
     requires { AreLines up.now }
     ensures { IfOk result (λ v. ArePartLists up.now (covered rects.now) v.items) }
 {
@@ -32,19 +43,34 @@ pub(crate) fn by_parts<'a>(
     let listed = thread::map_vec(
         rt,
         parts,
-        &|part: &[Rect]| -> Result<Vec<Vec<&Rect>>, AllocError>
-            requires { AreLines up.now }
-            ensures { IfOk result (λ v. AreRowLists up.entry.now (covered part.now) v.items) }
-        { by_row(alloc, part, up) },
+        &|part: &[Rect]| -> Result<Part, AllocError>
+            requires { AreLines up.now × (length part.now ≤ 2 ^ 32) }
+            ensures { IfOk result (λ p. IsPart up.entry.now part.now p) }
+        { listed(alloc, part, up) },
     )?;
     all_of(alloc, listed)
 }
 
+/// A part with its lists.
+fn listed<'a>(alloc: Global, rects: &'a [Rect], up: &[i64]) -> Result<Part<'a>, AllocError>
+    requires lines { AreLines up.now }
+    requires few { length rects.now ≤ 2 ^ 32 }
+    ensures { IfOk result (λ p. IsPart up.now rects.now p) }
+{
+    let rows = by_row(alloc, rects, up)?;
+    Ok(Part { rects, rows })
+}
+
 /// Parts of the rectangles, which together are all of them.
 fn parts_of(alloc: Global, rects: &[Rect]) -> Result<Vec<&[Rect]>, AllocError>
-    ensures { IfOk result (λ v. (x y : ℤ) → covered_by_parts v.items x y ≡ covered rects.now x y) }
+    ensures whole { IfOk result (λ v. (x y : ℤ) → covered_by_parts v.items x y ≡ covered rects.now x y) }
+    ensures few { IfOk result (λ v. All (λ part. length part.now ≤ 2 ^ 32) v.items) }
 {
-    let size = rects.len().div_ceil(MOST_PARTS).max(LEAST_PART);
+    let size = rects
+        .len()
+        .div_ceil(MOST_PARTS)
+        .max(LEAST_PART)
+        .min(MOST_IN_PART);
     let mut parts = Vec::new(alloc);
     for part in rects.chunks(size) {
         parts.push(part)?;
@@ -65,17 +91,26 @@ fn all_of<T: Drop>(alloc: Global, results: Vec<Result<T, AllocError>>) -> Result
 }
 
 /// The rectangles that all parts list for the row at `j`.
-pub(crate) fn row_of<'a>(
-    alloc: Global,
-    parts: &[Vec<Vec<&'a Rect>>],
-    j: usize,
-) -> Result<Vec<&'a Rect>, AllocError>
-    requires { All (λ part. j < length part.items) parts.now }
-    ensures { IfOk result (λ v. (e : _) (x y : ℤ) → covered_by v.items x y ≡ list_any (λ part. covered_by (slice_index_or part.items j e).items x y) parts.now) }
+pub(crate) fn row_of(alloc: Global, parts: &[Part], j: usize) -> Result<Vec<Rect>, AllocError>
+    requires { All (λ part. j < length part.rows.items) parts.now }
+    ensures { IfOk result (λ v. (x y : ℤ) → covered v.items x y ≡ listed_by_parts j parts.now x y) }
 {
     let mut row = Vec::new(alloc);
     for part in parts {
-        row.extend_from_slice(&part[j])?;
+        put_listed(&mut row, part.rects, &part.rows[j])?;
     }
     Ok(row)
+}
+
+/// Puts the rectangles at these places to a row.
+fn put_listed(row: &mut Vec<Rect>, rects: &[Rect], places: &[u32]) -> Result<(), AllocError>
+    ensures { OnOk result ((x y : ℤ) → covered row.new.items x y ≡ (covered row.old.items x y || covered_at rects.now places.now x y)) }
+{
+    row.reserve(places.len())?;
+    for place in places {
+        if let Some(rect) = rects.get(*place as usize) {
+            row.push(*rect)?;
+        }
+    }
+    Ok(())
 }

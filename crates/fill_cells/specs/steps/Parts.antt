@@ -1,12 +1,11 @@
 -- Rectangles shared out to the parts of the plane between lines.
 use Rattle.std.specs.Prelude.{◌≡◌, ◌≢◌, ◌&&◌, ◌||◌, ℕ, ◌+◌, ◌<◌, ◌≤◌, ℤ, ◌<ℤ◌, Bool, true, List, length, get_or}
-use Rattle.std.specs.Borrow.{Bor}
 use Rattle.std.specs.Global.{Vec}
 use Rattle.fill_base.specs.declared.rect.Rect.{Rect}
 use Rattle.fill_base.specs.Counts.{is_between}
 use Rattle.fill_base.specs.Squares.{squares}
 use Rattle.fill_region.specs.Squares.{covered}
-use Rattle.fill_cells.specs.Mesh.{gaps, covered_by, row_squares, AreListsOf}
+use Rattle.fill_cells.specs.Mesh.{gaps, covered_at, row_squares, AreListsOf}
 
 -- the squares of a row of cells from the line `lo` on and below `hi`
 abbrev pub cell_squares : Rect → ℤ → ℤ → ℤ → ℤ → Bool
@@ -36,11 +35,11 @@ AreShared row lines rect old new = AreMoreIn (Vec Rect) (λ v. covered v.items) 
 abbrev pub IsSharedAt : Rect → List ℤ → Rect → ℕ → List (Vec Rect) → List (Vec Rect) → Type 0
 IsSharedAt row lines rect at old new = IsMoreAt (Vec Rect) (λ v. covered v.items) (cell_squares row) lines rect at old new
 
-abbrev pub AreListed : List ℤ → Rect → List (Vec (Bor Rect)) → List (Vec (Bor Rect)) → Type 0
-AreListed up rect old new = AreMoreIn (Vec (Bor Rect)) (λ v. covered_by v.items) row_squares up rect old new
+abbrev pub AreListed : List Rect → List ℤ → Rect → List (Vec ℕ) → List (Vec ℕ) → Type 0
+AreListed rects up rect old new = AreMoreIn (Vec ℕ) (λ v. covered_at rects v.items) row_squares up rect old new
 
-abbrev pub IsListedAt : List ℤ → Rect → ℕ → List (Vec (Bor Rect)) → List (Vec (Bor Rect)) → Type 0
-IsListedAt up rect at old new = IsMoreAt (Vec (Bor Rect)) (λ v. covered_by v.items) row_squares up rect at old new
+abbrev pub IsListedAt : List Rect → List ℤ → Rect → ℕ → List (Vec ℕ) → List (Vec ℕ) → Type 0
+IsListedAt rects up rect at old new = IsMoreAt (Vec ℕ) (λ v. covered_at rects v.items) row_squares up rect at old new
 
 -- each gap that has a number from `lo` on and below `hi` is one of those from `first` on and below `past`
 pub record AreMet (lines : List ℤ) (lo hi : ℤ) (first past : ℕ) : Type 0 where

@@ -1,24 +1,19 @@
-use Rattle.std.proofs.Common.{ap, subst, sym, take, ◌+◌, ◌∙◌}
-use Rattle.std.specs.Borrow.{Bor}
+use Rattle.std.proofs.Common.{ℕ, subst, sym, take, ◌+◌, ◌∙◌, get_or}
 use Rattle.std.specs.Global.{Vec}
-use Rattle.fill_base.specs.declared.rect.Rect.{Rect}
 use Rattle.fill_region.specs.Squares.{covered}
-use Rattle.fill_cells.specs.Mesh.{covered_by, row_squares, AreRowLists}
+use Rattle.fill_cells.specs.Mesh.{covered_at, row_squares, AreListsOf}
 use Rattle.fill_cells.specs.steps.Parts.{AreListed}
-use Rattle.fill_cells.proofs.Sharing.{lists_none, lists_more, lists_all, kept_after}
+use Rattle.fill_cells.proofs.Listing.{at_place}
+use Rattle.fill_cells.proofs.Sharing.{lists_more, kept_after}
 use Rattle.fill_cells.proofs.rows.by_row.Goals as goal
 
-pub loop-rect-init : goal.loop-rect-init
-loop-rect-init c = lists_none (Vec (Bor Rect)) (λ v. covered_by v.items) row_squares c.args.up.now c.args.rects.now c.empty_all.new.lists.items c.in_ok-empty_all.ensures.count
-    (λ k e k_in x y. ap (λ zs. covered_by zs x y) (c.in_ok-empty_all.ensures.empty k e k_in))
-
-pub loop-rect-preserved : goal.loop-rect-preserved
-loop-rect-preserved c =
-    kept_after (λ xs. AreRowLists c.args.up.now (covered (take (c.loop-rect.rect-index + 1) c.args.rects.now)) xs) c.loop-rect.lists.len c.put.new.lists _
+pub loop-place-preserved : goal.loop-place-preserved
+loop-place-preserved c =
+    let rects = c.args.rects.now in
+    let place = c.loop-place.place in
+    let q = at_place rects place c.loop-place-test.true in
+    kept_after (λ xs. AreListsOf (Vec ℕ) (λ v. covered_at rects v.items) row_squares c.args.up.now (covered (take (place + 1) rects)) xs) c.loop-place.lists.len c.put.new.lists _
     (sym c.deref_mut.ensures.len ∙ sym c.put.auto.lists)
-    (lists_more (Vec (Bor Rect)) (λ v. covered_by v.items) row_squares c.args.up.now c.args.rects.now c.rect-item.result c.loop-rect.rect-index c.loop-rect.lists.items c.put.new.lists
-    c.loop-rect-test.true c.rect-item.is c.loop-rect.invariant
-    (subst (λ xs. AreListed c.args.up.now c.rect-item.result xs c.put.new.lists) c.deref_mut.ensures.value c.in_ok-put.ensures))
-
-pub returns : goal.returns
-returns c = lists_all (Vec (Bor Rect)) (λ v. covered_by v.items) row_squares c.args.up.now c.args.rects.now c.loop-rect.rect-index c.loop-rect.lists.items c.loop-rect-test.false c.loop-rect.invariant
+    (lists_more (Vec ℕ) (λ v. covered_at rects v.items) row_squares c.args.up.now rects q.0 place c.loop-place.lists.items c.put.new.lists c.loop-place-test.true q.1 c.loop-place.invariant
+    (subst (λ r. AreListed rects c.args.up.now r c.loop-place.lists.items c.put.new.lists) (sym q.1)
+    (subst (λ xs. AreListed rects c.args.up.now (get_or rects place q.0) xs c.put.new.lists) c.deref_mut.ensures.value (c.in_ok-put.ensures q.0))))

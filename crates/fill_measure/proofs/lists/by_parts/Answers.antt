@@ -3,8 +3,7 @@ use Rattle.std.specs.Borrow.{Bor}
 use Rattle.std.proofs.lemmas.Grind.{common_steps}
 use Rattle.std.proofs.lemmas.Result.{IfOk-weaker}
 use Rattle.fill_base.specs.declared.rect.Rect.{Rect}
-use Rattle.fill_region.specs.Squares.{covered}
-use Rattle.fill_cells.specs.Mesh.{AreRowLists}
+use Rattle.fill_measure.specs.steps.Parts.{IsPart}
 use Rattle.fill_measure.proofs.Parting.{part_lists}
 use Rattle.fill_measure.proofs.lists.by_parts.Goals as goal
 
@@ -14,5 +13,5 @@ returns g c =
     let results = c.in_ok-listed.listed.items in
     let count : length results ≡ length parts = grind (arith, common_steps) in
     IfOk-weaker c.all_of.result _ _ (λ v is. part_lists c.args.up.now c.args.rects.now parts results v.items is count
-    (λ k r b lt. let gives = (c.in_ok-listed.ensures.each k r lt).1 in subst (λ (p : Bor (List Rect)). IfOk (get_or results k r) (λ lists. AreRowLists c.args.up.now (covered p.now) lists.items)) (sym (gives.job_is b)) gives.call.met)
-    c.in_ok-parts.ensures) c.all_of.ensures
+    (λ k r b lt. let gives = (c.in_ok-listed.ensures.each k r lt).1 in subst (λ (b : Bor (List Rect)). IfOk (get_or results k r) (λ p. IsPart c.args.up.now b.now p)) (sym (gives.job_is b)) gives.call.met)
+    c.in_ok-parts.ensures.whole) c.all_of.ensures
