@@ -1,11 +1,11 @@
-//! How far apart the lines of a mesh are to be, so that cells come out neither too large nor too small for what the rectangles are like.
-//! Areas are right at any pitch: it bears on the time alone.
+//! How far apart the lines of a mesh are to be, so that its cells are neither too large nor too small for the rectangles. Areas are
+//! right at any pitch: it bears on time and memory alone.
 ghost use Rattle.fill_area.specs.Axes.{IsAxis};
 
 use fill_area::{Axis, Windows};
 use fill_base::Rect;
 
-/// About so many rectangles are looked at, at even distances: enough to know them all by, and soon done.
+/// About so many rectangles are looked at, at even distances in the list: enough to know them all by, and soon done.
 const SAMPLES: usize = 4096;
 
 /// So many rectangles that lie apart are to be in a cell: more take longer to tell apart, and fewer do not repay the cell's own work.
@@ -14,14 +14,20 @@ const FEW: u64 = 7;
 /// So many are to be in it where they overlap or are long: smaller cells would have the same rectangles over and over.
 const MANY: u64 = 256;
 
-/// Rectangles lie apart where a cell that has few is so many quarters of their mean width wide, and as many of their mean height
-/// tall: four times as large as they are, so that few of them cross its sides.
+/// A cell is measured in quarters of the rectangles' mean width and height: a finer measure shows no better cells.
+const QUARTERS: u64 = 4;
+
+/// Rectangles lie apart where a cell that has few of them is so many quarters wide and tall: it is four times as wide and as tall as
+/// they are, and few of them cross its sides.
 const APART: u64 = 16;
 
-/// A mesh has no more rows and columns than about so many, but for those of the windows: it stays small.
+/// Further lines make about so many parts of an axis at most.
 const MOST_PARTS: u64 = 4096;
 
-/// It has so many rows or more where no rectangle of the mean height then crosses many of them: all processors have rows to measure.
+/// And about so many cells at most, where windows stand in one row or in one column: the mesh stays small.
+const MOST_CELLS: u64 = MOST_PARTS * MOST_PARTS;
+
+/// There are about so many rows or more, unless they are lower than the rectangles then: all processors have rows to measure.
 const LEAST_ROWS: u64 = 16;
 
 /// How far apart lines are to be, in database units.
@@ -57,10 +63,12 @@ pub(crate) fn pitch_of(rects: &[Rect], windows: &Windows) -> Pitch {
     } else {
         quarters_for(MANY, each, mean)
     };
+    let width = least_pitch(whole.width, windows.up());
+    let height = least_pitch(whole.height, windows.across());
     let rows = (whole.height / LEAST_ROWS).max(mean.height);
     Pitch {
-        across: pitch_along(mean.width, quarters, whole.width),
-        up: pitch_along(mean.height, quarters, whole.height).min(rows),
+        across: in_quarters(mean.width, quarters).max(width),
+        up: in_quarters(mean.height, quarters).max(height).min(rows),
     }
 }
 
@@ -106,13 +114,21 @@ fn ends(axis: Axis) -> (i64, i64)
     (begin, end)
 }
 
-/// How many quarters of the mean rectangle's sides a cell's sides have where so many rectangles lie in it, one to `each` squares.
+/// How many quarters of the mean size a cell has each way that holds so many rectangles, one to `each` squares: one at least.
 fn quarters_for(count: u64, each: u64, mean: Size) -> u64 {
+    let cell = each.saturating_mul(count);
     let area = mean.width.saturating_mul(mean.height).max(1);
-    (each.saturating_mul(count.saturating_mul(16)) / area).isqrt()
+    let square = cell.saturating_mul(QUARTERS * QUARTERS) / area;
+    square.isqrt().max(1)
 }
 
-/// So many quarters of a length, and no less than cuts the whole into few enough parts.
-fn pitch_along(length: u64, quarters: u64, whole: u64) -> u64 {
-    (length.saturating_mul(quarters) / 4).max(whole / MOST_PARTS + 1)
+/// So many quarters of a length.
+fn in_quarters(length: u64, quarters: u64) -> u64 {
+    length.saturating_mul(quarters) / QUARTERS
+}
+
+/// How far apart lines are at least that cut a length, where the windows have lines at the spans of the other axis.
+fn least_pitch(length: u64, other: Axis) -> u64 {
+    let parts = (MOST_CELLS / u64::from(other.count).max(1)).clamp(1, MOST_PARTS);
+    length.div_ceil(parts)
 }
