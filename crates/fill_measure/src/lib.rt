@@ -9,6 +9,7 @@ mod lines;
 mod lists;
 mod measure;
 mod mesh;
+mod pitch;
 mod sides;
 mod windows;
 

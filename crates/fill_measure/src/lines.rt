@@ -1,4 +1,4 @@
-//! The lines at which the windows along an axis begin or end.
+//! The lines at which the windows along an axis begin or end, and further ones between them.
 ghost use Rattle.std.specs.Prelude.{◌≡◌, ◌^◌, ℤ, pos, ◌≤ℤ◌, ◌<◌, IfOk, OnOk, All, length, get_or};
 ghost use Rattle.std.specs.List.{Contains};
 ghost use Rattle.fill_area.specs.Axes.{IsAxis};
@@ -11,38 +11,73 @@ use fill_area::Axis;
 use fill_cells::lines_at;
 use std::alloc::{AllocError, Global};
 
-/// Where there are fewer windows than this, further lines are put between them.
-const FEW_SPANS: u32 = 64;
+/// A gap between lines is cut into at most so many parts, so that lines stay few.
+const MOST_PARTS: u64 = 4096;
 
-/// Below so many rectangles the lines of the windows are enough.
-const MANY_RECTS: usize = 4096;
-
-/// The lines at which a span of the axis begins or ends, each once, from the lowest on. For many rectangles in few spans there are
-/// further lines between, so that few rectangles lie in a cell and all processors have rows to measure.
-pub(crate) fn lines_of(alloc: Global, axis: Axis, rects: usize) -> Result<Vec<i64>, AllocError>
+/// The lines at which a span of the axis begins or ends, each once, from the lowest on, and further lines between them where they are
+/// further apart than the pitch.
+pub(crate) fn lines_of(alloc: Global, axis: Axis, pitch: u64) -> Result<Vec<i64>, AllocError>
     requires { IsAxis axis }
     ensures lines { IfOk result (λ v. AreLines v.items) }
     ensures ends { IfOk result (λ v. HoldEnds v.items axis axis.count) }
 {
-    let mut ends = ends_of(alloc, axis)?;
-    put_between(&mut ends, axis, rects)?;
+    let lines = end_lines(alloc, axis)?;
+    let parts = parts_at(&lines, pitch);
+    if parts == 1 {
+        return Ok(lines);
+    }
+    let numbers = cut_gaps(alloc, &lines, parts)?;
+    Ok(lines_at(numbers))
+}
+
+/// The lines at which a span of the axis begins or ends, each once, from the lowest on.
+fn end_lines(alloc: Global, axis: Axis) -> Result<Vec<i64>, AllocError>
+    requires { IsAxis axis }
+    ensures lines { IfOk result (λ v. AreLines v.items) }
+    ensures ends { IfOk result (λ v. HoldEnds v.items axis axis.count) }
+{
+    let ends = ends_of(alloc, axis)?;
     Ok(lines_at(ends))
 }
 
-/// Puts lines that cut the axis, from the first span's begin to the last one's end, into parts of one length, where the spans are
-/// few and the rectangles many.
-fn put_between(numbers: &mut Vec<i64>, axis: Axis, rects: usize) -> Result<(), AllocError>
-    requires axis { IsAxis axis }
+/// Into how many parts each gap between the lines is cut: so many that those of a mean gap are about as long as the pitch. It is the
+/// same number for all, so that evenly spaced lines stay even.
+fn parts_at(lines: &[i64], pitch: u64) -> i64
+    requires { AreLines lines.now }
+    ensures { pos 1 ≤ℤ result }
+{
+    let last = lines.len() - 1;
+    let mean = lines[last].abs_diff(lines[0]) / last as u64;
+    let parts = mean.saturating_add(pitch / 2) / pitch.max(1);
+    parts.clamp(1, MOST_PARTS) as i64
+}
+
+/// The lines, and those that cut each gap between them into so many parts.
+fn cut_gaps(alloc: Global, lines: &[i64], parts: i64) -> Result<Vec<i64>, AllocError>
+    requires lines { AreLines lines.now }
+    requires some { pos 1 ≤ℤ parts }
+    ensures coordinates { IfOk result (λ v. All IsCoordinate v.items) }
+    ensures kept { IfOk result (λ v. (z : ℤ) → Contains lines.now z → Contains v.items z) }
+{
+    let count = lines.len().saturating_mul(parts as usize);
+    let mut numbers = Vec::with_capacity(alloc, count)?;
+    numbers.extend_from_slice(lines)?;
+    for i in 1..lines.len() {
+        put_between(&mut numbers, lines[i - 1], lines[i], parts)?;
+    }
+    Ok(numbers)
+}
+
+/// Puts lines that cut a gap, from the first line to the last one, into parts of one length.
+fn put_between(numbers: &mut Vec<i64>, first: i64, last: i64, parts: i64) -> Result<(), AllocError>
+    requires first { IsCoordinate first }
+    requires last { IsCoordinate last }
+    requires ordered { first ≤ℤ last }
+    requires some { pos 1 ≤ℤ parts }
     requires coordinates { All IsCoordinate numbers.old.items }
     ensures coordinates { OnOk result (All IsCoordinate numbers.new.items) }
     ensures kept { OnOk result ((z : ℤ) → Contains numbers.old.items z → Contains numbers.new.items z) }
 {
-    if axis.count >= FEW_SPANS || rects < MANY_RECTS {
-        return Ok(());
-    }
-    let (first, _) = axis.extent(0);
-    let (_, last) = axis.extent(axis.count - 1);
-    let parts = parts_for(rects);
     let step = part_length(first, last, parts);
     let mut line = first;
     for _ in 1..parts {
@@ -50,19 +85,6 @@ fn put_between(numbers: &mut Vec<i64>, axis: Axis, rects: usize) -> Result<(), A
         numbers.push(line)?;
     }
     Ok(())
-}
-
-/// How many parts the further lines make of the axis: some ten rectangles lie in a cell of so many by so many, or fewer, and more
-/// where they are very many.
-fn parts_for(rects: usize) -> i64
-    ensures { pos 1 ≤ℤ result }
-{
-    match rects {
-        0..=40_000 => 64,
-        40_001..=160_000 => 128,
-        160_001..=640_000 => 256,
-        _ => 512,
-    }
 }
 
 /// How long a part is.

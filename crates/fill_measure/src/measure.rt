@@ -8,6 +8,7 @@ ghost use Rattle.fill_measure.specs.steps.Cuts.{IsCut};
 use crate::cuts::cut_windows;
 use crate::lines::{lines_of, side_by_side};
 use crate::mesh::{Mesh, Shapes};
+use crate::pitch::pitch_of;
 use fill_area::{Windows, measure_all};
 use fill_base::Rect;
 use fill_region::Region;
@@ -29,8 +30,9 @@ pub fn measure_rects(
     ensures areas { IfOk result (λ v. AreMeasured (covered rects.now) windows.now v.items) }
     ensures bounded { IfOk result (λ v. All IsArea v.items) }
 {
-    let across = lines_of(alloc, windows.across(), rects.len())?;
-    let up = lines_of(alloc, windows.up(), rects.len())?;
+    let pitch = pitch_of(rects, windows);
+    let across = lines_of(alloc, windows.across(), pitch.across)?;
+    let up = lines_of(alloc, windows.up(), pitch.up)?;
     let mesh = Mesh {
         shapes: Shapes::Rects(rects),
         across: &across,

@@ -1,0 +1,134 @@
+//! How far apart the lines of a mesh are to be, so that its cells are neither too large nor too small for the rectangles. Areas are
+//! right at any pitch: it bears on time and memory alone.
+ghost use Rattle.fill_area.specs.Axes.{IsAxis};
+
+use fill_area::{Axis, Windows};
+use fill_base::Rect;
+
+/// About so many rectangles are looked at, at even distances in the list: enough to know them all by, and soon done.
+const SAMPLES: usize = 4096;
+
+/// So many rectangles that lie apart are to be in a cell: more take longer to tell apart, and fewer do not repay the cell's own work.
+const FEW: u64 = 7;
+
+/// So many are to be in it where they overlap or are long: smaller cells would have the same rectangles over and over.
+const MANY: u64 = 256;
+
+/// A cell is measured in quarters of the rectangles' mean width and height: a finer measure shows no better cells.
+const QUARTERS: u64 = 4;
+
+/// Rectangles lie apart where a cell that has few of them is so many quarters wide and tall: it is four times as wide and as tall as
+/// they are, and few of them cross its sides.
+const APART: u64 = 16;
+
+/// Further lines make about so many parts of an axis at most.
+const MOST_PARTS: u64 = 4096;
+
+/// And about so many cells at most, where windows stand in one row or in one column: the mesh stays small.
+const MOST_CELLS: u64 = MOST_PARTS * MOST_PARTS;
+
+/// There are about so many rows or more, unless they are lower than the rectangles then: all processors have rows to measure.
+const LEAST_ROWS: u64 = 16;
+
+/// How far apart lines are to be, in database units.
+#[derive(Clone, Copy)]
+pub(crate) struct Pitch {
+    /// Those across.
+    pub across: u64,
+    /// Those upwards.
+    pub up: u64,
+}
+
+/// How large a rectangle is, in database units.
+#[derive(Clone, Copy)]
+struct Size {
+    width: u64,
+    height: u64,
+}
+
+/// The pitch at which a cell has few of the rectangles where they lie apart, and else many.
+pub(crate) fn pitch_of(rects: &[Rect], windows: &Windows) -> Pitch {
+    if rects.is_empty() {
+        return Pitch {
+            across: u64::MAX,
+            up: u64::MAX,
+        };
+    }
+    let mean = mean_size(rects);
+    let whole = whole_size(rects, windows);
+    let each = whole.width.saturating_mul(whole.height) / rects.len() as u64;
+    let few = quarters_for(FEW, each, mean);
+    let quarters = if few >= APART {
+        few
+    } else {
+        quarters_for(MANY, each, mean)
+    };
+    let width = least_pitch(whole.width, windows.up());
+    let height = least_pitch(whole.height, windows.across());
+    let rows = (whole.height / LEAST_ROWS).max(mean.height);
+    Pitch {
+        across: in_quarters(mean.width, quarters).max(width),
+        up: in_quarters(mean.height, quarters).max(height).min(rows),
+    }
+}
+
+/// How wide and how tall the rectangles are in the mean, and one more.
+fn mean_size(rects: &[Rect]) -> Size {
+    let (mut width, mut height, mut count) = (0u64, 0u64, 0u64);
+    for part in rects.chunks(rects.len() / SAMPLES + 1) {
+        let rect = &part[0];
+        width = width.saturating_add(rect.x2().abs_diff(rect.x1()));
+        height = height.saturating_add(rect.y2().abs_diff(rect.y1()));
+        count = count.saturating_add(1);
+    }
+    let count = count.max(1);
+    Size {
+        width: (width / count).saturating_add(1),
+        height: (height / count).saturating_add(1),
+    }
+}
+
+/// How large the rectangle is that holds all windows and all rectangles looked at.
+fn whole_size(rects: &[Rect], windows: &Windows) -> Size {
+    let (mut x1, mut x2) = ends(windows.across());
+    let (mut y1, mut y2) = ends(windows.up());
+    for part in rects.chunks(rects.len() / SAMPLES + 1) {
+        let rect = &part[0];
+        x1 = x1.min(rect.x1());
+        y1 = y1.min(rect.y1());
+        x2 = x2.max(rect.x2());
+        y2 = y2.max(rect.y2());
+    }
+    Size {
+        width: x2.abs_diff(x1),
+        height: y2.abs_diff(y1),
+    }
+}
+
+/// Where the first span of the axis begins, and where the last one ends.
+fn ends(axis: Axis) -> (i64, i64)
+    requires { IsAxis axis }
+{
+    let (begin, _) = axis.extent(0);
+    let (_, end) = axis.extent(axis.count - 1);
+    (begin, end)
+}
+
+/// How many quarters of the mean size a cell has each way that holds so many rectangles, one to `each` squares: one at least.
+fn quarters_for(count: u64, each: u64, mean: Size) -> u64 {
+    let cell = each.saturating_mul(count);
+    let area = mean.width.saturating_mul(mean.height).max(1);
+    let square = cell.saturating_mul(QUARTERS * QUARTERS) / area;
+    square.isqrt().max(1)
+}
+
+/// So many quarters of a length.
+fn in_quarters(length: u64, quarters: u64) -> u64 {
+    length.saturating_mul(quarters) / QUARTERS
+}
+
+/// How far apart lines are at least that cut a length, where the windows have lines at the spans of the other axis.
+fn least_pitch(length: u64, other: Axis) -> u64 {
+    let parts = (MOST_CELLS / u64::from(other.count).max(1)).clamp(1, MOST_PARTS);
+    length.div_ceil(parts)
+}
