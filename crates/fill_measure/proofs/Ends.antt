@@ -1,5 +1,5 @@
 -- The lines at which the spans of an axis begin and end.
-use Rattle.std.proofs.Common.{◌≡◌, ℕ, ◌+◌, ◌-◌, ◌^◌, ◌<◌, ◌≤◌, ℤ, pos, ◌+ℤ◌, ◌≤ℤ◌, ◌<ℤ◌, ◌↔◌, List, [], ◌∷◌, ◌++◌, true, false, length, get_or, refl, arith, ap, ◌∙◌, below_more, w64, FitsSigned}
+use Rattle.std.proofs.Common.{◌≡◌, ℕ, ◌+◌, ◌^◌, ◌<◌, ℤ, pos, ◌+ℤ◌, ◌≤ℤ◌, ◌<ℤ◌, ◌↔◌, List, [], ◌∷◌, ◌++◌, true, false, length, get_or, refl, arith, ap, ◌∙◌, below_more, w64, FitsSigned}
 use Rattle.std.specs.Prelude.{int_lt}
 use Rattle.std.specs.Int.{int_min}
 use Rattle.std.specs.List.{All, Contains}
@@ -44,13 +44,6 @@ lines_held axis ends more lines is_axis hold kept lines_of same = (
   where
     longer : (z length : ℤ) → pos 1 ≤ℤ length → z <ℤ (z +ℤ length)
     longer z length one = omega (arith, ints)
-
--- each line is above the one before, as the code reads them
-pub gap_ordered : (lines : List ℤ) (i : ℕ) → AreLines lines → 1 ≤ i → i < length lines → read (get_or lines (i - 1) (pos 0)) ≤ℤ read (get_or lines i (pos 0))
-gap_ordered lines i are some lt = rw (is (i - 1) (omega arith), is i lt) (lt_le _ _ (are.rising (i - 1) i (pos 0) (omega arith) lt))
-  where
-    is : (k : ℕ) → k < length lines → read (get_or lines k (pos 0)) ≡ get_or lines k (pos 0)
-    is k below = let here = are.coordinates k (pos 0) below in read_is _ (coordinate_fits _ here.least here.most)
 
 -- one part further
 pub stepped_fits : (line step last m : ℤ) → IsCoordinate line → IsCoordinate last → pos 0 ≤ℤ step → step ≤ℤ pos (2 ^ 31) → m ≡ int_min (read last) (read (read line +ℤ read step)) → IsCoordinate (read m)

@@ -22,7 +22,7 @@ pub(crate) fn lines_of(alloc: Global, axis: Axis, pitch: u64) -> Result<Vec<i64>
     ensures ends { IfOk result (λ v. HoldEnds v.items axis axis.count) }
 {
     let lines = end_lines(alloc, axis)?;
-    let parts = parts_at(&lines, pitch);
+    let parts = gap_parts(&lines, pitch);
     if parts == 1 {
         return Ok(lines);
     }
@@ -42,7 +42,7 @@ fn end_lines(alloc: Global, axis: Axis) -> Result<Vec<i64>, AllocError>
 
 /// Into how many parts each gap between the lines is cut: so many that those of a mean gap are about as long as the pitch. It is the
 /// same number for all, so that evenly spaced lines stay even.
-fn parts_at(lines: &[i64], pitch: u64) -> i64
+fn gap_parts(lines: &[i64], pitch: u64) -> i64
     requires { AreLines lines.now }
     ensures { pos 1 ≤ℤ result }
 {
@@ -68,11 +68,11 @@ fn cut_gaps(alloc: Global, lines: &[i64], parts: i64) -> Result<Vec<i64>, AllocE
     Ok(numbers)
 }
 
-/// Puts lines that cut a gap, from the first line to the last one, into parts of one length.
+/// Puts lines that cut a gap, from the first line to the last one, into so many parts of one length, or more where what is left over
+/// of the gap makes whole parts too: the last one is not twice as long as the others.
 fn put_between(numbers: &mut Vec<i64>, first: i64, last: i64, parts: i64) -> Result<(), AllocError>
     requires first { IsCoordinate first }
     requires last { IsCoordinate last }
-    requires ordered { first ≤ℤ last }
     requires some { pos 1 ≤ℤ parts }
     requires coordinates { All IsCoordinate numbers.old.items }
     ensures coordinates { OnOk result (All IsCoordinate numbers.new.items) }
@@ -80,23 +80,22 @@ fn put_between(numbers: &mut Vec<i64>, first: i64, last: i64, parts: i64) -> Res
 {
     let step = part_length(first, last, parts);
     let mut line = first;
-    for _ in 1..parts {
+    for _ in 1..(last - first) / step {
         line = stepped(line, step, last);
         numbers.push(line)?;
     }
     Ok(())
 }
 
-/// How long a part is.
+/// How long a part is: one unit at least.
 fn part_length(first: i64, last: i64, parts: i64) -> i64
     requires first { IsCoordinate first }
     requires last { IsCoordinate last }
-    requires ordered { first ≤ℤ last }
     requires some { pos 1 ≤ℤ parts }
-    ensures least { pos 0 ≤ℤ result }
+    ensures least { pos 1 ≤ℤ result }
     ensures most { result ≤ℤ pos (2 ^ 31) }
 {
-    (last - first) / parts
+    (last.abs_diff(first) / parts as u64).max(1) as i64
 }
 
 /// The line one part further, and not past the last one.
