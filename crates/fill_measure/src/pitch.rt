@@ -46,17 +46,30 @@ struct Size {
     height: u64,
 }
 
+/// What some of the rectangles are like.
+#[derive(Clone, Copy)]
+struct Looks {
+    /// How many are looked at.
+    looked: u64,
+    /// How many of these share a square with the rectangle around all windows.
+    met: u64,
+    /// How wide these are together.
+    width: u64,
+    /// How tall they are together.
+    height: u64,
+}
+
 /// The pitch at which a cell has few of the rectangles where they lie apart, and else many.
 pub(crate) fn pitch_of(rects: &[Rect], windows: &Windows) -> Pitch {
-    if rects.is_empty() {
-        return Pitch {
-            across: u64::MAX,
-            up: u64::MAX,
-        };
-    }
-    let mean = mean_size(rects);
-    let whole = whole_size(rects, windows);
-    let each = whole.width.saturating_mul(whole.height) / rects.len() as u64;
+    let (across, up) = (ends(windows.across()), ends(windows.up()));
+    let looks = looks_of(rects, across, up);
+    let within = (rects.len() as u64).saturating_mul(looks.met) / looks.looked.max(1);
+    let whole = Size {
+        width: across.1.abs_diff(across.0),
+        height: up.1.abs_diff(up.0),
+    };
+    let each = whole.width.saturating_mul(whole.height) / within.max(1);
+    let mean = mean_size(looks);
     let few = quarters_for(FEW, each, mean);
     let quarters = if few >= APART {
         few
@@ -72,39 +85,6 @@ pub(crate) fn pitch_of(rects: &[Rect], windows: &Windows) -> Pitch {
     }
 }
 
-/// How wide and how tall the rectangles are in the mean, and one more.
-fn mean_size(rects: &[Rect]) -> Size {
-    let (mut width, mut height, mut count) = (0u64, 0u64, 0u64);
-    for part in rects.chunks(rects.len() / SAMPLES + 1) {
-        let rect = &part[0];
-        width = width.saturating_add(rect.x2().abs_diff(rect.x1()));
-        height = height.saturating_add(rect.y2().abs_diff(rect.y1()));
-        count = count.saturating_add(1);
-    }
-    let count = count.max(1);
-    Size {
-        width: (width / count).saturating_add(1),
-        height: (height / count).saturating_add(1),
-    }
-}
-
-/// How large the rectangle is that holds all windows and all rectangles looked at.
-fn whole_size(rects: &[Rect], windows: &Windows) -> Size {
-    let (mut x1, mut x2) = ends(windows.across());
-    let (mut y1, mut y2) = ends(windows.up());
-    for part in rects.chunks(rects.len() / SAMPLES + 1) {
-        let rect = &part[0];
-        x1 = x1.min(rect.x1());
-        y1 = y1.min(rect.y1());
-        x2 = x2.max(rect.x2());
-        y2 = y2.max(rect.y2());
-    }
-    Size {
-        width: x2.abs_diff(x1),
-        height: y2.abs_diff(y1),
-    }
-}
-
 /// Where the first span of the axis begins, and where the last one ends.
 fn ends(axis: Axis) -> (i64, i64)
     requires { IsAxis axis }
@@ -112,6 +92,37 @@ fn ends(axis: Axis) -> (i64, i64)
     let (begin, _) = axis.extent(0);
     let (_, end) = axis.extent(axis.count - 1);
     (begin, end)
+}
+
+/// What some rectangles are like that lie at even distances in the list. Those outside the
+/// rectangle around all windows count for nothing else.
+fn looks_of(rects: &[Rect], across: (i64, i64), up: (i64, i64)) -> Looks {
+    let mut looks = Looks {
+        looked: 0,
+        met: 0,
+        width: 0,
+        height: 0,
+    };
+    for part in rects.chunks(rects.len() / SAMPLES + 1) {
+        let rect = &part[0];
+        looks.looked = looks.looked.saturating_add(1);
+        let in_columns = rect.x1() < across.1 && across.0 < rect.x2();
+        if in_columns && rect.y1() < up.1 && up.0 < rect.y2() {
+            looks.met = looks.met.saturating_add(1);
+            looks.width = looks.width.saturating_add(rect.x2().abs_diff(rect.x1()));
+            looks.height = looks.height.saturating_add(rect.y2().abs_diff(rect.y1()));
+        }
+    }
+    looks
+}
+
+/// How wide and how tall the rectangles are in the mean, and one more.
+fn mean_size(looks: Looks) -> Size {
+    let met = looks.met.max(1);
+    Size {
+        width: (looks.width / met).saturating_add(1),
+        height: (looks.height / met).saturating_add(1),
+    }
 }
 
 /// How many quarters of the mean size a cell has each way that holds so many rectangles, one to `each` squares: one at least.
