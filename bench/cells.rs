@@ -28,9 +28,19 @@ const PAIRED: usize = 16;
 /// Up to so many towers are counted, and not searched.
 const COUNTED: usize = 64;
 
-/// Where there are fewer windows than this, and so many rectangles or more, further lines cut the axis into parts.
-const FEW_SPANS: usize = 64;
-const MANY_RECTS: usize = 4096;
+/// About so many rectangles are looked at, to know them all by.
+const SAMPLES: usize = 4096;
+
+/// So many rectangles that lie apart are to be in a cell, and so many that overlap or are long.
+const FEW_IN_CELL: u64 = 7;
+const MANY_IN_CELL: u64 = 256;
+
+/// They lie apart where a cell that has few of them is so many quarters of their mean size wide and tall.
+const APART: u64 = 16;
+
+/// Further lines make at most so many parts, and there are so many rows where they can be.
+const MOST_LINES: u64 = 4096;
+const LEAST_ROWS: u64 = 16;
 
 fn clip(rect: &Rect, part: &Rect) -> Option<Rect> {
     let both = Rect {
@@ -133,13 +143,13 @@ fn share_to_cells(lists: &mut [Vec<Rect>], rects: &[Rect], across: &[i32], cell:
     }
 }
 
-/// For each row the rectangles that meet it.
-fn by_row<'a>(rects: &'a [Rect], up: &[i32]) -> Vec<Vec<&'a Rect>> {
+/// For each row the rectangles that meet it, by their places.
+fn by_row(rects: &[Rect], up: &[i32]) -> Vec<Vec<u32>> {
     let mut lists = vec![Vec::new(); up.len() - 1];
     let pace = even_pace(up);
-    for rect in rects {
+    for (k, rect) in rects.iter().enumerate() {
         for gap in gaps_met(up, pace, rect.y1, rect.y2) {
-            lists[gap].push(rect);
+            lists[gap].push(k as u32);
         }
     }
     lists
@@ -161,23 +171,23 @@ fn share_out<T: Send>(items: impl Iterator<Item = T> + Send, work: impl Fn(T) + 
     });
 }
 
-/// For each part of the rectangles, those that meet each row.
-fn by_parts<'a>(rects: &'a [Rect], up: &[i32]) -> Vec<Vec<Vec<&'a Rect>>> {
+/// The parts of the rectangles, each with the places of those that meet each row.
+fn by_parts<'a>(rects: &'a [Rect], up: &[i32]) -> Vec<(&'a [Rect], Vec<Vec<u32>>)> {
     let parts = rects.chunks(rects.len().div_ceil(MOST_PARTS).max(LEAST_PART));
     let mut lists = vec![Vec::new(); parts.len()];
-    share_out(parts.zip(&mut lists), |(part, list)| *list = by_row(part, up));
-    lists
+    share_out(parts.clone().zip(&mut lists), |(part, list)| *list = by_row(part, up));
+    parts.zip(lists).collect()
 }
 
 /// The rectangles of a row, where they lie all over one another joined.
-fn listed(rects: &[&Rect], row: &Rect) -> Vec<Rect> {
+fn listed(rects: Vec<Rect>, row: &Rect) -> Vec<Rect> {
     let width = |rect: &Rect| i64::from(rect.x2.min(row.x2)) - i64::from(rect.x1.max(row.x1));
     if rects.iter().map(|rect| width(rect).max(0)).sum::<i64>() > DEEP * i64::from(row.x2 - row.x1) {
         let mut list = Vec::new();
         rects.iter().for_each(|rect| hold(&mut list, rect, row));
         list
     } else {
-        rects.iter().map(|rect| **rect).collect()
+        rects
     }
 }
 
@@ -318,6 +328,14 @@ fn shared_area(rect: &Rect, part: &Rect) -> i64 {
     clip(rect, part).map_or(0, |piece| area(&piece))
 }
 
+/// Whether a rectangle shares a square with one of the others, all of which are looked at.
+fn meets_any(rect: &Rect, others: &[Rect]) -> bool {
+    let meets = |other: &Rect| {
+        (other.x1 < rect.x2) & (rect.x1 < other.x2) & (other.y1 < rect.y2) & (rect.y1 < other.y2)
+    };
+    others.iter().fold(false, |any, other| any | meets(other))
+}
+
 /// How many squares of the part few rectangles cover of which no two share a square.
 fn apart_area(rects: &[Rect], part: &Rect) -> Option<i64> {
     if rects.len() > PAIRED {
@@ -325,7 +343,7 @@ fn apart_area(rects: &[Rect], part: &Rect) -> Option<i64> {
     }
     let mut area = 0;
     for (k, rect) in rects.iter().enumerate() {
-        if rects[..k].iter().any(|other| clip(other, rect).is_some()) {
+        if meets_any(rect, &rects[..k]) {
             return None;
         }
         area += shared_area(rect, part);
@@ -348,7 +366,7 @@ fn covered_area(towers: &mut Vec<Rect>, rects: &mut [Rect], part: &Rect) -> i64 
 }
 
 /// The areas of the cells of a row.
-fn row_areas(lists: &mut [Vec<Rect>], rects: &[&Rect], across: &[i32], from: i32, to: i32, areas: &mut [i64]) {
+fn row_areas(lists: &mut [Vec<Rect>], rects: Vec<Rect>, across: &[i32], from: i32, to: i32, areas: &mut [i64]) {
     let row = Rect { x1: across[0], y1: from, x2: across[across.len() - 1], y2: to };
     let cell = |i: usize| Rect { x1: across[i], y1: from, x2: across[i + 1], y2: to };
     share_to_cells(lists, &listed(rects, &row), across, cell);
@@ -359,28 +377,57 @@ fn row_areas(lists: &mut [Vec<Rect>], rects: &[&Rect], across: &[i32], from: i32
 }
 
 /// The lines at which windows along an axis begin or end.
-fn lines_of(first: i32, size: i32, step: i32, count: usize, rects: usize) -> Vec<i32> {
+fn lines_of(first: i32, size: i32, step: i32, count: usize) -> Vec<i32> {
     let mut lines: Vec<i32> = (0..count as i32).flat_map(|a| [first + a * step, first + a * step + size]).collect();
-    if count < FEW_SPANS && rects >= MANY_RECTS {
-        let last = first + (count as i32 - 1) * step + size;
-        let parts = match rects {
-            0..=40_000 => 64,
-            40_001..=160_000 => 128,
-            160_001..=640_000 => 256,
-            _ => 512,
-        };
-        let part = (last - first) / parts;
-        lines.extend((1..parts).map(|k| first + k * part));
-    }
     lines.sort_unstable();
     lines.dedup();
     lines
 }
 
+/// How far apart lines are to be across and upwards.
+fn pitch_of(rects: &[Rect], across: &[i32], up: &[i32]) -> (u64, u64) {
+    let whole = Rect { x1: across[0], y1: up[0], x2: across[across.len() - 1], y2: up[up.len() - 1] };
+    let looked: Vec<&Rect> = rects.chunks(rects.len() / SAMPLES + 1).map(|part| &part[0]).collect();
+    let met: Vec<&Rect> = looked.iter().filter(|rect| clip(rect, &whole).is_some()).copied().collect();
+    let count = (met.len() as u64).max(1);
+    let width = met.iter().map(|rect| u64::from(rect.x2.abs_diff(rect.x1))).sum::<u64>() / count + 1;
+    let height = met.iter().map(|rect| u64::from(rect.y2.abs_diff(rect.y1))).sum::<u64>() / count + 1;
+    let within = rects.len() as u64 * met.len() as u64 / (looked.len() as u64).max(1);
+    let (wide, tall) = (u64::from(whole.x2.abs_diff(whole.x1)), u64::from(whole.y2.abs_diff(whole.y1)));
+    let each = wide * tall / within.max(1);
+    let quarters_for = |count: u64| (each * count * 16 / (width * height)).isqrt().max(1);
+    let few = quarters_for(FEW_IN_CELL);
+    let quarters = if few >= APART { few } else { quarters_for(MANY_IN_CELL) };
+    let least = |length: u64| length.div_ceil(MOST_LINES);
+    let across = (width * quarters / 4).max(least(wide));
+    let rows = (tall / LEAST_ROWS).max(height);
+    (across, (height * quarters / 4).max(least(tall)).min(rows))
+}
+
+/// The lines, and those that cut each gap between them into parts about as long as the pitch.
+fn cut(lines: Vec<i32>, pitch: u64) -> Vec<i32> {
+    let last = lines.len() - 1;
+    let mean = u64::from(lines[last].abs_diff(lines[0])) / last as u64;
+    let parts = (mean.saturating_add(pitch / 2) / pitch.max(1)).clamp(1, MOST_LINES) as i32;
+    if parts == 1 {
+        return lines;
+    }
+    let mut all = lines.clone();
+    for gap in lines.windows(2) {
+        let step = ((gap[1] - gap[0]) / parts).max(1);
+        all.extend((1..(gap[1] - gap[0]) / step).map(|k| gap[0] + k * step));
+    }
+    all.sort_unstable();
+    all.dedup();
+    all
+}
+
 /// The areas of all windows, row by row.
 pub fn measure_rects(rects: &[Rect], windows: &Windows) -> Vec<i64> {
-    let across = lines_of(windows.origin.0, windows.size.0, windows.step.0, windows.columns, rects.len());
-    let up = lines_of(windows.origin.1, windows.size.1, windows.step.1, windows.rows, rects.len());
+    let across = lines_of(windows.origin.0, windows.size.0, windows.step.0, windows.columns);
+    let up = lines_of(windows.origin.1, windows.size.1, windows.step.1, windows.rows);
+    let (width, height) = pitch_of(rects, &across, &up);
+    let (across, up) = (cut(across, width), cut(up, height));
     let (columns, rows) = (across.len() - 1, up.len() - 1);
     let parts = by_parts(rects, &up);
     let height = rows.div_ceil(MOST_GROUPS);
@@ -389,8 +436,11 @@ pub fn measure_rects(rects: &[Rect], windows: &Windows) -> Vec<i64> {
         let mut lists = vec![Vec::new(); columns];
         for (j, row) in areas.chunks_mut(columns).enumerate() {
             let at = k * height + j;
-            let rects: Vec<&Rect> = parts.iter().flat_map(|lists| &lists[at]).copied().collect();
-            row_areas(&mut lists, &rects, &across, up[at], up[at + 1], row);
+            let mut rects: Vec<Rect> = Vec::new();
+            for (part, lists) in &parts {
+                rects.extend(lists[at].iter().map(|place| part[*place as usize]));
+            }
+            row_areas(&mut lists, rects, &across, up[at], up[at + 1], row);
         }
     });
     let mut corners = vec![0i64; (rows + 1) * (columns + 1)];
