@@ -11,8 +11,8 @@ use Rattle.fill_base.proofs.Signed.{read, read_is, pos_fits, side_short, product
 use Rattle.fill_base.proofs.Counting.{sum_between_split, sum_between_add, sum_between_le, count_between_le}
 use Rattle.fill_area.proofs.Begun.{by_lt}
 use Rattle.fill_cells.specs.Mesh.{AreLines, gaps}
-use Rattle.fill_measure.specs.steps.Groups.{AreCells}
-use Rattle.fill_measure.specs.steps.Corners.{block_area, AreCorners}
+use Rattle.fill_measure.specs.steps.Groups.{IsRow}
+use Rattle.fill_measure.specs.steps.Corners.{block_area, AreCorners, IsLine}
 
 -- an area splits at a number between its sides
 area_wider : (p : ℤ → ℤ → Bool) (left mid right bottom top : ℤ) → left ≤ℤ mid → mid ≤ℤ right
@@ -87,14 +87,13 @@ corner_in w h i j i_in j_in = let le : (j + 1) * w ≤ h * w = mul-le-mul (omega
     same : (n : ℕ) → n ≤ n
     same n = omega arith
 
--- the lines between two lines across, below line `j`: a difference of two corners
-pub lines_difference : (p : ℤ → ℤ → Bool) (across up corners : List ℤ) (left right j : ℕ) → AreLines across → AreLines up → AreCorners p across up (length up * length across) corners
-    → left ≤ right → right < length across → j < length up → (e d : ℤ)
-    → FitsSigned w64 (read (get_or corners (j * length across + right) e) -ℤ read (get_or corners (j * length across + left) e))
-    × (read (read (get_or corners (j * length across + right) e) -ℤ read (get_or corners (j * length across + left) e)) ≡ pos (block_area p across up left 0 right j d))
-lines_difference p across up corners left right j x_are y_are are le x_in y_in e d = difference_of _ _ _ _ _
-    (corner right x_in)
-    (corner left left_in)
+-- the squares between two lines across, below the line `j`: a difference of two numbers of that line
+pub lines_difference : (p : ℤ → ℤ → Bool) (across up line : List ℤ) (left right j : ℕ) → AreLines across → AreLines up → IsLine p across up j line
+    → left ≤ right → right < length across → j < length up → (x y : ℤ) → x ≡ get_or line right x → y ≡ get_or line left y → (d : ℤ)
+    → FitsSigned w64 (read x -ℤ read y) × (read (read x -ℤ read y) ≡ pos (block_area p across up left 0 right j d))
+lines_difference p across up line left right j x_are y_are are le x_in y_in x y x_is y_is d = difference_of _ _ _ _ _
+    (number right x x_in x_is)
+    (number left y left_in y_is)
     (area_wider p (get_or across 0 d) (get_or across left d) (get_or across right d) (get_or up 0 d) (get_or up j d) (line_le across 0 left d x_are (omega arith) left_in) (line_le across left right d x_are le x_in))
     (small right x_in)
   where
@@ -104,33 +103,39 @@ lines_difference p across up corners left right j x_are y_are are le x_in y_in e
     small : (i : ℕ) → i < length across → block_area p across up 0 0 i j d ≤ 2 ^ 62
     small i i_in = block_small p across up 0 0 i j d x_are y_are (omega arith) i_in (omega arith) y_in
 
-    corner : (i : ℕ) → i < length across → read (get_or corners (j * length across + i) e) ≡ pos (block_area p across up 0 0 i j d)
-    corner i i_in =
-        let within : j * length across + i < length up * length across = corner_in (length across) (length up) i j i_in y_in in
-        count_read _ _ (get_or_default corners _ e d (rw are.count within) ∙ are.each i j d i_in within) (small i i_in)
+    number : (i : ℕ) (z : ℤ) → i < length across → z ≡ get_or line i z → read z ≡ pos (block_area p across up 0 0 i j d)
+    number i z i_in is = count_read _ _ (is ∙ (get_or_default line i z d (rw are.count i_in) ∙ are.each i d i_in)) (small i i_in)
 
--- the lines between two lines upwards: a difference of such
-pub rows_difference : (p : ℤ → ℤ → Bool) (across up : List ℤ) (left bottom right top : ℕ) (x y : ℤ) → AreLines across → AreLines up → left ≤ right → right < length across → bottom ≤ top → top < length up
-    → ((d : ℤ) → x ≡ pos (block_area p across up left 0 right top d)) → ((d : ℤ) → y ≡ pos (block_area p across up left 0 right bottom d)) → (d : ℤ)
-    → FitsSigned w64 (read x -ℤ read y) × (read (read x -ℤ read y) ≡ pos (block_area p across up left bottom right top d))
-rows_difference p across up left bottom right top x y x_are y_are x_le x_in y_le y_in x_is y_is d = difference_of _ _ _ _ _
-    (count_read x _ (x_is d) (small top y_in))
-    (count_read y _ (y_is d) (small bottom (omega (arith, y_le, y_in))))
+-- the squares between two lines upwards: a difference of such
+pub rows_difference : (p : ℤ → ℤ → Bool) (across up : List ℤ) (left bottom right top : ℕ) (x y : ℤ) (d : ℤ) → AreLines across → AreLines up → left ≤ right → right < length across → bottom ≤ top → top < length up
+    → x ≡ pos (block_area p across up left 0 right top d) → y ≡ pos (block_area p across up left 0 right bottom d)
+    → FitsSigned w64 (x -ℤ y) × (read (x -ℤ y) ≡ pos (block_area p across up left bottom right top d))
+rows_difference p across up left bottom right top x y d x_are y_are x_le x_in y_le y_in x_is y_is = difference_of _ _ _ _ _ x_is y_is
     (area_taller p (get_or across left d) (get_or across right d) (get_or up 0 d) (get_or up bottom d) (get_or up top d) (line_le up 0 bottom d y_are (omega arith) (omega (arith, y_le, y_in))) (line_le up bottom top d y_are y_le y_in))
-    (small top y_in)
-  where
-    small : (j : ℕ) → j < length up → block_area p across up left 0 right j d ≤ 2 ^ 62
-    small j j_in = block_small p across up left 0 right j d x_are y_are x_le x_in (omega arith) j_in
+    (block_small p across up left 0 right top d x_are y_are x_le x_in (omega arith) y_in)
 
--- above row `j` of the cells `i` corners are added, besides that at the left line, and what the cells so far hold
-pub record AreAdded (p : ℤ → ℤ → Bool) (across up : List ℤ) (j i : ℕ) (total : ℤ) (corners : List ℤ) : Type 0 where
-  pub total_is : (d : ℤ) → total ≡ pos (block_area p across up 0 j i (j + 1) d)
-  pub are : AreCorners p across up ((j + 1) * length across + (i + 1)) corners
+-- a corner as the code reads it
+pub corner_read : (p : ℤ → ℤ → Bool) (across up corners : List ℤ) (bottom step n i j : ℕ) → AreLines across → AreLines up → AreCorners p across up bottom step n corners
+    → i < length across → j * length across + i < n → bottom + j * step < length up → (e d : ℤ) → read (get_or corners (j * length across + i) e) ≡ pos (block_area p across up 0 bottom i (bottom + j * step) d)
+corner_read p across up corners bottom step n i j x_are y_are are i_in within line_in e d =
+    count_read _ _ (get_or_default corners _ e d (rw are.count within) ∙ are.each i j d i_in within)
+    (block_small p across up 0 bottom i (bottom + j * step) d x_are y_are (omega arith) i_in (omega arith) line_in)
+
+-- what lies below a line and what lies above it, together
+pub stacked : (p : ℤ → ℤ → Bool) (across up : List ℤ) (i bottom mid top : ℕ) (x y : ℤ) → AreLines across → AreLines up → i < length across → bottom ≤ mid → mid ≤ top → top < length up
+    → ((d : ℤ) → x ≡ pos (block_area p across up 0 bottom i mid d)) → ((d : ℤ) → y ≡ pos (block_area p across up 0 mid i top d))
+    → FitsSigned w64 (x +ℤ y) × ((d : ℤ) → read (x +ℤ y) ≡ pos (block_area p across up 0 bottom i top d))
+stacked p across up i bottom mid top x y x_are y_are i_in low high top_in x_is y_is = ((at x).0, λ d. (at d).1)
+  where
+    at : (d : ℤ) → FitsSigned w64 (x +ℤ y) × (read (x +ℤ y) ≡ pos (block_area p across up 0 bottom i top d))
+    at d = sum_of _ _ _ _ _ (x_is d) (y_is d)
+        (area_taller p (get_or across 0 d) (get_or across i d) (get_or up bottom d) (get_or up mid d) (get_or up top d) (line_le up bottom mid d y_are low (omega (arith, high, top_in))) (line_le up mid top d y_are high top_in))
+        (block_small p across up 0 bottom i top d x_are y_are (omega arith) i_in (omega (arith, low, high)) top_in)
 
 -- one corner more
-corners_more : (p : ℤ → ℤ → Bool) (across up corners : List ℤ) (i j : ℕ) (value : ℤ) → i < length across → AreCorners p across up (j * length across + i) corners
-    → ((d : ℤ) → value ≡ pos (block_area p across up 0 0 i j d)) → AreCorners p across up (j * length across + (i + 1)) (corners ++ value ∷ [])
-corners_more p across up corners i j value i_in are value_is = record {
+pub corners_more : (p : ℤ → ℤ → Bool) (across up : List ℤ) (bottom step : ℕ) (corners new : List ℤ) (i j : ℕ) (value : ℤ) → i < length across → AreCorners p across up bottom step (j * length across + i) corners
+    → new ≡ corners ++ value ∷ [] → ((d : ℤ) → value ≡ pos (block_area p across up 0 bottom i (bottom + j * step) d)) → AreCorners p across up bottom step (j * length across + (i + 1)) new
+corners_more p across up bottom step corners new i j value i_in are new_is value_is = rw new_is (record {
   count = length_push corners value ∙ omega (arith, are.count);
   each = λ k l d k_in lt. by_lt (l * length across + k) (j * length across + i)
       (λ below. get_or_append_left corners (value ∷ []) d (l * length across + k) (rw are.count below) ∙ are.each k l d k_in below)
@@ -138,81 +143,79 @@ corners_more p across up corners i j value i_in are value_is = record {
       let is : l * length across + k ≡ j * length across + i = omega (arith, lt, here) in
       let place = same_from_place l k j i (length across) k_in i_in is in
       ap (λ n. get_or (corners ++ value ∷ []) n d) (is ∙ sym are.count) ∙ (get_or-append_seam corners value [] d ∙ (value_is d ∙ rw (place.0, place.1) refl)));
+})
+
+-- the corners of a lowest line
+pub lowest_line : (p : ℤ → ℤ → Bool) (across up : List ℤ) (bottom step : ℕ) → AreCorners p across up bottom step (1 * length across) (replicate (length across) (pos 0))
+lowest_line p across up bottom step = record {
+  count = length-replicate (length across) (pos 0) ∙ omega arith;
+  each = λ i j d i_in lt.
+      let first : j ≡ 0 = by_lt j 1 (λ none. omega (arith, none)) (λ some. absurd (let le : 1 * length across ≤ j * length across = mul-le-mul some (same (length across)) in omega (arith, le, lt))) in
+      let at : j * length across + i ≡ i = ap (λ n. n * length across + i) first ∙ omega arith in
+      let line : bottom + j * step ≡ bottom = ap (λ n. bottom + n * step) first ∙ omega arith in
+      ap (λ n. get_or (replicate (length across) (pos 0)) n d) at
+      ∙ (get_or-replicate (length across) i (pos 0) d i_in
+      ∙ ap pos (sym (ap (λ n. block_area p across up 0 bottom i n d) line ∙ no_height p (get_or across 0 d) (get_or across i d) (get_or up bottom d))));
 }
+  where
+    same : (n : ℕ) → n ≤ n
+    same n = omega arith
+
+-- above row `j` of a group `i` corners are added, besides that at the left line, and what the cells so far hold
+pub record AreAdded (p : ℤ → ℤ → Bool) (across up : List ℤ) (bottom j i : ℕ) (total : ℤ) (corners : List ℤ) : Type 0 where
+  pub total_is : (d : ℤ) → total ≡ pos (block_area p across up 0 (bottom + j) i (bottom + j + 1) d)
+  pub are : AreCorners p across up bottom 1 ((j + 1) * length across + (i + 1)) corners
 
 -- the total with one cell more
-pub total_more : (p : ℤ → ℤ → Bool) (across up cells : List ℤ) (i j : ℕ) (total : ℤ) → AreLines across → AreLines up → AreCells p across up cells → i < gaps across → j < gaps up
+pub total_more : (p : ℤ → ℤ → Bool) (across up row : List ℤ) (i j : ℕ) (total : ℤ) → AreLines across → AreLines up → IsRow p across up j row → i < gaps across → j < gaps up
     → ((d : ℤ) → total ≡ pos (block_area p across up 0 j i (j + 1) d)) → (e : ℤ)
-    → FitsSigned w64 (total +ℤ read (get_or cells (j * gaps across + i) e)) × ((d : ℤ) → read (total +ℤ read (get_or cells (j * gaps across + i) e)) ≡ pos (block_area p across up 0 j (i + 1) (j + 1) d))
-total_more p across up cells i j total x_are y_are are i_in j_in total_is e = ((at e).0, λ d. (at d).1)
+    → FitsSigned w64 (total +ℤ read (get_or row i e)) × ((d : ℤ) → read (total +ℤ read (get_or row i e)) ≡ pos (block_area p across up 0 j (i + 1) (j + 1) d))
+total_more p across up row i j total x_are y_are are i_in j_in total_is e = ((at e).0, λ d. (at d).1)
   where
-    within : j * gaps across + i < gaps up * gaps across
-    within = corner_in (gaps across) (gaps up) i j i_in j_in
-
     small : (k : ℕ) (d : ℤ) → k ≤ i + 1 → block_area p across up k j (i + 1) (j + 1) d ≤ 2 ^ 62
     small k d le = block_small p across up k j (i + 1) (j + 1) d x_are y_are le (omega (arith, i_in)) (omega arith) (omega (arith, j_in))
 
-    cell : (d : ℤ) → get_or cells (j * gaps across + i) e ≡ pos (block_area p across up i j (i + 1) (j + 1) d)
-    cell d = get_or_default cells _ e d (rw are.count within) ∙ are.each i j d i_in j_in
-
-    at : (d : ℤ) → FitsSigned w64 (total +ℤ read (get_or cells (j * gaps across + i) e)) × (read (total +ℤ read (get_or cells (j * gaps across + i) e)) ≡ pos (block_area p across up 0 j (i + 1) (j + 1) d))
-    at d = sum_of _ _ _ _ _ (total_is d) (count_read _ _ (cell d) (small i d (omega arith)))
+    at : (d : ℤ) → FitsSigned w64 (total +ℤ read (get_or row i e)) × (read (total +ℤ read (get_or row i e)) ≡ pos (block_area p across up 0 j (i + 1) (j + 1) d))
+    at d = sum_of _ _ _ _ _ (total_is d) (count_read _ _ (get_or_default row i e d (rw are.count i_in) ∙ are.each i d i_in) (small i d (omega arith)))
         (area_wider p (get_or across 0 d) (get_or across i d) (get_or across (i + 1) d) (get_or up j d) (get_or up (j + 1) d) (line_le across 0 i d x_are (omega arith) (omega (arith, i_in))) (line_le across i (i + 1) d x_are (omega arith) (omega (arith, i_in))))
         (small 0 d (omega arith))
 
 -- the corner with that total above the one below it
-pub corner_above : (p : ℤ → ℤ → Bool) (across up corners : List ℤ) (i j : ℕ) (below total : ℤ) → AreLines across → AreLines up → i < gaps across → j < gaps up
-    → AreCorners p across up ((j + 1) * length across + (i + 1)) corners → below ≡ get_or corners (j * length across + i + 1) below
-    → ((d : ℤ) → total ≡ pos (block_area p across up 0 j (i + 1) (j + 1) d))
-    → FitsSigned w64 (read below +ℤ total) × ((d : ℤ) → read (read below +ℤ total) ≡ pos (block_area p across up 0 0 (i + 1) (j + 1) d))
-corner_above p across up corners i j below total x_are y_are i_in j_in are below_is total_is = ((at below).0, λ d. (at d).1)
+pub corner_above : (p : ℤ → ℤ → Bool) (across up corners : List ℤ) (bottom i j : ℕ) (below total : ℤ) → AreLines across → AreLines up → i < gaps across → bottom + j < gaps up
+    → AreCorners p across up bottom 1 ((j + 1) * length across + (i + 1)) corners → below ≡ get_or corners (j * length across + i + 1) below
+    → ((d : ℤ) → total ≡ pos (block_area p across up 0 (bottom + j) (i + 1) (bottom + j + 1) d))
+    → FitsSigned w64 (read below +ℤ total) × ((d : ℤ) → read (read below +ℤ total) ≡ pos (block_area p across up 0 bottom (i + 1) (bottom + j + 1) d))
+corner_above p across up corners bottom i j below total x_are y_are i_in j_in are below_is total_is =
+    stacked p across up (i + 1) bottom (bottom + j) (bottom + j + 1) (read below) total x_are y_are (omega (arith, i_in)) (omega arith) (omega arith) (omega (arith, j_in)) corner total_is
   where
-    early : j * length across + (i + 1) < (j + 1) * length across + (i + 1)
-    early = omega (arith, i_in)
+    one : bottom + j * 1 ≡ bottom + j
+    one = omega arith
 
-    small : (k : ℕ) (d : ℤ) → k < length up → block_area p across up 0 0 (i + 1) k d ≤ 2 ^ 62
-    small k d k_in = block_small p across up 0 0 (i + 1) k d x_are y_are (omega arith) (omega (arith, i_in)) (omega arith) k_in
-
-    corner : (d : ℤ) → below ≡ pos (block_area p across up 0 0 (i + 1) j d)
+    corner : (d : ℤ) → read below ≡ pos (block_area p across up 0 bottom (i + 1) (bottom + j) d)
     corner d =
         let place : j * length across + i + 1 ≡ j * length across + (i + 1) = omega arith in
-        below_is ∙ (ap (λ n. get_or corners n below) place ∙ (get_or_default corners _ below d (rw are.count early) ∙ are.each (i + 1) j d (omega (arith, i_in)) early))
-
-    at : (d : ℤ) → FitsSigned w64 (read below +ℤ total) × (read (read below +ℤ total) ≡ pos (block_area p across up 0 0 (i + 1) (j + 1) d))
-    at d = sum_of _ _ _ _ _ (count_read below _ (corner d) (small j d (omega (arith, j_in)))) (total_is d)
-        (area_taller p (get_or across 0 d) (get_or across (i + 1) d) (get_or up 0 d) (get_or up j d) (get_or up (j + 1) d) (line_le up 0 j d y_are (omega arith) (omega (arith, j_in))) (line_le up j (j + 1) d y_are (omega arith) (omega (arith, j_in))))
-        (small (j + 1) d (omega (arith, j_in)))
+        ap read (below_is ∙ ap (λ n. get_or corners n below) place)
+        ∙ (corner_read p across up corners bottom 1 ((j + 1) * length across + (i + 1)) (i + 1) j x_are y_are are (omega (arith, i_in)) (omega (arith, i_in)) (omega (arith, j_in)) below d
+        ∙ ap (λ n. pos (block_area p across up 0 bottom (i + 1) n d)) one)
 
 -- the corner at the left line
-pub added_first : (p : ℤ → ℤ → Bool) (across up old new : List ℤ) (j : ℕ) → AreLines across → AreCorners p across up ((j + 1) * length across) old → new ≡ old ++ pos 0 ∷ [] → AreAdded p across up j 0 (pos 0) new
-added_first p across up old new j x_are are new_is = record {
-  total_is = λ d. ap pos (sym (no_width p (get_or across 0 d) (get_or up j d) (get_or up (j + 1) d)));
-  are = rw new_is (corners_more p across up old 0 (j + 1) (pos 0) (let some : 2 ≤ length across = x_are.some in omega (arith, some)) (subst (λ n. AreCorners p across up n old) at are)
-      (λ d. ap pos (sym (no_width p (get_or across 0 d) (get_or up 0 d) (get_or up (j + 1) d)))));
+pub added_first : (p : ℤ → ℤ → Bool) (across up old new : List ℤ) (bottom j : ℕ) → AreLines across → AreCorners p across up bottom 1 ((j + 1) * length across) old → new ≡ old ++ pos 0 ∷ [] → AreAdded p across up bottom j 0 (pos 0) new
+added_first p across up old new bottom j x_are are new_is = record {
+  total_is = λ d. ap pos (sym (no_width p (get_or across 0 d) (get_or up (bottom + j) d) (get_or up (bottom + j + 1) d)));
+  are = corners_more p across up bottom 1 old new 0 (j + 1) (pos 0) (let some : 2 ≤ length across = x_are.some in omega (arith, some)) (subst (λ n. AreCorners p across up bottom 1 n old) at are) new_is
+      (λ d. ap pos (sym (no_width p (get_or across 0 d) (get_or up bottom d) (get_or up (bottom + (j + 1) * 1) d))));
 }
   where
     at : (j + 1) * length across ≡ (j + 1) * length across + 0
     at = omega arith
 
--- one corner more
-pub added_more : (p : ℤ → ℤ → Bool) (across up old new : List ℤ) (i j : ℕ) (total value total' : ℤ) → i < gaps across → AreAdded p across up j i total old → new ≡ old ++ value ∷ []
-    → ((d : ℤ) → value ≡ pos (block_area p across up 0 0 (i + 1) (j + 1) d)) → ((d : ℤ) → total' ≡ pos (block_area p across up 0 j (i + 1) (j + 1) d)) → AreAdded p across up j (i + 1) total' new
-added_more p across up old new i j total value total' i_in added new_is value_is total_is = record {
+-- one corner more above the row
+pub added_more : (p : ℤ → ℤ → Bool) (across up old new : List ℤ) (bottom i j : ℕ) (total value total' : ℤ) → i < gaps across → AreAdded p across up bottom j i total old → new ≡ old ++ value ∷ []
+    → ((d : ℤ) → value ≡ pos (block_area p across up 0 bottom (i + 1) (bottom + j + 1) d)) → ((d : ℤ) → total' ≡ pos (block_area p across up 0 (bottom + j) (i + 1) (bottom + j + 1) d)) → AreAdded p across up bottom j (i + 1) total' new
+added_more p across up old new bottom i j total value total' i_in added new_is value_is total_is = record {
   total_is = total_is;
-  are = rw new_is (corners_more p across up old (i + 1) (j + 1) value (omega (arith, i_in)) added.are value_is);
-}
-
--- the corners on the lowest line
-pub lowest_line : (p : ℤ → ℤ → Bool) (across up : List ℤ) → AreCorners p across up ((0 + 1) * length across) (replicate (length across) (pos 0))
-lowest_line p across up = record {
-  count = length-replicate (length across) (pos 0) ∙ omega arith;
-  each = λ i j d i_in lt.
-      let first : j ≡ 0 = by_lt j 1 (λ none. omega (arith, none)) (λ some. absurd (let le : 1 * length across ≤ j * length across = mul-le-mul some (same (length across)) in omega (arith, le, lt))) in
-      let at : j * length across + i ≡ i = ap (λ n. n * length across + i) first ∙ omega arith in
-      ap (λ n. get_or (replicate (length across) (pos 0)) n d) at
-      ∙ (get_or-replicate (length across) i (pos 0) d i_in
-      ∙ ap pos (sym (ap (λ n. block_area p across up 0 0 i n d) first ∙ no_height p (get_or across 0 d) (get_or across i d) (get_or up 0 d))));
+  are = corners_more p across up bottom 1 old new (i + 1) (j + 1) value (omega (arith, i_in)) added.are new_is (λ d. value_is d ∙ ap (λ n. pos (block_area p across up 0 bottom (i + 1) n d)) one);
 }
   where
-    same : (n : ℕ) → n ≤ n
-    same n = omega arith
+    one : bottom + j + 1 ≡ bottom + (j + 1) * 1
+    one = omega arith

@@ -1,11 +1,11 @@
 -- Spans that overlap, cut into spans side by side.
-use Rattle.std.proofs.Common.{◌≡◌, Bool, ℕ, zero, suc, ◌+◌, ◌*◌, ◌-◌, ◌/◌, ◌%◌, ◌≤◌, ◌<◌, ℤ, pos, negsuc, ◌+ℤ◌, ◌*ℤ◌, ◌≤ℤ◌, ◌<ℤ◌, List, [], ◌∷◌, ◌++◌, length, get_or, refl, arith, ap, ◌∙◌, sym, subst, below_more}
+use Rattle.std.proofs.Common.{◌≡◌, Bool, ℕ, zero, suc, ◌+◌, ◌*◌, ◌-◌, ◌/◌, ◌%◌, ◌≤◌, ◌<◌, ℤ, pos, negsuc, ◌+ℤ◌, ◌*ℤ◌, ◌≤ℤ◌, ◌<ℤ◌, List, [], ◌∷◌, ◌++◌, length, get_or, take, drop, min, refl, arith, ap, ◌∙◌, sym, subst, below_more, Vec, Global}
 use Rattle.std.specs.List.{Contains}
 use Rattle.std.specs.Prelude.{unsigned_abs}
 use Rattle.std.proofs.Math.Nat.{div-add-mod, mul_comm, mul-le-mul, mul-zero}
 use Rattle.std.proofs.Math.Seq.{get_or-append_seam}
 use Rattle.std.proofs.lemmas.Int.{ints}
-use Rattle.std.proofs.lemmas.List.{get_or_default, get_or_append_left, length-append}
+use Rattle.std.proofs.lemmas.List.{get_or_default, get_or_append_left, get_or-take, get_or-drop, length-append, length-take, length-drop}
 use Rattle.std.proofs.lemmas.List.Elements.{Contains-get_or}
 use Rattle.fill_base.specs.Coordinates.{lowest, highest, IsCoordinate}
 use Rattle.fill_base.proofs.Signed.{read, read_is, coordinate_fits, lt_le, le_trans}
@@ -14,9 +14,13 @@ use Rattle.fill_area.specs.Density.{AreMeasured}
 use Rattle.fill_area.specs.Grid.{Grid}
 use Rattle.fill_area.specs.declared.axis.Axis.{Axis}
 use Rattle.fill_cells.specs.Mesh.{AreLines, gaps}
-use Rattle.fill_measure.specs.steps.Groups.{AreCells, cell_area}
+use Rattle.fill_measure.specs.declared.mesh.Mesh.{Mesh}
+use Rattle.fill_measure.specs.steps.Groups.{AreCells, IsRow, cell_area}
+use Rattle.fill_measure.specs.steps.Meshes.{AreCornersOf, AreGroups, IsGroupOf}
+use Rattle.fill_measure.specs.steps.Corners.{AreCorners}
 use Rattle.fill_measure.specs.steps.Cuts.{IsCut, AreEven}
 use Rattle.fill_measure.specs.steps.Ends.{HoldEnds}
+use Rattle.fill_measure.specs.steps.Shapes.{squares_of}
 use Rattle.fill_measure.proofs.CornerSums.{corner_in}
 
 -- the first `n` lines of the even ones
@@ -167,3 +171,38 @@ cut_is axis l s first length step is length_of step_of even first_is length_is s
 
     counted : (n q : ℕ) → 1 ≤ q → n + (q - 1) + 1 ≡ n + q
     counted n q some = omega (arith, some)
+
+-- a row of cells, in the list of all
+pub row_of_cells : (p : ℤ → ℤ → Bool) (across up cells : List ℤ) (j : ℕ) → AreCells p across up cells → j < gaps up → IsRow p across up (0 + j) (take ((j + 1) * gaps across - j * gaps across) (drop (j * gaps across) cells))
+row_of_cells p across up cells j are j_in = subst (λ n. IsRow p across up n (take ((j + 1) * gaps across - j * gaps across) (drop (j * gaps across) cells))) first (record {
+  count = length-take ((j + 1) * gaps across - j * gaps across) (drop (j * gaps across) cells) ∙ (ap (min ((j + 1) * gaps across - j * gaps across)) (length-drop (j * gaps across) cells) ∙ whole (gaps across) (length cells) enough);
+  each = λ i d i_in.
+      get_or-take ((j + 1) * gaps across - j * gaps across) (drop (j * gaps across) cells) i d (rw (one (gaps across)) i_in)
+      ∙ (get_or-drop (j * gaps across) cells i d ∙ are.each i j d i_in j_in);
+})
+  where
+    first : j ≡ 0 + j
+    first = omega arith
+
+    one : (w : ℕ) → (j + 1) * w - j * w ≡ w
+    one w = omega arith
+
+    enough : (j + 1) * gaps across ≤ length cells
+    enough = rw are.count (mul-le-mul (omega (arith, j_in)) (omega arith))
+
+    whole : (w l : ℕ) → (j + 1) * w ≤ l → min ((j + 1) * w - j * w) (l - j * w) ≡ w
+    whole w l le = omega (arith, le)
+
+-- the corners of all rows are one group
+pub one_group : (mesh : Mesh) (v : Vec ℤ Global) (groups : List (Vec ℤ Global)) → AreLines mesh.up.now → AreCornersOf mesh 0 (gaps mesh.up.now + 1) v.items → groups ≡ v ∷ [] → AreGroups mesh (gaps mesh.up.now) groups
+one_group mesh v groups y_are corners is = rw is (record {
+  all = omega arith;
+  some = λ k lt. let some : 2 ≤ length mesh.up.now = y_are.some in let none : k ≡ 0 = omega (arith, lt) in rw none (omega (arith, some));
+  each = λ k d lt. let none : 0 ≡ k = omega (arith, lt) in subst (λ k. IsGroupOf mesh (gaps mesh.up.now) k (get_or (v ∷ []) k d).items) none group;
+})
+  where
+    group : IsGroupOf mesh (gaps mesh.up.now) 0 v.items
+    group =
+        let first : 0 ≡ 0 * gaps mesh.up.now = omega arith in
+        let count : gaps mesh.up.now ≡ min (gaps mesh.up.now) (gaps mesh.up.now - 0 * gaps mesh.up.now) = omega arith in
+        subst (λ n. AreCorners (squares_of mesh.shapes) mesh.across.now mesh.up.now (0 * gaps mesh.up.now) 1 ((n + 1) * length mesh.across.now) v.items) count (subst (λ n. AreCornersOf mesh n (gaps mesh.up.now + 1) v.items) first corners)

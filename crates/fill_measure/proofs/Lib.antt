@@ -6,3 +6,4 @@ pub mod Placing
 pub mod Windowing
 pub mod Cutting
 pub mod Listing
+pub mod Stacking

@@ -1,5 +1,5 @@
 -- The areas of a row of cells, by the list of the rectangles that meet it.
-use Rattle.std.proofs.Common.{◌≡◌, Bool, true, ℕ, ◌+◌, ◌*◌, ◌<◌, ℤ, pos, ◌≤ℤ◌, ◌<ℤ◌, List, length, get_or, arith, ap, ◌∙◌, sym, subst}
+use Rattle.std.proofs.Common.{◌≡◌, Bool, true, ℕ, ◌+◌, ◌<◌, ℤ, pos, ◌≤ℤ◌, ◌<ℤ◌, List, length, get_or, arith, ap, ◌∙◌}
 use Rattle.std.proofs.lemmas.List.{get_or_default}
 use Rattle.fill_base.specs.declared.rect.Rect.{Rect}
 use Rattle.fill_base.specs.Coordinates.{IsCoordinate}
@@ -10,7 +10,7 @@ use Rattle.fill_base.proofs.Counting.{sum_between_same, count_between_same}
 use Rattle.fill_base.proofs.Signed.{read, read_is, coordinate_fits, lt_le}
 use Rattle.fill_region.specs.Squares.{covered}
 use Rattle.fill_cells.specs.Mesh.{AreLines, AreRowAreas, row_squares, gaps}
-use Rattle.fill_measure.specs.steps.Groups.{AreRows, cell_area}
+use Rattle.fill_measure.specs.steps.Groups.{IsRow, cell_area}
 
 -- sets that agree between four lines have the same area there
 same_between : (p q : ℤ → ℤ → Bool) (left bottom right top : ℤ) → left ≤ℤ right → bottom ≤ℤ top
@@ -28,10 +28,10 @@ line_is lines i d are lt =
 -- one row, measured by a list that covers there the squares of the set
 pub row_is : (p : ℤ → ℤ → Bool) (across up row : List ℤ) (items : List Rect) (j : ℕ) → AreLines across → AreLines up → j < gaps up
     → ((d : ℤ) (x y : ℤ) → row_squares (get_or up j d) (get_or up (j + 1) d) x y ≡ true → covered items x y ≡ p x y)
-    → AreRowAreas (covered items) across (read (get_or up j (pos 0))) (read (get_or up (j + 1) (pos 0))) row → AreRows p across up j 1 row
+    → AreRowAreas (covered items) across (read (get_or up j (pos 0))) (read (get_or up (j + 1) (pos 0))) row → IsRow p across up j row
 row_is p across up row items j lines ups j_in agree areas = record {
-  count = areas.count ∙ omega arith;
-  each = λ i k d i_in k_in. let zero : k ≡ 0 = omega (arith, k_in) in subst (λ n. get_or row (n * gaps across + i) d ≡ pos (cell_area p across up i (j + n) d)) (sym zero) (here i d i_in);
+  count = areas.count;
+  each = λ i d i_in. areas.each i d i_in ∙ ap pos (rw (line_is up j d ups first_in, line_is up (j + 1) d ups second_in) (whole d i i_in));
 }
   where
     first_in : j < length up
@@ -45,9 +45,3 @@ row_is p across up row items j lines ups j_in agree areas = record {
 
     whole : (d : ℤ) (i : ℕ) → i < gaps across → area_between (covered items) (get_or across i d) (get_or up j d) (get_or across (i + 1) d) (get_or up (j + 1) d) ≡ cell_area p across up i j d
     whole d i i_in = same_between (covered items) p (get_or across i d) (get_or up j d) (get_or across (i + 1) d) (get_or up (j + 1) d) (rises across i d lines i_in) (rises up j d ups j_in) (λ x y low high. agree d x y (is_between_true (get_or up j d) (get_or up (j + 1) d) y low high))
-
-    here : (i : ℕ) (d : ℤ) → i < gaps across → get_or row (0 * gaps across + i) d ≡ pos (cell_area p across up i (j + 0) d)
-    here i d i_in =
-        let at : 0 * gaps across + i ≡ i = omega arith in
-        let same : j + 0 ≡ j = omega arith in
-        ap (λ n. get_or row n d) at ∙ (areas.each i d i_in ∙ (ap pos (rw (line_is up j d ups first_in, line_is up (j + 1) d ups second_in) (whole d i i_in)) ∙ ap (λ n. pos (cell_area p across up i n d)) (sym same)))

@@ -7,3 +7,4 @@ pub mod Meshes
 pub mod Parts
 pub mod Shapes
 pub mod Sides
+pub mod Sums

@@ -2,15 +2,16 @@
 //! between, or from a region. A window's area is the count of its unit squares that the shapes hold: the layers above rely on that.
 #![tactic(auto)]
 
-mod cells;
 mod corners;
 mod cuts;
+mod groups;
 mod lines;
 mod lists;
 mod measure;
 mod mesh;
 mod pitch;
 mod sides;
+mod sums;
 mod windows;
 
 pub use measure::{measure_rects, measure_region};

@@ -79,7 +79,10 @@ fn parts_of(alloc: Global, rects: &[Rect]) -> Result<Vec<&[Rect]>, AllocError>
 }
 
 /// What all calls gave, or the first refusal of memory.
-fn all_of<T: Drop>(alloc: Global, results: Vec<Result<T, AllocError>>) -> Result<Vec<T>, AllocError>
+pub(crate) fn all_of<T: Drop>(
+    alloc: Global,
+    results: Vec<Result<T, AllocError>>,
+) -> Result<Vec<T>, AllocError>
     ensures { IfOk result (λ v. results.items ≡ map Ok v.items) }
 {
     let mut all = Vec::with_capacity(alloc, results.len())?;

@@ -38,9 +38,8 @@ pub fn measure_rects(
         across: &across,
         up: &up,
     };
-    let cells = mesh.cells(rt, alloc, rects)?;
-    let corners = mesh.corners(alloc, &cells)?;
-    mesh.window_areas(alloc, windows, &corners)
+    let corners = mesh.corners(rt, alloc, rects)?;
+    mesh.window_areas(rt, alloc, windows, &corners)
 }
 
 /// How many squares of each window are in the region: `measure_all`, word for word. Where the windows overlap and a size is a multiple
@@ -85,6 +84,6 @@ fn measure_cut(
         across: &across,
         up: &up,
     };
-    let corners = mesh.corners(alloc, &cells)?;
-    mesh.window_areas(alloc, windows, &corners)
+    let corners = mesh.corners_of(alloc, &cells)?;
+    mesh.window_areas(rt, alloc, windows, &corners)
 }

@@ -6,7 +6,12 @@ use Rattle.fill_base.specs.Squares.{area_between}
 abbrev pub block_area : (ℤ → ℤ → Bool) → List ℤ → List ℤ → ℕ → ℕ → ℕ → ℕ → ℤ → ℕ
 block_area p across up left bottom right top d = area_between p (get_or across left d) (get_or up bottom d) (get_or across right d) (get_or up top d)
 
--- the first `n` numbers of a list that says, row by row from the lowest line, how many lie below and left of each crossing
-pub record AreCorners (p : ℤ → ℤ → Bool) (across up : List ℤ) (n : ℕ) (corners : List ℤ) : Type 0 where
+-- the first `n` numbers of a list that says, row by row, how many lie left of each line across and above the line `bottom`, below that line and each `step` lines further
+pub record AreCorners (p : ℤ → ℤ → Bool) (across up : List ℤ) (bottom step n : ℕ) (corners : List ℤ) : Type 0 where
   pub count : length corners ≡ n
-  pub each : (i j : ℕ) (d : ℤ) → i < length across → j * length across + i < n → get_or corners (j * length across + i) d ≡ pos (block_area p across up 0 0 i j d)
+  pub each : (i j : ℕ) (d : ℤ) → i < length across → j * length across + i < n → get_or corners (j * length across + i) d ≡ pos (block_area p across up 0 bottom i (bottom + j * step) d)
+
+-- how many lie below the line `j` and left of each line across
+pub record IsLine (p : ℤ → ℤ → Bool) (across up : List ℤ) (j : ℕ) (numbers : List ℤ) : Type 0 where
+  pub count : length numbers ≡ length across
+  pub each : (i : ℕ) (d : ℤ) → i < length across → get_or numbers i d ≡ pos (block_area p across up 0 0 i j d)

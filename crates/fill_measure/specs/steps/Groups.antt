@@ -1,4 +1,4 @@
--- The cells of a mesh, and some neighbouring rows of them.
+-- The cells of a mesh, and areas that a list gives row by row.
 use Rattle.std.specs.Prelude.{◌≡◌, ℕ, ◌+◌, ◌*◌, ◌<◌, ℤ, pos, Bool, List, length, get_or}
 use Rattle.fill_base.specs.Squares.{area_between}
 use Rattle.fill_cells.specs.Mesh.{gaps}
@@ -12,7 +12,12 @@ pub record AreCells (p : ℤ → ℤ → Bool) (across up areas : List ℤ) : Ty
   pub count : length areas ≡ gaps up * gaps across
   pub each : (i j : ℕ) (d : ℤ) → i < gaps across → j < gaps up → get_or areas (j * gaps across + i) d ≡ pos (cell_area p across up i j d)
 
--- the areas of the cells in `n` rows from row `from` on
-pub record AreRows (p : ℤ → ℤ → Bool) (across up : List ℤ) (from n : ℕ) (areas : List ℤ) : Type 0 where
-  pub count : length areas ≡ n * gaps across
-  pub each : (i j : ℕ) (d : ℤ) → i < gaps across → j < n → get_or areas (j * gaps across + i) d ≡ pos (cell_area p across up i (from + j) d)
+-- the areas of the cells in row `j`
+pub record IsRow (p : ℤ → ℤ → Bool) (across up : List ℤ) (j : ℕ) (areas : List ℤ) : Type 0 where
+  pub count : length areas ≡ gaps across
+  pub each : (i : ℕ) (d : ℤ) → i < gaps across → get_or areas i d ≡ pos (cell_area p across up i j d)
+
+-- the areas in `n` rows from row `from` on, where `area` tells them by column and row
+pub record AreRows (area : ℕ → ℕ → ℕ) (columns from n : ℕ) (areas : List ℤ) : Type 0 where
+  pub count : length areas ≡ n * columns
+  pub each : (i j : ℕ) (d : ℤ) → i < columns → j < n → get_or areas (j * columns + i) d ≡ pos (area i (from + j))

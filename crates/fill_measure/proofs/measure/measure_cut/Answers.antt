@@ -11,8 +11,8 @@ pub invariant_of-mesh-clause-up_lines : goal.invariant_of-mesh-clause-up_lines
 invariant_of-mesh-clause-up_lines g c =
     rw c.deref-2.ensures.value (even_lines c.args.cut.now.up _ (rw c.up.ensures.value at c.up.ensures.axis) (c.requires.up.length_is ∙ sym c.requires.up.step_is) (rw c.up.ensures.value at c.in_ok-up.ensures))
 
-pub corners-requires : goal.corners-requires
-corners-requires g c =
+pub corners_of-requires : goal.corners_of-requires
+corners_of-requires g c =
     let cut = c.args.cut.now in
     let wide = c.requires.across.length_is ∙ sym c.requires.across.step_is in
     let tall = c.requires.up.length_is ∙ sym c.requires.up.step_is in
@@ -20,7 +20,7 @@ corners-requires g c =
     (cells_are (holds c.args.region.now) cut _ _ _ c.in_ok-cells.ensures.areas wide tall (rw c.across.ensures.value at c.in_ok-across.ensures) (rw c.up.ensures.value at c.in_ok-up.ensures))
 
 pub window_areas-requires-clause-across : goal.window_areas-requires-clause-across
-window_areas-requires-clause-across g c = rw c.deref.ensures.value (cut_ends c.args.windows.now.across c.args.cut.now.across _ c.requires.across (rw c.across.ensures.value at c.in_ok-across.ensures))
+window_areas-requires-clause-across g c κs live = rw c.deref.ensures.value (cut_ends c.args.windows.now.across c.args.cut.now.across _ c.requires.across (rw c.across.ensures.value at c.in_ok-across.ensures))
 
 pub window_areas-requires-clause-up : goal.window_areas-requires-clause-up
-window_areas-requires-clause-up g c = rw c.deref-2.ensures.value (cut_ends c.args.windows.now.up c.args.cut.now.up _ c.requires.up (rw c.up.ensures.value at c.in_ok-up.ensures))
+window_areas-requires-clause-up g c κs live = rw c.deref-2.ensures.value (cut_ends c.args.windows.now.up c.args.cut.now.up _ c.requires.up (rw c.up.ensures.value at c.in_ok-up.ensures))

@@ -1,25 +1,25 @@
-use Rattle.std.proofs.Common.{pos}
+use Rattle.std.proofs.Common.{pos, ◌+◌}
 use Rattle.fill_measure.specs.steps.Shapes.{squares_of}
 use Rattle.fill_measure.proofs.CornerSums.{added_first, added_more, total_more, corner_above}
 use Rattle.fill_measure.proofs.mesh.Mesh.add_line.Goals as goal
 
 pub loop-i-init : goal.loop-i-init
-loop-i-init c = let mesh = c.args.self.now in added_first (squares_of mesh.shapes) mesh.across.now mesh.up.now _ _ c.args.j mesh.across_lines c.requires.corners c.in_ok-push.ensures.items
+loop-i-init c = let mesh = c.args.self.now in added_first (squares_of mesh.shapes) mesh.across.now mesh.up.now _ _ c.args.from c.args.k mesh.across_lines c.requires.corners c.in_ok-push.ensures.items
 
-pub overflow_add-total-in-loop-i : goal.overflow_add-total-in-loop-i
-overflow_add-total-in-loop-i c =
+pub overflow_add-total : goal.overflow_add-total
+overflow_add-total c =
     let mesh = c.args.self.now in
-    (total_more (squares_of mesh.shapes) mesh.across.now mesh.up.now c.args.cells.now c.loop-i.i c.args.j _ mesh.across_lines mesh.up_lines c.requires.cells c.loop-i-test.true c.requires.row c.loop-i.invariant.total_is (pos 0)).0
+    (total_more (squares_of mesh.shapes) mesh.across.now mesh.up.now c.args.row.now c.loop-i.i (c.args.from + c.args.k) _ mesh.across_lines mesh.up_lines c.requires.row c.loop-i-test.true c.requires.within c.loop-i.invariant.total_is (pos 0)).0
 
 pub overflow_add-index : goal.overflow_add-index
 overflow_add-index c =
     let mesh = c.args.self.now in
-    let total = total_more (squares_of mesh.shapes) mesh.across.now mesh.up.now c.args.cells.now c.loop-i.i c.args.j _ mesh.across_lines mesh.up_lines c.requires.cells c.loop-i-test.true c.requires.row c.loop-i.invariant.total_is (pos 0) in
-    (corner_above (squares_of mesh.shapes) mesh.across.now mesh.up.now c.loop-i.corners.items c.loop-i.i c.args.j c.index.result.now _ mesh.across_lines mesh.up_lines c.loop-i-test.true c.requires.row c.loop-i.invariant.are c.index.ensures total.1).0
+    let total = total_more (squares_of mesh.shapes) mesh.across.now mesh.up.now c.args.row.now c.loop-i.i (c.args.from + c.args.k) _ mesh.across_lines mesh.up_lines c.requires.row c.loop-i-test.true c.requires.within c.loop-i.invariant.total_is (pos 0) in
+    (corner_above (squares_of mesh.shapes) mesh.across.now mesh.up.now c.loop-i.corners.items c.args.from c.loop-i.i c.args.k c.index.result.now _ mesh.across_lines mesh.up_lines c.loop-i-test.true c.requires.within c.loop-i.invariant.are c.index.ensures total.1).0
 
 pub loop-i-preserved : goal.loop-i-preserved
 loop-i-preserved c =
     let mesh = c.args.self.now in
-    let total = total_more (squares_of mesh.shapes) mesh.across.now mesh.up.now c.args.cells.now c.loop-i.i c.args.j _ mesh.across_lines mesh.up_lines c.requires.cells c.loop-i-test.true c.requires.row c.loop-i.invariant.total_is (pos 0) in
-    let corner = corner_above (squares_of mesh.shapes) mesh.across.now mesh.up.now c.loop-i.corners.items c.loop-i.i c.args.j c.index.result.now _ mesh.across_lines mesh.up_lines c.loop-i-test.true c.requires.row c.loop-i.invariant.are c.index.ensures total.1 in
-    added_more (squares_of mesh.shapes) mesh.across.now mesh.up.now c.loop-i.corners.items _ c.loop-i.i c.args.j _ _ _ c.loop-i-test.true c.loop-i.invariant c.in_ok-push-2.ensures.items corner.1 total.1
+    let total = total_more (squares_of mesh.shapes) mesh.across.now mesh.up.now c.args.row.now c.loop-i.i (c.args.from + c.args.k) _ mesh.across_lines mesh.up_lines c.requires.row c.loop-i-test.true c.requires.within c.loop-i.invariant.total_is (pos 0) in
+    let corner = corner_above (squares_of mesh.shapes) mesh.across.now mesh.up.now c.loop-i.corners.items c.args.from c.loop-i.i c.args.k c.index.result.now _ mesh.across_lines mesh.up_lines c.loop-i-test.true c.requires.within c.loop-i.invariant.are c.index.ensures total.1 in
+    added_more (squares_of mesh.shapes) mesh.across.now mesh.up.now c.loop-i.corners.items _ c.args.from c.loop-i.i c.args.k _ _ _ c.loop-i-test.true c.loop-i.invariant c.in_ok-push-2.ensures.items corner.1 total.1

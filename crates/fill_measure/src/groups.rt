@@ -1,0 +1,97 @@
+//! The corners of groups of neighbouring rows of cells, measured in parallel straight from rectangles.
+ghost use Rattle.std.specs.Prelude.{◌≡◌, ℕ, ◌+◌, ◌*◌, ◌<◌, ◌≤◌, IfOk, length, slice_index_or};
+ghost use Rattle.fill_region.specs.Squares.{covered};
+ghost use Rattle.fill_cells.specs.Mesh.{gaps};
+ghost use Rattle.fill_measure.specs.steps.Meshes.{AreCornersOf, AreGroupsOf, IsGroupOf};
+ghost use Rattle.fill_measure.specs.steps.Parts.{ArePartLists};
+ghost use Rattle.fill_measure.specs.steps.Shapes.{squares_of};
+
+use crate::corners::Corners;
+use crate::lists::{Part, all_of, by_parts, row_of};
+use crate::mesh::Mesh;
+use fill_base::Rect;
+use fill_cells::row_areas;
+use std::alloc::{AllocError, Global};
+use std::thread;
+use std::thread::Threads;
+
+/// The rows of cells are cut into at most so many groups of neighbours, each measured by a thread of its own.
+const MOST_GROUPS: usize = 16;
+
+impl Mesh<'_> {
+    /// The corners of a mesh of rectangles. Parts of the rectangles are shared out to rows in parallel, and then groups of rows are
+    /// measured so; a thread holds the rectangles of one row at a time.
+    pub(crate) fn corners(
+        &self,
+        rt: &(impl Threads + Sync),
+        alloc: Global,
+        rects: &[Rect],
+    ) -> Result<Corners, AllocError>
+        requires shapes { squares_of self.now.shapes ≡ covered rects.now }
+        ensures { IfOk result (λ c. AreGroupsOf self.now c) }
+    {
+        let lists = by_parts(rt, alloc, rects, self.up)?;
+        let lists = lists.as_slice();
+        let lower = &self.up[..self.up.len() - 1];
+        let height = lower.len().div_ceil(MOST_GROUPS);
+        let groups = thread::map_chunks(
+            rt,
+            alloc,
+            lower,
+            height,
+            &|from: usize, part: &[i64]| -> Result<Vec<i64>, AllocError>
+                requires within { from + length part.now ≤ gaps self.now.up.now }
+                requires lists { ArePartLists self.now.up.now (squares_of self.now.shapes) lists.now }
+                ensures { IfOk result (λ v. AreCornersOf self.entry.now from (length part.entry.now + 1) v.items) }
+            { self.group(alloc, lists, from, part.len()) },
+        )?;
+        self.gathered(alloc, height, groups)
+    }
+
+    /// The corners of all groups of `height` rows, or the first refusal of memory.
+    fn gathered(
+        &self,
+        alloc: Global,
+        height: usize,
+        groups: Vec<Result<Vec<i64>, AllocError>>,
+    ) -> Result<Corners, AllocError>
+        requires all { gaps self.now.up.now ≤ length groups.items * height }
+        requires some { (k : ℕ) → k < length groups.items → k * height < gaps self.now.up.now }
+        requires each { (k : ℕ) (d : _) → k < length groups.items → IfOk (slice_index_or groups.items k d) (λ v. IsGroupOf self.now height k v.items) }
+        ensures { IfOk result (λ c. AreGroupsOf self.now c) }
+    {
+        let groups = all_of(alloc, groups)?;
+        self.put_together(alloc, height, groups)
+    }
+
+    /// The corners on the lines of `count` rows of cells from row `from` on, above the lowest of these lines. The lists of a row's
+    /// cells are used again for the next.
+    fn group(
+        &self,
+        alloc: Global,
+        lists: &[Part],
+        from: usize,
+        count: usize,
+    ) -> Result<Vec<i64>, AllocError>
+        requires lists { ArePartLists self.now.up.now (squares_of self.now.shapes) lists.now }
+        requires within { from + count ≤ gaps self.now.up.now }
+        ensures { IfOk result (λ v. AreCornersOf self.now from (count + 1) v.items) }
+    {
+        let mut corners = self.lowest(alloc, count)?;
+        let mut held = Vec::new(alloc);
+        for k in 0..count {
+            let j = from + k;
+            let rects = row_of(alloc, lists, j)?;
+            let row = row_areas(
+                alloc,
+                &mut held,
+                rects,
+                self.across,
+                self.up[j],
+                self.up[j + 1],
+            )?;
+            self.add_line(from, k, &row, &mut corners)?;
+        }
+        Ok(corners)
+    }
+}
