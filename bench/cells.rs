@@ -8,6 +8,9 @@ use std::sync::Mutex;
 /// The rows of cells are cut into at most so many groups, which threads take one after another.
 const MOST_GROUPS: usize = 16;
 
+/// A group of rows of windows has about so many windows or more.
+const LEAST_GROUP: usize = 4096;
+
 /// The rectangles are cut into at most so many parts, each of so many or of all that are left.
 const MOST_PARTS: usize = 16;
 const LEAST_PART: usize = 16_384;
@@ -422,6 +425,70 @@ fn cut(lines: Vec<i32>, pitch: u64) -> Vec<i32> {
     all
 }
 
+/// The corners of a mesh, by groups of `height` rows of cells: for each line of a group how many covered squares lie above the group's
+/// lowest line and left of each line across, and for each group how many lie below it.
+struct Corners {
+    width: usize,
+    height: usize,
+    groups: Vec<Vec<i64>>,
+    below: Vec<i64>,
+}
+
+impl Corners {
+    fn new(width: usize, height: usize, groups: Vec<Vec<i64>>) -> Corners {
+        let mut below = vec![0i64; width];
+        for group in &groups[..groups.len() - 1] {
+            let (last, top) = (below.len() - width, group.len() - width);
+            (0..width).for_each(|i| below.push(below[last + i] + group[top + i]));
+        }
+        Corners { width, height, groups, below }
+    }
+
+    /// How many covered squares lie below the line at `j` and left of each line across.
+    fn line(&self, j: usize) -> Vec<i64> {
+        let k = (j / self.height).min(self.groups.len() - 1);
+        let (below, above) = (k * self.width, (j - k * self.height) * self.width);
+        let group = &self.groups[k][above..above + self.width];
+        self.below[below..below + self.width].iter().zip(group).map(|(below, above)| below + above).collect()
+    }
+
+    /// The areas of all windows, groups of rows of windows at once.
+    fn window_areas(&self, windows: &Windows, across: &[i32], up: &[i32]) -> Vec<i64> {
+        let columns = sides(across, windows.origin.0, windows.size.0, windows.step.0, windows.columns);
+        let rows = sides(up, windows.origin.1, windows.size.1, windows.step.1, windows.rows);
+        let height = windows.rows.div_ceil(MOST_GROUPS).max(LEAST_GROUP.div_ceil(windows.columns));
+        let mut groups = vec![Vec::new(); windows.rows.div_ceil(height)];
+        share_out(rows.chunks(height).zip(&mut groups), |(rows, areas)| {
+            areas.reserve(rows.len() * columns.len());
+            for (bottom, top) in rows {
+                let (lower, upper) = (self.line(*bottom), self.line(*top));
+                let area = |(left, right): &(usize, usize)| upper[*right] - upper[*left] - lower[*right] + lower[*left];
+                areas.extend(columns.iter().map(area));
+            }
+        });
+        let mut areas = Vec::with_capacity(windows.columns * windows.rows);
+        groups.iter().for_each(|group| areas.extend_from_slice(group));
+        areas
+    }
+}
+
+/// Adds the corners of the line above a row of cells.
+fn add_line(corners: &mut Vec<i64>, row: &[i64]) {
+    let below = corners.len() - (row.len() + 1);
+    let mut total = 0;
+    corners.push(0);
+    for (i, cell) in row.iter().enumerate() {
+        total += cell;
+        corners.push(corners[below + i + 1] + total);
+    }
+}
+
+/// At which lines the windows along an axis begin and end.
+fn sides(lines: &[i32], first: i32, size: i32, step: i32, count: usize) -> Vec<(usize, usize)> {
+    let at = |line: i32| lines.partition_point(|below| *below < line);
+    (0..count as i32).map(|a| (at(first + a * step), at(first + a * step + size))).collect()
+}
+
 /// The areas of all windows, row by row.
 pub fn measure_rects(rects: &[Rect], windows: &Windows) -> Vec<i64> {
     let across = lines_of(windows.origin.0, windows.size.0, windows.step.0, windows.columns);
@@ -431,38 +498,29 @@ pub fn measure_rects(rects: &[Rect], windows: &Windows) -> Vec<i64> {
     let (columns, rows) = (across.len() - 1, up.len() - 1);
     let parts = by_parts(rects, &up);
     let height = rows.div_ceil(MOST_GROUPS);
-    let mut cells = vec![0i64; columns * rows];
-    share_out(cells.chunks_mut(height * columns).enumerate(), |(k, areas)| {
+    let mut groups = vec![Vec::new(); rows.div_ceil(height)];
+    share_out(groups.iter_mut().enumerate(), |(k, corners)| {
         let mut lists = vec![Vec::new(); columns];
-        for (j, row) in areas.chunks_mut(columns).enumerate() {
-            let at = k * height + j;
+        let mut areas = vec![0i64; columns];
+        *corners = vec![0i64; columns + 1];
+        for at in k * height..rows.min((k + 1) * height) {
             let mut rects: Vec<Rect> = Vec::new();
             for (part, lists) in &parts {
                 rects.extend(lists[at].iter().map(|place| part[*place as usize]));
             }
-            row_areas(&mut lists, rects, &across, up[at], up[at + 1], row);
+            row_areas(&mut lists, rects, &across, up[at], up[at + 1], &mut areas);
+            add_line(corners, &areas);
         }
     });
-    let mut corners = vec![0i64; (rows + 1) * (columns + 1)];
-    for j in 0..rows {
-        let mut total = 0;
-        for i in 0..columns {
-            total += cells[j * columns + i];
-            corners[(j + 1) * (columns + 1) + i + 1] = corners[j * (columns + 1) + i + 1] + total;
-        }
-    }
-    let sides = |lines: &[i32], first: i32, size: i32, step: i32, count: usize| -> Vec<(usize, usize)> {
-        let at = |line: i32| lines.partition_point(|below| *below < line);
-        (0..count as i32).map(|a| (at(first + a * step), at(first + a * step + size))).collect()
-    };
-    let xs = sides(&across, windows.origin.0, windows.size.0, windows.step.0, windows.columns);
-    let ys = sides(&up, windows.origin.1, windows.size.1, windows.step.1, windows.rows);
-    let corner = |i: usize, j: usize| corners[j * (columns + 1) + i];
-    let mut areas = Vec::with_capacity(windows.columns * windows.rows);
-    for (bottom, top) in &ys {
-        for (left, right) in &xs {
-            areas.push(corner(*right, *top) - corner(*left, *top) - corner(*right, *bottom) + corner(*left, *bottom));
-        }
-    }
-    areas
+    Corners::new(columns + 1, height, groups).window_areas(windows, &across, &up)
+}
+
+/// The areas of windows by those of the cells that their steps cut, which are given row by row.
+pub fn sum_cells(cells: &[i64], cut: &Windows, windows: &Windows) -> Vec<i64> {
+    let mut corners = vec![0i64; cut.columns + 1];
+    cells.chunks(cut.columns).for_each(|row| add_line(&mut corners, row));
+    let lines = |first: i32, step: i32, count: usize| -> Vec<i32> { (0..=count as i32).map(|a| first + a * step).collect() };
+    let across = lines(cut.origin.0, cut.step.0, cut.columns);
+    let up = lines(cut.origin.1, cut.step.1, cut.rows);
+    Corners::new(cut.columns + 1, cut.rows, vec![corners]).window_areas(windows, &across, &up)
 }

@@ -5,7 +5,7 @@ mod cells;
 #[path = "../sweep.rs"]
 mod sweep;
 
-use cells::measure_rects;
+use cells::{measure_rects, sum_cells};
 use std::time::{Duration, Instant};
 use sweep::{from_rects, is_clear, measure_all, read, Bands, Rect, Windows};
 
@@ -47,22 +47,7 @@ fn measure_cells(bands: &Bands, windows: &Windows) -> Vec<i64> {
     let (k, l) = ((windows.size.0 / windows.step.0) as usize, (windows.size.1 / windows.step.1) as usize);
     let (columns, rows) = (windows.columns + k - 1, windows.rows + l - 1);
     let cut = Windows { origin: windows.origin, size: windows.step, step: windows.step, columns, rows };
-    let width = columns + 1;
-    let mut corners = vec![0i64; width];
-    for (j, row) in measure_all(bands, &cut).chunks(columns).enumerate() {
-        let mut total = 0;
-        corners.push(0);
-        for (i, cell) in row.iter().enumerate() {
-            total += cell;
-            corners.push(corners[j * width + i + 1] + total);
-        }
-    }
-    let below = |a: usize, b: usize| corners[b * width + a + k] - corners[b * width + a];
-    let area = |n: usize| {
-        let (a, b) = (n % windows.columns, n / windows.columns);
-        below(a, b + l) - below(a, b)
-    };
-    (0..windows.columns * windows.rows).map(area).collect()
+    sum_cells(&measure_all(bands, &cut), &cut, windows)
 }
 
 fn time_cells(what: &str, bands: &Bands, windows: &Windows) {
