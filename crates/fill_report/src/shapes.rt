@@ -48,7 +48,7 @@ fn windows_report(
     ensures { IfOk result (λ v. v.items ≡ report_text (covered rects.items) nothing windows.now least most) }
 {
     let totals = areas_of(rt, alloc, rects, windows)?;
-    drawn_lines(alloc, windows, &totals, least, most)
+    drawn_lines(rt, alloc, windows, &totals, least, most)
 }
 
 /// How many squares of each window some rectangle holds, row by row. Its end lets go of the list.
