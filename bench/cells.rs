@@ -159,7 +159,7 @@ fn by_row(rects: &[Rect], up: &[i32]) -> Vec<Vec<u32>> {
 }
 
 /// Does the work of each item, on as many threads as there are processors.
-fn share_out<T: Send>(items: impl Iterator<Item = T> + Send, work: impl Fn(T) + Sync) {
+pub fn share_out<T: Send>(items: impl Iterator<Item = T> + Send, work: impl Fn(T) + Sync) {
     let threads = std::thread::available_parallelism().map_or(1, |count| count.get());
     let items = Mutex::new(items);
     let next = || items.lock().expect("no thread panics").next();

@@ -1,5 +1,5 @@
 //! `densfill check` without proofs, for the benchmark alone: reads the rule file and the design, carries the shapes of
-//! the layer to their copies, measures the windows straight from the rectangles on all processors and prints the report. It takes sound inputs for granted. With the third word `library` it keeps the whole library as values before it
+//! the layer to their copies, measures the windows straight from the rectangles and makes the lines of the report on all processors, and prints them. It takes sound inputs for granted. With the third word `library` it keeps the whole library as values before it
 //! fills a shape, as `densfill` does; without one it fills each shape of the layer as it is read. With the word `rects` it prints the
 //! rectangles alone, as a layer's file of `bench/layer` has them.
 #[path = "../cells.rs"]
@@ -11,10 +11,27 @@ mod rules;
 #[path = "../sweep.rs"]
 mod sweep;
 
-use cells::measure_rects;
+use cells::{measure_rects, share_out};
 use design::{flatten, read_cells, read_library};
 use rules::{Lines, Rules};
 use std::io::Write;
+
+/// The lines are made in at most so many parts, each of so many or of all that are left.
+const MOST_PARTS: usize = 16;
+const LEAST_PART: usize = 4_096;
+
+/// The lines of windows with these areas, whose parts are made at once. A part is let go of as soon as it is copied.
+fn report(lines: &Lines, areas: &[i64]) -> Vec<u8> {
+    let size = areas.len().div_ceil(MOST_PARTS).max(LEAST_PART);
+    let chunks = areas.chunks(size);
+    let mut parts = vec![Vec::new(); chunks.len()];
+    share_out(chunks.zip(&mut parts).enumerate(), |(n, (areas, part))| {
+        areas.iter().enumerate().for_each(|(k, area)| lines.put(n * size + k, *area, 0, part));
+    });
+    let mut text = Vec::with_capacity(parts.iter().map(Vec::len).sum());
+    parts.into_iter().for_each(|part| text.extend_from_slice(&part));
+    text
+}
 
 fn main() {
     let paths: Vec<String> = std::env::args().skip(1).collect();
@@ -31,7 +48,6 @@ fn main() {
     }
     let lines = Lines::of(&rules);
     let areas = measure_rects(&rects, &lines.windows);
-    let mut report = Vec::new();
-    areas.iter().enumerate().for_each(|(k, area)| lines.put(k, *area, 0, &mut report));
-    std::io::stdout().write_all(&report).expect("the report");
+    drop(rects);
+    std::io::stdout().write_all(&report(&lines, &areas)).expect("the report");
 }

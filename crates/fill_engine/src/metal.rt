@@ -140,14 +140,15 @@ pub(crate) fn metal_after(alloc: Global, edits: &[Edit]) -> Result<Metal, OutOfM
     }
 }
 
-/// The density report of metal. Rectangles are measured as they are, with no region in between.
+/// The density report of metal. Rectangles are measured as they are, with no region in between, and their list is let go of
+/// before a line of the report is made.
 pub(crate) fn report_of_metal(
     rt: &(impl Threads + Sync),
     alloc: Global,
-    metal: &Metal,
+    metal: Metal,
     rules: &Rules,
 ) -> Result<Vec<u8>, OutOfMemory>
-    ensures { IfOk result (λ v. v.items ≡ metal_report (metal_of metal.now) (values_of rules.now)) }
+    ensures { IfOk result (λ v. v.items ≡ metal_report (metal_of metal) (values_of rules.now)) }
 {
     match metal {
         Metal::Drawn(rects) => {
@@ -155,7 +156,7 @@ pub(crate) fn report_of_metal(
             Ok(report)
         }
         Metal::Left(region) => {
-            let report = report_of(rt, alloc, region, rules)?;
+            let report = report_of(rt, alloc, &region, rules)?;
             Ok(report)
         }
     }

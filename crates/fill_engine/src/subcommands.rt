@@ -18,20 +18,20 @@ use std::alloc::Global;
 use std::io::{Read, Write};
 use std::thread::Threads;
 
-/// Writes the report of the metal, whole.
+/// Writes the report of the metal, whole. The metal is taken, and let go of before a byte is written.
 fn write_report<W: Write>(
     rt: &(impl Threads + Sync),
     alloc: Global,
-    metal: &Metal,
+    metal: Metal,
     rules: &Rules,
     out: &mut Tap<W>,
 ) -> Result<(), Refusal>
     requires { has_failed out.old ≡ false }
     ensures device { (result ≡ Err Refusal.Report) ↔ (has_failed out.new ≡ true) }
     ensures whole { OnOk result (Appends (W.contents (under out.old)) (W.contents (under out.new))
-        (metal_report (metal_of metal.now) (values_of rules.now))) }
+        (metal_report (metal_of metal) (values_of rules.now))) }
     ensures prefix { result ≡ Err Refusal.Report → (k : ℕ) × Appends (W.contents (under out.old)) (W.contents (under out.new))
-        (take k (metal_report (metal_of metal.now) (values_of rules.now))) }
+        (take k (metal_report (metal_of metal) (values_of rules.now))) }
     ensures refused { IfErr result (λ e. (e ≡ Refusal.Report) ⊎ (e ≡ Refusal.Run RunFault.Memory)) }
     ensures silent { OnErr result ((has_failed out.new ≡ true) ⊎ (out.new ≡ out.old)) }
 {
@@ -80,7 +80,7 @@ pub fn rects<R: Read, S: Read, W: Write>(
     let values = take_rules(alloc, rules)?;
     let edits = take_edits(alloc, script)?;
     let metal = metal_after(alloc, &edits)?;
-    write_report(rt, alloc, &metal, &values, out)?;
+    write_report(rt, alloc, metal, &values, out)?;
     Ok(())
 }
 
@@ -123,6 +123,6 @@ pub fn check<R: Read, D: Read, W: Write>(
 {
     let values = take_rules(alloc, rules)?;
     let drawn = take_drawing(alloc, design, &values)?;
-    write_report(rt, alloc, &Metal::Drawn(drawn.rects), &values, out)?;
+    write_report(rt, alloc, Metal::Drawn(drawn.rects), &values, out)?;
     Ok(())
 }

@@ -8,17 +8,25 @@ use Rattle.fill_area.specs.Grid.{Grid, IsGrid, window_left, window_right, window
 use Rattle.fill_area.specs.Density.{IsArea, AreMeasured, window_area}
 use Rattle.fill_area.proofs.Measuring.{same_area, no_area, longer}
 use Rattle.fill_report.specs.declared.line.Measures.{Measures}
-use Rattle.fill_report.specs.Report.{first_lines, line_at, window_line, windows_text, report_text, measures_of, drawn_only, nothing}
+use Rattle.fill_report.specs.Report.{first_lines, lines_from, line_at, window_line, windows_text, report_text, measures_of, drawn_only, nothing}
 use Rattle.fill_report.specs.Writing.{Lines, written}
 use Rattle.fill_area.proofs.Shares.{area_read}
 
+-- some lines, and those behind them
+pub lines_split : (f : ℕ → List ℕ) (a n m : ℕ) → flat_map f (range_with_len a (n + m)) ≡ flat_map f (range_with_len a n) ++ flat_map f (range_with_len (a + n) m)
+lines_split f a zero m =
+    let none : zero + m ≡ m = omega arith in
+    let here : a ≡ a + zero = omega arith in
+    ap (λ k. flat_map f (range_with_len a k)) none ∙ ap (λ b. flat_map f (range_with_len b m)) here
+lines_split f a (suc n) m =
+    let e : suc n + m ≡ suc (n + m) = omega arith in
+    let at : (a + 1) + n ≡ a + suc n = omega arith in
+    rw e (ap (λ t. f a ++ t) (lines_split f (a + 1) n m) ∙ (ap (λ b. f a ++ (flat_map f (range_with_len (a + 1) n) ++ flat_map f (range_with_len b m))) at
+    ∙ sym (append_assoc (f a) (flat_map f (range_with_len (a + 1) n)) (flat_map f (range_with_len (a + suc n) m)))))
+
 -- one line more
 one_more : (f : ℕ → List ℕ) (a n : ℕ) → flat_map f (range_with_len a (n + 1)) ≡ flat_map f (range_with_len a n) ++ f (a + n)
-one_more f a zero = let e : a + zero ≡ a = omega arith in append-nil (f a) ∙ ap f (sym e)
-one_more f a (suc n) =
-    let e : suc n + 1 ≡ suc (n + 1) = omega arith in
-    let at : (a + 1) + n ≡ a + suc n = omega arith in
-    rw e (ap (λ t. f a ++ t) (one_more f (a + 1) n) ∙ (ap (λ k. f a ++ (flat_map f (range_with_len (a + 1) n) ++ f k)) at ∙ sym (append_assoc (f a) (flat_map f (range_with_len (a + 1) n)) (f (a + suc n)))))
+one_more f a n = lines_split f a n 1 ∙ ap (λ t. flat_map f (range_with_len a n) ++ t) (append-nil (f (a + n)))
 
 -- the measures of a window with this area of metal
 measures_at : (g : Grid) (totals : List ℤ) (k : ℕ) → k < length totals → All IsArea totals
@@ -29,23 +37,21 @@ measures_at g totals k lt areas =
     ap (λ (z : ℤ). let m : Measures = record { drawn = z; fill = pos 0; total = z } in m) is
 
 -- the lines so far, and behind them the next one
-pub next_line : (g : Grid) (least most : ℤ) (measures : ℕ → ℕ → Measures) (m : Measures) (k : ℕ) (w new : Lines) → m ≡ measures (k % g.across.count) (k / g.across.count)
-    → written w ≡ Some (first_lines g least most measures k)
+pub next_line : (g : Grid) (least most : ℤ) (measures : ℕ → ℕ → Measures) (m : Measures) (from n k : ℕ) (w new : Lines) → k ≡ from + n → m ≡ measures (k % g.across.count) (k / g.across.count)
+    → written w ≡ Some (lines_from g least most measures from n)
     → ((front : List ℕ) → written w ≡ Some front → written new ≡ Some (front ++ window_line g least most m (k % g.across.count) (k / g.across.count)))
-    → written new ≡ Some (first_lines g least most measures (k + 1))
-next_line g least most measures m k w new is so_far put =
-    put (first_lines g least most measures k) so_far
-    ∙ ap (λ (t : List ℕ). Some t) (ap (λ n. first_lines g least most measures k ++ window_line g least most n (k % g.across.count) (k / g.across.count)) is
-    ∙ sym (one_more (line_at g least most measures) 0 k ∙ ap (λ i. first_lines g least most measures k ++ line_at g least most measures i) (from_zero k)))
-  where
-    from_zero : (k : ℕ) → 0 + k ≡ k
-    from_zero k = omega arith
+    → written new ≡ Some (lines_from g least most measures from (n + 1))
+next_line g least most measures m from n k w new place is so_far put =
+    let before = lines_from g least most measures from n in
+    put before so_far
+    ∙ ap (λ (t : List ℕ). Some t) (ap (λ l. before ++ window_line g least most l (k % g.across.count) (k / g.across.count)) is
+    ∙ (ap (λ i. before ++ line_at g least most measures i) place ∙ sym (one_more (line_at g least most measures) from n)))
 
-pub lines_more : (g : Grid) (least most : ℤ) (totals : List ℤ) (k : ℕ) (w new : Lines) → k < length totals → All IsArea totals
-    → written w ≡ Some (first_lines g least most (drawn_only g totals) k)
+pub lines_more : (g : Grid) (least most : ℤ) (totals : List ℤ) (from n k : ℕ) (w new : Lines) → k ≡ from + n → k < length totals → All IsArea totals
+    → written w ≡ Some (lines_from g least most (drawn_only g totals) from n)
     → ((front : List ℕ) → written w ≡ Some front → written new ≡ Some (front ++ window_line g least most (record { drawn = read (get_or totals k (pos 0)); fill = pos 0; total = read (get_or totals k (pos 0)) }) (k % g.across.count) (k / g.across.count)))
-    → written new ≡ Some (first_lines g least most (drawn_only g totals) (k + 1))
-lines_more g least most totals k w new lt areas so_far put = next_line g least most (drawn_only g totals) _ k w new (measures_at g totals k lt areas) so_far put
+    → written new ≡ Some (lines_from g least most (drawn_only g totals) from (n + 1))
+lines_more g least most totals from n k w new place lt areas so_far put = next_line g least most (drawn_only g totals) _ from n k w new place (measures_at g totals k lt areas) so_far put
 
 -- the lines of all windows are the whole text
 pub all_lines : (g : Grid) (least most : ℤ) (measures : ℕ → ℕ → Measures) (k n : ℕ) (text so_far : List ℕ) → n ≤ k → k ≤ n → n ≡ g.across.count * g.up.count → text ≡ so_far

@@ -1,4 +1,5 @@
 pub mod Report
 pub mod Writing
+pub mod Parts
 pub mod RulesReport
 pub mod BookReport

@@ -52,9 +52,13 @@ window_line g least most measures a b = line_text (line_numbers g a b measures) 
 abbrev pub line_at : Grid → ℤ → ℤ → (ℕ → ℕ → Measures) → ℕ → List ℕ
 line_at g least most measures k = window_line g least most (measures (k % g.across.count) (k / g.across.count)) (k % g.across.count) (k / g.across.count)
 
+-- the `n` lines from place `from` on
+abbrev pub lines_from : Grid → ℤ → ℤ → (ℕ → ℕ → Measures) → ℕ → ℕ → List ℕ
+lines_from g least most measures from n = flat_map (line_at g least most measures) (range_with_len from n)
+
 -- the first `n` lines
 abbrev pub first_lines : Grid → ℤ → ℤ → (ℕ → ℕ → Measures) → ℕ → List ℕ
-first_lines g least most measures n = flat_map (line_at g least most measures) (range_with_len 0 n)
+first_lines g least most measures n = lines_from g least most measures 0 n
 
 -- the lines of all windows
 abbrev pub windows_text : Grid → ℤ → ℤ → (ℕ → ℕ → Measures) → List ℕ

@@ -1,9 +1,10 @@
 //! The report of metal alone.
-ghost use Rattle.std.specs.Prelude.{◌≡◌, ◌*◌, length, IfOk, All};
+ghost use Rattle.std.specs.Prelude.{◌≡◌, ◌+◌, ◌*◌, ◌≤◌, length, IfOk, All};
 ghost use Rattle.fill_region.specs.Bands.{holds};
 ghost use Rattle.fill_text.specs.ValuesOfRules.{values_of};
 ghost use Rattle.fill_area.specs.Density.{IsArea, IsShare};
-ghost use Rattle.fill_report.specs.Report.{windows_text, report_text, drawn_only, nothing};
+ghost use Rattle.fill_report.specs.Report.{lines_from, windows_text, report_text, drawn_only, nothing};
+ghost use Rattle.fill_report.specs.Parts.{IsJoined};
 ghost use Rattle.fill_report.specs.RulesReport.{metal_report};
 
 use crate::error::OutOfMemory;
@@ -15,7 +16,14 @@ use fill_measure::measure_region;
 use fill_region::Region;
 use fill_text::Rules;
 use std::alloc::Global;
+use std::thread;
 use std::thread::Threads;
+
+/// The lines are made in at most so many parts, each by a thread of its own.
+const MOST_PARTS: usize = 16;
+
+/// A part has the lines of so many windows, or of all that are left.
+const LEAST_PART: usize = 4_096;
 
 /// The report of a region's metal without fill, over the windows of the rules: one line a window with
 /// its column and row, its edges, the areas of metal, of fill (0) and of both, the share in parts of a
@@ -51,11 +59,12 @@ fn windows_report(
     ensures { IfOk result (λ v. v.items ≡ report_text (holds region.now) nothing windows.now least most) }
 {
     let totals = measure_region(rt, alloc, region, windows)?;
-    drawn_lines(alloc, windows, &totals, least, most)
+    drawn_lines(rt, alloc, windows, &totals, least, most)
 }
 
-/// The lines of windows with these areas of metal, and no fill.
+/// The lines of windows with these areas of metal, and no fill: parts of them are made in parallel, and then joined.
 pub(crate) fn drawn_lines(
+    rt: &(impl Threads + Sync),
     alloc: Global,
     windows: &Windows,
     totals: &[i64],
@@ -68,16 +77,68 @@ pub(crate) fn drawn_lines(
     requires most { IsShare most }
     ensures { IfOk result (λ v. v.items ≡ windows_text windows.now least most (drawn_only windows.now totals.now)) }
 {
+    let size = totals.len().div_ceil(MOST_PARTS).max(LEAST_PART);
+    let parts = thread::map_chunks(
+        rt,
+        alloc,
+        totals,
+        size,
+        &|from: usize, part: &[i64]| -> Result<Vec<u8>, OutOfMemory>
+            requires count { length totals.now ≡ windows.now.across.count * windows.now.up.count }
+            requires within { from + length part.now ≤ length totals.now }
+            requires areas { All IsArea totals.now }
+            requires least { IsShare least }
+            requires most { IsShare most }
+            ensures { IfOk result (λ v. v.items ≡ lines_from windows.entry.now least most (drawn_only windows.entry.now totals.entry.now) from (length part.now)) }
+        { part_lines(alloc, windows, totals, from, part.len(), least, most) },
+    )?;
+    joined(alloc, parts)
+}
+
+/// The lines of `count` windows from the one at place `from` on, with these areas of metal and no fill.
+fn part_lines(
+    alloc: Global,
+    windows: &Windows,
+    totals: &[i64],
+    from: usize,
+    count: usize,
+    least: i64,
+    most: i64,
+) -> Result<Vec<u8>, OutOfMemory>
+    requires count { length totals.now ≡ windows.now.across.count * windows.now.up.count }
+    requires within { from + count ≤ length totals.now }
+    requires areas { All IsArea totals.now }
+    requires least { IsShare least }
+    requires most { IsShare most }
+    ensures { IfOk result (λ v. v.items ≡ lines_from windows.now least most (drawn_only windows.now totals.now) from count) }
+{
     let mut writer = Writer::from_writer(Vec::new(alloc));
     let mut row = ByteRecord::new(alloc);
-    for (k, total) in totals.iter().enumerate() {
+    for i in 0..count {
+        let k = from + i;
         let measures = Measures {
-            drawn: *total,
+            drawn: totals[k],
             fill: 0,
-            total: *total,
+            total: totals[k],
         };
         put_window(&mut writer, &mut row, windows, k, measures, least, most)?;
     }
     let text = writer.into_inner()?;
+    Ok(text)
+}
+
+/// The text of all parts, one after another, or the first refusal of memory. A part is let go of as soon as it is copied.
+fn joined(alloc: Global, parts: Vec<Result<Vec<u8>, OutOfMemory>>) -> Result<Vec<u8>, OutOfMemory>
+    ensures { IfOk result (λ v. IsJoined parts.items v.items) }
+{
+    let length = parts.iter().fold(0, |length: usize, part| match part {
+        Ok(text) => length.saturating_add(text.len()),
+        Err(_) => length,
+    });
+    let mut text = Vec::with_capacity(alloc, length)?;
+    for part in parts {
+        let part = part?;
+        text.extend_from_slice(&part)?;
+    }
     Ok(text)
 }

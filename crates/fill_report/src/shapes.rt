@@ -1,8 +1,8 @@
 //! The report of metal that is given as rectangles.
-ghost use Rattle.std.specs.Prelude.{◌≡◌, IfOk};
+ghost use Rattle.std.specs.Prelude.{◌≡◌, IfOk, All};
 ghost use Rattle.fill_region.specs.Squares.{covered};
 ghost use Rattle.fill_text.specs.ValuesOfRules.{values_of};
-ghost use Rattle.fill_area.specs.Density.{IsShare};
+ghost use Rattle.fill_area.specs.Density.{AreMeasured, IsArea, IsShare};
 ghost use Rattle.fill_report.specs.Report.{report_text, nothing};
 ghost use Rattle.fill_report.specs.RulesReport.{metal_report};
 
@@ -12,40 +12,54 @@ use fill_area::Windows;
 use fill_base::Rect;
 use fill_measure::measure_rects;
 use fill_text::Rules;
-use std::alloc::Global;
+use std::alloc::{AllocError, Global};
 use std::thread::Threads;
 
 /// The report that `report_of` makes, of the squares that some rectangle holds: the windows are measured straight from the
-/// rectangles, with no region in between.
+/// rectangles, with no region in between. The list is taken, and let go of once the windows are measured, before a line of
+/// the report is made.
 ///
 /// # Errors
 /// `OutOfMemory` where memory runs out.
 pub fn report_of_rects(
     rt: &(impl Threads + Sync),
     alloc: Global,
-    rects: &[Rect],
+    rects: Vec<Rect>,
     rules: &Rules,
 ) -> Result<Vec<u8>, OutOfMemory>
-    ensures { IfOk result (λ v. v.items ≡ metal_report (covered rects.now) (values_of rules.now)) }
+    ensures { IfOk result (λ v. v.items ≡ metal_report (covered rects.items) (values_of rules.now)) }
 {
     let least = rules.min();
     let most = rules.max();
     windows_report(rt, alloc, rects, &rules.windows(), least, most)
 }
 
-/// The same over these windows. A window is `LOW` below `least` parts in a million and `HIGH` above `most`.
+/// The same over these windows: the list is let go of before a line is made. A window is `LOW` below `least` parts in a million and `HIGH` above `most`.
 fn windows_report(
     rt: &(impl Threads + Sync),
     alloc: Global,
-    rects: &[Rect],
+    rects: Vec<Rect>,
     windows: &Windows,
     least: i64,
     most: i64,
 ) -> Result<Vec<u8>, OutOfMemory>
     requires least { IsShare least }
     requires most { IsShare most }
-    ensures { IfOk result (λ v. v.items ≡ report_text (covered rects.now) nothing windows.now least most) }
+    ensures { IfOk result (λ v. v.items ≡ report_text (covered rects.items) nothing windows.now least most) }
 {
-    let totals = measure_rects(rt, alloc, rects, windows)?;
-    drawn_lines(alloc, windows, &totals, least, most)
+    let totals = areas_of(rt, alloc, rects, windows)?;
+    drawn_lines(rt, alloc, windows, &totals, least, most)
+}
+
+/// How many squares of each window some rectangle holds, row by row. Its end lets go of the list.
+fn areas_of(
+    rt: &(impl Threads + Sync),
+    alloc: Global,
+    rects: Vec<Rect>,
+    windows: &Windows,
+) -> Result<Vec<i64>, AllocError>
+    ensures areas { IfOk result (λ v. AreMeasured (covered rects.items) windows.now v.items) }
+    ensures bounded { IfOk result (λ v. All IsArea v.items) }
+{
+    measure_rects(rt, alloc, &rects, windows)
 }

@@ -1,4 +1,4 @@
-use Rattle.std.proofs.Common.{◌++◌}
+use Rattle.std.proofs.Common.{◌++◌, arith}
 use Rattle.fill_base.proofs.Signed.{read_is}
 use Rattle.fill_job.specs.Plans.{plan_of}
 use Rattle.fill_core.specs.Accounts.{state_of}
@@ -13,8 +13,8 @@ loop-k-preserved g c =
     let s = state_of a in
     record {
       ready = c.in_ok-put_window.ensures.ready;
-      text = next_line c.args.windows.now _ _ (measures_of s.metal (boxes_of (plan_of a.rules) s.fill) c.args.windows.now) _ c.loop-k.k c.loop-k.writer c.put_window.new.writer
-          c.measures_in-measures.ensures.measures c.loop-k.invariant.text c.in_ok-put_window.ensures.text;
+      text = next_line c.args.windows.now _ _ (measures_of s.metal (boxes_of (plan_of a.rules) s.fill) c.args.windows.now) _ 0 c.loop-k.k c.loop-k.k c.loop-k.writer c.put_window.new.writer
+          (omega arith) c.measures_in-measures.ensures.measures c.loop-k.invariant.text c.in_ok-put_window.ensures.text;
     }
 
 pub returns : goal.returns

@@ -6,5 +6,5 @@ use Rattle.fill_report.proofs.Lines.{report_is}
 use Rattle.fill_report.proofs.shapes.windows_report.Goals as goal
 
 pub returns : goal.returns
-returns g c = IfOk-weaker c.drawn_lines.result _ _ (λ v is. is ∙ report_is (covered c.args.rects.now) c.args.windows.now c.args.least c.args.most _ c.in_ok-totals.ensures.areas)
+returns g c = IfOk-weaker c.drawn_lines.result _ _ (λ v is. is ∙ report_is (covered c.args.rects.items) c.args.windows.now c.args.least c.args.most _ c.in_ok-totals.ensures.areas)
     (rw (c.deref.ensures.value, read_is c.args.least c.ranges.least, read_is c.args.most c.ranges.most) at c.drawn_lines.ensures)
