@@ -516,6 +516,7 @@ pub fn measure_rects(rects: &[Rect], windows: &Windows) -> Vec<i64> {
 }
 
 /// The areas of windows by those of the cells that their steps cut, which are given row by row.
+#[allow(dead_code)] // bench/layer calls it, bench/check does not
 pub fn sum_cells(cells: &[i64], cut: &Windows, windows: &Windows) -> Vec<i64> {
     let mut corners = vec![0i64; cut.columns + 1];
     cells.chunks(cut.columns).for_each(|row| add_line(&mut corners, row));

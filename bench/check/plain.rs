@@ -16,20 +16,22 @@ use design::{flatten, read_cells, read_library};
 use rules::{Lines, Rules};
 use std::io::Write;
 
-/// The lines are made in at most so many parts, each of so many or of all that are left.
-const MOST_PARTS: usize = 16;
-const LEAST_PART: usize = 4_096;
+/// A part has the lines of so many windows, or of all that are left, a round so many windows, and a line mostly so many bytes.
+const PART: usize = 4_096;
+const ROUND: usize = 65_536;
+const LINE: usize = 64;
 
-/// The lines of windows with these areas, whose parts are made at once. A part is let go of as soon as it is copied.
+/// The lines of windows with these areas, made in rounds whose parts are made at once. The parts of one round alone are held.
 fn report(lines: &Lines, areas: &[i64]) -> Vec<u8> {
-    let size = areas.len().div_ceil(MOST_PARTS).max(LEAST_PART);
-    let chunks = areas.chunks(size);
-    let mut parts = vec![Vec::new(); chunks.len()];
-    share_out(chunks.zip(&mut parts).enumerate(), |(n, (areas, part))| {
-        areas.iter().enumerate().for_each(|(k, area)| lines.put(n * size + k, *area, 0, part));
-    });
-    let mut text = Vec::with_capacity(parts.iter().map(Vec::len).sum());
-    parts.into_iter().for_each(|part| text.extend_from_slice(&part));
+    let mut text = Vec::with_capacity(areas.len() * LINE);
+    for (r, round) in areas.chunks(ROUND).enumerate() {
+        let mut parts = vec![Vec::new(); round.len().div_ceil(PART)];
+        share_out(round.chunks(PART).zip(&mut parts).enumerate(), |(n, (areas, part))| {
+            let from = r * ROUND + n * PART;
+            areas.iter().enumerate().for_each(|(k, area)| lines.put(from + k, *area, 0, part));
+        });
+        parts.iter().for_each(|part| text.extend_from_slice(part));
+    }
     text
 }
 

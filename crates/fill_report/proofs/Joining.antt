@@ -49,15 +49,29 @@ parts_from f size from n (Ok v ∷ parts) enough ok each =
         let whole : size + (n - size) ≡ n = omega (arith, high) in
         rw full (sym (lines_split f from size (n - size))) ∙ ap (λ m. flat_map f (range_with_len from m)) whole)
 
--- the parts of all lines make the whole text
-pub parts_are : (f : ℕ → List ℕ) (size n : ℕ) (parts : List (Result (Vec ℕ) OutOfMemory)) (text : List ℕ) → 0 < size → length parts ≡ n / size + min 1 (n % size)
-    → ((k : ℕ) (d : Result (Vec ℕ) OutOfMemory) → k < length parts → IfOk (get_or parts k d) (λ v. v.items ≡ flat_map f (range_with_len (k * size) (min size (n - k * size)))))
-    → IsJoined parts text → text ≡ flat_map f (range_with_len 0 n)
-parts_are f size n parts text some count each joined = joined.whole ∙ parts_from f size 0 n parts (rw count (div_ceil_times n size some).0) joined.all
-    (λ k d lt. subst (λ a. IfOk (get_or parts k d) (λ v. v.items ≡ flat_map f (range_with_len a (min size (n - k * size))))) (begins k size) (each k d lt))
+-- the parts of some lines make their text
+pub parts_are : (f : ℕ → List ℕ) (size from n : ℕ) (parts : List (Result (Vec ℕ) OutOfMemory)) (text : List ℕ) → 0 < size → length parts ≡ n / size + min 1 (n % size)
+    → ((k : ℕ) (d : Result (Vec ℕ) OutOfMemory) → k < length parts → IfOk (get_or parts k d) (λ v. v.items ≡ flat_map f (range_with_len (from + k * size) (min size (n - k * size)))))
+    → IsJoined parts text → text ≡ flat_map f (range_with_len from n)
+parts_are f size from n parts text some count each joined = joined.whole ∙ parts_from f size from n parts (rw count (div_ceil_times n size some).0) joined.all each
+
+-- one round more, of `size` lines or all that are left of `n`
+pub round_more : (f : ℕ → List ℕ) (size n k : ℕ) (old new round : List ℕ) → k * size < n → old ≡ flat_map f (range_with_len 0 (min (k * size) n)) → round ≡ flat_map f (range_with_len (k * size) (min size (n - k * size)))
+    → new ≡ old ++ round → new ≡ flat_map f (range_with_len 0 (min ((k + 1) * size) n))
+round_more f size n k old new round lt old_is round_is new_is =
+    new_is ∙ (ap (λ t. t ++ round) old_is ∙ (ap (λ t. flat_map f (range_with_len 0 (min (k * size) n)) ++ t) round_is
+    ∙ (ap (λ m. flat_map f (range_with_len 0 m) ++ flat_map f (range_with_len (k * size) (min size (n - k * size)))) here
+    ∙ (ap (λ a. flat_map f (range_with_len 0 (k * size)) ++ flat_map f (range_with_len a (min size (n - k * size)))) first
+    ∙ (sym (lines_split f 0 (k * size) (min size (n - k * size))) ∙ ap (λ m. flat_map f (range_with_len 0 m)) whole)))))
   where
-    begins : (k size : ℕ) → k * size ≡ 0 + k * size
-    begins k size = omega arith
+    here : min (k * size) n ≡ k * size
+    here = omega (arith, lt)
+
+    first : k * size ≡ 0 + k * size
+    first = omega arith
+
+    whole : k * size + min size (n - k * size) ≡ min ((k + 1) * size) n
+    whole = omega (arith, lt)
 
 -- one part more
 pub one_part_more : (parts : List (Result (Vec ℕ) OutOfMemory)) (part : Result (Vec ℕ) OutOfMemory) (v : Vec ℕ) (old new : List ℕ) → IsJoined parts old → part ≡ Ok v → new ≡ old ++ v.items

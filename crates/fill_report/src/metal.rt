@@ -1,5 +1,5 @@
 //! The report of metal alone.
-ghost use Rattle.std.specs.Prelude.{◌≡◌, ◌+◌, ◌*◌, ◌≤◌, length, IfOk, All};
+ghost use Rattle.std.specs.Prelude.{◌≡◌, ◌+◌, ◌-◌, ◌*◌, ◌<◌, ◌≤◌, min, length, IfOk, All};
 ghost use Rattle.fill_region.specs.Bands.{holds};
 ghost use Rattle.fill_text.specs.ValuesOfRules.{values_of};
 ghost use Rattle.fill_area.specs.Density.{IsArea, IsShare};
@@ -19,11 +19,14 @@ use std::alloc::Global;
 use std::thread;
 use std::thread::Threads;
 
-/// The lines are made in at most so many parts, each by a thread of its own.
-const MOST_PARTS: usize = 16;
+/// A part has the lines of so many windows, or of all that are left, made by a thread of its own.
+const PART: usize = 4_096;
 
-/// A part has the lines of so many windows, or of all that are left.
-const LEAST_PART: usize = 4_096;
+/// A round has so many windows, 16 parts, or all that are left: the text and the parts of one round alone are held at a time.
+const ROUND: usize = 65_536;
+
+/// A line is mostly about so many bytes long: the text has room for as many at once.
+const LINE: usize = 64;
 
 /// The report of a region's metal without fill, over the windows of the rules: one line a window with
 /// its column and row, its edges, the areas of metal, of fill (0) and of both, the share in parts of a
@@ -62,7 +65,7 @@ fn windows_report(
     drawn_lines(rt, alloc, windows, &totals, least, most)
 }
 
-/// The lines of windows with these areas of metal, and no fill: parts of them are made in parallel, and then joined.
+/// The lines of windows with these areas of metal, and no fill, made in rounds one after the other.
 pub(crate) fn drawn_lines(
     rt: &(impl Threads + Sync),
     alloc: Global,
@@ -77,20 +80,55 @@ pub(crate) fn drawn_lines(
     requires most { IsShare most }
     ensures { IfOk result (λ v. v.items ≡ windows_text windows.now least most (drawn_only windows.now totals.now)) }
 {
-    let size = totals.len().div_ceil(MOST_PARTS).max(LEAST_PART);
+    let mut text = Vec::with_capacity(alloc, totals.len().saturating_mul(LINE))?;
+    for k in 0..totals.len().div_ceil(ROUND) {
+        let round = round_lines(rt, alloc, windows, totals, k * ROUND, least, most)?;
+        text.extend_from_slice(&round)?;
+    }
+    Ok(text)
+}
+
+/// The lines of the windows from the one at place `from` on that are in its round: parts of them are made in parallel, and then joined.
+fn round_lines(
+    rt: &(impl Threads + Sync),
+    alloc: Global,
+    windows: &Windows,
+    totals: &[i64],
+    from: usize,
+    least: i64,
+    most: i64,
+) -> Result<Vec<u8>, OutOfMemory>
+    requires count { length totals.now ≡ windows.now.across.count * windows.now.up.count }
+    requires within { from < length totals.now }
+    requires areas { All IsArea totals.now }
+    requires least { IsShare least }
+    requires most { IsShare most }
+    ensures { IfOk result (λ v. v.items ≡ lines_from windows.now least most (drawn_only windows.now totals.now) from (min 65536 (length totals.now - from))) }
+{
+    let count = ROUND.min(totals.len() - from);
     let parts = thread::map_chunks(
         rt,
         alloc,
-        totals,
-        size,
-        &|from: usize, part: &[i64]| -> Result<Vec<u8>, OutOfMemory>
+        &totals[from..from + count],
+        PART,
+        &|start: usize, part: &[i64]| -> Result<Vec<u8>, OutOfMemory>
             requires count { length totals.now ≡ windows.now.across.count * windows.now.up.count }
-            requires within { from + length part.now ≤ length totals.now }
+            requires within { from + start + length part.now ≤ length totals.now }
             requires areas { All IsArea totals.now }
             requires least { IsShare least }
             requires most { IsShare most }
-            ensures { IfOk result (λ v. v.items ≡ lines_from windows.entry.now least most (drawn_only windows.entry.now totals.entry.now) from (length part.now)) }
-        { part_lines(alloc, windows, totals, from, part.len(), least, most) },
+            ensures { IfOk result (λ v. v.items ≡ lines_from windows.entry.now least most (drawn_only windows.entry.now totals.entry.now) (from + start) (length part.now)) }
+        {
+            part_lines(
+                alloc,
+                windows,
+                totals,
+                from + start,
+                part.len(),
+                least,
+                most,
+            )
+        },
     )?;
     joined(alloc, parts)
 }

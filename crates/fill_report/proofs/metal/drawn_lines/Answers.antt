@@ -1,23 +1,21 @@
-use Rattle.std.proofs.Common.{rules, ◌≡◌, ◌+◌, ◌-◌, ◌*◌, ◌/◌, ◌%◌, ◌≤◌, ◌<◌, ℕ, min, length, get_or, arith, IfOk, Result, subst}
-use Rattle.std.specs.Global.{Vec}
-use Rattle.std.specs.List.{flat_map, range_with_len}
-use Rattle.std.proofs.lemmas.Result.{IfOk-weaker}
+use Rattle.std.proofs.Common.{◌≡◌, ◌*◌, ◌<◌, ◌++◌, min, length, arith, ap, ◌∙◌}
 use Rattle.fill_base.proofs.Signed.{read, read_is}
-use Rattle.fill_report.specs.Report.{drawn_only, line_at}
-use Rattle.fill_report.specs.declared.error.OutOfMemory.{OutOfMemory}
-use Rattle.fill_report.proofs.Joining.{parts_are}
+use Rattle.fill_report.specs.Report.{drawn_only, first_lines, line_at}
+use Rattle.fill_report.proofs.Joining.{round_more}
 use Rattle.fill_report.proofs.metal.drawn_lines.Goals as goal
+
+pub loop-k-preserved : goal.loop-k-preserved
+loop-k-preserved g c =
+    let windows = c.args.windows.now in
+    let n = length c.args.totals.now in
+    let lt : c.loop-k.k * 65536 < n = omega (arith, c.loop-k-test.true, c.div_ceil-k-end.ensures) in
+    round_more (line_at windows (read c.args.least) (read c.args.most) (drawn_only windows c.args.totals.now)) 65536 n c.loop-k.k c.loop-k.text.items _ c.in_ok-round.round.items lt c.loop-k.invariant c.in_ok-round.ensures
+    (c.in_ok-extend_from_slice.ensures.items ∙ ap (λ xs. c.loop-k.text.items ++ xs) c.deref.ensures.value)
 
 pub returns : goal.returns
 returns g c =
     let windows = c.args.windows.now in
-    let line = line_at windows (read c.args.least) (read c.args.most) (drawn_only windows c.args.totals.now) in
-    let size = c.max-size.result in
     let n = length c.args.totals.now in
-    let parts = c.in_ok-parts.parts.items in
-    let some : 0 < size = omega arith in
-    let count : length parts ≡ n / size + min 1 (n % size) = search rules in
-    let each : (k : ℕ) (d : Result (Vec ℕ) OutOfMemory) → k < length parts → IfOk (get_or parts k d) (λ v. v.items ≡ flat_map line (range_with_len (k * size) (min size (n - k * size)))) =
-    λ k d lt. let one = (c.in_ok-parts.ensures.each k d lt).1 in rw one.argument_is.len at one.call in
-    rw (read_is c.args.least c.ranges.least, read_is c.args.most c.ranges.most, c.requires.count) at
-    (IfOk-weaker c.joined.result _ _ (λ v joined. parts_are line size n parts v.items some count each joined) c.joined.ensures)
+    let all : min (c.loop-k.k * 65536) n ≡ n = omega (arith, c.loop-k-test.false, c.div_ceil-k-end.ensures) in
+    rw (read_is c.args.least c.ranges.least, read_is c.args.most c.ranges.most) at
+    (c.loop-k.invariant ∙ ap (first_lines windows (read c.args.least) (read c.args.most) (drawn_only windows c.args.totals.now)) (all ∙ c.requires.count))
