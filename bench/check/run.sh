@@ -5,16 +5,44 @@
 # Seconds are the best of three runs, peaks in MB those of the whole process. Where two reports differ in a byte, the run
 # fails; so the report of a flat design is compared with that of the deep one, too.
 #
-# Where `klayout` is installed (Debian's package of that name), a second table has KLayout's own ways over the 10,000 windows, run once each: the
+# A second table has the phases of a check of the designs in five levels, timed by a program of its own (phases.rt.txt): flattening, measuring the
+# windows straight from the rectangles or by the region of all of them and `measure_all`, as before there was a straight way, and making
+# the lines of the report. Peaks are those of the whole process, with its report.
+#
+# Where `klayout` is installed (Debian's package of that name), a last table has KLayout's own ways over the 10,000 windows, run once each: the
 # areas of all windows by its tiling processor (areas.py), and the low windows by with_density (density.drc). Its areas and
 # its low windows must be those of the report.
 #
-# usage: bench/check/run.sh [COUNT ..]     (after make build; needs rustc, python3, taskset and GNU time; without COUNT
-#                                           some five minutes and 4 GB, and half an hour with KLayout)
+# usage: bench/check/run.sh [COUNT ..]     (after make build; needs rt, rustc, python3, taskset and GNU time; without COUNT
+#                                           some ten minutes and 4 GB, more where the crates were
+#                                           not proved before, and half an hour with KLayout)
 set -eu
 . "$(dirname "$0")/../common.sh"
 
-rustc --edition 2021 -O -o "$work/plain" "$here/plain.rs"
+python3 "$here/generate.py" 1000 deep "$work"
+"$here/../build.sh" "$here" phases "$work" "$work/rules.csv $work/design.gds" \
+    "fill_base fill_raster fill_spans fill_region fill_size fill_area fill_cells fill_measure gds_record gds_grammar gds_shape gds_flatten fill_text fill_job fill_core fill_report" \
+    "rayon csv itoa indexmap thiserror anyhow"
+
+# time_phases COUNT WINDOWS PROCESSORS: a line for each way, of rectangles and of the region: seconds to flatten, to measure the windows (the region
+# included) and to make the lines of the report, each the best of three runs, and the peak in MB.
+time_phases() {
+    local way
+    for way in rects region; do
+        for _ in 1 2 3; do
+            /usr/bin/time -f 'peak %M' -o "$work/peak" taskset -c "0-$(($3 - 1))" "$work/rattle" "$rules" "$work/design.gds" \
+                $([ $way = rects ] || echo $way) > "$work/said"
+            cat "$work/said" "$work/peak" >> "$work/phases"
+        done
+        awk -v start="$1 $2 $3 $way" '
+            { if ($1 == "peak" ? $2 > took[$1] : !($1 in took) || $2 < took[$1]) took[$1] = $2 }
+            END {
+                lines = took["report"] - took["windows"]
+                printf "%s %.3f %.3f %.3f %.0f\n", start, took["flatten"] / 1e6, (took["region"] + took["windows"]) / 1e6, (lines > 0 ? lines : 0) / 1e6, took["peak"] / 1024
+            }' "$work/phases"
+        rm "$work/phases"
+    done
+}
 
 # run PROGRAM PROCESSORS: the report of the design to WORK/PROGRAM.csv.
 run() {
@@ -46,6 +74,7 @@ for count in "$@"; do
                 direct=$(measure direct "$processors" 3)
                 cmp "$work/densfill.csv" "$work/plain.csv"
                 cmp "$work/densfill.csv" "$work/direct.csv"
+                [ $form = flat ] || time_phases "$count" $windows "$processors" >> "$work/timed"
                 echo "$form $count $windows $processors $ours $theirs $direct" |
                     awk '{ printf "%-6s %10d %10d %10d %12.2f %8.2f %6.2f %9.2f %12d %9d %10d\n", $1, $2, $3, $4, $5, $7, ($7 > 0 ? $5 / $7 : 0), $9, $6, $8, $10 }'
                 [ $windows = 10000 ] && command -v klayout > "$work/found" || continue
@@ -63,6 +92,13 @@ for count in "$@"; do
         cmp "$work/flat_$windows.csv" "$work/deep_$windows.csv"
     done
 done
+awk '
+    BEGIN {
+        printf "\n%10s %10s %10s %9s %10s %10s %9s %11s %11s\n", "copies", "windows", "processors", "flatten s", "by rects s", "by region s", "lines s",
+            "by rects MB", "by region MB"
+    }
+    $4 == "rects" { rects = $6; lines = $7; peak = $8 }
+    $4 == "region" { printf "%10d %10d %10d %9.3f %10.3f %11.3f %9.3f %11d %12d\n", $1, $2, $3, $5, rects, $6, lines, peak, $8 }' "$work/timed"
 [ ! -s "$work/klayout" ] || awk '
     BEGIN {
         printf "\n%-6s %10s %10s %12s %8s %14s %8s %12s %12s\n", "form", "copies", "processors", "areas s", "times", "with_density s", "times",
