@@ -19,7 +19,7 @@ use std::io::Write;
 /// A part has the lines of so many windows, or of all that are left, a round so many windows, and a line mostly so many bytes.
 const PART: usize = 4_096;
 const ROUND: usize = 65_536;
-const LINE: usize = 64;
+const LINE: usize = 72;
 
 /// The lines of windows with these areas, made in rounds whose parts are made at once. The parts of one round alone are held.
 fn report(lines: &Lines, areas: &[i64]) -> Vec<u8> {
@@ -28,6 +28,7 @@ fn report(lines: &Lines, areas: &[i64]) -> Vec<u8> {
         let mut parts = vec![Vec::new(); round.len().div_ceil(PART)];
         share_out(round.chunks(PART).zip(&mut parts).enumerate(), |(n, (areas, part))| {
             let from = r * ROUND + n * PART;
+            part.reserve(areas.len() * LINE);
             areas.iter().enumerate().for_each(|(k, area)| lines.put(from + k, *area, 0, part));
         });
         parts.iter().for_each(|part| text.extend_from_slice(part));

@@ -3,10 +3,10 @@ use Rattle.std.proofs.Common.{◌≡◌, ℕ, suc, ◌+◌, ◌-◌, ◌*◌, �
 use Rattle.std.specs.Global.{Vec}
 use Rattle.std.specs.List.{flat_map, range_with_len, All}
 use Rattle.std.proofs.lemmas.Grind.{div_ceil_times}
-use Rattle.std.proofs.lemmas.List.{append-nil, flat_map_more}
+use Rattle.std.proofs.lemmas.List.{append-nil, append_assoc, flat_map_more}
 use Rattle.std.proofs.lemmas.List.Elements.{All-push}
 use Rattle.fill_area.proofs.Begun.{by_lt}
-use Rattle.fill_report.specs.Parts.{IsJoined, part_text}
+use Rattle.fill_report.specs.Parts.{ArePut, part_text}
 use Rattle.fill_report.specs.declared.error.OutOfMemory.{OutOfMemory}
 use Rattle.fill_report.proofs.Lines.{lines_split}
 
@@ -49,20 +49,20 @@ parts_from f size from n (Ok v ∷ parts) enough ok each =
         let whole : size + (n - size) ≡ n = omega (arith, high) in
         rw full (sym (lines_split f from size (n - size))) ∙ ap (λ m. flat_map f (range_with_len from m)) whole)
 
--- the parts of some lines make their text
-pub parts_are : (f : ℕ → List ℕ) (size from n : ℕ) (parts : List (Result (Vec ℕ) OutOfMemory)) (text : List ℕ) → 0 < size → length parts ≡ n / size + min 1 (n % size)
+-- the parts of some lines, put to a text
+pub parts_are : (f : ℕ → List ℕ) (size from n : ℕ) (parts : List (Result (Vec ℕ) OutOfMemory)) (before after : List ℕ) → 0 < size → length parts ≡ n / size + min 1 (n % size)
     → ((k : ℕ) (d : Result (Vec ℕ) OutOfMemory) → k < length parts → IfOk (get_or parts k d) (λ v. v.items ≡ flat_map f (range_with_len (from + k * size) (min size (n - k * size)))))
-    → IsJoined parts text → text ≡ flat_map f (range_with_len from n)
-parts_are f size from n parts text some count each joined = joined.whole ∙ parts_from f size from n parts (rw count (div_ceil_times n size some).0) joined.all each
+    → ArePut parts before after → after ≡ before ++ flat_map f (range_with_len from n)
+parts_are f size from n parts before after some count each put = put.whole ∙ ap (λ t. before ++ t) (parts_from f size from n parts (rw count (div_ceil_times n size some).0) put.all each)
 
 -- one round more, of `size` lines or all that are left of `n`
-pub round_more : (f : ℕ → List ℕ) (size n k : ℕ) (old new round : List ℕ) → k * size < n → old ≡ flat_map f (range_with_len 0 (min (k * size) n)) → round ≡ flat_map f (range_with_len (k * size) (min size (n - k * size)))
-    → new ≡ old ++ round → new ≡ flat_map f (range_with_len 0 (min ((k + 1) * size) n))
-round_more f size n k old new round lt old_is round_is new_is =
-    new_is ∙ (ap (λ t. t ++ round) old_is ∙ (ap (λ t. flat_map f (range_with_len 0 (min (k * size) n)) ++ t) round_is
+pub round_more : (f : ℕ → List ℕ) (size n k : ℕ) (old new : List ℕ) → k * size < n → old ≡ flat_map f (range_with_len 0 (min (k * size) n)) → new ≡ old ++ flat_map f (range_with_len (k * size) (min size (n - k * size)))
+    → new ≡ flat_map f (range_with_len 0 (min ((k + 1) * size) n))
+round_more f size n k old new lt old_is new_is =
+    new_is ∙ (ap (λ t. t ++ flat_map f (range_with_len (k * size) (min size (n - k * size)))) old_is
     ∙ (ap (λ m. flat_map f (range_with_len 0 m) ++ flat_map f (range_with_len (k * size) (min size (n - k * size)))) here
     ∙ (ap (λ a. flat_map f (range_with_len 0 (k * size)) ++ flat_map f (range_with_len a (min size (n - k * size)))) first
-    ∙ (sym (lines_split f 0 (k * size) (min size (n - k * size))) ∙ ap (λ m. flat_map f (range_with_len 0 m)) whole)))))
+    ∙ (sym (lines_split f 0 (k * size) (min size (n - k * size))) ∙ ap (λ m. flat_map f (range_with_len 0 m)) whole))))
   where
     here : min (k * size) n ≡ k * size
     here = omega (arith, lt)
@@ -73,10 +73,14 @@ round_more f size n k old new round lt old_is round_is new_is =
     whole : k * size + min size (n - k * size) ≡ min ((k + 1) * size) n
     whole = omega (arith, lt)
 
--- one part more
-pub one_part_more : (parts : List (Result (Vec ℕ) OutOfMemory)) (part : Result (Vec ℕ) OutOfMemory) (v : Vec ℕ) (old new : List ℕ) → IsJoined parts old → part ≡ Ok v → new ≡ old ++ v.items
-    → IsJoined (parts ++ part ∷ []) new
-one_part_more parts part v old new before is new_is = record {
-  all = All-push IsOk parts part before.all (rw is refl);
-  whole = new_is ∙ (ap (λ t. t ++ v.items) before.whole ∙ (ap (λ (r : Result (Vec ℕ) OutOfMemory). flat_map part_text parts ++ part_text r) (sym is) ∙ flat_map_more part_text [] parts part));
+-- no part yet, and one more
+pub no_part : (text : List ℕ) → ArePut [] text text
+no_part text = record { all = λ k d lt. absurd (omega (arith, lt)); whole = sym (append-nil text) }
+
+pub one_part_more : (parts : List (Result (Vec ℕ) OutOfMemory)) (part : Result (Vec ℕ) OutOfMemory) (v : Vec ℕ) (before old new : List ℕ) → ArePut parts before old → part ≡ Ok v → new ≡ old ++ v.items
+    → ArePut (parts ++ part ∷ []) before new
+one_part_more parts part v before old new put is new_is = record {
+  all = All-push IsOk parts part put.all (rw is refl);
+  whole = new_is ∙ (ap (λ t. t ++ v.items) put.whole ∙ (append_assoc before (flat_map part_text parts) v.items
+      ∙ ap (λ t. before ++ t) (ap (λ (r : Result (Vec ℕ) OutOfMemory). flat_map part_text parts ++ part_text r) (sym is) ∙ flat_map_more part_text [] parts part)));
 }

@@ -1,10 +1,10 @@
 //! The report of metal alone.
-ghost use Rattle.std.specs.Prelude.{◌≡◌, ◌+◌, ◌-◌, ◌*◌, ◌<◌, ◌≤◌, min, length, IfOk, All};
+ghost use Rattle.std.specs.Prelude.{◌≡◌, ℕ, List, ◌++◌, ◌+◌, ◌-◌, ◌*◌, ◌<◌, ◌≤◌, min, length, IfOk, OnOk, All};
 ghost use Rattle.fill_region.specs.Bands.{holds};
 ghost use Rattle.fill_text.specs.ValuesOfRules.{values_of};
 ghost use Rattle.fill_area.specs.Density.{IsArea, IsShare};
 ghost use Rattle.fill_report.specs.Report.{lines_from, windows_text, report_text, drawn_only, nothing};
-ghost use Rattle.fill_report.specs.Parts.{IsJoined};
+ghost use Rattle.fill_report.specs.Parts.{ArePut};
 ghost use Rattle.fill_report.specs.RulesReport.{metal_report};
 
 use crate::error::OutOfMemory;
@@ -15,7 +15,7 @@ use fill_area::Windows;
 use fill_measure::measure_region;
 use fill_region::Region;
 use fill_text::Rules;
-use std::alloc::Global;
+use std::alloc::{AllocError, Global};
 use std::thread;
 use std::thread::Threads;
 
@@ -25,8 +25,8 @@ const PART: usize = 4_096;
 /// A round has so many windows, 16 parts, or all that are left: the text and the parts of one round alone are held at a time.
 const ROUND: usize = 65_536;
 
-/// A line is mostly about so many bytes long: the text has room for as many at once.
-const LINE: usize = 64;
+/// A line is mostly no longer than so many bytes: each text has room for as many at the start.
+const LINE: usize = 72;
 
 /// The report of a region's metal without fill, over the windows of the rules: one line a window with
 /// its column and row, its edges, the areas of metal, of fill (0) and of both, the share in parts of a
@@ -82,14 +82,14 @@ pub(crate) fn drawn_lines(
 {
     let mut text = Vec::with_capacity(alloc, totals.len().saturating_mul(LINE))?;
     for k in 0..totals.len().div_ceil(ROUND) {
-        let round = round_lines(rt, alloc, windows, totals, k * ROUND, least, most)?;
-        text.extend_from_slice(&round)?;
+        let parts = round_parts(rt, alloc, windows, totals, k * ROUND, least, most)?;
+        put_parts(&mut text, parts)?;
     }
     Ok(text)
 }
 
-/// The lines of the windows from the one at place `from` on that are in its round: parts of them are made in parallel, and then joined.
-fn round_lines(
+/// The parts of a round, made at once: put to a text one after another, they are the lines of its windows from the one at place `from` on.
+fn round_parts(
     rt: &(impl Threads + Sync),
     alloc: Global,
     windows: &Windows,
@@ -97,13 +97,13 @@ fn round_lines(
     from: usize,
     least: i64,
     most: i64,
-) -> Result<Vec<u8>, OutOfMemory>
+) -> Result<Vec<Result<Vec<u8>, OutOfMemory>>, AllocError>
     requires count { length totals.now ≡ windows.now.across.count * windows.now.up.count }
     requires within { from < length totals.now }
     requires areas { All IsArea totals.now }
     requires least { IsShare least }
     requires most { IsShare most }
-    ensures { IfOk result (λ v. v.items ≡ lines_from windows.now least most (drawn_only windows.now totals.now) from (min 65536 (length totals.now - from))) }
+    ensures { IfOk result (λ v. (before after : List ℕ) → ArePut v.items before after → after ≡ before ++ lines_from windows.now least most (drawn_only windows.now totals.now) from (min 65536 (length totals.now - from))) }
 {
     let count = ROUND.min(totals.len() - from);
     let parts = thread::map_chunks(
@@ -130,7 +130,7 @@ fn round_lines(
             )
         },
     )?;
-    joined(alloc, parts)
+    Ok(parts)
 }
 
 /// The lines of `count` windows from the one at place `from` on, with these areas of metal and no fill.
@@ -150,7 +150,8 @@ fn part_lines(
     requires most { IsShare most }
     ensures { IfOk result (λ v. v.items ≡ lines_from windows.now least most (drawn_only windows.now totals.now) from count) }
 {
-    let mut writer = Writer::from_writer(Vec::new(alloc));
+    let text = Vec::with_capacity(alloc, count.saturating_mul(LINE))?;
+    let mut writer = Writer::from_writer(text);
     let mut row = ByteRecord::new(alloc);
     for i in 0..count {
         let k = from + i;
@@ -165,18 +166,16 @@ fn part_lines(
     Ok(text)
 }
 
-/// The text of all parts, one after another, or the first refusal of memory. A part is let go of as soon as it is copied.
-fn joined(alloc: Global, parts: Vec<Result<Vec<u8>, OutOfMemory>>) -> Result<Vec<u8>, OutOfMemory>
-    ensures { IfOk result (λ v. IsJoined parts.items v.items) }
+/// Puts the text of all parts to a text, one after another. A part is let go of as soon as it is copied.
+fn put_parts(
+    text: &mut Vec<u8>,
+    parts: Vec<Result<Vec<u8>, OutOfMemory>>,
+) -> Result<(), OutOfMemory>
+    ensures { OnOk result (ArePut parts.items text.old.items text.new.items) }
 {
-    let length = parts.iter().fold(0, |length: usize, part| match part {
-        Ok(text) => length.saturating_add(text.len()),
-        Err(_) => length,
-    });
-    let mut text = Vec::with_capacity(alloc, length)?;
     for part in parts {
         let part = part?;
         text.extend_from_slice(&part)?;
     }
-    Ok(text)
+    Ok(())
 }

@@ -1,4 +1,4 @@
-use Rattle.std.proofs.Common.{◌≡◌, ◌*◌, ◌<◌, ◌++◌, min, length, arith, ap, ◌∙◌}
+use Rattle.std.proofs.Common.{◌≡◌, ◌*◌, ◌<◌, min, length, arith, ap, ◌∙◌}
 use Rattle.fill_base.proofs.Signed.{read, read_is}
 use Rattle.fill_report.specs.Report.{drawn_only, first_lines, line_at}
 use Rattle.fill_report.proofs.Joining.{round_more}
@@ -9,8 +9,8 @@ loop-k-preserved g c =
     let windows = c.args.windows.now in
     let n = length c.args.totals.now in
     let lt : c.loop-k.k * 65536 < n = omega (arith, c.loop-k-test.true, c.div_ceil-k-end.ensures) in
-    round_more (line_at windows (read c.args.least) (read c.args.most) (drawn_only windows c.args.totals.now)) 65536 n c.loop-k.k c.loop-k.text.items _ c.in_ok-round.round.items lt c.loop-k.invariant c.in_ok-round.ensures
-    (c.in_ok-extend_from_slice.ensures.items ∙ ap (λ xs. c.loop-k.text.items ++ xs) c.deref.ensures.value)
+    round_more (line_at windows (read c.args.least) (read c.args.most) (drawn_only windows c.args.totals.now)) 65536 n c.loop-k.k c.loop-k.text.items _ lt c.loop-k.invariant
+    (c.in_ok-parts.ensures c.loop-k.text.items c.put_parts.new.text.items c.in_ok-put_parts.ensures)
 
 pub returns : goal.returns
 returns g c =
