@@ -9,7 +9,7 @@ use std::io::Read;
 use thiserror::Error;
 
 /// The bytes that one read asks for at most.
-const CHUNK: usize = 4096;
+const CHUNK: usize = 65_536;
 
 /// Why an input was not taken.
 #[derive(Clone, Copy, Debug, PartialEq, Eq, Error)]

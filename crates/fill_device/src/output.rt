@@ -1,5 +1,7 @@
 //! Texts, written whole.
 ghost use Rattle.std.specs.Prelude.{◌≡◌, ◌↔◌, ℕ, true, false, take, IsErr, OnOk};
+ghost use Rattle.std.specs.List.{flat_map};
+ghost use Rattle.std.specs.Vec.{vec_items};
 ghost use Rattle.std.specs.Io.KnownBytes.{Appends};
 ghost use Rattle.fill_device.specs.Taps.{has_failed, under};
 
@@ -29,6 +31,22 @@ pub fn write_text<W: Write>(tap: &mut Tap<W>, text: &[u8]) -> Result<(), DeviceE
             Ok(count) if count > 0 => at += count,
             _ => return Err(DeviceError),
         }
+    }
+    Ok(())
+}
+
+/// Writes texts whole, one after another. Whatever comes of it, what was written is a prefix of all of them together.
+///
+/// # Errors
+/// `DeviceError` exactly where a write fails or takes no byte; nothing is written after that.
+pub fn write_texts<W: Write>(tap: &mut Tap<W>, texts: &[Vec<u8>]) -> Result<(), DeviceError>
+    requires { has_failed tap.old ≡ false }
+    ensures device { IsErr result ↔ (has_failed tap.new ≡ true) }
+    ensures whole { OnOk result (Appends (W.contents (under tap.old)) (W.contents (under tap.new)) (flat_map vec_items texts.now)) }
+    ensures prefix { (k : ℕ) × Appends (W.contents (under tap.old)) (W.contents (under tap.new)) (take k (flat_map vec_items texts.now)) }
+{
+    for text in texts {
+        write_text(tap, text)?;
     }
     Ok(())
 }
