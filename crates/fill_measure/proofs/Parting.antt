@@ -1,8 +1,9 @@
 -- Rectangles in parts, and the lists of rows that the parts give together.
-use Rattle.std.proofs.Common.{◌≡◌, Bool, true, false, ℕ, suc, ◌+◌, ◌<◌, ◌≤◌, ℤ, List, [], ◌∷◌, ◌++◌, ◌||◌, All, length, get_or, map, take, drop, Result, Ok, IfOk, arith, ap, subst, ◌∙◌, sym, append_assoc, refl}
+use Rattle.std.proofs.Common.{◌≡◌, Bool, true, false, ℕ, suc, ◌+◌, ◌<◌, ◌≤◌, ℤ, List, [], ◌∷◌, ◌++◌, ◌||◌, All, length, get_or, map, take, drop, Result, Ok, IfOk, vec_len, arith, ap, subst, ◌∙◌, sym, append_assoc, refl}
 use Rattle.std.specs.Borrow.{Bor}
 use Rattle.std.specs.Global.{Vec}
-use Rattle.std.specs.List.{list_any}
+use Rattle.std.specs.List.{list_any, FoldsTo}
+use Rattle.std.specs.Vec.{vec_capacity}
 use Rattle.std.proofs.lemmas.List.{drop_all, get_or-map, map-append, append-nil, length-map, nil_from_length, get_or_default}
 use Rattle.std.proofs.lemmas.List.Folds.{list_any-append, list_any_more}
 use Rattle.fill_base.specs.declared.rect.Rect.{Rect}
@@ -14,14 +15,15 @@ use Rattle.fill_cells.specs.Mesh.{covered_at, row_squares, gaps}
 use Rattle.fill_measure.specs.declared.lists.Part.{Part}
 use Rattle.fill_measure.specs.steps.Parts.{ArePartLists, IsPart, covered_by_parts, listed_by_parts}
 
--- one value more, and all of them
-pub value_more : {V E : Type 0} (done new : List V) (rest all : List (Result V E)) (x : Result V E) (v : V) → map Ok done ++ x ∷ rest ≡ all → x ≡ Ok v → new ≡ done ++ v ∷ [] → map Ok new ++ rest ≡ all
-value_more done new rest all x v parts is new_is =
-    ap (λ vs. map Ok vs ++ rest) new_is ∙ (ap (λ rs. rs ++ rest) (map-append Ok done (v ∷ [])) ∙ (append_assoc (map Ok done) (Ok v ∷ []) rest ∙ (ap (λ r. map Ok done ++ r ∷ rest) (sym is) ∙ parts)))
-
-pub values_all : {V E : Type 0} (done : List V) (rest all : List (Result V E)) (n : ℕ) → map Ok done ++ rest ≡ all → n ≡ length rest → n ≡ 0 → all ≡ map Ok done
-values_all done rest all n parts left none =
-    sym parts ∙ (ap (λ rs. map Ok done ++ rs) (nil_from_length rest (sym left ∙ none)) ∙ append-nil (map Ok done))
+-- each result is a value, where a list takes what the results hold one by one
+pub values_of_results : {V E : Type 0} (results : List (Result V E)) (old new : Vec V)
+    → FoldsTo (λ (p : Vec V) x q. (y : V) × (Ok y ≡ x) × ((q.items ≡ p.items ++ y ∷ []) × (vec_len q ≡ vec_len p + 1) × (vec_capacity p ≤ vec_capacity q))) old results new
+    → map Ok old.items ++ results ≡ map Ok new.items
+values_of_results [] old new same = append-nil (map Ok old.items) ∙ ap (λ (v : Vec _). map Ok v.items) same
+values_of_results (result ∷ results) old new (next, (value, is, added), rest) =
+    ap (λ r. map Ok old.items ++ r ∷ results) (sym is)
+    ∙ (sym (append_assoc (map Ok old.items) (Ok value ∷ []) results)
+    ∙ (ap (λ rs. rs ++ results) (sym (map-append Ok old.items (value ∷ [])) ∙ ap (λ vs. map Ok vs) (sym added.0)) ∙ values_of_results results next new rest))
 
 -- one part more, and all of them
 pub part_more : (done new : List (Bor (List Rect))) (part : Bor (List Rect)) (left rest rects : List Rect) → left ≡ part.now ++ rest → new ≡ done ++ part ∷ []

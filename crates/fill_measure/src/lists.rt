@@ -15,7 +15,7 @@ use std::thread::Threads;
 const MOST_PARTS: usize = 16;
 
 /// A part has so many rectangles, or all that are left.
-const LEAST_PART: usize = 16_384;
+const LEAST_PART: usize = 8_192;
 
 /// No part has more, so that four bytes hold a place in it.
 const MOST_IN_PART: usize = 1 << 32;
@@ -85,12 +85,7 @@ pub(crate) fn all_of<T: Drop>(
 ) -> Result<Vec<T>, AllocError>
     ensures { IfOk result (λ v. results.items ≡ map Ok v.items) }
 {
-    let mut all = Vec::with_capacity(alloc, results.len())?;
-    for result in results {
-        let value = result?;
-        all.push(value)?;
-    }
-    Ok(all)
+    results.into_iter().try_collect(alloc)
 }
 
 /// The rectangles that all parts list for the row at `j`.

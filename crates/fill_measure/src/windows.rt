@@ -19,7 +19,7 @@ use std::thread::Threads;
 const MOST_GROUPS: usize = 16;
 
 /// A group has about so many windows or more, or all that are left: fewer take no longer than a thread needs to begin.
-const LEAST_GROUP: usize = 4096;
+const LEAST_GROUP: usize = 16_384;
 
 impl Mesh<'_> {
     /// How many covered squares lie in each window, row by row, by the corners.

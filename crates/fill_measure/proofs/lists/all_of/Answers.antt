@@ -1,16 +1,12 @@
-use Rattle.std.proofs.Common.{◌≡◌, ◌∷◌, length, arith, ap}
-use Rattle.std.specs.Vec.Iter.{into_iter_items}
-use Rattle.fill_measure.proofs.Parting.{value_more, values_all}
+use Rattle.std.proofs.Common.{◌++◌, List, map, Ok, ap, ◌∙◌, sym}
+use Rattle.std.proofs.lemmas.Iterator.{items_from_drains}
+use Rattle.std.proofs.lemmas.Iterator.Adapters.{YieldsList-from_vec}
+use Rattle.std.proofs.lemmas.List.{map-id}
+use Rattle.std.proofs.lemmas.Result.{IfOk-weaker}
+use Rattle.fill_measure.proofs.Parting.{values_of_results}
 use Rattle.fill_measure.proofs.lists.all_of.Goals as goal
 
-pub loop-result-preserved : goal.loop-result-preserved
-loop-result-preserved g c =
-    let at = c.loop-result in
-    let steps : into_iter_items at.result-iterator ≡ c.in-Some.result ∷ into_iter_items c.next.new.self = c.in-Some.ensures.steps.0 in
-    record {
-      parts = value_more at.all.items c.push.new.self.items _ c.args.results.items c.in-Some.result c.in_ok-value.value (rw steps at at.invariant.parts) c.in_ok-value.was c.in_ok-push.ensures.items;
-      left = let was = at.invariant.left in let gone = c.in-Some.ensures.steps.1 in let short = ap length steps in omega (arith, was, gone, short);
-    }
-
 pub returns : goal.returns
-returns g c = values_all c.loop-result.all.items _ c.args.results.items _ c.loop-result.invariant.parts c.loop-result.invariant.left c.in-None.ensures.steps.0
+returns g c = IfOk-weaker c.try_collect.result _ _ (λ v (xs, made, (end, (last, yields, none)), empty, folds).
+    let taken = items_from_drains xs (last, yields, λ _. (end, none)) (YieldsList-from_vec c.args.results.items c.into_iter.ensures.rest (c.into_iter.ensures.len ∙ c.args.results.ok.0)) in
+    sym taken ∙ (map-id xs ∙ (ap (λ (vs : List _). map Ok vs ++ xs) (sym empty.0) ∙ values_of_results xs made v folds))) c.try_collect.ensures.ran
