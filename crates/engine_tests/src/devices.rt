@@ -1,5 +1,6 @@
 //! Taps, inputs and texts over devices in memory that move few bytes, and that fail for ever or once.
-use fill_device::{DeviceError, InputError, Tap, read_input, write_text};
+use fill_device::{DeviceError, InputError, Tap, read_input, write_text, write_texts};
+use std::alloc::{AllocError, Global};
 use std::io;
 use std::io::{ErrorKind, Read, Write};
 use std::test::Fail;
@@ -78,9 +79,11 @@ fn an_input_is_read_up_to_its_limit(rt: HostRuntime) -> Result<(), Fail> {
 
 #[test]
 fn a_long_input_comes_whole(rt: HostRuntime) -> Result<(), Fail> {
-    let bytes: Vec<u8> = (0..10_000u32).map(|i| (i % 251) as u8).collect(rt.alloc())?;
+    let bytes: Vec<u8> = (0..200_000u32)
+        .map(|i| (i % 251) as u8)
+        .collect(rt.alloc())?;
     let mut tap = Tap::new(bytes.as_slice());
-    let input = read_input(rt.alloc(), &mut tap, 10_000)?;
+    let input = read_input(rt.alloc(), &mut tap, 200_000)?;
     assert!(rt; input.as_slice() == bytes.as_slice());
     Ok(())
 }
@@ -130,6 +133,49 @@ fn a_writer_that_fails_keeps_the_bytes_before(rt: HostRuntime) {
         assert!(rt; tap.failed());
         assert!(rt; slow.taken.as_slice() == b"text".get(..good_calls).unwrap_or(b""));
     }
+}
+
+/// Three texts, one of them empty, of seven bytes together.
+fn three_texts(alloc: Global) -> Result<Vec<Vec<u8>>, AllocError> {
+    let mut texts = Vec::new(alloc);
+    for text in [b"four".as_slice(), b"", b"six"] {
+        texts.push(text.to_vec(alloc)?)?;
+    }
+    Ok(texts)
+}
+
+#[test]
+fn texts_are_written_one_after_another(rt: HostRuntime) -> Result<(), Fail> {
+    let texts = three_texts(rt.alloc())?;
+    let mut slow = Slow {
+        rest: b"",
+        taken: Vec::new(rt.alloc()),
+        step: 3,
+        good_calls: None,
+    };
+    let mut tap = Tap::new(&mut slow);
+    assert_eq!(rt; write_texts(&mut tap, &texts), Ok(()));
+    assert!(rt; !tap.failed());
+    assert!(rt; slow.taken.as_slice() == b"foursix".as_slice());
+    Ok(())
+}
+
+#[test]
+fn no_text_is_written_after_a_fault(rt: HostRuntime) -> Result<(), Fail> {
+    let texts = three_texts(rt.alloc())?;
+    for good_calls in 0..7 {
+        let mut slow = Slow {
+            rest: b"",
+            taken: Vec::new(rt.alloc()),
+            step: 1,
+            good_calls: Some(good_calls),
+        };
+        let mut tap = Tap::new(&mut slow);
+        assert_eq!(rt; write_texts(&mut tap, &texts), Err(DeviceError));
+        assert!(rt; tap.failed());
+        assert!(rt; slow.taken.as_slice() == b"foursix".get(..good_calls).unwrap_or(b""));
+    }
+    Ok(())
 }
 
 #[test]

@@ -1,7 +1,7 @@
 use fill_base::Rect;
 use fill_region::Region;
-use fill_report::report_of;
-use fill_text::read_rules;
+use fill_report::{report_of, report_parts_of_rects};
+use fill_text::{Rules, read_rules};
 use std::alloc::Global;
 use std::test::Fail;
 use std::thread::Threads;
@@ -31,6 +31,12 @@ fill_cell,BOX4
 fill_top,FILLTOP
 ";
 
+/// The rules with these windows.
+fn rules_of(alloc: Global, window_rules: &str) -> Result<Rules, Fail> {
+    let text = format!(in alloc; "{OTHER_RULES}{window_rules}")?;
+    Ok(read_rules(alloc, text.as_bytes())?)
+}
+
 /// The report of these rectangles' metal.
 fn report(
     rt: &(impl Threads + Sync),
@@ -38,8 +44,7 @@ fn report(
     window_rules: &str,
     rects: &[Rect],
 ) -> Result<Vec<u8>, Fail> {
-    let text = format!(in alloc; "{OTHER_RULES}{window_rules}")?;
-    let rules = read_rules(alloc, text.as_bytes())?;
+    let rules = rules_of(alloc, window_rules)?;
     let metal = Region::from_rects(alloc, rects)?;
     Ok(report_of(rt, alloc, &metal, &rules)?)
 }
@@ -141,5 +146,26 @@ fn each_of_100_000_windows_has_its_line(rt: HostRuntime) -> Result<(), Fail> {
     assert_eq!(rt; lines, 100_000);
     assert!(rt; text.starts_with(b"0,0,0,0,1,1,0,0,0,0,LOW\n1,0,1,0,2,1,0,0,0,0,LOW\n"));
     assert!(rt; text.ends_with(b"\n999,99,999,99,1000,100,1,0,1,1000000,HIGH\n"));
+    Ok(())
+}
+
+#[test]
+fn parts_have_the_lines_of_neighbouring_windows(rt: HostRuntime) -> Result<(), Fail> {
+    let rules = rules_of(rt.alloc(), MANY_WINDOWS)?;
+    let rects = vec![in rt.alloc(); Rect::new(250, 6, 251, 7)?]?;
+    let parts = report_parts_of_rects(&rt, rt.alloc(), rects, &rules)?;
+    let mut lines = 0;
+    for part in &parts {
+        lines += part.iter().filter(|c| **c == b'\n').count();
+        assert!(rt; part.ends_with(b",LOW\n") || part.ends_with(b",HIGH\n"));
+    }
+    assert_eq!(rt; lines, 100_000);
+    // Sixteen threads have 6,250 windows each, so the second begins in the seventh row.
+    assert_eq!(rt; parts.len(), 16);
+    assert!(rt;
+        parts.get(1).is_some_and(|part| part.starts_with(
+            b"250,6,250,6,251,7,1,0,1,1000000,HIGH\n251,6,"
+        ))
+    );
     Ok(())
 }

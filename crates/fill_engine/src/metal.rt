@@ -1,5 +1,7 @@
 //! The metal that a script's edits leave of nothing, and the report of metal.
 ghost use Rattle.std.specs.Prelude.{◌≡◌, [], ◌∷◌, ◌||◌, ◌&&◌, not, ℤ, map, IfOk, IfSome};
+ghost use Rattle.std.specs.List.{flat_map};
+ghost use Rattle.std.specs.Vec.{vec_items};
 ghost use Rattle.fill_region.specs.Bands.{holds};
 ghost use Rattle.fill_report.specs.RulesReport.{metal_report};
 ghost use Rattle.fill_text.specs.ValuesOfRules.{values_of};
@@ -9,7 +11,7 @@ ghost use Rattle.fill_engine.specs.Shapes.{metal_of};
 
 use fill_base::Rect;
 use fill_region::Region;
-use fill_report::{OutOfMemory, report_of, report_of_rects};
+use fill_report::{OutOfMemory, report_parts, report_parts_of_rects};
 use fill_text::{Edit, Rules};
 use std::alloc::{AllocError, Global};
 use std::thread::Threads;
@@ -140,24 +142,24 @@ pub(crate) fn metal_after(alloc: Global, edits: &[Edit]) -> Result<Metal, OutOfM
     }
 }
 
-/// The density report of metal. Rectangles are measured as they are, with no region in between, and their list is let go of
-/// before a line of the report is made.
+/// The density report of metal, in parts that are its text one after another. Rectangles are measured as they are, with no
+/// region in between, and their list is let go of before a line of the report is made.
 pub(crate) fn report_of_metal(
     rt: &(impl Threads + Sync),
     alloc: Global,
     metal: Metal,
     rules: &Rules,
-) -> Result<Vec<u8>, OutOfMemory>
-    ensures { IfOk result (λ v. v.items ≡ metal_report (metal_of metal) (values_of rules.now)) }
+) -> Result<Vec<Vec<u8>>, OutOfMemory>
+    ensures { IfOk result (λ v. flat_map vec_items v.items ≡ metal_report (metal_of metal) (values_of rules.now)) }
 {
     match metal {
         Metal::Drawn(rects) => {
-            let report = report_of_rects(rt, alloc, rects, rules)?;
-            Ok(report)
+            let parts = report_parts_of_rects(rt, alloc, rects, rules)?;
+            Ok(parts)
         }
         Metal::Left(region) => {
-            let report = report_of(rt, alloc, &region, rules)?;
-            Ok(report)
+            let parts = report_parts(rt, alloc, &region, rules)?;
+            Ok(parts)
         }
     }
 }

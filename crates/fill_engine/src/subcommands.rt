@@ -12,13 +12,13 @@ ghost use Rattle.fill_engine.specs.Checks.{IsChecked, IsCheckReason};
 use crate::inputs::{take_drawing, take_edits, take_rules};
 use crate::metal::{Metal, metal_after, report_of_metal};
 use crate::refusal::{InputFault, Refusal, RunFault};
-use fill_device::{InputError, Tap, write_text};
+use fill_device::{InputError, Tap, write_texts};
 use fill_text::Rules;
 use std::alloc::Global;
 use std::io::{Read, Write};
 use std::thread::Threads;
 
-/// Writes the report of the metal, whole. The metal is taken, and let go of before a byte is written.
+/// Writes the report of the metal, whole, part by part. The metal is taken, and let go of before a byte is written.
 fn write_report<W: Write>(
     rt: &(impl Threads + Sync),
     alloc: Global,
@@ -35,8 +35,8 @@ fn write_report<W: Write>(
     ensures refused { IfErr result (λ e. (e ≡ Refusal.Report) ⊎ (e ≡ Refusal.Run RunFault.Memory)) }
     ensures silent { OnErr result ((has_failed out.new ≡ true) ⊎ (out.new ≡ out.old)) }
 {
-    let report = report_of_metal(rt, alloc, metal, rules)?;
-    write_text(out, &report)?;
+    let parts = report_of_metal(rt, alloc, metal, rules)?;
+    write_texts(out, &parts)?;
     Ok(())
 }
 

@@ -12,5 +12,5 @@ mod window;
 pub use book::report;
 pub use error::OutOfMemory;
 pub use line::{Density, Measures};
-pub use metal::report_of;
-pub use shapes::report_of_rects;
+pub use metal::{report_of, report_parts};
+pub use shapes::report_parts_of_rects;

@@ -1,10 +1,11 @@
 //! The report of metal alone.
-ghost use Rattle.std.specs.Prelude.{◌≡◌, ℕ, List, ◌++◌, ◌+◌, ◌-◌, ◌*◌, ◌<◌, ◌≤◌, min, length, IfOk, OnOk, All};
+ghost use Rattle.std.specs.Prelude.{◌≡◌, ◌+◌, ◌*◌, ◌≤◌, length, map, Ok, IfOk, All};
+ghost use Rattle.std.specs.List.{flat_map};
+ghost use Rattle.std.specs.Vec.{vec_items};
 ghost use Rattle.fill_region.specs.Bands.{holds};
 ghost use Rattle.fill_text.specs.ValuesOfRules.{values_of};
 ghost use Rattle.fill_area.specs.Density.{IsArea, IsShare};
 ghost use Rattle.fill_report.specs.Report.{lines_from, windows_text, report_text, drawn_only, nothing};
-ghost use Rattle.fill_report.specs.Parts.{ArePut};
 ghost use Rattle.fill_report.specs.RulesReport.{metal_report};
 
 use crate::error::OutOfMemory;
@@ -15,17 +16,17 @@ use fill_area::Windows;
 use fill_measure::measure_region;
 use fill_region::Region;
 use fill_text::Rules;
-use std::alloc::{AllocError, Global};
+use std::alloc::Global;
 use std::thread;
 use std::thread::Threads;
 
-/// A part has the lines of so many windows, or of all that are left, made by a thread of its own.
-const PART: usize = 4_096;
+/// The lines are made in at most so many parts, each by a thread of its own.
+const MOST_PARTS: usize = 16;
 
-/// A round has so many windows, 16 parts, or all that are left: the text and the parts of one round alone are held at a time.
-const ROUND: usize = 65_536;
+/// A part has the lines of so many windows or more, or of all that are left: fewer take no longer than a thread needs to begin.
+const LEAST_PART: usize = 1_024;
 
-/// A line is mostly no longer than so many bytes: each text has room for as many at the start.
+/// A line is mostly no longer than so many bytes: each part has room for as many at the start.
 const LINE: usize = 72;
 
 /// The report of a region's metal without fill, over the windows of the rules: one line a window with
@@ -42,6 +43,23 @@ pub fn report_of(
 ) -> Result<Vec<u8>, OutOfMemory>
     ensures { IfOk result (λ v. v.items ≡ metal_report (holds region.now) (values_of rules.now)) }
 {
+    let parts = report_parts(rt, alloc, region, rules)?;
+    let text = parts.concat(alloc)?;
+    Ok(text)
+}
+
+/// The same report in parts, as several threads make them: one after another, they are its text, which is nowhere put together.
+///
+/// # Errors
+/// `OutOfMemory` where memory runs out.
+pub fn report_parts(
+    rt: &(impl Threads + Sync),
+    alloc: Global,
+    region: &Region,
+    rules: &Rules,
+) -> Result<Vec<Vec<u8>>, OutOfMemory>
+    ensures { IfOk result (λ v. flat_map vec_items v.items ≡ metal_report (holds region.now) (values_of rules.now)) }
+{
     let least = rules.min();
     let most = rules.max();
     windows_report(rt, alloc, region, &rules.windows(), least, most)
@@ -56,16 +74,16 @@ fn windows_report(
     windows: &Windows,
     least: i64,
     most: i64,
-) -> Result<Vec<u8>, OutOfMemory>
+) -> Result<Vec<Vec<u8>>, OutOfMemory>
     requires least { IsShare least }
     requires most { IsShare most }
-    ensures { IfOk result (λ v. v.items ≡ report_text (holds region.now) nothing windows.now least most) }
+    ensures { IfOk result (λ v. flat_map vec_items v.items ≡ report_text (holds region.now) nothing windows.now least most) }
 {
     let totals = measure_region(rt, alloc, region, windows)?;
     drawn_lines(rt, alloc, windows, &totals, least, most)
 }
 
-/// The lines of windows with these areas of metal, and no fill, made in rounds one after the other.
+/// The lines of windows with these areas of metal, and no fill, in parts that are made at once.
 pub(crate) fn drawn_lines(
     rt: &(impl Threads + Sync),
     alloc: Global,
@@ -73,64 +91,39 @@ pub(crate) fn drawn_lines(
     totals: &[i64],
     least: i64,
     most: i64,
-) -> Result<Vec<u8>, OutOfMemory>
+) -> Result<Vec<Vec<u8>>, OutOfMemory>
     requires count { length totals.now ≡ windows.now.across.count * windows.now.up.count }
     requires areas { All IsArea totals.now }
     requires least { IsShare least }
     requires most { IsShare most }
-    ensures { IfOk result (λ v. v.items ≡ windows_text windows.now least most (drawn_only windows.now totals.now)) }
+    ensures { IfOk result (λ v. flat_map vec_items v.items ≡ windows_text windows.now least most (drawn_only windows.now totals.now)) }
 {
-    let mut text = Vec::with_capacity(alloc, totals.len().saturating_mul(LINE))?;
-    for k in 0..totals.len().div_ceil(ROUND) {
-        let parts = round_parts(rt, alloc, windows, totals, k * ROUND, least, most)?;
-        put_parts(&mut text, parts)?;
-    }
-    Ok(text)
-}
-
-/// The parts of a round, made at once: put to a text one after another, they are the lines of its windows from the one at place `from` on.
-fn round_parts(
-    rt: &(impl Threads + Sync),
-    alloc: Global,
-    windows: &Windows,
-    totals: &[i64],
-    from: usize,
-    least: i64,
-    most: i64,
-) -> Result<Vec<Result<Vec<u8>, OutOfMemory>>, AllocError>
-    requires count { length totals.now ≡ windows.now.across.count * windows.now.up.count }
-    requires within { from < length totals.now }
-    requires areas { All IsArea totals.now }
-    requires least { IsShare least }
-    requires most { IsShare most }
-    ensures { IfOk result (λ v. (before after : List ℕ) → ArePut v.items before after → after ≡ before ++ lines_from windows.now least most (drawn_only windows.now totals.now) from (min 65536 (length totals.now - from))) }
-{
-    let count = ROUND.min(totals.len() - from);
+    let size = totals.len().div_ceil(MOST_PARTS).max(LEAST_PART);
     let parts = thread::map_chunks(
         rt,
         alloc,
-        &totals[from..from + count],
-        PART,
-        &|start: usize, part: &[i64]| -> Result<Vec<u8>, OutOfMemory>
+        totals,
+        size,
+        &|from: usize, part: &[i64]| -> Result<Vec<u8>, OutOfMemory>
             requires count { length totals.now ≡ windows.now.across.count * windows.now.up.count }
-            requires within { from + start + length part.now ≤ length totals.now }
+            requires within { from + length part.now ≤ length totals.now }
             requires areas { All IsArea totals.now }
             requires least { IsShare least }
             requires most { IsShare most }
-            ensures { IfOk result (λ v. v.items ≡ lines_from windows.entry.now least most (drawn_only windows.entry.now totals.entry.now) (from + start) (length part.now)) }
-        {
-            part_lines(
-                alloc,
-                windows,
-                totals,
-                from + start,
-                part.len(),
-                least,
-                most,
-            )
-        },
+            ensures { IfOk result (λ v. v.items ≡ lines_from windows.entry.now least most (drawn_only windows.entry.now totals.entry.now) from (length part.now)) }
+        { part_lines(alloc, windows, totals, from, part.len(), least, most) },
     )?;
-    Ok(parts)
+    all_parts(alloc, parts)
+}
+
+/// What all parts are, or the first refusal of memory.
+fn all_parts(
+    alloc: Global,
+    parts: Vec<Result<Vec<u8>, OutOfMemory>>,
+) -> Result<Vec<Vec<u8>>, OutOfMemory>
+    ensures { IfOk result (λ v. parts.items ≡ map Ok v.items) }
+{
+    parts.into_iter().try_collect(alloc)
 }
 
 /// The lines of `count` windows from the one at place `from` on, with these areas of metal and no fill.
@@ -164,18 +157,4 @@ fn part_lines(
     }
     let text = writer.into_inner()?;
     Ok(text)
-}
-
-/// Puts the text of all parts to a text, one after another. A part is let go of as soon as it is copied.
-fn put_parts(
-    text: &mut Vec<u8>,
-    parts: Vec<Result<Vec<u8>, OutOfMemory>>,
-) -> Result<(), OutOfMemory>
-    ensures { OnOk result (ArePut parts.items text.old.items text.new.items) }
-{
-    for part in parts {
-        let part = part?;
-        text.extend_from_slice(&part)?;
-    }
-    Ok(())
 }

@@ -1,5 +1,7 @@
 //! The report of metal that is given as rectangles.
 ghost use Rattle.std.specs.Prelude.{◌≡◌, IfOk, All};
+ghost use Rattle.std.specs.List.{flat_map};
+ghost use Rattle.std.specs.Vec.{vec_items};
 ghost use Rattle.fill_region.specs.Squares.{covered};
 ghost use Rattle.fill_text.specs.ValuesOfRules.{values_of};
 ghost use Rattle.fill_area.specs.Density.{AreMeasured, IsArea, IsShare};
@@ -15,19 +17,19 @@ use fill_text::Rules;
 use std::alloc::{AllocError, Global};
 use std::thread::Threads;
 
-/// The report that `report_of` makes, of the squares that some rectangle holds: the windows are measured straight from the
+/// The parts that `report_parts` makes, of the squares that some rectangle holds: the windows are measured straight from the
 /// rectangles, with no region in between. The list is taken, and let go of once the windows are measured, before a line of
 /// the report is made.
 ///
 /// # Errors
 /// `OutOfMemory` where memory runs out.
-pub fn report_of_rects(
+pub fn report_parts_of_rects(
     rt: &(impl Threads + Sync),
     alloc: Global,
     rects: Vec<Rect>,
     rules: &Rules,
-) -> Result<Vec<u8>, OutOfMemory>
-    ensures { IfOk result (λ v. v.items ≡ metal_report (covered rects.items) (values_of rules.now)) }
+) -> Result<Vec<Vec<u8>>, OutOfMemory>
+    ensures { IfOk result (λ v. flat_map vec_items v.items ≡ metal_report (covered rects.items) (values_of rules.now)) }
 {
     let least = rules.min();
     let most = rules.max();
@@ -42,10 +44,10 @@ fn windows_report(
     windows: &Windows,
     least: i64,
     most: i64,
-) -> Result<Vec<u8>, OutOfMemory>
+) -> Result<Vec<Vec<u8>>, OutOfMemory>
     requires least { IsShare least }
     requires most { IsShare most }
-    ensures { IfOk result (λ v. v.items ≡ report_text (covered rects.items) nothing windows.now least most) }
+    ensures { IfOk result (λ v. flat_map vec_items v.items ≡ report_text (covered rects.items) nothing windows.now least most) }
 {
     let totals = areas_of(rt, alloc, rects, windows)?;
     drawn_lines(rt, alloc, windows, &totals, least, most)

@@ -1,21 +1,24 @@
-use Rattle.std.proofs.Common.{◌≡◌, ◌*◌, ◌<◌, min, length, arith, ap, ◌∙◌}
+use Rattle.std.proofs.Common.{◌≡◌, ◌-◌, ◌*◌, ◌<◌, ℕ, min, length, vec_len, get_or, arith, ap, ◌∙◌, IfOk, Result}
+use Rattle.std.specs.Global.{Vec}
+use Rattle.std.specs.List.{flat_map, range_with_len}
+use Rattle.std.proofs.lemmas.Grind.{common_steps}
+use Rattle.std.proofs.lemmas.Result.{IfOk-weaker}
 use Rattle.fill_base.proofs.Signed.{read, read_is}
 use Rattle.fill_report.specs.Report.{drawn_only, first_lines, line_at}
-use Rattle.fill_report.proofs.Joining.{round_more}
+use Rattle.fill_report.specs.declared.error.OutOfMemory.{OutOfMemory}
+use Rattle.fill_report.proofs.Joining.{parts_are}
 use Rattle.fill_report.proofs.metal.drawn_lines.Goals as goal
-
-pub loop-k-preserved : goal.loop-k-preserved
-loop-k-preserved g c =
-    let windows = c.args.windows.now in
-    let n = length c.args.totals.now in
-    let lt : c.loop-k.k * 65536 < n = omega (arith, c.loop-k-test.true, c.div_ceil-k-end.ensures) in
-    round_more (line_at windows (read c.args.least) (read c.args.most) (drawn_only windows c.args.totals.now)) 65536 n c.loop-k.k c.loop-k.text.items _ lt c.loop-k.invariant
-    (c.in_ok-parts.ensures c.loop-k.text.items c.put_parts.new.text.items c.in_ok-put_parts.ensures)
 
 pub returns : goal.returns
 returns g c =
     let windows = c.args.windows.now in
+    let line = line_at windows (read c.args.least) (read c.args.most) (drawn_only windows c.args.totals.now) in
     let n = length c.args.totals.now in
-    let all : min (c.loop-k.k * 65536) n ≡ n = omega (arith, c.loop-k-test.false, c.div_ceil-k-end.ensures) in
-    rw (read_is c.args.least c.ranges.least, read_is c.args.most c.ranges.most) at
-    (c.loop-k.invariant ∙ ap (first_lines windows (read c.args.least) (read c.args.most) (drawn_only windows c.args.totals.now)) (all ∙ c.requires.count))
+    let size = c.max-size.result in
+    let parts = c.in_ok-parts.parts.items in
+    let listed : length parts ≡ vec_len c.in_ok-parts.parts = grind (arith, common_steps) in
+    let each : (k : ℕ) (d : Result (Vec ℕ) OutOfMemory) → k < length parts → IfOk (get_or parts k d) (λ v. v.items ≡ flat_map line (range_with_len (k * size) (min size (n - k * size)))) =
+    λ k d lt. let one = (c.in_ok-parts.ensures.each k d lt).1 in rw one.argument_is.len at one.call in
+    rw (read_is c.args.least c.ranges.least, read_is c.args.most c.ranges.most) at (IfOk-weaker c.all_parts.result _ _
+    (λ v are. parts_are line size n parts v.items (omega (arith, c.max-size.ensures)) (listed ∙ c.in_ok-parts.ensures.len) each are ∙ ap (first_lines windows (read c.args.least) (read c.args.most) (drawn_only windows c.args.totals.now)) c.requires.count)
+    c.all_parts.ensures)

@@ -1,6 +1,6 @@
 use Rattle.std.proofs.Common.{rules, FitsSigned, w64}
 use Rattle.fill_base.proofs.Signed.{read_is}
-use Rattle.fill_report.proofs.metal.report_of.Goals as goal
+use Rattle.fill_report.proofs.shapes.report_parts_of_rects.Goals as goal
 
 pub returns : goal.returns
 returns g c =
