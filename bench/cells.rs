@@ -9,11 +9,11 @@ use std::sync::Mutex;
 const MOST_GROUPS: usize = 16;
 
 /// A group of rows of windows has about so many windows or more.
-const LEAST_GROUP: usize = 4096;
+const LEAST_GROUP: usize = 16_384;
 
 /// The rectangles are cut into at most so many parts, each of so many or of all that are left.
 const MOST_PARTS: usize = 16;
-const LEAST_PART: usize = 16_384;
+const LEAST_PART: usize = 8_192;
 
 /// Lines are evenly spaced where a guess at one is at most so many steps off.
 const NEAR: i64 = 8;
@@ -158,7 +158,8 @@ fn by_row(rects: &[Rect], up: &[i32]) -> Vec<Vec<u32>> {
     lists
 }
 
-/// Does the work of each item, on as many threads as there are processors.
+/// Does the work of each item, on as many threads as there are processors. What a thread writes often is best its own until it is
+/// whole: the lengths of lists that lie side by side would go from one processor to the other at each write.
 pub fn share_out<T: Send>(items: impl Iterator<Item = T> + Send, work: impl Fn(T) + Sync) {
     let threads = std::thread::available_parallelism().map_or(1, |count| count.get());
     let items = Mutex::new(items);
@@ -458,13 +459,14 @@ impl Corners {
         let rows = sides(up, windows.origin.1, windows.size.1, windows.step.1, windows.rows);
         let height = windows.rows.div_ceil(MOST_GROUPS).max(LEAST_GROUP.div_ceil(windows.columns));
         let mut groups = vec![Vec::new(); windows.rows.div_ceil(height)];
-        share_out(rows.chunks(height).zip(&mut groups), |(rows, areas)| {
-            areas.reserve(rows.len() * columns.len());
+        share_out(rows.chunks(height).zip(&mut groups), |(rows, group)| {
+            let mut areas = Vec::with_capacity(rows.len() * columns.len());
             for (bottom, top) in rows {
                 let (lower, upper) = (self.line(*bottom), self.line(*top));
                 let area = |(left, right): &(usize, usize)| upper[*right] - upper[*left] - lower[*right] + lower[*left];
                 areas.extend(columns.iter().map(area));
             }
+            *group = areas;
         });
         let mut areas = Vec::with_capacity(windows.columns * windows.rows);
         groups.iter().for_each(|group| areas.extend_from_slice(group));
@@ -499,18 +501,19 @@ pub fn measure_rects(rects: &[Rect], windows: &Windows) -> Vec<i64> {
     let parts = by_parts(rects, &up);
     let height = rows.div_ceil(MOST_GROUPS);
     let mut groups = vec![Vec::new(); rows.div_ceil(height)];
-    share_out(groups.iter_mut().enumerate(), |(k, corners)| {
+    share_out(groups.iter_mut().enumerate(), |(k, group)| {
         let mut lists = vec![Vec::new(); columns];
         let mut areas = vec![0i64; columns];
-        *corners = vec![0i64; columns + 1];
+        let mut corners = vec![0i64; columns + 1];
         for at in k * height..rows.min((k + 1) * height) {
             let mut rects: Vec<Rect> = Vec::new();
             for (part, lists) in &parts {
                 rects.extend(lists[at].iter().map(|place| part[*place as usize]));
             }
             row_areas(&mut lists, rects, &across, up[at], up[at + 1], &mut areas);
-            add_line(corners, &areas);
+            add_line(&mut corners, &areas);
         }
+        *group = corners;
     });
     Corners::new(columns + 1, height, groups).window_areas(windows, &across, &up)
 }

@@ -16,24 +16,22 @@ use design::{flatten, read_cells, read_library};
 use rules::{Lines, Rules};
 use std::io::Write;
 
-/// A part has the lines of so many windows, or of all that are left, a round so many windows, and a line mostly so many bytes.
-const PART: usize = 4_096;
-const ROUND: usize = 65_536;
+/// The lines are made in at most so many parts, each of so many windows or more, or of all that are left. A line is mostly no longer than so many bytes.
+const MOST_PARTS: usize = 16;
+const LEAST_PART: usize = 1_024;
 const LINE: usize = 72;
 
-/// The lines of windows with these areas, made in rounds whose parts are made at once. The parts of one round alone are held.
-fn report(lines: &Lines, areas: &[i64]) -> Vec<u8> {
-    let mut text = Vec::with_capacity(areas.len() * LINE);
-    for (r, round) in areas.chunks(ROUND).enumerate() {
-        let mut parts = vec![Vec::new(); round.len().div_ceil(PART)];
-        share_out(round.chunks(PART).zip(&mut parts).enumerate(), |(n, (areas, part))| {
-            let from = r * ROUND + n * PART;
-            part.reserve(areas.len() * LINE);
-            areas.iter().enumerate().for_each(|(k, area)| lines.put(from + k, *area, 0, part));
-        });
-        parts.iter().for_each(|part| text.extend_from_slice(part));
-    }
-    text
+/// The lines of windows with these areas, in parts that are made at once. Each text is its thread's own until it is whole, since lengths that
+/// lie side by side and are written at each byte would cost more than threads gain.
+fn report(lines: &Lines, areas: &[i64]) -> Vec<Vec<u8>> {
+    let size = areas.len().div_ceil(MOST_PARTS).max(LEAST_PART);
+    let mut parts = vec![Vec::new(); areas.len().div_ceil(size)];
+    share_out(areas.chunks(size).zip(&mut parts).enumerate(), |(n, (areas, part))| {
+        let mut text = Vec::with_capacity(areas.len() * LINE);
+        areas.iter().enumerate().for_each(|(k, area)| lines.put(n * size + k, *area, 0, &mut text));
+        *part = text;
+    });
+    parts
 }
 
 fn main() {
@@ -52,5 +50,5 @@ fn main() {
     let lines = Lines::of(&rules);
     let areas = measure_rects(&rects, &lines.windows);
     drop(rects);
-    std::io::stdout().write_all(&report(&lines, &areas)).expect("the report");
+    report(&lines, &areas).iter().for_each(|part| std::io::stdout().write_all(part).expect("the report"));
 }

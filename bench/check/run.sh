@@ -2,7 +2,7 @@
 # Times the whole of `densfill check` on generated designs of 100,000, 1,000,000 and 3,900,000 copies of shapes, flat and
 # in five levels, over 10,000 windows that overlap by half, some 70,000 side by side and a million that overlap by three quarters,
 # beside the same algorithms in plain Rust (plain.rs), on one processor and on all: `plain` keeps the whole library as values before it fills a shape, as `densfill` does, and `direct` fills each shape as it is read.
-# Seconds are the best of three runs, peaks in MB those of the whole process. Where two reports differ in a byte, the run
+# Seconds are the best of three runs, or of as many as ROUNDS says, peaks in MB those of the whole process. Where two reports differ in a byte, the run
 # fails; so the report of a flat design is compared with that of the deep one, too.
 #
 # A second table has the phases of a check of the designs in five levels, timed by a program of its own (phases.rt.txt): flattening, measuring the
@@ -13,11 +13,12 @@
 # areas of all windows by its tiling processor (areas.py), and the low windows by with_density (density.drc). Its areas and
 # its low windows must be those of the report.
 #
-# usage: bench/check/run.sh [COUNT ..]     (after make build; needs rt, rustc, python3, taskset and GNU time; without COUNT
+# usage: [ROUNDS=N] bench/check/run.sh [COUNT ..]     (after make build; needs rt, rustc, python3, taskset and GNU time; without COUNT
 #                                           some ten minutes and 4 GB, more where the crates were
 #                                           not proved before, and half an hour with KLayout)
 set -eu
 . "$(dirname "$0")/../common.sh"
+rounds=${ROUNDS:-3}
 
 python3 "$here/generate.py" 1000 deep "$work"
 "$here/../build.sh" "$here" phases "$work" "$work/rules.csv $work/design.gds" \
@@ -25,11 +26,11 @@ python3 "$here/generate.py" 1000 deep "$work"
     "rayon csv itoa indexmap thiserror anyhow"
 
 # time_phases COUNT WINDOWS PROCESSORS: a line for each way, of rectangles and of the region: seconds to flatten, to measure the windows (the region
-# included) and to make the lines of the report, each the best of three runs, and the peak in MB.
+# included) and to make the lines of the report, each the best of all rounds, and the peak in MB.
 time_phases() {
     local way
     for way in rects region; do
-        for _ in 1 2 3; do
+        for _ in $(seq "$rounds"); do
             /usr/bin/time -f 'peak %M' -o "$work/peak" taskset -c "0-$(($3 - 1))" "$work/rattle" "$rules" "$work/design.gds" \
                 $([ $way = rects ] || echo $way) > "$work/said"
             cat "$work/said" "$work/peak" >> "$work/phases"
@@ -69,9 +70,9 @@ for count in "$@"; do
             export rules=$work/rules_$windows.csv
             [ $windows != 10000 ] || rules=$work/rules.csv
             for processors in $(one_and_all); do
-                ours=$(measure densfill "$processors" 3)
-                theirs=$(measure plain "$processors" 3)
-                direct=$(measure direct "$processors" 3)
+                ours=$(measure densfill "$processors" "$rounds")
+                theirs=$(measure plain "$processors" "$rounds")
+                direct=$(measure direct "$processors" "$rounds")
                 cmp "$work/densfill.csv" "$work/plain.csv"
                 cmp "$work/densfill.csv" "$work/direct.csv"
                 [ $form = flat ] || time_phases "$count" $windows "$processors" >> "$work/timed"
