@@ -1,22 +1,23 @@
 -- The cells as they were built draw what the library says, as far as the top reaches.
-use Rattle.std.proofs.Common.{◌≡◌, ℕ, zero, suc, ◌+◌, ◌-◌, ◌<◌, ◌≤◌, ◌⊎◌, inl, inr, List, [], ◌∷◌, ◌++◌, length, map, refl, sym, ap, subst, arith, ◌∙◌}
+use Rattle.std.proofs.Common.{◌≡◌, ℕ, zero, suc, ◌+◌, ◌<◌, ◌≤◌, List, [], ◌∷◌, ◌++◌, length, map, get_or, refl, sym, ap, subst, arith, ◌∙◌}
 use Rattle.std.specs.Prelude.{slice_get, Option, Some, None}
 use Rattle.std.specs.List.{flat_map}
 use Rattle.std.specs.Str.{bytes_eq}
-use Rattle.std.proofs.lemmas.Bool.{cases_eq}
+use Rattle.std.proofs.lemmas.List.{length-map}
 use Rattle.std.proofs.lemmas.Grind.{common_steps}
 use Rattle.gds_grammar.specs.declared.element.Element.{Element}
 use Rattle.gds_flatten.specs.declared.cell.Cell.{Cell}
+use Rattle.gds_flatten.specs.declared.link.Link.{Link}
 use Rattle.gds_flatten.specs.declared.placement.Placement.{Placement}
 use Rattle.gds_flatten.specs.Graphs.{next, item, IsReached, IsDeep, IsWhole}
 use Rattle.gds_flatten.specs.References.{placements_of, name_of}
-use Rattle.gds_flatten.specs.Copies.{Copy, Hierarchy, own_copy, carry_copy, copies}
+use Rattle.gds_flatten.specs.Copies.{Copy, own_copy, carry_copy, copies}
 use Rattle.gds_flatten.specs.Designs.{Entry, index_of, elements_at, target_if, targets, graph_of, singles_to, singles_among, hierarchy_of}
 use Rattle.gds_flatten.specs.steps.Searches.{State}
 use Rattle.gds_flatten.specs.steps.Surveys.{IsSurveyed}
-use Rattle.gds_flatten.specs.steps.Walks.{own_in, singles_in, hierarchy, AreCounted}
+use Rattle.gds_flatten.specs.steps.Walks.{own_in, singles_in, hierarchy}
 use Rattle.gds_flatten.specs.steps.Built.{IsCellAt, AreBuilt}
-use Rattle.gds_flatten.specs.steps.Counting.{IsCapped, links_in, IsTied, IsCount}
+use Rattle.gds_flatten.specs.steps.Counting.{IsCapped, links_in, IsTied, IsCount, AreCounted}
 use Rattle.gds_flatten.proofs.Chains.{chain_joins, reached_next}
 use Rattle.gds_flatten.proofs.Naming.{no_more}
 
@@ -78,6 +79,17 @@ unfolding Each
 same_flat P f g same [] each = refl
 same_flat P f g same (s ∷ ss) (p, each) = rw (same s.0 p, same_flat P f g same ss each) refl
 
+in_row : (links : List Link) (row : List ℕ) → map (λ l. l.cell) links ≡ row → (k : ℕ) (d : Link) → k < length links
+    → (k < length row) × (item row k ≡ (get_or links k d).cell)
+in_row links row is k d small = (
+  let len : length row ≡ length links = sym (ap length is) ∙ length-map links (λ l. l.cell) in omega (arith, len, small),
+  sym (ap (λ xs. item xs k) is) ∙ at_index links k d small,
+) where
+  at_index : (xs : List Link) (k : ℕ) (e : Link) → k < length xs → item (map (λ l. l.cell) xs) k ≡ (get_or xs k e).cell
+  at_index [] k e inside = absurd (grind (arith, common_steps, inside))
+  at_index (x ∷ xs) zero e inside = refl
+  at_index (x ∷ xs) (suc k) e inside = at_index xs k e (grind (arith, common_steps, inside))
+
 -- ---- copies
 
 module _ (entries : List Entry) (layer data_type t : ℕ) (s : State) (surveyed : IsSurveyed (graph_of entries) t s) (cells : List Cell)
@@ -137,56 +149,22 @@ module _ (entries : List Entry) (layer data_type t : ℕ) (s : State) (surveyed 
         subst (λ x. IsCapped (length (copies (hierarchy cells) 256 x)) (item counts x)) is
         (right q within 256 (shallow (item s.order q) (surveyed.order q within)))
 
--- ---- fewer copies by shorter chains
+    -- where no chain of n references begins at a cell, its count and those of all below it are right
+    pub counted : (n c : ℕ) → IsReached (graph_of entries) t c → (IsDeep (graph_of entries) n c → ⊥) → AreCounted cells counts n c
+    unfolding AreCounted
+    counted zero c reached shallow_here = absurd (shallow_here (c, refl))
+    counted (suc n) c reached shallow_here =
+        let (q, within, is) = surveyed.all c reached in
+        let links : map (λ l. l.cell) (links_in (slice_get cells c)) ≡ next (graph_of entries) c =
+        subst (λ x. map (λ l. l.cell) (links_in (slice_get cells x)) ≡ next (graph_of entries) x) is (tied q within).1 in (
+          subst (λ x. IsCapped (length (copies (hierarchy cells) (suc n) x)) (item counts x)) is
+              (right q within (suc n) (subst (λ x. IsDeep (graph_of entries) (suc n) x → ⊥) (sym is) shallow_here)),
+          λ k d small.
+              let row = in_row (links_in (slice_get cells c)) (next (graph_of entries) c) links k d small in
+              subst (λ x. AreCounted cells counts n x) row.1
+              (counted n (item (next (graph_of entries) c) k) (reached_next (graph_of entries) t c k reached row.0)
+              (λ deep. shallow_here (deep.0, (k, row.0, deep.1)))),
+        )
 
-empty_left : {X : Type 0} (xs ys : List X) → xs ++ ys ≡ [] → xs ≡ []
-empty_left [] ys e = refl
-empty_left (x ∷ xs) ys e = absurd (let len = ap length e in grind (arith, common_steps, len))
-
-empty_right : {X : Type 0} (xs ys : List X) → xs ++ ys ≡ [] → ys ≡ []
-empty_right [] ys e = e
-empty_right (x ∷ xs) ys e = absurd (let len = ap length e in grind (arith, common_steps, len))
-
-empty_map : {X Y : Type 0} (f : X → Y) (xs : List X) → map f xs ≡ [] → xs ≡ []
-empty_map f [] e = refl
-empty_map f (x ∷ xs) e = absurd (let len = ap length e in grind (arith, common_steps, len))
-
-fewer_flat : (f g : ℕ → List Copy) → ((c : ℕ) → f c ≡ [] → g c ≡ []) → (ss : List (ℕ × Placement))
-    → flat_map (λ (s : ℕ × Placement). map (carry_copy s.1) (f s.0)) ss ≡ [] → flat_map (λ (s : ℕ × Placement). map (carry_copy s.1) (g s.0)) ss ≡ []
-fewer_flat f g less [] e = refl
-fewer_flat f g less (s ∷ ss) e =
-    let first = empty_left (map (carry_copy s.1) (f s.0)) (flat_map (λ (r : ℕ × Placement). map (carry_copy r.1) (f r.0)) ss) e in
-    let rest = empty_right (map (carry_copy s.1) (f s.0)) (flat_map (λ (r : ℕ × Placement). map (carry_copy r.1) (f r.0)) ss) e in
-    rw (less s.0 (empty_map (carry_copy s.1) (f s.0) first), fewer_flat f g less ss rest) refl
-
-fewer : (h : Hierarchy) (n d c : ℕ) → copies h (n + d) c ≡ [] → copies h n c ≡ []
-unfolding copies
-fewer h zero d c e = refl
-fewer h (suc n) d c e =
-    let all : copies h (suc (n + d)) c ≡ [] = subst (λ m. copies h m c ≡ []) (one_more n d) e in
-    let own = empty_left (map own_copy (h.own c)) (flat_map (λ (s : ℕ × Placement). map (carry_copy s.1) (copies h (n + d) s.0)) (h.singles c)) all in
-    let below = empty_right (map own_copy (h.own c)) (flat_map (λ (s : ℕ × Placement). map (carry_copy s.1) (copies h (n + d) s.0)) (h.singles c)) all in
-    rw (own, fewer_flat (copies h (n + d)) (copies h n) (λ x. fewer h n d x) (h.singles c) below) refl
-  where
-    one_more : (m k : ℕ) → suc m + k ≡ suc (m + k)
-    one_more m k = omega arith
-
-pub counted : (entries : List Entry) (layer data_type t : ℕ) (s : State) → IsSurveyed (graph_of entries) t s → (cells : List Cell)
-    → AreBuilt entries layer data_type s.steps (length entries) cells → (counts : List ℕ)
-    → ((q : ℕ) → q < length s.order → IsCount (graph_of entries) cells (item s.order q) (item counts (item s.order q))) → AreCounted cells counts
-counted entries layer data_type t s surveyed cells built counts right c n few none = cases (cases_eq (item s.steps c) 0) where
-  nothing : (xs : List Copy) → IsCapped (length xs) 0 → xs ≡ []
-  nothing [] h = refl
-  nothing (x ∷ xs) h = absurd (exact 0 refl h.exact) where
-    exact : (z : ℕ) → z ≡ 0 → ((z ≡ length (x ∷ xs)) ⊎ ((z ≡ 4000001) × (4000001 ≤ length (x ∷ xs)))) → ⊥
-    exact z zero_it (inl e) = grind (arith, common_steps, e, zero_it)
-    exact z zero_it (inr (e, large)) = omega (arith, e, zero_it)
-
-  cases : ((item s.steps c ≡ 0) ⊎ (item s.steps c ≡ 0 → ⊥)) → copies (hierarchy cells) n c ≡ []
-  cases (inl fresh) = no_step entries layer data_type t s surveyed cells built c fresh n
-  cases (inr marked) =
-      let reached = surveyed.marked c (omega (arith, marked)) in
-      let capped = subst (λ m. IsCapped (length (copies (hierarchy cells) 256 c)) m) none (count_is entries layer data_type t s surveyed cells built counts right c reached) in
-      let all : copies (hierarchy cells) 256 c ≡ [] = nothing (copies (hierarchy cells) 256 c) capped in
-      let split : n + (256 - n) ≡ 256 = omega (arith, few) in
-      fewer (hierarchy cells) n (256 - n) c (subst (λ m. copies (hierarchy cells) m c ≡ []) (sym split) all)
+    pub top_counted : (c : ℕ) → IsReached (graph_of entries) t c → AreCounted cells counts 256 c
+    top_counted c reached = counted 256 c reached (shallow c reached)

@@ -1,11 +1,15 @@
 -- Numbers of copies that stop at 4,000,001.
-use Rattle.std.proofs.Common.{◌≡◌, ℕ, zero, suc, ◌+◌, ◌*◌, ◌<◌, ◌≤◌, ◌⊎◌, inl, inr, List, length, take, get_or, refl, sym, ap, subst, arith, ◌∙◌}
+use Rattle.std.proofs.Common.{◌≡◌, ℕ, zero, suc, ◌+◌, ◌-◌, ◌*◌, ◌<◌, ◌≤◌, ◌⊎◌, inl, inr, List, length, take, get_or, refl, sym, ap, subst, arith, ◌∙◌}
+use Rattle.std.specs.Prelude.{slice_get, Some, All}
 use Rattle.std.specs.List.{sum_by}
 use Rattle.std.proofs.lemmas.List.{take_more, get_or-take}
 use Rattle.std.proofs.lemmas.Grind.{common_steps}
+use Rattle.gds_flatten.specs.declared.cell.Cell.{Cell}
 use Rattle.gds_flatten.specs.declared.link.Link.{Link}
+use Rattle.gds_flatten.specs.Copies.{copies}
+use Rattle.gds_flatten.specs.steps.Walks.{hierarchy}
 use Rattle.gds_flatten.specs.Graphs.{item}
-use Rattle.gds_flatten.specs.steps.Counting.{IsCapped, AreRight}
+use Rattle.gds_flatten.specs.steps.Counting.{IsCapped, AreRight, AreCounted, links_in}
 
 -- so many times a number: exact, or both beyond
 times : (m b each : ℕ) → 0 < m → IsCapped b each → (m * each ≡ m * b) ⊎ ((4000001 ≤ m * each) × (4000001 ≤ m * b))
@@ -74,3 +78,19 @@ pub all_counted : (f : ℕ → ℕ) (counts : List ℕ) (xs ys : List Link) (k o
 all_counted f counts xs ys k own total same ended before all =
     let whole : take k xs ≡ ys = (let full : take k xs ≡ xs = grind (arith, common_steps, ended) in full ∙ same) in
     subst (λ zs. IsCapped (so_far f own zs) total) whole (before (subst (λ zs. AreRight f counts zs) (sym whole) all))
+
+-- ---- counts of a cell and of all below it
+
+pub count_of : (cells : List Cell) (counts : List ℕ) (n c : ℕ) → AreCounted cells counts n c → IsCapped (length (copies (hierarchy cells) n c)) (item counts c)
+unfolding copies AreCounted
+count_of cells counts zero c h = h
+count_of cells counts (suc n) c h = h.0
+
+pub counts_below : (cells : List Cell) (counts : List ℕ) (n c k : ℕ) (cell : Cell) (l : Link) → 0 < n → slice_get cells c ≡ Some cell → k < length cell.links.items
+    → l ≡ get_or cell.links.items k l → AreCounted cells counts n c → AreCounted cells counts (n - 1) l.cell
+unfolding AreCounted
+counts_below cells counts zero c k cell l some is within l_is h = absurd (omega (arith, some))
+counts_below cells counts (suc n) c k cell l some is within l_is h =
+    let less : n ≡ suc n - 1 = omega arith in
+    let all = subst (λ o. All (λ m. AreCounted cells counts n m.cell) (links_in o)) is h.1 in
+    subst (λ m. AreCounted cells counts m l.cell) less (subst (λ m. AreCounted cells counts n m.cell) (sym l_is) (all k l within))

@@ -81,13 +81,16 @@ one_leaves c leaves all = leaves (all 0 c (grind (arith, common_steps)))
 
 -- ---- one more of a list, each of which draws some copies
 
+pub list_more : {X : Type 0} (f : X → List Copy) (xs : List X) (k : ℕ) (d : X) → k < length xs
+    → flat_map f (take (k + 1) xs) ≡ flat_map f (take k xs) ++ f (get_or xs k d)
+list_more f xs k d within =
+    ap (flat_map f) (take_more xs k d within) ∙ flat_map-append f (take k xs) (get_or xs k d ∷ [])
+    ∙ ap (λ (cs : List Copy). flat_map f (take k xs) ++ cs) (append_nil (f (get_or xs k d)))
+
 pub drawn_next : {X : Type 0} (f : X → List Copy) (xs : List X) (k : ℕ) (d : X) (old mid new : List Rect) → k < length xs
     → IsDrawn (flat_map f (take k xs)) old mid → IsDrawn (f (get_or xs k d)) mid new → IsDrawn (flat_map f (take (k + 1) xs)) old new
 drawn_next f xs k d old mid new within before next =
-    let all : flat_map f (take (k + 1) xs) ≡ flat_map f (take k xs) ++ f (get_or xs k d) =
-    ap (flat_map f) (take_more xs k d within) ∙ flat_map-append f (take k xs) (get_or xs k d ∷ [])
-    ∙ ap (λ (cs : List Copy). flat_map f (take k xs) ++ cs) (append_nil (f (get_or xs k d))) in
-    rw all (drawn_more (flat_map f (take k xs)) (f (get_or xs k d)) old mid new before next)
+    rw (list_more f xs k d within) (drawn_more (flat_map f (take k xs)) (f (get_or xs k d)) old mid new before next)
 
 pub next_leaves : {X : Type 0} (f : X → List Copy) (xs : List X) (k : ℕ) (d : X) → k < length xs
     → (AllStayInRange (f (get_or xs k d)) → ⊥) → AllStayInRange (flat_map f xs) → ⊥
@@ -167,34 +170,18 @@ as_they_are : (ks : List ℕ) → map (λ k. k) ks ≡ ks
 as_they_are [] = refl
 as_they_are (k ∷ ks) = ap (λ xs. k ∷ xs) (as_they_are ks)
 
-range_more : (f : ℕ → List Copy) (k : ℕ) → flat_map f (range_with_len 0 (k + 1)) ≡ flat_map f (range_with_len 0 k) ++ f k
+pub range_more : (f : ℕ → List Copy) (k : ℕ) → flat_map f (range_with_len 0 (k + 1)) ≡ flat_map f (range_with_len 0 k) ++ f k
 range_more f k =
     let last : range_with_len 0 (k + 1) ≡ range_with_len 0 k ++ k ∷ [] =
     sym (as_they_are (range_with_len 0 (k + 1))) ∙ map-range_with_len_more (λ j. j) 0 k k (zero_more k)
     ∙ ap (λ xs. xs ++ k ∷ []) (as_they_are (range_with_len 0 k)) in
     ap (flat_map f) last ∙ flat_map-append f (range_with_len 0 k) (k ∷ []) ∙ ap (λ (cs : List Copy). flat_map f (range_with_len 0 k) ++ cs) (append_nil (f k))
 
-pub turn_drawn : (f : ℕ → List Copy) (k : ℕ) (old mid new : List Rect) → IsDrawn (flat_map f (range_with_len 0 k)) old mid
-    → IsDrawn (f k) mid new → IsDrawn (flat_map f (range_with_len 0 (k + 1))) old new
-turn_drawn f k old mid new before next = rw (range_more f k) (drawn_more (flat_map f (range_with_len 0 k)) (f k) old mid new before next)
-
 pub turn_leaves : (f : ℕ → List Copy) (n k : ℕ) → k < n → (AllStayInRange (f k) → ⊥) → AllStayInRange (flat_map f (range_with_len 0 n)) → ⊥
 turn_leaves f n k within leaves =
     let long : k < length (range_with_len 0 n) = subst (λ m. k < m) (sym (length-range_with_len 0 n)) within in
     let at_k : get_or (range_with_len 0 n) k 0 ≡ k = get_or-range_with_len 0 n k 0 within ∙ zero_more k in
     next_leaves f (range_with_len 0 n) k 0 long (λ stays. leaves (subst (λ j. AllStayInRange (f j)) at_k stays))
-
-all_empty : (at : Placement) (below : ℕ → List Copy) (l : Link) (ks : List ℕ) → below l.cell ≡ [] → flat_map (single_copies at below l) ks ≡ []
-all_empty at below l [] none = refl
-all_empty at below l (k ∷ ks) none = rw (none, all_empty at below l ks none) refl
-
-pub link_drawn : (at : Placement) (below : ℕ → List Copy) (l : Link) (turns : ℕ) (old new : List Rect)
-    → ((turns ≡ l.columns * l.rows) ⊎ ((turns ≡ 0) × (below l.cell ≡ [])))
-    → IsDrawn (flat_map (single_copies at below l) (range_with_len 0 turns)) old new → IsDrawn (link_copies at below l) old new
-link_drawn at below l turns old new (inl e) drawn = subst (λ n. IsDrawn (flat_map (single_copies at below l) (range_with_len 0 n)) old new) e drawn
-link_drawn at below l turns old new (inr (e, none)) drawn =
-    rw (all_empty at below l (range_with_len 0 (l.columns * l.rows)) none)
-    (rw (all_empty at below l (range_with_len 0 turns) none) at drawn)
 
 -- ---- a cell
 
@@ -206,34 +193,16 @@ all_copies cells (suc n) i cell at some is =
     let less : suc n - 1 ≡ n = omega arith in
     copies_carried cells n i at ∙ rw (is, less) refl
 
-pub cell_drawn : (cells : List Cell) (n i : ℕ) (cell : Cell) (at : Placement) (old mid new : List Rect) → 0 < n → slice_get cells i ≡ Some cell
-    → IsDrawn (flat_map (shape_copies at) cell.shapes.items) old mid
-    → IsDrawn (flat_map (link_copies at (copies (hierarchy cells) (n - 1))) cell.links.items) mid new
-    → IsDrawn (map (carry_copy at) (copies (hierarchy cells) n i)) old new
-cell_drawn cells n i cell at old mid new some is shapes links =
-    rw (all_copies cells n i cell at some is)
-    (drawn_more (flat_map (shape_copies at) cell.shapes.items) (flat_map (link_copies at (copies (hierarchy cells) (n - 1))) cell.links.items) old mid new shapes links)
-
-pub shapes_leave : (cells : List Cell) (n i : ℕ) (cell : Cell) (at : Placement) → 0 < n → slice_get cells i ≡ Some cell
-    → (AllStayInRange (flat_map (shape_copies at) cell.shapes.items) → ⊥) → AllStayInRange (map (carry_copy at) (copies (hierarchy cells) n i)) → ⊥
-shapes_leave cells n i cell at some is leaves all =
-    first_leaves (flat_map (shape_copies at) cell.shapes.items) (flat_map (link_copies at (copies (hierarchy cells) (n - 1))) cell.links.items) leaves
-    (subst (λ cs. AllStayInRange cs) (all_copies cells n i cell at some is) all)
-
--- one turn of one link of the cell leaves the range
-pub turn_of_cell_leaves : (cells : List Cell) (n i : ℕ) (cell : Cell) (at inner : Placement) (j k : ℕ) (l : Link) → 0 < n → slice_get cells i ≡ Some cell
-    → j < length cell.links.items → l ≡ get_or cell.links.items j l → k < l.columns * l.rows → inner ≡ composed at (single l k)
-    → (AllStayInRange (map (carry_copy inner) (copies (hierarchy cells) (n - 1) l.cell)) → ⊥)
+-- one link of the cell leaves the range
+pub link_of_cell_leaves : (cells : List Cell) (n i : ℕ) (cell : Cell) (at : Placement) (j : ℕ) (l : Link) → 0 < n → slice_get cells i ≡ Some cell
+    → j < length cell.links.items → l ≡ get_or cell.links.items j l
+    → (AllStayInRange (link_copies at (copies (hierarchy cells) (n - 1)) l) → ⊥)
     → AllStayInRange (map (carry_copy at) (copies (hierarchy cells) n i)) → ⊥
-turn_of_cell_leaves cells n i cell at inner j k l some is in_links l_is in_turns inner_is leaves all =
+link_of_cell_leaves cells n i cell at j l some is in_links l_is leaves all =
     let below = copies (hierarchy cells) (n - 1) in
-    let single_leaves : AllStayInRange (single_copies at below l k) → ⊥ =
-    (λ stays. leaves (subst (λ p. AllStayInRange (map (carry_copy p) (below l.cell))) (sym inner_is) stays)) in
-    let link_leaves : AllStayInRange (link_copies at below l) → ⊥ =
-    turn_leaves (single_copies at below l) (l.columns * l.rows) k in_turns single_leaves in
     later_leaves (flat_map (shape_copies at) cell.shapes.items) (flat_map (link_copies at below) cell.links.items)
     (next_leaves (link_copies at below) cell.links.items j l in_links
-    (λ stays. link_leaves (subst (λ m. AllStayInRange (link_copies at below m)) (sym l_is) stays)))
+    (λ stays. leaves (subst (λ m. AllStayInRange (link_copies at below m)) (sym l_is) stays)))
     (subst (λ cs. AllStayInRange cs) (all_copies cells n i cell at some is) all)
 
 -- ---- errors
@@ -245,21 +214,11 @@ refused_more e leaves (inr (o, not_p)) = inr (o, leaves not_p)
 
 -- ---- as the code has it
 
-pub turn_within : {Z : Type 0} (k turns n : ℕ) → k < turns → ((turns ≡ n) ⊎ ((turns ≡ 0) × Z)) → k < n
-turn_within k turns n small (inl e) = omega (arith, small, e)
-turn_within k turns n small (inr (none, z)) = absurd (omega (arith, small, none))
+pub deeper : (n : ℕ) (p q r : Placement) → n ≤ 255 → IsWithin (256 - n) p → IsWithin 1 q → r ≡ composed p q → IsWithin (257 - n) r
+deeper n p q r few h k is =
+    let more : (256 - n) + 1 ≡ 257 - n = omega (arith, few) in
+    rw is (subst (λ m. IsWithin m (composed p q)) more (within_next (256 - n) p q h k))
 
-pub none_below : {Z W : Type 0} (turns n : ℕ) → (Z → W) → ((turns ≡ n) ⊎ ((turns ≡ 0) × Z)) → (turns ≡ n) ⊎ ((turns ≡ 0) × W)
-none_below turns n f (inl e) = inl e
-none_below turns n f (inr (none, z)) = inr (none, f z)
-
-pub deeper : (n : ℕ) (p q r : Placement) → 0 < n → n ≤ 256 → IsWithin (257 - n) p → IsWithin 1 q → r ≡ composed p q → IsWithin (257 - (n - 1)) r
-deeper n p q r some few h k is =
-    let more : (257 - n) + 1 ≡ 257 - (n - 1) = omega (arith, some, few) in
-    rw is (subst (λ m. IsWithin m (composed p q)) more (within_next (257 - n) p q h k))
-
-pub whole_list : {X : Type 0} (f : X → List Copy) (xs ys : List X) (k : ℕ) (old new : List Rect) → xs ≡ ys → (k < length xs → ⊥)
-    → IsDrawn (flat_map f (take k xs)) old new → IsDrawn (flat_map f ys) old new
-whole_list f xs ys k old new same ended drawn =
-    let all : take k xs ≡ xs = grind (arith, common_steps, ended) in
-    subst (λ zs. IsDrawn (flat_map f zs) old new) (all ∙ same) drawn
+pub whole_flat : {X : Type 0} (xs ys : List X) (k : ℕ) → xs ≡ ys → (k < length xs → ⊥) → take k xs ≡ ys
+whole_flat xs ys k same ended =
+    let all : take k xs ≡ xs = grind (arith, common_steps, ended) in all ∙ same

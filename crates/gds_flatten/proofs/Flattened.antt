@@ -1,6 +1,6 @@
 -- Why a design is refused, and what is answered, from what each step says.
 use Rattle.std.proofs.Common.{◌≡◌, ℕ, ◌<◌, ◌≤◌, ◌⊎◌, inl, inr, Bool, true, false, List, [], ◌∷◌, length, map, refl, sym, ap, subst, arith, ◌∙◌, ℤ}
-use Rattle.std.specs.Prelude.{Option, Some, None, ◌||◌, if◌then◌else◌, cond}
+use Rattle.std.specs.Prelude.{Option, Some, None, if◌then◌else◌, cond}
 use Rattle.std.specs.List.{list_any}
 use Rattle.std.proofs.lemmas.Grind.{common_steps}
 use Rattle.fill_base.specs.declared.rect.Rect.{Rect}
@@ -26,9 +26,9 @@ use Rattle.gds_flatten.specs.steps.Searches.{State, IsOrdered}
 use Rattle.gds_flatten.specs.steps.Surveys.{IsSurveyed, IsUnsound}
 use Rattle.gds_flatten.specs.steps.Walks.{hierarchy, IsDrawn}
 use Rattle.gds_flatten.specs.steps.Built.{AreBuilt, IsFaultAmong}
-use Rattle.gds_flatten.specs.steps.Counting.{IsCapped, IsTied, IsCount}
+use Rattle.gds_flatten.specs.steps.Counting.{IsCapped, IsTied, IsCount, AreCounted}
 use Rattle.gds_flatten.proofs.Composing.{still_composed}
-use Rattle.gds_flatten.proofs.Agreeing.{agree, count_is, tied}
+use Rattle.gds_flatten.proofs.Agreeing.{agree, count_is, tied, top_counted}
 
 -- ---- which refusals are an element's own
 
@@ -98,6 +98,14 @@ is_the_own : (layer data_type : ℕ) (e : Element) (f : FlattenError) → elemen
 is_the_own layer data_type e f is = subst (λ o. IsOwn o) is (own_fault layer data_type e)
 
 -- ---- refusals
+
+-- what is known of the cells, their counts and the index of the top, once all is counted
+pub record IsDesign (entries : List Entry) (top : List ℕ) (layer data_type t : ℕ) (cells : List Cell) (counts : List ℕ) : Type 0 where
+  pub many : 4000001 ≤ item counts t → IsRefused entries top layer data_type TooManyShapes
+  pub few : (4000001 ≤ item counts t → ⊥) → IsCountable entries top layer data_type
+  pub same : copies (hierarchy cells) 256 t ≡ copies_of entries top layer data_type
+  pub counted : AreCounted cells counts 256 t
+  pub number : (4000001 ≤ item counts t → ⊥) → item counts t ≡ length (copies (hierarchy cells) 256 t)
 
 module _ (entries : List Entry) (top : List ℕ) (layer data_type : ℕ) where
   refused_own : (e : FlattenError) → is_own e ≡ true → IsSound entries top → IsFirstFault entries (index_of entries top) layer data_type e
@@ -185,7 +193,7 @@ module _ (entries : List Entry) (top : List ℕ) (layer data_type : ℕ) where
           let small : c < length entries = subst (λ n. c < n) long (subst (λ x. x < length (graph_of entries)) is (surveyed.within q within)) in
           (built.built c small (surveyed.found c reached)).fine
 
-      pub many_refused : 4000001 ≤ item counts (index_of entries top) → IsRefused entries top layer data_type TooManyShapes
+      many_refused : 4000001 ≤ item counts (index_of entries top) → IsRefused entries top layer data_type TooManyShapes
       many_refused many = (sound, fine, by capped.exact) where
         by : ((item counts (index_of entries top) ≡ length (copies_of entries top layer data_type))
             ⊎ ((item counts (index_of entries top) ≡ 4000001) × (4000001 ≤ length (copies_of entries top layer data_type))))
@@ -193,7 +201,7 @@ module _ (entries : List Entry) (top : List ℕ) (layer data_type : ℕ) where
         by (inl e) = omega (arith, many, e)
         by (inr (full, large)) = omega (arith, large)
 
-      pub countable : (4000001 ≤ item counts (index_of entries top) → ⊥) → IsCountable entries top layer data_type
+      countable : (4000001 ≤ item counts (index_of entries top) → ⊥) → IsCountable entries top layer data_type
       countable few = record { sound = sound; fine = fine; few = by capped.exact } where
         by : ((item counts (index_of entries top) ≡ length (copies_of entries top layer data_type))
             ⊎ ((item counts (index_of entries top) ≡ 4000001) × (4000001 ≤ length (copies_of entries top layer data_type))))
@@ -201,26 +209,22 @@ module _ (entries : List Entry) (top : List ℕ) (layer data_type : ℕ) where
         by (inl e) = omega (arith, few, e)
         by (inr (full, large)) = absurd (few (omega (arith, full)))
 
-      as_they_are : (cs : List Copy) → map (carry_copy still) cs ≡ cs
-      as_they_are [] = refl
-      as_they_are (c ∷ cs) = λ k. record { placement = still_composed c.placement k; element = c.element } ∷ as_they_are cs k
+      number_is : (4000001 ≤ item counts (index_of entries top) → ⊥) → item counts (index_of entries top) ≡ length (copies (hierarchy cells) 256 (index_of entries top))
+      number_is few = by (count_is entries layer data_type (index_of entries top) s surveyed cells built counts right (index_of entries top) top_reached).exact where
+        by : ((item counts (index_of entries top) ≡ length (copies (hierarchy cells) 256 (index_of entries top)))
+            ⊎ ((item counts (index_of entries top) ≡ 4000001) × (4000001 ≤ length (copies (hierarchy cells) 256 (index_of entries top)))))
+            → item counts (index_of entries top) ≡ length (copies (hierarchy cells) 256 (index_of entries top))
+        by (inl e) = e
+        by (inr (full, large)) = absurd (few (omega (arith, full)))
 
-      all_copies : map (carry_copy still) (copies (hierarchy cells) 256 (index_of entries top)) ≡ copies_of entries top layer data_type
-      all_copies = as_they_are (copies (hierarchy cells) 256 (index_of entries top)) ∙ same_copies
-
-      pub range_refused : (4000001 ≤ item counts (index_of entries top) → ⊥) → (e : FlattenError)
-          → ((e ≡ Memory) ⊎ ((e ≡ OutOfRange) × (AllStayInRange (map (carry_copy still) (copies (hierarchy cells) 256 (index_of entries top))) → ⊥)))
-          → IsRefused entries top layer data_type e
-      range_refused few e (inl m) = subst (λ x. IsRefused entries top layer data_type x) (sym m) tt
-      range_refused few e (inr (is, leaves)) = subst (λ x. IsRefused entries top layer data_type x) (sym is)
-          (countable few, (λ stay. leaves (subst (λ cs. AllStayInRange cs) (sym all_copies) stay)))
-
-      pub all_drawn : (old new : List Rect) → old ≡ [] → IsDrawn (map (carry_copy still) (copies (hierarchy cells) 256 (index_of entries top))) old new
-          → AllStayInRange (copies_of entries top layer data_type)
-          × ((x y : ℤ) → covered new x y ≡ drawn (copies_of entries top layer data_type) x y)
-      all_drawn old new empty h =
-          let done = subst (λ cs. IsDrawn cs old new) all_copies h in
-          (done.inside, λ x y. done.added x y ∙ ap (λ rects. covered rects x y || drawn (copies_of entries top layer data_type) x y) empty)
+      pub designed : IsDesign entries top layer data_type (index_of entries top) cells counts
+      designed = record {
+        many = many_refused;
+        few = countable;
+        same = same_copies;
+        counted = top_counted entries layer data_type (index_of entries top) s surveyed cells built counts right (index_of entries top) top_reached;
+        number = number_is;
+      }
 
 -- what the code's counts say, of the cells and the order as they are
 pub counts_right : (entries : List Entry) (layer data_type t : ℕ) (s : State) → IsSurveyed (graph_of entries) t s → (cells : List Cell)
@@ -244,10 +248,42 @@ pub told_surveyed : (entries : List Entry) (top : List ℕ) (t : ℕ) (g : Graph
     → IsSurveyed g t s → IsSurveyed (graph_of entries) (index_of entries top) s
 told_surveyed entries top t g s at is h = subst (λ i. IsSurveyed (graph_of entries) i s) at (subst (λ x. IsSurveyed x t s) is h)
 
--- what the walk says, of the cells, the placement and the top as they are
-pub walked : (P : List Copy → Type 0) (cells xs : List Cell) (p : Placement) (t i : ℕ) → xs ≡ cells → p ≡ still → i ≡ t
-    → P (map (carry_copy p) (copies (hierarchy xs) 256 i)) → P (map (carry_copy still) (copies (hierarchy cells) 256 t))
-walked P cells xs p t i same is at h =
-    subst (λ j. P (map (carry_copy still) (copies (hierarchy cells) 256 j))) at
+-- all that, of the values as the code has them
+pub design_told : (entries : List Entry) (top : List ℕ) (layer data_type t : ℕ) (s : State) (cells xs : List Cell) (steps ys counts : List ℕ)
+    → HasTop entries top → t ≡ index_of entries top → IsSurveyed (graph_of entries) (index_of entries top) s
+    → steps ≡ s.steps → AreBuilt entries layer data_type steps (length entries) cells → xs ≡ cells → ys ≡ s.order
+    → ((g : Graph) → IsOrdered g ys → ((q : ℕ) → q < length ys → IsTied g xs (item ys q))
+    → (q : ℕ) → q < length ys → IsCount g xs (item ys q) (item counts (item ys q)))
+    → IsDesign entries top layer data_type t cells counts
+design_told entries top layer data_type t s cells xs steps ys counts has at surveyed same_steps made same order right =
+    let built = subst (λ zs. AreBuilt entries layer data_type zs (length entries) cells) same_steps made in
+    subst (λ i. IsDesign entries top layer data_type i cells counts) (sym at)
+    (designed entries top layer data_type has s surveyed cells built counts
+    (counts_right entries layer data_type (index_of entries top) s surveyed cells built xs ys counts same order right))
+
+-- ---- what is carried
+
+as_they_are : (cs : List Copy) → map (carry_copy still) cs ≡ cs
+as_they_are [] = refl
+as_they_are (c ∷ cs) = λ k. record { placement = still_composed c.placement k; element = c.element } ∷ as_they_are cs k
+
+-- what the walk says, of the cells and the placement as they are
+pub walked : (P : List Copy → Type 0) (cells xs : List Cell) (p : Placement) (i : ℕ) → xs ≡ cells → p ≡ still
+    → P (map (carry_copy p) (copies (hierarchy xs) 256 i)) → P (copies (hierarchy cells) 256 i)
+walked P cells xs p i same is h =
+    subst P (as_they_are (copies (hierarchy cells) 256 i))
     (subst (λ q. P (map (carry_copy q) (copies (hierarchy cells) 256 i))) is
     (subst (λ zs. P (map (carry_copy p) (copies (hierarchy zs) 256 i))) same h))
+
+module _ (entries : List Entry) (top : List ℕ) (layer data_type : ℕ) (cs : List Copy) (same : cs ≡ copies_of entries top layer data_type) where
+  pub all_inside : (rects : List Rect) → IsDrawn cs [] rects → AllStayInRange (copies_of entries top layer data_type)
+  all_inside rects h = subst AllStayInRange same h.inside
+
+  pub all_drawn : (rects : List Rect) → IsDrawn cs [] rects → (x y : ℤ) → covered rects x y ≡ drawn (copies_of entries top layer data_type) x y
+  all_drawn rects h x y = h.added x y ∙ ap (λ ds. drawn ds x y) same
+
+  pub range_refused : IsCountable entries top layer data_type → (e : FlattenError) → ((e ≡ Memory) ⊎ ((e ≡ OutOfRange) × (AllStayInRange cs → ⊥)))
+      → IsRefused entries top layer data_type e
+  range_refused countable e (inl m) = subst (λ x. IsRefused entries top layer data_type x) (sym m) tt
+  range_refused countable e (inr (is, leaves)) = subst (λ x. IsRefused entries top layer data_type x) (sym is)
+      (countable, (λ stay. leaves (subst AllStayInRange (sym same) stay)))

@@ -13,6 +13,8 @@ pub mod Turns
 pub mod Arrays
 pub mod Wholes
 pub mod Drawing
+pub mod Sharing
+pub mod Results
 pub mod Capping
 pub mod CountsInOrder
 pub mod Naming

@@ -21,7 +21,7 @@ fn capped(number: usize) -> usize
 }
 
 /// The copies that a link stands for, each single reference with so many.
-fn count_link(link: &Link, each: usize) -> usize
+pub fn count_link(link: &Link, each: usize) -> usize
     requires { each ≤ 4000001 }
     ensures value { result ≡ (link.now.columns * link.now.rows) * each }
     ensures few { result ≤ 2 ^ 60 }

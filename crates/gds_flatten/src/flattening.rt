@@ -1,28 +1,29 @@
 //! Flattening: what the top draws on a layer.
 
 ghost use Rattle.std.specs.Prelude.{◌≡◌, ℤ, IfOk, IfErr};
+ghost use Rattle.std.specs.List.{flat_map};
+ghost use Rattle.std.specs.Vec.{vec_items};
 ghost use Rattle.fill_region.specs.Bands.{holds, IsRegion};
 ghost use Rattle.fill_region.specs.Squares.{covered};
-ghost use Rattle.gds_flatten.specs.Copies.{drawn, AllStayInRange};
+ghost use Rattle.gds_flatten.specs.Copies.{copies, drawn, AllStayInRange};
 ghost use Rattle.gds_flatten.specs.Designs.{index_of};
 ghost use Rattle.gds_flatten.specs.Flattening.{HasTop, copies_of, IsCountable, IsRefused};
+ghost use Rattle.gds_flatten.specs.steps.Counting.{AreCounted};
+ghost use Rattle.gds_flatten.specs.steps.Walks.{hierarchy};
 
 use crate::cells::cells_of;
 use crate::counts::{TOO_MANY, counts_of};
+use crate::design::Design;
 use crate::error::FlattenError;
 use crate::graph::{graph_of, index_of};
-use crate::placement::Placement;
 use crate::search::number_at;
 use crate::survey::survey;
-use crate::walk::carry_cell;
 use fill_base::Rect;
 use fill_region::Region;
 use gds_grammar::{Element, Library};
 use indexmap::IndexMap;
 use std::alloc::Global;
-
-/// How many cells a chain may have, the top among them.
-const DEEPEST: u32 = 256;
+use std::thread::Threads;
 
 /// The index of the top.
 fn top_of(cells: &IndexMap<Vec<u8>, Vec<Element>>, top: &[u8]) -> Result<usize, FlattenError>
@@ -35,6 +36,38 @@ fn top_of(cells: &IndexMap<Vec<u8>, Vec<Element>>, top: &[u8]) -> Result<usize, 
     } else {
         Err(FlattenError::NoTop)
     }
+}
+
+/// The design of the top on the layer, its copies counted.
+fn design_of<'a>(
+    alloc: Global,
+    library: &'a Library,
+    top: &[u8],
+    layer: u16,
+    data_type: u16,
+) -> Result<Design<'a>, FlattenError>
+    ensures fine { IfOk result (λ d. IsCountable library.now.cells.entries top.now layer data_type) }
+    ensures counted { IfOk result (λ d. AreCounted d.cells.items d.counts.items 256 d.top) }
+    ensures same { IfOk result (λ d. copies (hierarchy d.cells.items) 256 d.top
+        ≡ copies_of library.now.cells.entries top.now layer data_type) }
+    ensures refused { IfErr result (λ e. IsRefused library.now.cells.entries top.now layer data_type e) }
+{
+    let cells = &library.cells;
+    let top = top_of(cells, top)?;
+    let graph = graph_of(alloc, cells)?;
+    let found = survey(alloc, &graph, top)?;
+    let built = cells_of(alloc, cells, &graph, &found.steps, layer, data_type)?;
+    let counts = counts_of(alloc, &built, &found.order)?;
+    let number = number_at(&counts, top);
+    if number >= TOO_MANY {
+        return Err(FlattenError::TooManyShapes);
+    }
+    Ok(Design {
+        cells: built,
+        counts,
+        top,
+        number,
+    })
 }
 
 /// The rectangles that the top draws on the layer, as many as its copies of shapes come to; together
@@ -59,26 +92,32 @@ pub fn flatten_rects(
         ≡ drawn (copies_of library.now.cells.entries top.now layer data_type) x y) }
     ensures refused { IfErr result (λ e. IsRefused library.now.cells.entries top.now layer data_type e) }
 {
-    let cells = &library.cells;
-    let top = top_of(cells, top)?;
-    let graph = graph_of(alloc, cells)?;
-    let found = survey(alloc, &graph, top)?;
-    let built = cells_of(alloc, cells, &graph, &found.steps, layer, data_type)?;
-    let counts = counts_of(alloc, &built, &found.order)?;
-    let number = number_at(&counts, top);
-    if number >= TOO_MANY {
-        return Err(FlattenError::TooManyShapes);
-    }
-    let mut rects = Vec::with_capacity(alloc, number)?;
-    carry_cell(
-        &built,
-        &counts,
-        DEEPEST,
-        top,
-        &Placement::shift(0, 0),
-        &mut rects,
-    )?;
-    Ok(rects)
+    let design = design_of(alloc, library, top, layer, data_type)?;
+    design.rects(alloc)
+}
+
+/// The rectangles that the top draws on the layer, in parts, as several threads carry them: those of
+/// all parts together are what is drawn. All lengths are database units (Calma GDSII Stream Format
+/// Manual, release 6.0, with this project's profile).
+///
+/// # Errors
+/// Those of `flatten_rects`.
+pub fn flatten_parts(
+    rt: &(impl Threads + Sync),
+    alloc: Global,
+    library: &Library,
+    top: &[u8],
+    layer: u16,
+    data_type: u16,
+) -> Result<Vec<Vec<Rect>>, FlattenError>
+    ensures fine { IfOk result (λ v. IsCountable library.now.cells.entries top.now layer data_type) }
+    ensures inside { IfOk result (λ v. AllStayInRange (copies_of library.now.cells.entries top.now layer data_type)) }
+    ensures squares { IfOk result (λ v. (x y : ℤ) → covered (flat_map vec_items v.items) x y
+        ≡ drawn (copies_of library.now.cells.entries top.now layer data_type) x y) }
+    ensures refused { IfErr result (λ e. IsRefused library.now.cells.entries top.now layer data_type e) }
+{
+    let design = design_of(alloc, library, top, layer, data_type)?;
+    design.parts(rt, alloc)
 }
 
 /// The squares that the top draws on the layer, as a region.

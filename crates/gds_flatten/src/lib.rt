@@ -6,6 +6,7 @@
 mod cell;
 mod cells;
 mod counts;
+mod design;
 mod error;
 mod flattening;
 mod graph;
@@ -18,11 +19,12 @@ mod reference;
 mod search;
 mod shape;
 mod shapes;
+mod share;
 mod survey;
 mod walk;
 
 pub use error::FlattenError;
-pub use flattening::{flatten, flatten_rects};
+pub use flattening::{flatten, flatten_parts, flatten_rects};
 pub use link::Link;
 pub use placement::Placement;
 pub use reference::{array_link, reference_link};

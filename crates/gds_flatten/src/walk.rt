@@ -1,19 +1,21 @@
-//! Carries what a cell draws, with all that it refers to.
+//! Carries what a cell draws, with all that it refers to: all of its copies, or a share of them.
 
-ghost use Rattle.std.specs.Prelude.{◌≡◌, ◌⊎◌, ◌-◌, ◌*◌, ◌≤◌, ◌<◌, [], Some, None, map, slice_get, IfErr, IfNone, IfSome, OnOk};
+ghost use Rattle.std.specs.Prelude.{◌≡◌, ◌⊎◌, ◌-◌, ◌*◌, ◌≤◌, ◌<◌, [], Some, map, slice_get, IfErr, IfNone, IfSome, OnOk};
 ghost use Rattle.std.specs.List.{flat_map};
 ghost use Rattle.gds_flatten.specs.Copies.{carry_copy, copies, AllStayInRange};
-ghost use Rattle.gds_flatten.specs.Graphs.{item};
+ghost use Rattle.gds_flatten.specs.steps.Counting.{AreCounted};
 ghost use Rattle.gds_flatten.specs.steps.Ranges.{IsWithin};
-ghost use Rattle.gds_flatten.specs.steps.Walks.{shape_copies, hierarchy, IsDrawn, AreCounted};
+ghost use Rattle.gds_flatten.specs.steps.Walks.{shape_copies, link_copies, hierarchy, part, IsDrawn};
 
 use crate::cell::Cell;
+use crate::counts::count_link;
 use crate::error::FlattenError;
 use crate::link::Link;
 use crate::placement::Placement;
 use crate::search::number_at;
 use crate::shape::Shape;
 use crate::shapes::carry_shape;
+use crate::share::Share;
 use fill_base::Rect;
 
 /// Appends what the shapes cover, carried so.
@@ -34,22 +36,21 @@ fn carry_shapes(
     Ok(())
 }
 
+/// The share of a cell's shapes, each of which is one copy.
+fn own_share<'a, 'b>(shapes: &'b [Shape<'a>], share: Share) -> &'b [Shape<'a>]
+    ensures { result.now ≡ part share.from share.to shapes.now }
+{
+    let end = share.to.min(shapes.len());
+    let start = share.from.min(end);
+    &shapes[start..end]
+}
+
 /// The cell at the index, or `None` where it draws nothing by chains of so many cells.
-fn cell_at<'a, 'b>(
-    cells: &'b [Cell<'a>],
-    counts: &[usize],
-    depth: u32,
-    index: usize,
-) -> Option<&'b Cell<'a>>
-    requires deep { depth ≤ 256 }
-    requires counted { AreCounted cells.now counts.now }
+fn cell_at<'a, 'b>(cells: &'b [Cell<'a>], depth: u32, index: usize) -> Option<&'b Cell<'a>>
     ensures none { IfNone result (copies (hierarchy cells.now) depth index ≡ []) }
     ensures some { IfSome result (λ c. (0 < depth) × (slice_get cells.now index ≡ Some c.now)) }
 {
     if depth == 0 {
-        return None;
-    }
-    if number_at(counts, index) == 0 {
         return None;
     }
     match cells.get(index) {
@@ -58,47 +59,92 @@ fn cell_at<'a, 'b>(
     }
 }
 
-/// How many single references of the link to follow: none where its cell draws nothing.
-fn turns_of(counts: &[usize], link: &Link) -> u32
-    ensures { ((result ≡ link.now.columns * link.now.rows))
-        ⊎ ((result ≡ 0) × (item counts.now link.now.cell ≡ 0)) }
+/// The first single reference of the link of which the share has copies, where each has so many.
+fn first_turn(link: &Link, each: usize, share: Share) -> u32
+    requires { 0 < each }
+    ensures few { result ≤ link.now.columns * link.now.rows }
+    ensures before { result * each ≤ share.from }
 {
-    if number_at(counts, link.cell) == 0 {
-        0
-    } else {
-        link.columns * link.rows
-    }
+    let turns = link.columns * link.rows;
+    (share.from / each).min(turns as usize) as u32
 }
 
-/// Appends what a cell draws by chains of so many cells, carried so. A cell whose count is 0 isn't
-/// entered.
+/// The single reference of the link behind the last of which the share has copies, where each has so many.
+fn end_turn(link: &Link, each: usize, share: Share) -> u32
+    requires { 0 < each }
+    ensures few { result ≤ link.now.columns * link.now.rows }
+    ensures behind { (result ≡ link.now.columns * link.now.rows) ⊎ (share.to ≤ result * each) }
+{
+    let turns = link.columns * link.rows;
+    share.to.div_ceil(each).min(turns as usize) as u32
+}
+
+/// Appends a share of what a link draws, carried so, where its cell draws by chains of so many cells.
+/// Only the single references of which the share has copies are followed.
+#[cycle(carry)]
+fn carry_link(
+    cells: &[Cell<'_>],
+    counts: &[usize],
+    depth: u32,
+    link: &Link,
+    at: &Placement,
+    share: Share,
+    out: &mut Vec<Rect>,
+) -> Result<(), FlattenError>
+    requires deep { depth ≤ 255 }
+    requires within { IsWithin (256 - depth) at.now }
+    requires counted { AreCounted cells.now counts.now depth link.now.cell }
+    ensures drawn { OnOk result (IsDrawn (part share.from share.to (link_copies at.now (copies (hierarchy cells.now) depth) link.now))
+        out.old.items out.new.items) }
+    ensures refused { IfErr result (λ e. (e ≡ FlattenError.Memory) ⊎ ((e ≡ FlattenError.OutOfRange)
+        × (AllStayInRange (link_copies at.now (copies (hierarchy cells.now) depth) link.now) → ⊥))) }
+{
+    let each = number_at(counts, link.cell);
+    if count_link(link, each) <= share.from {
+        return Ok(());
+    }
+    let first = first_turn(link, each, share);
+    let end = end_turn(link, each, share);
+    'turns: for turn in first..end {
+        let inner = at.after(&link.single(turn));
+        let rest = share.behind(turn as usize * each);
+        carry_cell(cells, counts, depth, link.cell, &inner, rest, out)?;
+    }
+    Ok(())
+}
+
+/// Appends a share of what a cell draws by chains of so many cells, carried so. What comes before and
+/// behind the share is passed by its count.
+#[cycle(carry)]
 pub fn carry_cell(
     cells: &[Cell<'_>],
     counts: &[usize],
     depth: u32,
     index: usize,
     at: &Placement,
+    share: Share,
     out: &mut Vec<Rect>,
 ) -> Result<(), FlattenError>
     requires deep { depth ≤ 256 }
     requires within { IsWithin (257 - depth) at.now }
-    requires counted { AreCounted cells.now counts.now }
-    ensures drawn { OnOk result (IsDrawn (map (carry_copy at.now) (copies (hierarchy cells.now) depth index))
+    requires counted { AreCounted cells.now counts.now depth index }
+    ensures drawn { OnOk result (IsDrawn (part share.from share.to (map (carry_copy at.now) (copies (hierarchy cells.now) depth index)))
         out.old.items out.new.items) }
     ensures refused { IfErr result (λ e. (e ≡ FlattenError.Memory) ⊎ ((e ≡ FlattenError.OutOfRange)
         × (AllStayInRange (map (carry_copy at.now) (copies (hierarchy cells.now) depth index)) → ⊥))) }
 {
-    let Some(cell) = cell_at(cells, counts, depth, index) else {
+    let Some(cell) = cell_at(cells, depth, index) else {
         return Ok(());
     };
-    carry_shapes(cell.shapes.as_slice(), at, out)?;
+    carry_shapes(own_share(cell.shapes.as_slice(), share), at, out)?;
+    let mut rest = share.behind(cell.shapes.len());
     let links = cell.links.as_slice();
     'links: for link in links {
-        let turns = turns_of(counts, link);
-        'turns: for turn in 0..turns {
-            let inner = at.after(&link.single(turn));
-            carry_cell(cells, counts, depth - 1, link.cell, &inner, out)?;
+        if rest.to == 0 {
+            return Ok(());
         }
+        carry_link(cells, counts, depth - 1, link, at, rest, out)?;
+        rest = rest.behind(count_link(link, number_at(counts, link.cell)));
     }
     Ok(())
 }

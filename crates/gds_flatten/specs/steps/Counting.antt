@@ -1,5 +1,5 @@
 -- Numbers of copies, up to 4,000,001.
-use Rattle.std.specs.Prelude.{◌≡◌, ℕ, ◌+◌, ◌*◌, ◌<◌, ◌≤◌, ◌⊎◌, List, [], map, length, slice_get, Option, Some, None, All}
+use Rattle.std.specs.Prelude.{◌≡◌, ℕ, zero, suc, ◌+◌, ◌*◌, ◌<◌, ◌≤◌, ◌⊎◌, List, [], map, length, slice_get, Option, Some, None, All}
 use Rattle.std.specs.List.{sum_by}
 use Rattle.gds_flatten.specs.declared.cell.Cell.{Cell}
 use Rattle.gds_flatten.specs.declared.link.Link.{Link}
@@ -31,3 +31,10 @@ IsTied g cells c = (c < length cells) × (map (λ l. l.cell) (links_in (slice_ge
 -- the count is that of all copies, through chains of any number of cells that no chain exceeds
 abbrev pub IsCount : Graph → List Cell → ℕ → ℕ → Type 0
 IsCount g cells c count = (n : ℕ) → (IsDeep g n c → ⊥) → IsCapped (length (copies (hierarchy cells) n c)) count
+
+-- the count of a cell is that of its copies through chains of at most n cells, and so are those of all that it refers to
+unfoldable pub AreCounted : List Cell → List ℕ → ℕ → ℕ → Type 0
+AreCounted cells counts zero c = IsCapped 0 (item counts c)
+AreCounted cells counts (suc n) c =
+    IsCapped (length (copies (hierarchy cells) (suc n) c)) (item counts c)
+    × All (λ l. AreCounted cells counts n l.cell) (links_in (slice_get cells c))

@@ -1,5 +1,5 @@
 -- The walk from copy to copy.
-use Rattle.std.specs.Prelude.{◌≡◌, ℕ, ◌*◌, ◌≤◌, ℤ, ◌||◌, List, [], ◌∷◌, ◌++◌, map, slice_get, Option, Some, None}
+use Rattle.std.specs.Prelude.{◌≡◌, ℕ, ◌*◌, ℤ, ◌||◌, List, [], ◌∷◌, ◌++◌, map, take, drop, slice_get, Option, Some, None}
 use Rattle.std.specs.List.{flat_map, range_with_len}
 use Rattle.fill_base.specs.declared.rect.Rect.{Rect}
 use Rattle.fill_region.specs.Squares.{covered}
@@ -10,8 +10,7 @@ use Rattle.gds_flatten.specs.declared.placement.Placement.{Placement}
 use Rattle.gds_flatten.specs.declared.shape.Shape.{Shape}
 use Rattle.gds_flatten.specs.Placements.{composed}
 use Rattle.gds_flatten.specs.Links.{single, singles}
-use Rattle.gds_flatten.specs.Graphs.{item}
-use Rattle.gds_flatten.specs.Copies.{Copy, Hierarchy, own_copy, carry_copy, copies, drawn, AllStayInRange}
+use Rattle.gds_flatten.specs.Copies.{Copy, Hierarchy, own_copy, carry_copy, drawn, AllStayInRange}
 
 -- the single references of a link, each with the index of its cell
 abbrev pub singles_of : Link → List (ℕ × Placement)
@@ -47,11 +46,11 @@ cell_copies at below (Some c) =
     flat_map (shape_copies at) c.shapes.items ++ flat_map (link_copies at below) c.links.items
 cell_copies at below None = []
 
+-- those of a list from one number up to another
+abbrev pub part : {X : Type 0} → ℕ → ℕ → List X → List X
+part from to xs = drop from (take to xs)
+
 -- the copies were appended, and each stays in range
 pub record IsDrawn (cs : List Copy) (old new : List Rect) : Type 0 where
   pub inside : AllStayInRange cs
   pub added : (x y : ℤ) → covered new x y ≡ (covered old x y || drawn cs x y)
-
--- a cell whose count is 0 draws nothing
-abbrev pub AreCounted : List Cell → List ℕ → Type 0
-AreCounted cells counts = (c n : ℕ) → n ≤ 256 → item counts c ≡ 0 → copies (hierarchy cells) n c ≡ []

@@ -1,0 +1,187 @@
+use Rattle.std.proofs.Common.{subst, sym, ap, arith, refl, ◌-◌, ◌*◌, ◌<◌, ◌≤◌, ◌≡◌, ◌∙◌, length, get_or, map}
+use Rattle.std.proofs.lemmas.Result.{err_from_is_err_and}
+use Rattle.gds_flatten.specs.Placements.{composed}
+use Rattle.gds_flatten.specs.Copies.{carry_copy, copies, AllStayInRange}
+use Rattle.gds_flatten.specs.steps.Counting.{IsCapped}
+use Rattle.gds_flatten.specs.steps.Ranges.{IsWithin}
+use Rattle.gds_flatten.specs.steps.Walks.{hierarchy, single_copies, link_copies, part, IsDrawn}
+use Rattle.gds_flatten.proofs.Capping.{count_of, counts_below}
+use Rattle.gds_flatten.proofs.Drawing.{link_of_cell_leaves, turn_leaves, refused_more, deeper}
+use Rattle.gds_flatten.proofs.Sharing.{none_shared, next_shared, rest_shared, all_shared, cell_shared, own_leave, link_before, link_passed, turns_begun, turn_shared, turns_done}
+use Rattle.gds_flatten.proofs.walk.+carry.Goals as goal
+
+pub carry_cell-returns-in_err-carry_shapes-clause-refused :
+    goal.carry_cell-returns-in_err-carry_shapes-clause-refused
+carry_cell-returns-in_err-carry_shapes-clause-refused t c =
+    let p = err_from_is_err_and c.from_residual.result c.from_residual.ensures.1 in
+    let some = c.in-Some.ensures.some in
+    rw (p.1, p.2) (refused_more c.in_err-carry_shapes.field-0.0
+    (own_leave c.args.cells.now c.args.depth c.args.index c.in-Some.cell.now c.args.at.now c.args.share.from c.args.share.to c.own_share.result.now some.0 some.1
+    (c.own_share.ensures ∙ ap (part c.args.share.from c.args.share.to) c.as_slice.ensures.value))
+    c.in_err-carry_shapes.ensures.refused)
+
+pub carry_cell-links-init : goal.carry_cell-links-init
+carry_cell-links-init t c =
+    none_shared (link_copies c.args.at.now (copies (hierarchy c.args.cells.now) (c.args.depth - 1))) c.as_slice-links.result.now
+    c.behind-rest.result.from c.behind-rest.result.to c.behind-rest.result.from c.behind-rest.result.to c.carry_shapes.new.out.items refl refl
+
+pub carry_cell-returns-then-rest-eq0-clause-drawn :
+    goal.carry_cell-returns-then-rest-eq0-clause-drawn
+carry_cell-returns-then-rest-eq0-clause-drawn t c =
+    let some = c.in-Some.ensures.some in
+    let long : c.len.result ≡ length c.in-Some.cell.now.shapes.items = c.len.ensures ∙ sym c.as_slice.ensures.len ∙ ap length c.as_slice.ensures.value in
+    cell_shared c.args.cells.now c.args.depth c.args.index c.in-Some.cell.now c.args.at.now c.args.share.from c.args.share.to c.behind-rest.result.from c.behind-rest.result.to
+    c.own_share.result.now c.args.out.now.items c.carry_shapes.new.out.items c.links.out.items some.0 some.1
+    (c.own_share.ensures ∙ ap (part c.args.share.from c.args.share.to) c.as_slice.ensures.value) c.in_ok-carry_shapes.ensures.drawn
+    (c.behind-rest.ensures.from ∙ ap (λ n. c.args.share.from - n) long) (c.behind-rest.ensures.to ∙ ap (λ n. c.args.share.to - n) long)
+    (rest_shared (link_copies c.args.at.now (copies (hierarchy c.args.cells.now) (c.args.depth - 1))) c.as_slice-links.result.now c.in-Some.cell.now.links.items c.links.link-index
+    c.behind-rest.result.from c.behind-rest.result.to c.links.rest.from c.links.rest.to c.carry_shapes.new.out.items c.links.out.items
+    c.as_slice-links.ensures.value c.if-rest-eq0.true c.links.invariant)
+
+pub carry_cell-carry_link-requires : goal.carry_cell-carry_link-requires
+carry_cell-carry_link-requires t c =
+    let some = c.in-Some.ensures.some in
+    let less : 256 - (c.args.depth - 1) ≡ 257 - c.args.depth = omega (arith, some.0, c.requires.deep) in (
+      omega (arith, c.decreases, some.0),
+      (
+        omega (arith, c.requires.deep),
+        (
+          subst (λ n. IsWithin n c.args.at.now) (sym less) c.requires.within,
+          counts_below c.args.cells.now c.args.counts.now c.args.depth c.args.index c.links.link-index c.in-Some.cell.now c.link-item.result some.0 some.1
+              (subst (λ xs. c.links.link-index < length xs) c.as_slice-links.ensures.value c.links-test.true)
+              (subst (λ xs. c.link-item.result ≡ get_or xs c.links.link-index c.link-item.result) c.as_slice-links.ensures.value c.link-item.is)
+              c.requires.counted,
+        ),
+      ),
+    )
+
+pub carry_cell-returns-in_err-carry_link-clause-refused :
+    goal.carry_cell-returns-in_err-carry_link-clause-refused
+carry_cell-returns-in_err-carry_link-clause-refused t c =
+    let p = err_from_is_err_and c.from_residual-in_err-carry_link.result c.from_residual-in_err-carry_link.ensures.1 in
+    let some = c.in-Some.ensures.some in
+    rw (p.1, p.2) (refused_more c.in_err-carry_link.field-0.0
+    (link_of_cell_leaves c.args.cells.now c.args.depth c.args.index c.in-Some.cell.now c.args.at.now c.links.link-index c.link-item.result some.0 some.1
+    (subst (λ xs. c.links.link-index < length xs) c.as_slice-links.ensures.value c.links-test.true)
+    (subst (λ xs. c.link-item.result ≡ get_or xs c.links.link-index c.link-item.result) c.as_slice-links.ensures.value c.link-item.is))
+    c.in_err-carry_link.ensures.refused)
+
+pub carry_cell-count_link-requires : goal.carry_cell-count_link-requires
+carry_cell-count_link-requires t c =
+    let some = c.in-Some.ensures.some in
+    let right = count_of c.args.cells.now c.args.counts.now (c.args.depth - 1) c.link-item.result.cell
+    (counts_below c.args.cells.now c.args.counts.now c.args.depth c.args.index c.links.link-index c.in-Some.cell.now c.link-item.result some.0 some.1
+    (subst (λ xs. c.links.link-index < length xs) c.as_slice-links.ensures.value c.links-test.true)
+    (subst (λ xs. c.link-item.result ≡ get_or xs c.links.link-index c.link-item.result) c.as_slice-links.ensures.value c.link-item.is)
+    c.requires.counted) in
+    rw c.number_at.ensures right.most
+
+pub carry_cell-links-preserved : goal.carry_cell-links-preserved
+carry_cell-links-preserved t c =
+    let some = c.in-Some.ensures.some in
+    let below = copies (hierarchy c.args.cells.now) (c.args.depth - 1) in
+    let right = subst (λ n. IsCapped (length (below c.link-item.result.cell)) n) (sym c.number_at.ensures) (count_of c.args.cells.now c.args.counts.now (c.args.depth - 1) c.link-item.result.cell
+    (counts_below c.args.cells.now c.args.counts.now c.args.depth c.args.index c.links.link-index c.in-Some.cell.now c.link-item.result some.0 some.1
+    (subst (λ xs. c.links.link-index < length xs) c.as_slice-links.ensures.value c.links-test.true)
+    (subst (λ xs. c.link-item.result ≡ get_or xs c.links.link-index c.link-item.result) c.as_slice-links.ensures.value c.link-item.is)
+    c.requires.counted)) in
+    let rest = c.links.rest in
+    let first_few : rest.from ≤ 4000000 = omega (arith, rest.ordered, rest.few) in
+    let left = link_passed c.args.at.now below c.link-item.result c.number_at.result right rest.from rest.to first_few rest.few
+    c.count_link.result c.behind-rest-in-links.result.from c.behind-rest-in-links.result.to c.count_link.ensures.value c.behind-rest-in-links.ensures.from c.behind-rest-in-links.ensures.to in
+    next_shared (link_copies c.args.at.now below) c.as_slice-links.result.now c.links.link-index c.link-item.result
+    c.behind-rest.result.from c.behind-rest.result.to rest.from rest.to c.behind-rest-in-links.result.from c.behind-rest-in-links.result.to
+    c.carry_shapes.new.out.items c.links.out.items c.carry_link.new.out.items c.links-test.true c.links.invariant
+    (subst (λ l. IsDrawn (part rest.from rest.to (link_copies c.args.at.now below l)) c.links.out.items c.carry_link.new.out.items) c.link-item.is c.in_ok-carry_link.ensures.drawn)
+    (subst (λ l. c.behind-rest-in-links.result.from ≡ rest.from - length (link_copies c.args.at.now below l)) c.link-item.is left.0)
+    (subst (λ l. c.behind-rest-in-links.result.to ≡ rest.to - length (link_copies c.args.at.now below l)) c.link-item.is left.1)
+
+pub carry_cell-returns-clause-drawn : goal.carry_cell-returns-clause-drawn
+carry_cell-returns-clause-drawn t c =
+    let some = c.in-Some.ensures.some in
+    let long : c.len.result ≡ length c.in-Some.cell.now.shapes.items = c.len.ensures ∙ sym c.as_slice.ensures.len ∙ ap length c.as_slice.ensures.value in
+    cell_shared c.args.cells.now c.args.depth c.args.index c.in-Some.cell.now c.args.at.now c.args.share.from c.args.share.to c.behind-rest.result.from c.behind-rest.result.to
+    c.own_share.result.now c.args.out.now.items c.carry_shapes.new.out.items c.links.out.items some.0 some.1
+    (c.own_share.ensures ∙ ap (part c.args.share.from c.args.share.to) c.as_slice.ensures.value) c.in_ok-carry_shapes.ensures.drawn
+    (c.behind-rest.ensures.from ∙ ap (λ n. c.args.share.from - n) long) (c.behind-rest.ensures.to ∙ ap (λ n. c.args.share.to - n) long)
+    (all_shared (link_copies c.args.at.now (copies (hierarchy c.args.cells.now) (c.args.depth - 1))) c.as_slice-links.result.now c.in-Some.cell.now.links.items c.links.link-index
+    c.behind-rest.result.from c.behind-rest.result.to c.links.rest.from c.links.rest.to c.carry_shapes.new.out.items c.links.out.items
+    c.as_slice-links.ensures.value (omega (arith, c.links-test.false)) c.links.invariant)
+
+pub carry_link-count_link-requires : goal.carry_link-count_link-requires
+carry_link-count_link-requires t c =
+    rw c.number_at-each.ensures (count_of c.args.cells.now c.args.counts.now c.args.depth c.args.link.now.cell c.requires.counted).most
+
+pub carry_link-returns-then-count_link-share-clause-drawn :
+    goal.carry_link-returns-then-count_link-share-clause-drawn
+carry_link-returns-then-count_link-share-clause-drawn t c =
+    let right = subst (λ n. IsCapped (length (copies (hierarchy c.args.cells.now) c.args.depth c.args.link.now.cell)) n) (sym c.number_at-each.ensures)
+    (count_of c.args.cells.now c.args.counts.now c.args.depth c.args.link.now.cell c.requires.counted) in
+    let share = c.args.share in
+    let first_few : share.from ≤ 4000000 = omega (arith, share.ordered, share.few) in
+    link_before c.args.at.now (copies (hierarchy c.args.cells.now) c.args.depth) c.args.link.now c.number_at-each.result right share.from share.to first_few share.few
+    c.args.out.now.items (let told = c.count_link.ensures.value in omega (arith, told, c.if-count_link-share.true))
+
+pub carry_link-turns-init : goal.carry_link-turns-init
+carry_link-turns-init t c =
+    let right = subst (λ n. IsCapped (length (copies (hierarchy c.args.cells.now) c.args.depth c.args.link.now.cell)) n) (sym c.number_at-each.ensures)
+    (count_of c.args.cells.now c.args.counts.now c.args.depth c.args.link.now.cell c.requires.counted) in
+    let share = c.args.share in
+    let first_few : share.from ≤ 4000000 = omega (arith, share.ordered, share.few) in
+    record {
+      within = c.first_turn-first.ensures.few;
+      drawn = turns_begun c.args.at.now (copies (hierarchy c.args.cells.now) c.args.depth) c.args.link.now c.number_at-each.result right share.from share.to first_few share.few
+          c.first_turn-first.result c.first_turn-first.ensures.before c.args.out.now.items;
+    }
+
+pub carry_link-carry_cell-requires : goal.carry_link-carry_cell-requires
+carry_link-carry_cell-requires t c = (
+  omega (arith, c.decreases),
+  (
+    omega (arith, c.requires.deep),
+    (
+      deeper c.args.depth c.args.at.now c.single.result c.after-inner.result c.requires.deep c.requires.within c.single.ensures.near c.after-inner.ensures,
+      c.requires.counted,
+    ),
+  ),
+)
+
+pub carry_link-returns-in_err-carry_cell-clause-refused :
+    goal.carry_link-returns-in_err-carry_cell-clause-refused
+carry_link-returns-in_err-carry_cell-clause-refused t c =
+    let p = err_from_is_err_and c.from_residual.result c.from_residual.ensures.1 in
+    let below = copies (hierarchy c.args.cells.now) c.args.depth in
+    let l = c.args.link.now in
+    let few = c.end_turn-end.ensures.few in
+    rw (p.1, p.2) (refused_more c.in_err-carry_cell.field-0.0
+    (λ leaves. turn_leaves (single_copies c.args.at.now below l) (l.columns * l.rows) c.turns.turn (omega (arith, few, c.turns-test.true))
+    (λ stays. leaves (subst (λ p. AllStayInRange (map (carry_copy p) (below l.cell))) (sym (c.after-inner.ensures ∙ ap (composed c.args.at.now) c.single.ensures.is)) stays)))
+    c.in_err-carry_cell.ensures.refused)
+
+pub carry_link-turns-preserved : goal.carry_link-turns-preserved
+carry_link-turns-preserved t c =
+    let below = copies (hierarchy c.args.cells.now) c.args.depth in
+    let l = c.args.link.now in
+    let right = subst (λ n. IsCapped (length (below l.cell)) n) (sym c.number_at-each.ensures)
+    (count_of c.args.cells.now c.args.counts.now c.args.depth l.cell c.requires.counted) in
+    let share = c.args.share in
+    let first_few : share.from ≤ 4000000 = omega (arith, share.ordered, share.few) in
+    let few = c.end_turn-end.ensures.few in
+    record {
+      within = omega (arith, few, c.turns-test.true);
+      drawn = turn_shared c.args.at.now below l c.number_at-each.result right share.from share.to first_few share.few c.turns.turn c.behind-rest.result.from c.behind-rest.result.to
+          c.args.out.now.items c.turns.out.items c.carry_cell.new.out.items c.behind-rest.ensures.from c.behind-rest.ensures.to c.turns.invariant.drawn
+          (subst (λ p. IsDrawn (part c.behind-rest.result.from c.behind-rest.result.to (map (carry_copy p) (below l.cell))) c.turns.out.items c.carry_cell.new.out.items)
+          (c.after-inner.ensures ∙ ap (composed c.args.at.now) c.single.ensures.is) c.in_ok-carry_cell.ensures.drawn);
+    }
+
+pub carry_link-returns-clause-drawn : goal.carry_link-returns-clause-drawn
+carry_link-returns-clause-drawn t c =
+    let below = copies (hierarchy c.args.cells.now) c.args.depth in
+    let l = c.args.link.now in
+    let right = subst (λ n. IsCapped (length (below l.cell)) n) (sym c.number_at-each.ensures)
+    (count_of c.args.cells.now c.args.counts.now c.args.depth l.cell c.requires.counted) in
+    let share = c.args.share in
+    let first_few : share.from ≤ 4000000 = omega (arith, share.ordered, share.few) in
+    turns_done c.args.at.now below l c.number_at-each.result right share.from share.to first_few share.few c.turns.turn c.end_turn-end.result (l.columns * l.rows)
+    c.args.out.now.items c.turns.out.items c.turns.invariant.within (omega (arith, c.turns-test.false)) c.end_turn-end.ensures.behind refl c.turns.invariant.drawn

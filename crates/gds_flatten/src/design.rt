@@ -1,0 +1,136 @@
+//! A design whose copies are counted: it's carried in shares of them, by several threads at once.
+
+ghost use Rattle.std.specs.Prelude.{◌≡◌, ◌⊎◌, ◌+◌, ◌*◌, ◌≤◌, ◌<◌, [], length, map, Ok, Err, Contains, IfOk, IfErr};
+ghost use Rattle.std.specs.List.{flat_map};
+ghost use Rattle.std.specs.Vec.{vec_items};
+ghost use Rattle.gds_flatten.specs.Copies.{copies, AllStayInRange};
+ghost use Rattle.gds_flatten.specs.steps.Counting.{AreCounted};
+ghost use Rattle.gds_flatten.specs.steps.Walks.{hierarchy, part, IsDrawn};
+
+use crate::cell::Cell;
+use crate::error::FlattenError;
+use crate::placement::Placement;
+use crate::share::Share;
+use crate::walk::carry_cell;
+use fill_base::Rect;
+use std::alloc::Global;
+use std::thread;
+use std::thread::Threads;
+
+/// How many cells a chain may have, the top among them.
+const DEEPEST: u32 = 256;
+
+/// The copies are cut into at most so many shares, each carried by a thread of its own.
+const MOST_SHARES: usize = 16;
+
+/// A share has so many copies or more, or all that are left: fewer take no longer than a thread needs to begin.
+const LEAST_SHARE: usize = 8_192;
+
+/// The cells that a top reaches, and how many copies of shapes it draws: 4,000,000 or fewer.
+#[derive(Debug, Drop)]
+pub struct Design<'a> {
+    /// The cells of the library; those that the top doesn't reach are empty.
+    pub cells: Vec<Cell<'a>>,
+    /// How many copies each cell draws.
+    pub counts: Vec<usize>,
+    /// The index of the top.
+    pub top: usize,
+    /// How many copies the top draws.
+    pub number: usize,
+    pub ghost all: { number ≡ length (copies (hierarchy cells.items) 256 top) },
+    pub ghost few: { number ≤ 4000000 },
+}
+
+impl Design<'_> {
+    /// The rectangles of a share of the copies.
+    fn carried(&self, alloc: Global, share: Share) -> Result<Vec<Rect>, FlattenError>
+        requires counted { AreCounted self.now.cells.items self.now.counts.items 256 self.now.top }
+        ensures drawn { IfOk result (λ v. IsDrawn (part share.from share.to (copies (hierarchy self.now.cells.items) 256 self.now.top)) [] v.items) }
+        ensures refused { IfErr result (λ e. (e ≡ FlattenError.Memory) ⊎ ((e ≡ FlattenError.OutOfRange)
+            × (AllStayInRange (copies (hierarchy self.now.cells.items) 256 self.now.top) → ⊥))) }
+    {
+        let mut rects = Vec::with_capacity(alloc, share.to - share.from)?;
+        carry_cell(
+            &self.cells,
+            &self.counts,
+            DEEPEST,
+            self.top,
+            &Placement::shift(0, 0),
+            share,
+            &mut rects,
+        )?;
+        Ok(rects)
+    }
+
+    /// The rectangles of all copies.
+    pub fn rects(&self, alloc: Global) -> Result<Vec<Rect>, FlattenError>
+        requires counted { AreCounted self.now.cells.items self.now.counts.items 256 self.now.top }
+        ensures drawn { IfOk result (λ v. IsDrawn (copies (hierarchy self.now.cells.items) 256 self.now.top) [] v.items) }
+        ensures refused { IfErr result (λ e. (e ≡ FlattenError.Memory) ⊎ ((e ≡ FlattenError.OutOfRange)
+            × (AllStayInRange (copies (hierarchy self.now.cells.items) 256 self.now.top) → ⊥))) }
+    {
+        let all = Share {
+            from: 0,
+            to: self.number,
+        };
+        self.carried(alloc, all)
+    }
+
+    /// The rectangles of all copies in parts, each of a share of them that a thread carries.
+    pub fn parts(
+        &self,
+        rt: &(impl Threads + Sync),
+        alloc: Global,
+    ) -> Result<Vec<Vec<Rect>>, FlattenError>
+        requires counted { AreCounted self.now.cells.items self.now.counts.items 256 self.now.top }
+        ensures drawn { IfOk result (λ v. IsDrawn (copies (hierarchy self.now.cells.items) 256 self.now.top) [] (flat_map vec_items v.items)) }
+        ensures refused { IfErr result (λ e. (e ≡ FlattenError.Memory) ⊎ ((e ≡ FlattenError.OutOfRange)
+            × (AllStayInRange (copies (hierarchy self.now.cells.items) 256 self.now.top) → ⊥))) }
+    {
+        let size = self.number.div_ceil(MOST_SHARES).max(LEAST_SHARE);
+        let parts = thread::map_indices(
+            rt,
+            alloc,
+            self.number.div_ceil(size),
+            &|index: usize| -> Result<Vec<Rect>, FlattenError>
+                requires counted { AreCounted self.now.cells.items self.now.counts.items 256 self.now.top }
+                requires few { size ≤ 4000000 }
+                requires within { index * size < self.now.number }
+                ensures drawn { IfOk result (λ v. IsDrawn (part (index * size) (index * size + size)
+                    (copies (hierarchy self.entry.now.cells.items) 256 self.entry.now.top)) [] v.items) }
+                ensures refused { IfErr result (λ e. (e ≡ FlattenError.Memory) ⊎ ((e ≡ FlattenError.OutOfRange)
+                    × (AllStayInRange (copies (hierarchy self.entry.now.cells.items) 256 self.entry.now.top) → ⊥))) }
+            { self.part(alloc, size, index) },
+        )?;
+        all_parts(alloc, parts)
+    }
+
+    /// The rectangles of the share at the index, where each share has so many copies.
+    fn part(&self, alloc: Global, size: usize, index: usize) -> Result<Vec<Rect>, FlattenError>
+        requires counted { AreCounted self.now.cells.items self.now.counts.items 256 self.now.top }
+        requires few { size ≤ 4000000 }
+        requires within { index * size < self.now.number }
+        ensures drawn { IfOk result (λ v. IsDrawn (part (index * size) (index * size + size)
+            (copies (hierarchy self.now.cells.items) 256 self.now.top)) [] v.items) }
+        ensures refused { IfErr result (λ e. (e ≡ FlattenError.Memory) ⊎ ((e ≡ FlattenError.OutOfRange)
+            × (AllStayInRange (copies (hierarchy self.now.cells.items) 256 self.now.top) → ⊥))) }
+    {
+        let from = index * size;
+        let share = Share {
+            from,
+            to: (from + size).min(self.number),
+        };
+        self.carried(alloc, share)
+    }
+}
+
+/// What all parts are, or the first refusal.
+fn all_parts(
+    alloc: Global,
+    parts: Vec<Result<Vec<Rect>, FlattenError>>,
+) -> Result<Vec<Vec<Rect>>, FlattenError>
+    ensures all { IfOk result (λ v. parts.items ≡ map Ok v.items) }
+    ensures refused { IfErr result (λ e. (e ≡ FlattenError.Memory) ⊎ Contains parts.items (Err e)) }
+{
+    parts.into_iter().try_collect(alloc)
+}
