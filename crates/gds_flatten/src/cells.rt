@@ -1,6 +1,6 @@
 //! The cells that the top reaches, with their shapes filled and their references resolved.
 
-ghost use Rattle.std.specs.Prelude.{◌≡◌, ◌⊎◌, List, length, None, Some, true, is_some, IfOk, IfErr, IfSome, IfNone, OnOk};
+ghost use Rattle.std.specs.Prelude.{◌≡◌, ◌⊎◌, List, [], length, None, Some, true, is_some, IfOk, IfErr, IfSome, IfNone, OnOk};
 ghost use Rattle.gds_flatten.specs.Designs.{Entry, targets, element_fault, graph_of, AreFine};
 ghost use Rattle.gds_flatten.specs.Links.{singles};
 ghost use Rattle.gds_flatten.specs.References.{placements_of, name_of, reference_fault};
@@ -14,6 +14,7 @@ use crate::link::Link;
 use crate::reference::{array_link, reference_link};
 use crate::search::{links, number_at};
 use crate::shapes::shape_of;
+use fill_base::Rect;
 use gds_grammar::Element;
 use indexmap::IndexMap;
 use std::alloc::Global;
@@ -32,20 +33,24 @@ fn link_of(element: &Element, cell: usize) -> Result<Option<Link>, FlattenError>
     }
 }
 
-/// Adds an element, which refers to the cell at the index if it refers to any.
+/// Adds an element, which refers to the cell at the index if it refers to any. A shape is filled in the
+/// empty list, which all elements use in turn.
 fn add_element<'a>(
     alloc: Global,
+    rects: &mut Vec<Rect>,
     cell: &mut Cell<'a>,
     element: &'a Element,
     index: usize,
     layer: u16,
     data_type: u16,
 ) -> Result<(), FlattenError>
+    requires { rects.old.items ≡ [] }
+    ensures empty { OnOk result (rects.new.items ≡ []) }
     ensures added { OnOk result (IsAdded element.now layer data_type index cell.old cell.new) }
     ensures refused { IfErr result (λ e. (e ≡ FlattenError.Memory)
         ⊎ (element_fault layer data_type element.now ≡ Some e)) }
 {
-    if let Some(shape) = shape_of(alloc, element, layer, data_type)? {
+    if let Some(shape) = shape_of(alloc, rects, element, layer, data_type)? {
         cell.shapes.push(shape)?;
         return Ok(());
     }
@@ -73,9 +78,12 @@ fn cell_of<'a>(
         shapes: Vec::new(alloc),
         links: Vec::new(alloc),
     };
+    let mut rects = Vec::new(alloc);
     'elements: for element in elements {
         let index = number_at(row, cell.links.len());
-        add_element(alloc, &mut cell, element, index, layer, data_type)?;
+        add_element(
+            alloc, &mut rects, &mut cell, element, index, layer, data_type,
+        )?;
     }
     Ok(cell)
 }

@@ -1,10 +1,11 @@
 //! The rectangles of a shape.
 
-ghost use Rattle.std.specs.Prelude.{◌≡◌};
+ghost use Rattle.std.specs.Prelude.{◌≡◌, []};
 ghost use Rattle.gds_flatten.specs.steps.Pieces.{rects_in};
 
 use fill_base::Rect;
-use std::slice;
+use std::alloc::Global;
+use std::{mem, slice};
 
 /// The rectangles that a shape covers. Most shapes are one, which takes no memory of its own.
 #[derive(Debug, Drop)]
@@ -16,13 +17,18 @@ pub enum Pieces {
 }
 
 impl Pieces {
-    /// These rectangles.
-    pub fn new(rects: Vec<Rect>) -> Pieces
-        ensures { rects_in result ≡ rects.items }
+    /// The rectangles of a list, which is empty afterwards. A single one is taken out, so that the list keeps its room.
+    pub fn taken(alloc: Global, rects: &mut Vec<Rect>) -> Pieces
+        ensures is { rects_in result ≡ rects.old.items }
+        ensures empty { rects.new.items ≡ [] }
     {
         match rects.as_slice() {
-            [rect] => Pieces::One(*rect),
-            _ => Pieces::Many(rects),
+            [rect] => {
+                let rect = *rect;
+                rects.clear();
+                Pieces::One(rect)
+            }
+            _ => Pieces::Many(mem::replace(rects, Vec::new(alloc))),
         }
     }
 

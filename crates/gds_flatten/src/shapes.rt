@@ -1,6 +1,6 @@
 //! The shapes of a layer: each is filled once, and then carried to each of its copies.
 
-ghost use Rattle.std.specs.Prelude.{◌≡◌, ◌⊎◌, ◌||◌, ◌↔◌, true, false, ℤ, None, Some, All, IfOk, IfErr, IfSome, IfNone, OnOk};
+ghost use Rattle.std.specs.Prelude.{◌≡◌, ◌⊎◌, ◌||◌, ◌↔◌, true, false, ℤ, [], None, Some, All, IfOk, IfErr, IfSome, IfNone, OnOk};
 ghost use Rattle.fill_base.specs.Squares.{squares};
 ghost use Rattle.fill_region.specs.Squares.{covered};
 ghost use Rattle.gds_shape.specs.Paths.{AreInRange};
@@ -49,13 +49,16 @@ fn is_shape(element: &Element, layer: u16, data_type: u16) -> bool
     }
 }
 
-/// The boundary, filled.
+/// The boundary, filled in the empty list.
 fn boundary_shape<'a>(
     alloc: Global,
+    rects: &mut Vec<Rect>,
     element: &'a Element,
     boundary: &Boundary,
 ) -> Result<Shape<'a>, FlattenError>
-    requires { element.now ≡ Element.Boundary boundary.now }
+    requires is { element.now ≡ Element.Boundary boundary.now }
+    requires empty { rects.old.items ≡ [] }
+    ensures empty { IfOk result (λ s. rects.new.items ≡ []) }
     ensures fine { IfOk result (λ s. shape_fault element.now ≡ None) }
     ensures same { IfOk result (λ s. s.element.now ≡ element.now) }
     ensures refused { IfErr result (λ e. (e ≡ FlattenError.Memory) ⊎ (shape_fault element.now ≡ Some e)) }
@@ -63,47 +66,51 @@ fn boundary_shape<'a>(
     if !is_manhattan(&boundary.points) {
         return Err(FlattenError::NotManhattan);
     }
-    let mut pieces = Vec::new(alloc);
-    let extent = put_boundary_at_corner(alloc, &mut pieces, &boundary.points)?;
+    let extent = put_boundary_at_corner(alloc, rects, &boundary.points)?;
     Ok(Shape {
         element,
-        pieces: Pieces::new(pieces),
+        pieces: Pieces::taken(alloc, rects),
         extent: Some(extent),
     })
 }
 
-/// The path, filled.
+/// The path, filled in the empty list.
 fn path_shape<'a>(
     alloc: Global,
+    rects: &mut Vec<Rect>,
     element: &'a Element,
     path: &Path,
 ) -> Result<Shape<'a>, FlattenError>
-    requires { element.now ≡ Element.Path path.now }
+    requires is { element.now ≡ Element.Path path.now }
+    requires empty { rects.old.items ≡ [] }
+    ensures empty { IfOk result (λ s. rects.new.items ≡ []) }
     ensures fine { IfOk result (λ s. shape_fault element.now ≡ None) }
     ensures same { IfOk result (λ s. s.element.now ≡ element.now) }
     ensures refused { IfErr result (λ e. (e ≡ FlattenError.Memory) ⊎ (shape_fault element.now ≡ Some e)) }
 {
-    let mut pieces = Vec::new(alloc);
-    let extent = put_path_at_corner(alloc, &mut pieces, path)?;
+    let extent = put_path_at_corner(alloc, rects, path)?;
     Ok(Shape {
         element,
-        pieces: Pieces::new(pieces),
+        pieces: Pieces::taken(alloc, rects),
         extent,
     })
 }
 
 /// The element, filled, if it's a boundary or path of the layer and data type; `None` for every other
-/// one, which isn't looked at.
+/// one, which isn't looked at. The list is one to fill it in, empty before and afterwards.
 ///
 /// # Errors
 /// `NotManhattan`, `RoundEnd`, `OddWidth`, `DoublesBack` or `BadExtension`, the first in this order
 /// that the shape has, or `Memory` where memory is refused.
 pub fn shape_of<'a>(
     alloc: Global,
+    rects: &mut Vec<Rect>,
     element: &'a Element,
     layer: u16,
     data_type: u16,
 ) -> Result<Option<Shape<'a>>, FlattenError>
+    requires { rects.old.items ≡ [] }
+    ensures empty { IfOk result (λ o. rects.new.items ≡ []) }
     ensures none { IfOk result (λ o. IfNone o (is_shape layer data_type element.now ≡ false)) }
     ensures some { IfOk result (λ o. IfSome o (λ s. (is_shape layer data_type element.now ≡ true)
         × (shape_fault element.now ≡ None) × (s.element.now ≡ element.now))) }
@@ -114,8 +121,8 @@ pub fn shape_of<'a>(
         return Ok(None);
     }
     match element {
-        Element::Boundary(boundary) => Ok(Some(boundary_shape(alloc, element, boundary)?)),
-        Element::Path(path) => Ok(Some(path_shape(alloc, element, path)?)),
+        Element::Boundary(boundary) => Ok(Some(boundary_shape(alloc, rects, element, boundary)?)),
+        Element::Path(path) => Ok(Some(path_shape(alloc, rects, element, path)?)),
         Element::Ref(_) | Element::Array(_) => Ok(None),
     }
 }
