@@ -3,9 +3,8 @@
 ghost use Rattle.std.specs.Prelude.{◌≡◌, ◌⊎◌, ◌+◌, ◌*◌, ◌≤◌, ◌<◌, [], length, map, Ok, Err, Contains, IfOk, IfErr};
 ghost use Rattle.std.specs.List.{flat_map};
 ghost use Rattle.std.specs.Vec.{vec_items};
-ghost use Rattle.gds_flatten.specs.Copies.{copies, AllStayInRange};
 ghost use Rattle.gds_flatten.specs.steps.Counting.{AreCounted};
-ghost use Rattle.gds_flatten.specs.steps.Walks.{hierarchy, part, IsDrawn};
+ghost use Rattle.gds_flatten.specs.steps.Walks.{part, top_copies, IsDrawn, IsRefusal};
 
 use crate::cell::Cell;
 use crate::error::FlattenError;
@@ -37,7 +36,7 @@ pub struct Design<'a> {
     pub top: usize,
     /// How many copies the top draws.
     pub number: usize,
-    pub ghost all: { number ≡ length (copies (hierarchy cells.items) 256 top) },
+    pub ghost all: { number ≡ length (top_copies cells.items top) },
     pub ghost few: { number ≤ 4000000 },
 }
 
@@ -45,9 +44,8 @@ impl Design<'_> {
     /// The rectangles of a share of the copies.
     fn carried(&self, alloc: Global, share: Share) -> Result<Vec<Rect>, FlattenError>
         requires counted { AreCounted self.now.cells.items self.now.counts.items 256 self.now.top }
-        ensures drawn { IfOk result (λ v. IsDrawn (part share.from share.to (copies (hierarchy self.now.cells.items) 256 self.now.top)) [] v.items) }
-        ensures refused { IfErr result (λ e. (e ≡ FlattenError.Memory) ⊎ ((e ≡ FlattenError.OutOfRange)
-            × (AllStayInRange (copies (hierarchy self.now.cells.items) 256 self.now.top) → ⊥))) }
+        ensures drawn { IfOk result (λ v. IsDrawn (part share.from share.to (top_copies self.now.cells.items self.now.top)) [] v.items) }
+        ensures refused { IfErr result (IsRefusal (top_copies self.now.cells.items self.now.top)) }
     {
         let mut rects = Vec::with_capacity(alloc, share.to - share.from)?;
         carry_cell(
@@ -65,9 +63,8 @@ impl Design<'_> {
     /// The rectangles of all copies.
     pub fn rects(&self, alloc: Global) -> Result<Vec<Rect>, FlattenError>
         requires counted { AreCounted self.now.cells.items self.now.counts.items 256 self.now.top }
-        ensures drawn { IfOk result (λ v. IsDrawn (copies (hierarchy self.now.cells.items) 256 self.now.top) [] v.items) }
-        ensures refused { IfErr result (λ e. (e ≡ FlattenError.Memory) ⊎ ((e ≡ FlattenError.OutOfRange)
-            × (AllStayInRange (copies (hierarchy self.now.cells.items) 256 self.now.top) → ⊥))) }
+        ensures drawn { IfOk result (λ v. IsDrawn (top_copies self.now.cells.items self.now.top) [] v.items) }
+        ensures refused { IfErr result (IsRefusal (top_copies self.now.cells.items self.now.top)) }
     {
         let all = Share {
             from: 0,
@@ -83,9 +80,8 @@ impl Design<'_> {
         alloc: Global,
     ) -> Result<Vec<Vec<Rect>>, FlattenError>
         requires counted { AreCounted self.now.cells.items self.now.counts.items 256 self.now.top }
-        ensures drawn { IfOk result (λ v. IsDrawn (copies (hierarchy self.now.cells.items) 256 self.now.top) [] (flat_map vec_items v.items)) }
-        ensures refused { IfErr result (λ e. (e ≡ FlattenError.Memory) ⊎ ((e ≡ FlattenError.OutOfRange)
-            × (AllStayInRange (copies (hierarchy self.now.cells.items) 256 self.now.top) → ⊥))) }
+        ensures drawn { IfOk result (λ v. IsDrawn (top_copies self.now.cells.items self.now.top) [] (flat_map vec_items v.items)) }
+        ensures refused { IfErr result (IsRefusal (top_copies self.now.cells.items self.now.top)) }
     {
         let size = self.number.div_ceil(MOST_SHARES).max(LEAST_SHARE);
         let parts = thread::map_indices(
@@ -97,9 +93,8 @@ impl Design<'_> {
                 requires few { size ≤ 4000000 }
                 requires within { index * size < self.now.number }
                 ensures drawn { IfOk result (λ v. IsDrawn (part (index * size) (index * size + size)
-                    (copies (hierarchy self.entry.now.cells.items) 256 self.entry.now.top)) [] v.items) }
-                ensures refused { IfErr result (λ e. (e ≡ FlattenError.Memory) ⊎ ((e ≡ FlattenError.OutOfRange)
-                    × (AllStayInRange (copies (hierarchy self.entry.now.cells.items) 256 self.entry.now.top) → ⊥))) }
+                    (top_copies self.entry.now.cells.items self.entry.now.top)) [] v.items) }
+                ensures refused { IfErr result (IsRefusal (top_copies self.entry.now.cells.items self.entry.now.top)) }
             { self.part(alloc, size, index) },
         )?;
         all_parts(alloc, parts)
@@ -111,9 +106,8 @@ impl Design<'_> {
         requires few { size ≤ 4000000 }
         requires within { index * size < self.now.number }
         ensures drawn { IfOk result (λ v. IsDrawn (part (index * size) (index * size + size)
-            (copies (hierarchy self.now.cells.items) 256 self.now.top)) [] v.items) }
-        ensures refused { IfErr result (λ e. (e ≡ FlattenError.Memory) ⊎ ((e ≡ FlattenError.OutOfRange)
-            × (AllStayInRange (copies (hierarchy self.now.cells.items) 256 self.now.top) → ⊥))) }
+            (top_copies self.now.cells.items self.now.top)) [] v.items) }
+        ensures refused { IfErr result (IsRefusal (top_copies self.now.cells.items self.now.top)) }
     {
         let from = index * size;
         let share = Share {

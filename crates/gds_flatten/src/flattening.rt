@@ -5,11 +5,11 @@ ghost use Rattle.std.specs.List.{flat_map};
 ghost use Rattle.std.specs.Vec.{vec_items};
 ghost use Rattle.fill_region.specs.Bands.{holds, IsRegion};
 ghost use Rattle.fill_region.specs.Squares.{covered};
-ghost use Rattle.gds_flatten.specs.Copies.{copies, drawn, AllStayInRange};
+ghost use Rattle.gds_flatten.specs.Copies.{drawn, AllStayInRange};
 ghost use Rattle.gds_flatten.specs.Designs.{index_of};
 ghost use Rattle.gds_flatten.specs.Flattening.{HasTop, copies_of, IsCountable, IsRefused};
 ghost use Rattle.gds_flatten.specs.steps.Counting.{AreCounted};
-ghost use Rattle.gds_flatten.specs.steps.Walks.{hierarchy};
+ghost use Rattle.gds_flatten.specs.steps.Walks.{top_copies};
 
 use crate::cells::cells_of;
 use crate::counts::{TOO_MANY, counts_of};
@@ -48,7 +48,7 @@ fn design_of<'a>(
 ) -> Result<Design<'a>, FlattenError>
     ensures fine { IfOk result (λ d. IsCountable library.now.cells.entries top.now layer data_type) }
     ensures counted { IfOk result (λ d. AreCounted d.cells.items d.counts.items 256 d.top) }
-    ensures same { IfOk result (λ d. copies (hierarchy d.cells.items) 256 d.top
+    ensures same { IfOk result (λ d. top_copies d.cells.items d.top
         ≡ copies_of library.now.cells.entries top.now layer data_type) }
     ensures refused { IfErr result (λ e. IsRefused library.now.cells.entries top.now layer data_type e) }
 {

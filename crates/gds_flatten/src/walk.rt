@@ -2,10 +2,10 @@
 
 ghost use Rattle.std.specs.Prelude.{◌≡◌, ◌⊎◌, ◌-◌, ◌*◌, ◌≤◌, ◌<◌, [], Some, map, slice_get, IfErr, IfNone, IfSome, OnOk};
 ghost use Rattle.std.specs.List.{flat_map};
-ghost use Rattle.gds_flatten.specs.Copies.{carry_copy, copies, AllStayInRange};
+ghost use Rattle.gds_flatten.specs.Copies.{carry_copy, copies};
 ghost use Rattle.gds_flatten.specs.steps.Counting.{AreCounted};
 ghost use Rattle.gds_flatten.specs.steps.Ranges.{IsWithin};
-ghost use Rattle.gds_flatten.specs.steps.Walks.{shape_copies, link_copies, hierarchy, part, IsDrawn};
+ghost use Rattle.gds_flatten.specs.steps.Walks.{shape_copies, link_copies, hierarchy, part, IsDrawn, IsRefusal};
 
 use crate::cell::Cell;
 use crate::counts::count_link;
@@ -27,8 +27,7 @@ fn carry_shapes(
     requires { IsWithin 257 at.now }
     ensures drawn { OnOk result (IsDrawn (flat_map (shape_copies at.now) shapes.now)
         out.old.items out.new.items) }
-    ensures refused { IfErr result (λ e. (e ≡ FlattenError.Memory) ⊎ ((e ≡ FlattenError.OutOfRange)
-        × (AllStayInRange (flat_map (shape_copies at.now) shapes.now) → ⊥))) }
+    ensures refused { IfErr result (IsRefusal (flat_map (shape_copies at.now) shapes.now)) }
 {
     'shapes: for shape in shapes {
         carry_shape(shape, at, out)?;
@@ -96,8 +95,7 @@ fn carry_link(
     requires counted { AreCounted cells.now counts.now depth link.now.cell }
     ensures drawn { OnOk result (IsDrawn (part share.from share.to (link_copies at.now (copies (hierarchy cells.now) depth) link.now))
         out.old.items out.new.items) }
-    ensures refused { IfErr result (λ e. (e ≡ FlattenError.Memory) ⊎ ((e ≡ FlattenError.OutOfRange)
-        × (AllStayInRange (link_copies at.now (copies (hierarchy cells.now) depth) link.now) → ⊥))) }
+    ensures refused { IfErr result (IsRefusal (link_copies at.now (copies (hierarchy cells.now) depth) link.now)) }
 {
     let each = number_at(counts, link.cell);
     if count_link(link, each) <= share.from {
@@ -130,8 +128,7 @@ pub fn carry_cell(
     requires counted { AreCounted cells.now counts.now depth index }
     ensures drawn { OnOk result (IsDrawn (part share.from share.to (map (carry_copy at.now) (copies (hierarchy cells.now) depth index)))
         out.old.items out.new.items) }
-    ensures refused { IfErr result (λ e. (e ≡ FlattenError.Memory) ⊎ ((e ≡ FlattenError.OutOfRange)
-        × (AllStayInRange (map (carry_copy at.now) (copies (hierarchy cells.now) depth index)) → ⊥))) }
+    ensures refused { IfErr result (IsRefusal (map (carry_copy at.now) (copies (hierarchy cells.now) depth index))) }
 {
     let Some(cell) = cell_at(cells, depth, index) else {
         return Ok(());

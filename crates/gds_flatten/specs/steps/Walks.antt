@@ -1,16 +1,18 @@
 -- The walk from copy to copy.
-use Rattle.std.specs.Prelude.{◌≡◌, ℕ, ◌*◌, ℤ, ◌||◌, List, [], ◌∷◌, ◌++◌, map, take, drop, slice_get, Option, Some, None}
+use Rattle.std.specs.Prelude.{◌≡◌, ◌⊎◌, ℕ, ◌*◌, ℤ, ◌||◌, List, [], ◌∷◌, ◌++◌, map, take, drop, slice_get, Option, Some, None}
 use Rattle.std.specs.List.{flat_map, range_with_len}
 use Rattle.fill_base.specs.declared.rect.Rect.{Rect}
 use Rattle.fill_region.specs.Squares.{covered}
 use Rattle.gds_grammar.specs.declared.element.Element.{Element}
 use Rattle.gds_flatten.specs.declared.cell.Cell.{Cell}
+use Rattle.gds_flatten.specs.declared.error.FlattenError.{FlattenError}
+use Rattle.gds_flatten.specs.declared.error.FlattenError.TheVariants.{Memory, OutOfRange}
 use Rattle.gds_flatten.specs.declared.link.Link.{Link}
 use Rattle.gds_flatten.specs.declared.placement.Placement.{Placement}
 use Rattle.gds_flatten.specs.declared.shape.Shape.{Shape}
 use Rattle.gds_flatten.specs.Placements.{composed}
 use Rattle.gds_flatten.specs.Links.{single, singles}
-use Rattle.gds_flatten.specs.Copies.{Copy, Hierarchy, own_copy, carry_copy, drawn, AllStayInRange}
+use Rattle.gds_flatten.specs.Copies.{Copy, Hierarchy, own_copy, carry_copy, copies, drawn, AllStayInRange}
 
 -- the single references of a link, each with the index of its cell
 abbrev pub singles_of : Link → List (ℕ × Placement)
@@ -54,3 +56,11 @@ part from to xs = drop from (take to xs)
 pub record IsDrawn (cs : List Copy) (old new : List Rect) : Type 0 where
   pub inside : AllStayInRange cs
   pub added : (x y : ℤ) → covered new x y ≡ (covered old x y || drawn cs x y)
+
+-- why copies aren't carried: memory is refused, or one of them leaves the range
+abbrev pub IsRefusal : List Copy → FlattenError → Type 0
+IsRefusal cs e = (e ≡ Memory) ⊎ ((e ≡ OutOfRange) × (AllStayInRange cs → ⊥))
+
+-- all that the top at an index draws
+abbrev pub top_copies : List Cell → ℕ → List Copy
+top_copies cells top = copies (hierarchy cells) 256 top
