@@ -3,10 +3,11 @@
 
 use crate::records::{METAL, begin_cell, finished, head, name_of, put, put_points, put_shape};
 use fill_region::Region;
-use gds_flatten::{FlattenError, flatten, flatten_rects};
+use gds_flatten::{FlattenError, flatten, flatten_parts, flatten_rects};
 use gds_grammar::Library;
 use std::alloc::Global;
 use std::test::*;
+use std::thread::Threads;
 
 /// An element of a drafted cell. Cells have numbers, by which references name them.
 #[derive(Clone, Copy)]
@@ -173,16 +174,33 @@ fn drawn(alloc: Global, cells: Cells<'_>) -> Result<Vec<Edges>, Fail> {
     edges_of(alloc, &region)
 }
 
+/// The pieces of what cell 0 draws on the layer `METAL`, by the rectangles of all parts.
+fn drawn_in_parts(
+    rt: &(impl Threads + Sync),
+    alloc: Global,
+    cells: Cells<'_>,
+) -> Result<Vec<Edges>, Fail> {
+    let library = design(alloc, cells)?;
+    let parts = flatten_parts(rt, alloc, &library, &name_of(0), METAL, 0)?;
+    let region = Region::from_rects(alloc, &parts.concat(alloc)?)?;
+    edges_of(alloc, &region)
+}
+
 /// Why what cell 0 draws on the layer `METAL` can't be told.
-fn refused(alloc: Global, cells: Cells<'_>) -> Result<Option<FlattenError>, Fail> {
+fn refused(
+    rt: &(impl Threads + Sync),
+    alloc: Global,
+    cells: Cells<'_>,
+) -> Result<Option<FlattenError>, Fail> {
     let library = design(alloc, cells)?;
     let top = name_of(0);
     let error = flatten(alloc, &library, &top, METAL, 0).err();
     let alike = flatten_rects(alloc, &library, &top, METAL, 0).err();
-    if error == alike {
+    let in_parts = flatten_parts(rt, alloc, &library, &top, METAL, 0).err();
+    if error == alike && error == in_parts {
         Ok(error)
     } else {
-        Err("the two answer otherwise".into())
+        Err("the three answer otherwise".into())
     }
 }
 
@@ -648,6 +666,8 @@ fn drawn_designs(rt: HostRuntime) -> Result<(), Fail> {
     for case in DRAWN {
         let edges = drawn(rt.alloc(), case.cells)?;
         assert_eq!(rt; edges.as_slice(), case.outcome, "{}", case.name);
+        let edges = drawn_in_parts(&rt, rt.alloc(), case.cells)?;
+        assert_eq!(rt; edges.as_slice(), case.outcome, "{}, in parts", case.name);
     }
     Ok(())
 }
@@ -655,7 +675,7 @@ fn drawn_designs(rt: HostRuntime) -> Result<(), Fail> {
 #[test]
 fn refused_designs(rt: HostRuntime) -> Result<(), Fail> {
     for case in REFUSED {
-        let refused = refused(rt.alloc(), case.cells)?;
+        let refused = refused(&rt, rt.alloc(), case.cells)?;
         assert_eq!(rt; refused, Some(case.outcome), "{}", case.name);
     }
     Ok(())
@@ -737,5 +757,64 @@ fn large_design(rt: HostRuntime) -> Result<(), Fail> {
     }
     assert_eq!(rt; wrong, 0);
     assert_eq!(rt; next, (0, 400));
+    Ok(())
+}
+
+/// The corner of a square of the next test: the top's own, and then twenty by ten in each of ten by ten cells.
+fn corner_of(number: u32) -> (i64, i64) {
+    if number == 0 {
+        return (0, 0);
+    }
+    let copy = i64::from(number.wrapping_sub(1));
+    let (cell, square) = (copy / 200, copy % 200);
+    let x = (cell % 10)
+        .wrapping_mul(100)
+        .wrapping_add((square % 20).wrapping_mul(5));
+    let y = (cell / 10)
+        .wrapping_mul(40)
+        .wrapping_add((square / 20).wrapping_mul(4));
+    (x, y)
+}
+
+/// 20,001 squares are carried in three shares: each copy once, in the order of the walk.
+#[test]
+fn parts_of_a_large_design(rt: HostRuntime) -> Result<(), Fail> {
+    let alloc = rt.alloc();
+    let top = [
+        Draft::Array(1, (10, 10), &[(0, 0), (1000, 0), (0, 400)]),
+        Draft::Boundary(METAL, SQUARE),
+    ];
+    let middle = [Draft::Array(2, (20, 10), &[(0, 0), (100, 0), (0, 40)])];
+    let square = [Draft::Boundary(METAL, SQUARE)];
+    let library = design(alloc, &[(0, &top), (1, &middle), (2, &square)])?;
+    let parts = flatten_parts(&rt, alloc, &library, &name_of(0), METAL, 0)?;
+    let mut lengths = Vec::new(alloc);
+    for part in &parts {
+        lengths.push(part.len())?;
+    }
+    assert_eq!(rt; lengths.as_slice(), [8_192, 8_192, 3_617].as_slice());
+    let mut wrong = 0u32;
+    let mut number = 0u32;
+    for rect in &parts.concat(alloc)? {
+        if (rect.x1(), rect.y1()) != corner_of(number) {
+            wrong = wrong.wrapping_add(1);
+        }
+        number = number.wrapping_add(1);
+    }
+    assert_eq!(rt; wrong, 0);
+    Ok(())
+}
+
+/// The last of 20,001 copies, and of the last share, passes the coordinates.
+#[test]
+fn fault_in_the_last_part(rt: HostRuntime) -> Result<(), Fail> {
+    let top = [
+        Draft::Array(1, (200, 100), &[(0, 0), (1000, 0), (0, 400)]),
+        Draft::Ref(2, (1, 0)),
+    ];
+    let square = [Draft::Boundary(METAL, SQUARE)];
+    let edge = [Draft::Boundary(METAL, EDGE)];
+    let refused = refused(&rt, rt.alloc(), &[(0, &top), (1, &square), (2, &edge)])?;
+    assert_eq!(rt; refused, Some(FlattenError::OutOfRange));
     Ok(())
 }
