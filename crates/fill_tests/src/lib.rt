@@ -16,3 +16,5 @@ mod size;
 mod spans;
 #[cfg(test)]
 mod text;
+#[cfg(test)]
+mod threads;
