@@ -2,9 +2,10 @@
 use Rattle.std.proofs.Common.{◌≡◌, Bool, true, false, ℕ, suc, ◌+◌, ◌<◌, ◌≤◌, ℤ, List, [], ◌∷◌, ◌++◌, ◌||◌, All, length, get_or, map, take, drop, Result, Ok, IfOk, vec_len, arith, ap, subst, ◌∙◌, sym, append_assoc, refl}
 use Rattle.std.specs.Borrow.{Bor}
 use Rattle.std.specs.Global.{Vec}
-use Rattle.std.specs.List.{list_any, FoldsTo}
-use Rattle.std.specs.Vec.{vec_capacity}
-use Rattle.std.proofs.lemmas.List.{drop_all, get_or-map, map-append, append-nil, length-map, nil_from_length, get_or_default}
+use Rattle.std.specs.List.{flat_map, list_any, FoldsTo}
+use Rattle.std.specs.Vec.{vec_capacity, vec_items}
+use Rattle.std.proofs.lemmas.Grind.{flat_map-append}
+use Rattle.std.proofs.lemmas.List.{take_more, drop_all, get_or-map, map-append, append-nil, length-map, nil_from_length, get_or_default}
 use Rattle.std.proofs.lemmas.List.Folds.{list_any-append, list_any_more}
 use Rattle.fill_base.specs.declared.rect.Rect.{Rect}
 use Rattle.fill_base.specs.Squares.{squares}
@@ -26,9 +27,9 @@ values_of_results (result ∷ results) old new (next, (value, is, added), rest) 
     ∙ (ap (λ rs. rs ++ results) (sym (map-append Ok old.items (value ∷ [])) ∙ ap (λ vs. map Ok vs) (sym added.0)) ∙ values_of_results results next new rest))
 
 -- one part more, and all of them
-pub part_more : (done new : List (Bor (List Rect))) (part : Bor (List Rect)) (left rest rects : List Rect) → left ≡ part.now ++ rest → new ≡ done ++ part ∷ []
-    → ((x y : ℤ) → (covered_by_parts done x y || covered left x y) ≡ covered rects x y) → (x y : ℤ) → (covered_by_parts new x y || covered rest x y) ≡ covered rects x y
-part_more done new part left rest rects left_is new_is before x y =
+pub part_more : (p : ℤ → ℤ → Bool) (done new : List (Bor (List Rect))) (part : Bor (List Rect)) (left rest : List Rect) → left ≡ part.now ++ rest → new ≡ done ++ part ∷ []
+    → ((x y : ℤ) → (covered_by_parts done x y || covered left x y) ≡ p x y) → (x y : ℤ) → (covered_by_parts new x y || covered rest x y) ≡ p x y
+part_more p done new part left rest left_is new_is before x y =
     ap (λ ps. covered_by_parts ps x y || covered rest x y) new_is
     ∙ (ap (λ b. b || covered rest x y) (list_any-append (λ p. covered p.now x y) done (part ∷ []))
     ∙ (regroup (covered_by_parts done x y) (covered part.now x y) (covered rest x y)
@@ -39,13 +40,25 @@ part_more done new part left rest rects left_is new_is before x y =
     regroup false true c = refl
     regroup false false c = refl
 
-pub part_last : (done : List (Bor (List Rect))) (left rects : List Rect) → length left ≡ 0 → ((x y : ℤ) → (covered_by_parts done x y || covered left x y) ≡ covered rects x y) → (x y : ℤ) → covered_by_parts done x y ≡ covered rects x y
-part_last done left rects none before x y =
+pub part_last : (p : ℤ → ℤ → Bool) (done : List (Bor (List Rect))) (left : List Rect) → length left ≡ 0 → ((x y : ℤ) → (covered_by_parts done x y || covered left x y) ≡ p x y) → (x y : ℤ) → covered_by_parts done x y ≡ p x y
+part_last p done left none before x y =
     sym (or_none (covered_by_parts done x y)) ∙ (ap (λ zs. covered_by_parts done x y || covered zs x y) (sym (nil_from_length left none)) ∙ before x y)
   where
     or_none : (a : Bool) → (a || false) ≡ a
     or_none true = refl
     or_none false = refl
+
+-- one list more, and no list
+pub list_more : (done new : List (Bor (List Rect))) (lists : List (Vec Rect)) (list : Vec Rect) (rects : List Rect) (n : ℕ) → n < length lists → list ≡ get_or lists n list → rects ≡ list.items
+    → ((x y : ℤ) → covered_by_parts done x y ≡ covered (flat_map vec_items (take n lists)) x y) → ((x y : ℤ) → covered_by_parts new x y ≡ (covered_by_parts done x y || covered rects x y))
+    → (x y : ℤ) → covered_by_parts new x y ≡ covered (flat_map vec_items (take (n + 1) lists)) x y
+list_more done new lists list rects n n_in list_is rects_is before more x y =
+    more x y
+    ∙ (ap (λ b. b || covered rects x y) (before x y)
+    ∙ (ap (λ zs. covered (flat_map vec_items (take n lists)) x y || covered zs x y) (rects_is ∙ sym (append-nil list.items))
+    ∙ (sym (list_any-append (λ r. squares r x y) (flat_map vec_items (take n lists)) (list.items ++ []))
+    ∙ ap (λ zs. covered zs x y) (sym (flat_map-append vec_items (take n lists) (list ∷ []))
+    ∙ ap (λ ls. flat_map vec_items ls) (ap (λ l. take n lists ++ l ∷ []) list_is ∙ sym (take_more lists n list n_in))))))
 
 -- the lists of one part more for a row
 pub listed_more : (parts : List Part) (part : Part) (old new : List Rect) (list : Vec ℕ) (places : List ℕ) (n j : ℕ) → n < length parts → part ≡ get_or parts n part → j < length part.rows.items

@@ -1,5 +1,7 @@
 //! The corners of groups of neighbouring rows of cells, measured in parallel straight from rectangles.
 ghost use Rattle.std.specs.Prelude.{◌≡◌, ℕ, ◌+◌, ◌*◌, ◌<◌, ◌≤◌, IfOk, length, slice_index_or};
+ghost use Rattle.std.specs.List.{flat_map};
+ghost use Rattle.std.specs.Vec.{vec_items};
 ghost use Rattle.fill_region.specs.Squares.{covered};
 ghost use Rattle.fill_cells.specs.Mesh.{gaps};
 ghost use Rattle.fill_measure.specs.steps.Meshes.{AreCornersOf, AreGroupsOf, IsGroupOf};
@@ -11,11 +13,12 @@ use crate::lists::{Part, all_of, by_parts, row_of};
 use crate::mesh::Mesh;
 use fill_base::Rect;
 use fill_cells::row_areas;
+use fill_threads::map_ranges;
 use std::alloc::{AllocError, Global};
-use std::thread;
 use std::thread::Threads;
 
-/// The rows of cells are cut into at most so many groups of neighbours, each measured by a thread of its own.
+/// The rows of cells are cut into at most so many groups of neighbours, which threads measure one after another: few enough that
+/// the lists of a row's cells, which are used again for the next row, are seldom made anew.
 const MOST_GROUPS: usize = 16;
 
 impl Mesh<'_> {
@@ -25,25 +28,25 @@ impl Mesh<'_> {
         &self,
         rt: &(impl Threads + Sync),
         alloc: Global,
-        rects: &[Rect],
+        lists: &[Vec<Rect>],
     ) -> Result<Corners, AllocError>
-        requires shapes { squares_of self.now.shapes ≡ covered rects.now }
+        requires shapes { squares_of self.now.shapes ≡ covered (flat_map vec_items lists.now) }
         ensures { IfOk result (λ c. AreGroupsOf self.now c) }
     {
-        let lists = by_parts(rt, alloc, rects, self.up)?;
-        let lists = lists.as_slice();
-        let lower = &self.up[..self.up.len() - 1];
-        let height = lower.len().div_ceil(MOST_GROUPS);
-        let groups = thread::map_chunks(
+        let parts = by_parts(rt, alloc, lists, self.up)?;
+        let parts = parts.as_slice();
+        let rows = self.up.len() - 1;
+        let height = rows.div_ceil(MOST_GROUPS);
+        let groups = map_ranges(
             rt,
             alloc,
-            lower,
+            rows,
             height,
-            &|from: usize, part: &[i64]| -> Result<Vec<i64>, AllocError>
-                requires within { from + length part.now ≤ gaps self.now.up.now }
-                requires lists { ArePartLists self.now.up.now (squares_of self.now.shapes) lists.now }
-                ensures { IfOk result (λ v. AreCornersOf self.entry.now from (length part.entry.now + 1) v.items) }
-            { self.group(alloc, lists, from, part.len()) },
+            &|from: usize, count: usize| -> Result<Vec<i64>, AllocError>
+                requires within { from + count ≤ gaps self.now.up.now }
+                requires parts { ArePartLists self.now.up.now (squares_of self.now.shapes) parts.now }
+                ensures { IfOk result (λ v. AreCornersOf self.entry.now from (count + 1) v.items) }
+            { self.group(alloc, parts, from, count) },
         )?;
         self.gathered(alloc, height, groups)
     }
@@ -69,11 +72,11 @@ impl Mesh<'_> {
     fn group(
         &self,
         alloc: Global,
-        lists: &[Part],
+        parts: &[Part],
         from: usize,
         count: usize,
     ) -> Result<Vec<i64>, AllocError>
-        requires lists { ArePartLists self.now.up.now (squares_of self.now.shapes) lists.now }
+        requires parts { ArePartLists self.now.up.now (squares_of self.now.shapes) parts.now }
         requires within { from + count ≤ gaps self.now.up.now }
         ensures { IfOk result (λ v. AreCornersOf self.now from (count + 1) v.items) }
     {
@@ -81,7 +84,7 @@ impl Mesh<'_> {
         let mut held = Vec::new(alloc);
         for k in 0..count {
             let j = from + k;
-            let rects = row_of(alloc, lists, j)?;
+            let rects = row_of(alloc, parts, j)?;
             let row = row_areas(
                 alloc,
                 &mut held,

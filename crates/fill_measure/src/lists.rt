@@ -1,20 +1,22 @@
 //! The rectangles that meet each row of cells, listed in parallel: parts of them are looked through at once, and a row has what all
 //! parts list for it.
-ghost use Rattle.std.specs.Prelude.{◌≡◌, ◌||◌, ◌^◌, ℤ, ◌<◌, ◌≤◌, length, map, All, Ok, IfOk, OnOk};
+ghost use Rattle.std.specs.Prelude.{◌≡◌, ◌||◌, ◌^◌, ℤ, ◌<◌, ◌≤◌, length, slice_index_or, map, All, Ok, IfOk, OnOk};
+ghost use Rattle.std.specs.List.{flat_map};
+ghost use Rattle.std.specs.Vec.{vec_items};
 ghost use Rattle.fill_region.specs.Squares.{covered};
 ghost use Rattle.fill_cells.specs.Mesh.{AreLines, covered_at};
 ghost use Rattle.fill_measure.specs.steps.Parts.{ArePartLists, IsPart, covered_by_parts, listed_by_parts};
 
 use fill_base::Rect;
 use fill_cells::by_row;
+use fill_threads::map_indices;
 use std::alloc::{AllocError, Global};
-use std::thread;
 use std::thread::Threads;
 
-/// The rectangles are cut into at most so many parts, each looked through by a thread of its own.
+/// The rectangles are cut into about so many parts, which threads look through one after another.
 const MOST_PARTS: usize = 16;
 
-/// A part has so many rectangles, or all that are left.
+/// A part has about so many rectangles or more, or all of a list that is shorter.
 const LEAST_PART: usize = 8_192;
 
 /// No part has more, so that four bytes hold a place in it.
@@ -29,24 +31,28 @@ pub(crate) struct Part<'a> {
     rows: Vec<Vec<u32>>,
 }
 
-/// The parts of the rectangles, each with the lists of those that meet each row between neighbouring lines.
+/// The parts of the lists, each with those of its rectangles that meet each row between neighbouring lines.
 pub(crate) fn by_parts<'a>(
     rt: &(impl Threads + Sync),
     alloc: Global,
-    rects: &'a [Rect],
+    lists: &'a [Vec<Rect>],
     up: &[i64],
 ) -> Result<Vec<Part<'a>>, AllocError>
     requires { AreLines up.now }
-    ensures { IfOk result (λ v. ArePartLists up.now (covered rects.now) v.items) }
+    ensures { IfOk result (λ v. ArePartLists up.now (covered (flat_map vec_items lists.now)) v.items) }
 {
-    let parts = parts_of(alloc, rects)?;
-    let listed = thread::map_vec(
+    let parts = parts_of(alloc, lists)?;
+    let parts = parts.as_slice();
+    let listed = map_indices(
         rt,
-        parts,
-        &|part: &[Rect]| -> Result<Part, AllocError>
-            requires { AreLines up.now × (length part.now ≤ 2 ^ 32) }
-            ensures { IfOk result (λ p. IsPart up.entry.now part.now p) }
-        { listed(alloc, part, up) },
+        alloc,
+        parts.len(),
+        &|k: usize| -> Result<Part, AllocError>
+            requires lines { AreLines up.now }
+            requires within { k < length parts.now }
+            requires few { All (λ part. length part.now ≤ 2 ^ 32) parts.now }
+            ensures { IfOk result (λ p. IsPart up.entry.now (slice_index_or parts.entry.now k p.rects).now p) }
+        { listed(alloc, parts[k], up) },
     )?;
     all_of(alloc, listed)
 }
@@ -61,21 +67,44 @@ fn listed<'a>(alloc: Global, rects: &'a [Rect], up: &[i64]) -> Result<Part<'a>, 
     Ok(Part { rects, rows })
 }
 
-/// Parts of the rectangles, which together are all of them.
-fn parts_of(alloc: Global, rects: &[Rect]) -> Result<Vec<&[Rect]>, AllocError>
-    ensures whole { IfOk result (λ v. (x y : ℤ) → covered_by_parts v.items x y ≡ covered rects.now x y) }
+/// Parts of the lists, which together have all their rectangles.
+fn parts_of(alloc: Global, lists: &[Vec<Rect>]) -> Result<Vec<&[Rect]>, AllocError>
+    ensures whole { IfOk result (λ v. (x y : ℤ) → covered_by_parts v.items x y ≡ covered (flat_map vec_items lists.now) x y) }
     ensures few { IfOk result (λ v. All (λ part. length part.now ≤ 2 ^ 32) v.items) }
 {
-    let size = rects
-        .len()
-        .div_ceil(MOST_PARTS)
-        .max(LEAST_PART)
-        .min(MOST_IN_PART);
+    let size = count_of(lists).div_ceil(MOST_PARTS).max(LEAST_PART);
     let mut parts = Vec::new(alloc);
-    for part in rects.chunks(size) {
-        parts.push(part)?;
+    for list in lists {
+        put_parts(&mut parts, list, size)?;
     }
     Ok(parts)
+}
+
+/// How many rectangles the lists have.
+pub(crate) fn count_of(lists: &[Vec<Rect>]) -> usize {
+    let mut count: usize = 0;
+    for list in lists {
+        count = count.saturating_add(list.len());
+    }
+    count
+}
+
+/// Cuts a list into parts of about a size.
+fn put_parts<'a>(
+    parts: &mut Vec<&'a [Rect]>,
+    list: &'a [Rect],
+    size: usize,
+) -> Result<(), AllocError>
+    requires few { All (λ part. length part.now ≤ 2 ^ 32) parts.old.items }
+    ensures whole { OnOk result ((x y : ℤ) → covered_by_parts parts.new.items x y ≡ (covered_by_parts parts.old.items x y || covered list.now x y)) }
+    ensures few { OnOk result (All (λ part. length part.now ≤ 2 ^ 32) parts.new.items) }
+{
+    let count = list.len().saturating_add(size / 2) / size.max(1);
+    let each = list.len().div_ceil(count.max(1)).clamp(1, MOST_IN_PART);
+    for part in list.chunks(each) {
+        parts.push(part)?;
+    }
+    Ok(())
 }
 
 /// What all calls gave, or the first refusal of memory.

@@ -1,5 +1,7 @@
 //! All windows of a grid, measured straight from rectangles, or from a region with one walk over its rows however much they overlap.
 ghost use Rattle.std.specs.Prelude.{IfOk, All};
+ghost use Rattle.std.specs.List.{flat_map};
+ghost use Rattle.std.specs.Vec.{vec_items};
 ghost use Rattle.fill_area.specs.Density.{AreMeasured, IsArea};
 ghost use Rattle.fill_region.specs.Bands.{holds};
 ghost use Rattle.fill_region.specs.Squares.{covered};
@@ -15,30 +17,31 @@ use fill_region::Region;
 use std::alloc::{AllocError, Global};
 use std::thread::Threads;
 
-/// How many unit squares of each window some rectangle holds: row by row, the window in column `a` and row `b` at
+/// How many unit squares of each window some rectangle of some list holds: row by row, the window in column `a` and row `b` at
 /// `b * columns + a`. The lines at which windows begin or end make a mesh, whose rows of cells are measured in parallel; each
-/// window is then a difference of sums, however many windows overlap. The list is the same for any number of threads.
+/// window is then a difference of sums, however many windows overlap. The answer is the same for any number of threads, and however
+/// the rectangles are shared out to the lists.
 ///
 /// # Errors
 /// `AllocError` where memory is refused.
 pub fn measure_rects(
     rt: &(impl Threads + Sync),
     alloc: Global,
-    rects: &[Rect],
+    lists: &[Vec<Rect>],
     windows: &Windows,
 ) -> Result<Vec<i64>, AllocError>
-    ensures areas { IfOk result (λ v. AreMeasured (covered rects.now) windows.now v.items) }
+    ensures areas { IfOk result (λ v. AreMeasured (covered (flat_map vec_items lists.now)) windows.now v.items) }
     ensures bounded { IfOk result (λ v. All IsArea v.items) }
 {
-    let pitch = pitch_of(rects, windows);
+    let pitch = pitch_of(lists, windows);
     let across = lines_of(alloc, windows.across(), pitch.across)?;
     let up = lines_of(alloc, windows.up(), pitch.up)?;
     let mesh = Mesh {
-        shapes: Shapes::Rects(rects),
+        shapes: Shapes::Rects(lists),
         across: &across,
         up: &up,
     };
-    let corners = mesh.corners(rt, alloc, rects)?;
+    let corners = mesh.corners(rt, alloc, lists)?;
     mesh.window_areas(rt, alloc, windows, &corners)
 }
 

@@ -7,8 +7,8 @@ use fill_region::Region;
 /// What has squares under a mesh.
 #[derive(Clone, Copy)]
 pub(crate) enum Shapes<'a> {
-    /// Rectangles, which may overlap.
-    Rects(&'a [Rect]),
+    /// The rectangles of lists, which may overlap.
+    Rects(&'a [Vec<Rect>]),
     /// A region.
     Region(&'a Region),
 }

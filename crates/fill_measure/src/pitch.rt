@@ -1,11 +1,13 @@
 //! How far apart the lines of a mesh are to be, so that its cells are neither too large nor too small for the rectangles. Areas are
 //! right at any pitch: it bears on time and memory alone.
+ghost use Rattle.std.specs.Prelude.{◌<◌};
 ghost use Rattle.fill_area.specs.Axes.{IsAxis};
 
+use crate::lists::count_of;
 use fill_area::{Axis, Windows};
 use fill_base::Rect;
 
-/// About so many rectangles are looked at, at even distances in the list: enough to know them all by, and soon done.
+/// About so many rectangles are looked at, at even distances in their lists: enough to know them all by, and soon done.
 const SAMPLES: usize = 4096;
 
 /// So many rectangles that lie apart are to be in a cell: more take longer to tell apart, and fewer do not repay the cell's own work.
@@ -60,10 +62,11 @@ struct Looks {
 }
 
 /// The pitch at which a cell has few of the rectangles where they lie apart, and else many.
-pub(crate) fn pitch_of(rects: &[Rect], windows: &Windows) -> Pitch {
+pub(crate) fn pitch_of(lists: &[Vec<Rect>], windows: &Windows) -> Pitch {
     let (across, up) = (ends(windows.across()), ends(windows.up()));
-    let looks = looks_of(rects, across, up);
-    let within = (rects.len() as u64).saturating_mul(looks.met) / looks.looked.max(1);
+    let count = count_of(lists);
+    let looks = looks_of(lists, count / SAMPLES + 1, across, up);
+    let within = (count as u64).saturating_mul(looks.met) / looks.looked.max(1);
     let whole = Size {
         width: across.1.abs_diff(across.0),
         height: up.1.abs_diff(up.0),
@@ -94,16 +97,27 @@ fn ends(axis: Axis) -> (i64, i64)
     (begin, end)
 }
 
-/// What some rectangles are like that lie at even distances in the list. Those outside the
-/// rectangle around all windows count for nothing else.
-fn looks_of(rects: &[Rect], across: (i64, i64), up: (i64, i64)) -> Looks {
+/// What the first of each so many rectangles of each list is like.
+fn looks_of(lists: &[Vec<Rect>], step: usize, across: (i64, i64), up: (i64, i64)) -> Looks
+    requires { 0 < step }
+{
     let mut looks = Looks {
         looked: 0,
         met: 0,
         width: 0,
         height: 0,
     };
-    for part in rects.chunks(rects.len() / SAMPLES + 1) {
+    for list in lists {
+        look_through(&mut looks, list, step, across, up);
+    }
+    looks
+}
+
+/// Looks at the first of each so many rectangles of a list. Those outside the rectangle around all windows count for nothing else.
+fn look_through(looks: &mut Looks, list: &[Rect], step: usize, across: (i64, i64), up: (i64, i64))
+    requires { 0 < step }
+{
+    for part in list.chunks(step) {
         let rect = &part[0];
         looks.looked = looks.looked.saturating_add(1);
         let in_columns = rect.x1() < across.1 && across.0 < rect.x2();
@@ -113,7 +127,6 @@ fn looks_of(rects: &[Rect], across: (i64, i64), up: (i64, i64)) -> Looks {
             looks.height = looks.height.saturating_add(rect.y2().abs_diff(rect.y1()));
         }
     }
-    looks
 }
 
 /// How wide and how tall the rectangles are in the mean, and one more.

@@ -8,18 +8,18 @@ ghost use Rattle.fill_measure.specs.steps.Sums.{AreWindowsOf, IsWindowGroup};
 
 use crate::corners::Corners;
 use crate::mesh::Mesh;
-use crate::sides::{Sides, sides_of};
+use crate::sides::sides_of;
 use crate::sums::Sums;
 use fill_area::Windows;
+use fill_threads::map_ranges;
 use std::alloc::{AllocError, Global};
-use std::thread;
 use std::thread::Threads;
 
-/// The rows of windows are cut into at most so many groups of neighbours, each summed by a thread of its own.
+/// The rows of windows are cut into at most so many groups of neighbours, which threads sum one after another.
 const MOST_GROUPS: usize = 16;
 
 /// A group has about so many windows or more, or all that are left: fewer take no longer than a thread needs to begin.
-const LEAST_GROUP: usize = 16_384;
+const LEAST_GROUP: usize = 4_096;
 
 impl Mesh<'_> {
     /// How many covered squares lie in each window, row by row, by the corners.
@@ -57,15 +57,15 @@ impl Sums<'_> {
     {
         let least = LEAST_GROUP.div_ceil(self.columns.len().max(1));
         let height = self.rows.len().div_ceil(MOST_GROUPS).max(least);
-        let groups = thread::map_chunks(
+        let groups = map_ranges(
             rt,
             alloc,
-            self.rows,
+            self.rows.len(),
             height,
-            &|from: usize, part: &[Sides]| -> Result<Vec<i64>, AllocError>
-                requires { from + length part.now ≤ length self.now.rows.now }
-                ensures { IfOk result (λ v. AreWindowsOf self.entry.now from (length part.entry.now) v.items) }
-            { self.group(alloc, from, part.len()) },
+            &|from: usize, count: usize| -> Result<Vec<i64>, AllocError>
+                requires { from + count ≤ length self.now.rows.now }
+                ensures { IfOk result (λ v. AreWindowsOf self.entry.now from count v.items) }
+            { self.group(alloc, from, count) },
         )?;
         self.joined(alloc, height, groups)
     }

@@ -16,11 +16,11 @@ use fill_area::Windows;
 use fill_measure::measure_region;
 use fill_region::Region;
 use fill_text::Rules;
+use fill_threads::map_ranges;
 use std::alloc::Global;
-use std::thread;
 use std::thread::Threads;
 
-/// The lines are made in at most so many parts, each by a thread of its own.
+/// The lines are made in at most so many parts, by threads that take one after another.
 const MOST_PARTS: usize = 16;
 
 /// A part has the lines of so many windows or more, or of all that are left: fewer take no longer than a thread needs to begin.
@@ -99,19 +99,19 @@ pub(crate) fn drawn_lines(
     ensures { IfOk result (λ v. flat_map vec_items v.items ≡ windows_text windows.now least most (drawn_only windows.now totals.now)) }
 {
     let size = totals.len().div_ceil(MOST_PARTS).max(LEAST_PART);
-    let parts = thread::map_chunks(
+    let parts = map_ranges(
         rt,
         alloc,
-        totals,
+        totals.len(),
         size,
-        &|from: usize, part: &[i64]| -> Result<Vec<u8>, OutOfMemory>
+        &|from: usize, count: usize| -> Result<Vec<u8>, OutOfMemory>
             requires count { length totals.now ≡ windows.now.across.count * windows.now.up.count }
-            requires within { from + length part.now ≤ length totals.now }
+            requires within { from + count ≤ length totals.now }
             requires areas { All IsArea totals.now }
             requires least { IsShare least }
             requires most { IsShare most }
-            ensures { IfOk result (λ v. v.items ≡ lines_from windows.entry.now least most (drawn_only windows.entry.now totals.entry.now) from (length part.now)) }
-        { part_lines(alloc, windows, totals, from, part.len(), least, most) },
+            ensures { IfOk result (λ v. v.items ≡ lines_from windows.entry.now least most (drawn_only windows.entry.now totals.entry.now) from count) }
+        { part_lines(alloc, windows, totals, from, count, least, most) },
     )?;
     all_parts(alloc, parts)
 }

@@ -17,8 +17,8 @@ use fill_text::Rules;
 use std::alloc::{AllocError, Global};
 use std::thread::Threads;
 
-/// The parts that `report_parts` makes, of the squares that some rectangle holds: the windows are measured straight from the
-/// rectangles, with no region in between. The list is taken, and let go of once the windows are measured, before a line of
+/// The parts that `report_parts` makes, of the squares that some rectangle of some list holds: the windows are measured straight from
+/// the rectangles, with no region in between. The lists are taken, and let go of once the windows are measured, before a line of
 /// the report is made.
 ///
 /// # Errors
@@ -26,42 +26,42 @@ use std::thread::Threads;
 pub fn report_parts_of_rects(
     rt: &(impl Threads + Sync),
     alloc: Global,
-    rects: Vec<Rect>,
+    lists: Vec<Vec<Rect>>,
     rules: &Rules,
 ) -> Result<Vec<Vec<u8>>, OutOfMemory>
-    ensures { IfOk result (λ v. flat_map vec_items v.items ≡ metal_report (covered rects.items) (values_of rules.now)) }
+    ensures { IfOk result (λ v. flat_map vec_items v.items ≡ metal_report (covered (flat_map vec_items lists.items)) (values_of rules.now)) }
 {
     let least = rules.min();
     let most = rules.max();
-    windows_report(rt, alloc, rects, &rules.windows(), least, most)
+    windows_report(rt, alloc, lists, &rules.windows(), least, most)
 }
 
-/// The same over these windows: the list is let go of before a line is made. A window is `LOW` below `least` parts in a million and `HIGH` above `most`.
+/// The same over these windows: the lists are let go of before a line is made. A window is `LOW` below `least` parts in a million and `HIGH` above `most`.
 fn windows_report(
     rt: &(impl Threads + Sync),
     alloc: Global,
-    rects: Vec<Rect>,
+    lists: Vec<Vec<Rect>>,
     windows: &Windows,
     least: i64,
     most: i64,
 ) -> Result<Vec<Vec<u8>>, OutOfMemory>
     requires least { IsShare least }
     requires most { IsShare most }
-    ensures { IfOk result (λ v. flat_map vec_items v.items ≡ report_text (covered rects.items) nothing windows.now least most) }
+    ensures { IfOk result (λ v. flat_map vec_items v.items ≡ report_text (covered (flat_map vec_items lists.items)) nothing windows.now least most) }
 {
-    let totals = areas_of(rt, alloc, rects, windows)?;
+    let totals = areas_of(rt, alloc, lists, windows)?;
     drawn_lines(rt, alloc, windows, &totals, least, most)
 }
 
-/// How many squares of each window some rectangle holds, row by row. Its end lets go of the list.
+/// How many squares of each window some rectangle holds, row by row. Its end lets go of the lists.
 fn areas_of(
     rt: &(impl Threads + Sync),
     alloc: Global,
-    rects: Vec<Rect>,
+    lists: Vec<Vec<Rect>>,
     windows: &Windows,
 ) -> Result<Vec<i64>, AllocError>
-    ensures areas { IfOk result (λ v. AreMeasured (covered rects.items) windows.now v.items) }
+    ensures areas { IfOk result (λ v. AreMeasured (covered (flat_map vec_items lists.items)) windows.now v.items) }
     ensures bounded { IfOk result (λ v. All IsArea v.items) }
 {
-    measure_rects(rt, alloc, &rects, windows)
+    measure_rects(rt, alloc, &lists, windows)
 }

@@ -29,7 +29,17 @@ fn mixed_rects(alloc: Global, count: u32) -> Result<Vec<Rect>, Fail> {
     Ok(rects)
 }
 
-/// Whether the windows have the areas of the region of the rectangles, measured straight from them and by the region's cells.
+/// The rectangles in so many lists or fewer, one after another.
+fn in_lists(alloc: Global, rects: &[Rect], count: usize) -> Result<Vec<Vec<Rect>>, Fail> {
+    let mut lists = Vec::new(alloc);
+    for part in rects.chunks(rects.len() / count.max(1) + 1) {
+        lists.push(Vec::from_slice(alloc, part)?)?;
+    }
+    Ok(lists)
+}
+
+/// Whether the windows have the areas of the region of the rectangles, measured straight from one list of them, from several, and by
+/// the region's cells.
 fn are_those_of_the_region(
     rt: &(impl Threads + Sync),
     alloc: Global,
@@ -38,9 +48,10 @@ fn are_those_of_the_region(
 ) -> Result<bool, Fail> {
     let region = Region::from_rects(alloc, rects)?;
     let areas = measure_all(rt, alloc, &region, windows)?;
-    let straight = measure_rects(rt, alloc, rects, windows)?;
+    let straight = measure_rects(rt, alloc, &in_lists(alloc, rects, 1)?, windows)?;
+    let by_lists = measure_rects(rt, alloc, &in_lists(alloc, rects, 7)?, windows)?;
     let by_cells = measure_region(rt, alloc, &region, windows)?;
-    Ok(straight == areas && by_cells == areas)
+    Ok(straight == areas && by_lists == areas && by_cells == areas)
 }
 
 #[test]
@@ -74,13 +85,15 @@ fn each_grid_has_the_areas_of_the_region(rt: HostRuntime) -> Result<(), Fail> {
 fn squares_of_two_rectangles_count_once(rt: HostRuntime) -> Result<(), Fail> {
     // Windows of 6 by 4 at steps of 4 by 2, by hand: the first has 5 columns of 3 lines of the first rectangle, and one of
     // its squares is in both.
+    let alloc = rt.alloc();
     let windows = Windows::new(Point { x: 0, y: 0 }, (6, 4), (4, 2), (2, 2))?;
     let rects = [
         Rect::new(1, 1, 6, 4)?,
         Rect::new(5, 2, 9, 5)?,
         Rect::new(5, 2, 9, 5)?,
     ];
-    let areas = measure_rects(&rt, rt.alloc(), &rects, &windows)?;
+    let lists = in_lists(alloc, &rects, 2)?;
+    let areas = measure_rects(&rt, alloc, &lists, &windows)?;
     assert_eq!(rt; areas.as_slice(), [15, 12, 11, 14].as_slice());
     Ok(())
 }

@@ -1,18 +1,16 @@
-use Rattle.std.proofs.Common.{◌^◌, ◌≤◌, length, arith}
-use Rattle.std.proofs.lemmas.List.Elements.{All-push}
-use Rattle.fill_measure.proofs.Parting.{part_more, part_last}
+use Rattle.std.proofs.Common.{ap, ◌∙◌}
+use Rattle.std.specs.List.{flat_map}
+use Rattle.std.specs.Vec.{vec_items}
+use Rattle.std.proofs.lemmas.List.{take_all}
+use Rattle.fill_region.specs.Squares.{covered}
+use Rattle.fill_measure.proofs.Parting.{list_more}
 use Rattle.fill_measure.proofs.lists.parts_of.Goals as goal
 
-pub loop-part-preserved : goal.loop-part-preserved
-loop-part-preserved c =
-    let kept = c.in-Some.ensures.steps.0 in
-    record {
-      some = let before = c.loop-part.invariant.some in omega (arith, kept, before);
-      most = let before = c.loop-part.invariant.most in omega (arith, kept, before);
-      few = rw c.in_ok-push.ensures.items (All-push (λ part. length part.now ≤ 2 ^ 32) c.loop-part.parts.items c.in-Some.part c.loop-part.invariant.few
-          (let short = c.in-Some.ensures.steps.1.1 in let most = c.loop-part.invariant.most in omega (arith, short, most)));
-      whole = part_more c.loop-part.parts.items c.push.new.self.items c.in-Some.part _ _ c.args.rects.now c.in-Some.ensures.steps.1.0 c.in_ok-push.ensures.items c.loop-part.invariant.whole;
-    }
+pub loop-list-preserved : goal.loop-list-preserved
+loop-list-preserved c = record {
+  few = c.in_ok-put_parts.ensures.few;
+  whole = list_more c.loop-list.parts.items c.put_parts.new.parts.items c.args.lists.now c.list-item.result _ c.loop-list.list-index c.loop-list-test.true c.list-item.is c.deref.ensures.value c.loop-list.invariant.whole c.in_ok-put_parts.ensures.whole;
+}
 
 pub returns-clause-whole : goal.returns-clause-whole
-returns-clause-whole c = part_last c.loop-part.parts.items _ c.args.rects.now c.in-None.ensures.steps.1.0 c.loop-part.invariant.whole
+returns-clause-whole c = λ x y. c.loop-list.invariant.whole x y ∙ ap (λ ls. covered (flat_map vec_items ls) x y) (take_all c.loop-list.list-index c.args.lists.now c.loop-list-test.false)

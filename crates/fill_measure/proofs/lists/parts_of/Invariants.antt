@@ -1,13 +1,12 @@
-use Rattle.std.proofs.Common.{◌≡◌, ◌^◌, ◌<◌, ◌≤◌, ◌||◌, ℤ, length, All}
-use Rattle.std.specs.Slice.Iter.{chunks_rest, chunks_size}
+use Rattle.std.proofs.Common.{◌≡◌, ◌^◌, ◌≤◌, ℤ, length, take, All}
+use Rattle.std.specs.List.{flat_map}
+use Rattle.std.specs.Vec.{vec_items}
 use Rattle.fill_region.specs.Squares.{covered}
 use Rattle.fill_measure.specs.steps.Parts.{covered_by_parts}
 use Rattle.fill_measure.proofs.lists.parts_of.Given as goal
 
-abbrev pub invariant-loop-part : goal.invariant-loop-part
-invariant-loop-part l = record {
-  some : 0 < chunks_size l.part-iterator;
-  most : chunks_size l.part-iterator ≤ 2 ^ 32;
+abbrev pub invariant-loop-list : goal.invariant-loop-list
+invariant-loop-list l = record {
   few : All (λ part. length part.now ≤ 2 ^ 32) l.parts.items;
-  whole : (x y : ℤ) → (covered_by_parts l.parts.items x y || covered (chunks_rest l.part-iterator) x y) ≡ covered l.rects x y;
+  whole : (x y : ℤ) → covered_by_parts l.parts.items x y ≡ covered (flat_map vec_items (take l.list-index l.lists)) x y;
 }

@@ -18,7 +18,7 @@ returns g c =
     let parts = c.in_ok-parts.parts.items in
     let listed : length parts ≡ vec_len c.in_ok-parts.parts = grind (arith, common_steps) in
     let each : (k : ℕ) (d : Result (Vec ℕ) OutOfMemory) → k < length parts → IfOk (get_or parts k d) (λ v. v.items ≡ flat_map line (range_with_len (k * size) (min size (n - k * size)))) =
-    λ k d lt. let one = (c.in_ok-parts.ensures.each k d lt).1 in rw one.argument_is.len at one.call in
+    λ k d lt. (c.in_ok-parts.ensures.each k d lt).met in
     rw (read_is c.args.least c.ranges.least, read_is c.args.most c.ranges.most) at (IfOk-weaker c.all_parts.result _ _
     (λ v are. parts_are line size n parts v.items (omega (arith, c.max-size.ensures)) (listed ∙ c.in_ok-parts.ensures.len) each are ∙ ap (first_lines windows (read c.args.least) (read c.args.most) (drawn_only windows c.args.totals.now)) c.requires.count)
     c.all_parts.ensures)

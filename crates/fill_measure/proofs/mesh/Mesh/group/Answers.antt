@@ -13,4 +13,4 @@ add_line-requires-clause-row c =
     let mesh = c.args.self.now in
     let j_in : c.args.from + c.loop-k.k < gaps mesh.up.now = omega (arith, c.requires.within, c.loop-k-test.true) in
     rw c.deref.ensures.value (row_is (squares_of mesh.shapes) mesh.across.now mesh.up.now c.in_ok-row.row.items _ (c.args.from + c.loop-k.k) mesh.across_lines mesh.up_lines j_in
-    (λ d x y here. c.in_ok-rects.ensures x y ∙ c.requires.lists.each (c.args.from + c.loop-k.k) d j_in x y here) c.in_ok-row.ensures)
+    (λ d x y here. c.in_ok-rects.ensures x y ∙ c.requires.parts.each (c.args.from + c.loop-k.k) d j_in x y here) c.in_ok-row.ensures)
