@@ -152,12 +152,15 @@ fn each_of_100_000_windows_has_its_line(rt: HostRuntime) -> Result<(), Fail> {
 #[test]
 fn parts_have_the_lines_of_neighbouring_windows(rt: HostRuntime) -> Result<(), Fail> {
     let rules = rules_of(rt.alloc(), MANY_WINDOWS)?;
-    let rects = vec![in rt.alloc(); Rect::new(250, 6, 251, 7)?]?;
-    let parts = report_parts_of_rects(&rt, rt.alloc(), rects, &rules)?;
+    let mut lists = Vec::new(rt.alloc());
+    lists.push(Vec::new(rt.alloc()))?;
+    lists.push(vec![in rt.alloc(); Rect::new(250, 6, 251, 7)?]?)?;
+    lists.push(vec![in rt.alloc(); Rect::new(250, 6, 251, 7)?]?)?;
+    let parts = report_parts_of_rects(&rt, rt.alloc(), lists, &rules)?;
     let text = parts.concat(rt.alloc())?;
     let lines = text.iter().filter(|c| **c == b'\n').count();
     assert_eq!(rt; lines, 100_000);
-    // Sixteen threads have 6,250 windows each, so the second begins in the seventh row.
+    // Sixteen parts have 6,250 windows each, so the second begins in the seventh row. Its one square is in two lists, and counts once.
     assert_eq!(rt; parts.len(), 16);
     assert!(rt;
         parts.get(1).is_some_and(|part| part.starts_with(

@@ -134,7 +134,7 @@ pub fn prepare<
     ensures script_unread { IfErr result (λ e. is_before_script e ≡ true → script.new ≡ script.old) }
 {
     let values = take_rules(alloc, rules)?;
-    let drawn = take_design(alloc, design, &values)?;
+    let drawn = take_design(rt, alloc, design, &values)?;
     let edits = take_edits(alloc, script)?;
     let filled = fill_design::<C, P, W>(
         rt, alloc, calls, placed, withdrawn, values, drawn, &edits, workers, limit,

@@ -1,5 +1,7 @@
 //! The inputs, each read to its end and interpreted.
 ghost use Rattle.std.specs.Prelude.{◌≡◌, ◌↔◌, true, false, map, IfOk, IfErr, IfSome, IsErrOf, Ok};
+ghost use Rattle.std.specs.List.{flat_map};
+ghost use Rattle.std.specs.Vec.{vec_items};
 ghost use Rattle.fill_device.specs.Taps.{has_failed, under};
 ghost use Rattle.fill_region.specs.Bands.{holds};
 ghost use Rattle.fill_region.specs.Squares.{covered};
@@ -13,10 +15,11 @@ use fill_base::Rect;
 use fill_device::{InputError, Tap, read_input};
 use fill_region::Region;
 use fill_text::{Edit, RuleError, Rules, ScriptError, read_rules, read_script};
-use gds_flatten::flatten_rects;
+use gds_flatten::flatten_parts;
 use gds_grammar::read_library;
-use std::alloc::Global;
+use std::alloc::{AllocError, Global};
 use std::io::Read;
+use std::thread::Threads;
 
 /// How many bytes an input may have.
 const MOST_BYTES: usize = 2_147_483_648;
@@ -65,8 +68,8 @@ fn data_type_of(rules: &Rules) -> u16
 /// What a design gives to a report or a fill.
 #[derive(Drop)]
 pub struct Drawing {
-    /// Rectangles that cover the metal that its top draws on the rules' layer; they may overlap.
-    pub rects: Vec<Rect>,
+    /// Lists of rectangles that cover the metal that its top draws on the rules' layer; they may overlap.
+    pub lists: Vec<Vec<Rect>>,
     /// The data of its UNITS.
     pub units: [u8; 16],
     /// The data of its BGNLIB: the dates of its last change and access.
@@ -75,19 +78,21 @@ pub struct Drawing {
 
 /// What the design behind the tap draws on the rules' layer, with its units and dates.
 pub fn take_drawing<D: Read>(
+    rt: &(impl Threads + Sync),
     alloc: Global,
     tap: &mut Tap<D>,
     rules: &Rules,
 ) -> Result<Drawing, InputFault<DesignError>>
     requires { has_failed tap.old ≡ false }
     ensures device { IsErrOf result (InputFault.Unread InputError.Device) ↔ (has_failed tap.new ≡ true) }
-    ensures design { IfOk result (λ d. IfSome (D.remaining (under tap.old)) (λ bytes. IsDesign bytes (values_of rules.now) (covered d.rects.items) d.units d.dates)) }
+    ensures design { IfOk result (λ d. IfSome (D.remaining (under tap.old)) (λ bytes. IsDesign bytes (values_of rules.now) (covered (flat_map vec_items d.lists.items)) d.units d.dates)) }
     ensures refused { IfErr result (λ f. IfSome (D.remaining (under tap.old)) (λ bytes. IsDesignFault bytes (values_of rules.now) f)) }
 {
     let bytes = read_input(alloc, tap, MOST_BYTES)?;
     let library = read_library(alloc, &bytes)?;
     drop(bytes);
-    let rects = flatten_rects(
+    let lists = flatten_parts(
+        rt,
         alloc,
         &library,
         rules.top(),
@@ -95,7 +100,7 @@ pub fn take_drawing<D: Read>(
         data_type_of(rules),
     )?;
     Ok(Drawing {
-        rects,
+        lists,
         units: library.units,
         dates: library.dates,
     })
@@ -114,6 +119,7 @@ pub struct Design {
 
 /// The same with the metal as a region.
 pub fn take_design<D: Read>(
+    rt: &(impl Threads + Sync),
     alloc: Global,
     tap: &mut Tap<D>,
     rules: &Rules,
@@ -123,8 +129,8 @@ pub fn take_design<D: Read>(
     ensures design { IfOk result (λ d. IfSome (D.remaining (under tap.old)) (λ bytes. IsDesign bytes (values_of rules.now) (holds d.metal) d.units d.dates)) }
     ensures refused { IfErr result (λ f. IfSome (D.remaining (under tap.old)) (λ bytes. IsDesignFault bytes (values_of rules.now) f)) }
 {
-    let drawing = take_drawing(alloc, tap, rules)?;
-    let metal = region_of(alloc, &drawing.rects)?;
+    let drawing = take_drawing(rt, alloc, tap, rules)?;
+    let metal = region_of(alloc, &drawing.lists)?;
     Ok(Design {
         metal,
         units: drawing.units,
@@ -132,13 +138,21 @@ pub fn take_design<D: Read>(
     })
 }
 
-/// The region of the squares that some rectangle holds.
-fn region_of(alloc: Global, rects: &[Rect]) -> Result<Region, InputError>
-    ensures squares { IfOk result (λ r. covered rects.now ≡ holds r) }
+/// The region of the squares that some rectangle of some list holds.
+fn region_of(alloc: Global, lists: &[Vec<Rect>]) -> Result<Region, InputError>
+    ensures squares { IfOk result (λ r. covered (flat_map vec_items lists.now) ≡ holds r) }
     ensures refused { IfErr result (λ e. e ≡ InputError.Memory) }
 {
-    match Region::from_rects(alloc, rects) {
+    match joined_region(alloc, lists) {
         Ok(region) => Ok(region),
         Err(_) => Err(InputError::Memory),
     }
+}
+
+/// The same, by one list of all rectangles.
+fn joined_region(alloc: Global, lists: &[Vec<Rect>]) -> Result<Region, AllocError>
+    ensures { IfOk result (λ r. covered (flat_map vec_items lists.now) ≡ holds r) }
+{
+    let rects = lists.concat(alloc)?;
+    Region::from_rects(alloc, &rects)
 }

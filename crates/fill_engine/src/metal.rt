@@ -16,11 +16,11 @@ use fill_text::{Edit, Rules};
 use std::alloc::{AllocError, Global};
 use std::thread::Threads;
 
-/// Metal that is measured once: as the rectangles that draw it, which may overlap, or as the region that cuts have left.
+/// Metal that is measured once: as lists of the rectangles that draw it, which may overlap, or as the region that cuts have left.
 #[derive(Drop)]
 pub enum Metal {
-    /// The squares that some rectangle holds.
-    Drawn(Vec<Rect>),
+    /// The squares that some rectangle of some list holds.
+    Drawn(Vec<Vec<Rect>>),
     /// The squares of the region.
     Left(Region),
 }
@@ -129,12 +129,15 @@ pub fn metal_left(alloc: Global, edits: &[Edit]) -> Result<Region, AllocError>
     }
 }
 
-/// The metal that the edits leave of nothing: where they only add, as their rectangles.
+/// The metal that the edits leave of nothing: where they only add, as one list of their rectangles.
 pub(crate) fn metal_after(alloc: Global, edits: &[Edit]) -> Result<Metal, OutOfMemory>
     ensures { IfOk result (λ m. metal_of m ≡ is_metal (map change_of edits.now)) }
 {
     match rects_added(alloc, edits)? {
-        Some(rects) => Ok(Metal::Drawn(rects)),
+        Some(rects) => {
+            let lists = one_list(alloc, rects)?;
+            Ok(Metal::Drawn(lists))
+        }
         None => {
             let region = metal_left(alloc, edits)?;
             Ok(Metal::Left(region))
@@ -142,8 +145,17 @@ pub(crate) fn metal_after(alloc: Global, edits: &[Edit]) -> Result<Metal, OutOfM
     }
 }
 
+/// The list alone.
+fn one_list(alloc: Global, rects: Vec<Rect>) -> Result<Vec<Vec<Rect>>, AllocError>
+    ensures { IfOk result (λ v. flat_map vec_items v.items ≡ rects.items) }
+{
+    let mut lists = Vec::new(alloc);
+    lists.push(rects)?;
+    Ok(lists)
+}
+
 /// The density report of metal, in parts that are its text one after another. Rectangles are measured as they are, with no
-/// region in between, and their list is let go of before a line of the report is made.
+/// region in between, and their lists are let go of before a line of the report is made.
 pub(crate) fn report_of_metal(
     rt: &(impl Threads + Sync),
     alloc: Global,
@@ -153,8 +165,8 @@ pub(crate) fn report_of_metal(
     ensures { IfOk result (λ v. flat_map vec_items v.items ≡ metal_report (metal_of metal) (values_of rules.now)) }
 {
     match metal {
-        Metal::Drawn(rects) => {
-            let parts = report_parts_of_rects(rt, alloc, rects, rules)?;
+        Metal::Drawn(lists) => {
+            let parts = report_parts_of_rects(rt, alloc, lists, rules)?;
             Ok(parts)
         }
         Metal::Left(region) => {

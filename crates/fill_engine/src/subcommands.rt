@@ -122,7 +122,7 @@ pub fn check<R: Read, D: Read, W: Write>(
     ensures silent { OnErr result ((has_failed out.new ≡ true) ⊎ (out.new ≡ out.old)) }
 {
     let values = take_rules(alloc, rules)?;
-    let drawn = take_drawing(alloc, design, &values)?;
-    write_report(rt, alloc, Metal::Drawn(drawn.rects), &values, out)?;
+    let drawn = take_drawing(rt, alloc, design, &values)?;
+    write_report(rt, alloc, Metal::Drawn(drawn.lists), &values, out)?;
     Ok(())
 }

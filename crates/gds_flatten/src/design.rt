@@ -12,14 +12,14 @@ use crate::placement::Placement;
 use crate::share::Share;
 use crate::walk::carry_cell;
 use fill_base::Rect;
+use fill_threads::map_indices;
 use std::alloc::Global;
-use std::thread;
 use std::thread::Threads;
 
 /// How many cells a chain may have, the top among them.
 const DEEPEST: u32 = 256;
 
-/// The copies are cut into at most so many shares, each carried by a thread of its own.
+/// The copies are cut into at most so many shares, which threads carry one after another.
 const MOST_SHARES: usize = 16;
 
 /// A share has so many copies or more, or all that are left: fewer take no longer than a thread needs to begin.
@@ -84,7 +84,7 @@ impl Design<'_> {
         ensures refused { IfErr result (IsRefusal (top_copies self.now.cells.items self.now.top)) }
     {
         let size = self.number.div_ceil(MOST_SHARES).max(LEAST_SHARE);
-        let parts = thread::map_indices(
+        let parts = map_indices(
             rt,
             alloc,
             self.number.div_ceil(size),

@@ -2,6 +2,8 @@ use Rattle.std.proofs.Common.{ℕ, Err, ap, take}
 use Rattle.fill_engine.specs.declared.refusal.Refusal.TheVariants.{Report}
 use Rattle.std.proofs.lemmas.Result.{err_from_is_err_and}
 use Rattle.std.specs.Io.KnownBytes.{Appends}
+use Rattle.std.specs.List.{flat_map}
+use Rattle.std.specs.Vec.{vec_items}
 use Rattle.fill_device.specs.Taps.{under}
 use Rattle.fill_region.specs.Squares.{covered}
 use Rattle.fill_text.specs.ValuesOfRules.{values_of}
@@ -18,14 +20,14 @@ pub returns-in_err-write_report-clause-refused : goal.returns-in_err-write_repor
 returns-in_err-write_report-clause-refused g c =
     let p = err_from_is_err_and c.from_residual-in_err-write_report.result c.from_residual-in_err-write_report.ensures.1 in
     rw (p.1, p.2) (check_reason (g.R.Read.remaining (under c.args.rules.now)) (g.D.Read.remaining (under c.args.design.now))
-    (values_of c.in_ok-values.values) (covered c.in_ok-drawn.drawn.rects.items) c.in_ok-drawn.drawn.units c.in_ok-drawn.drawn.dates c.in_err-write_report.field-0.0 c.in_ok-values.ensures.rules c.in_ok-drawn.ensures.design
+    (values_of c.in_ok-values.values) (covered (flat_map vec_items c.in_ok-drawn.drawn.lists.items)) c.in_ok-drawn.drawn.units c.in_ok-drawn.drawn.dates c.in_err-write_report.field-0.0 c.in_ok-values.ensures.rules c.in_ok-drawn.ensures.design
     c.in_err-write_report.ensures.refused)
 
 pub returns-in_err-write_report-clause-prefix : goal.returns-in_err-write_report-clause-prefix
 returns-in_err-write_report-clause-prefix g c =
     let p = err_from_is_err_and c.from_residual-in_err-write_report.result c.from_residual-in_err-write_report.ensures.1 in
     λ is. check_written (g.R.Read.remaining (under c.args.rules.now)) (g.D.Read.remaining (under c.args.design.now))
-    (values_of c.in_ok-values.values) (covered c.in_ok-drawn.drawn.rects.items) c.in_ok-drawn.drawn.units c.in_ok-drawn.drawn.dates
+    (values_of c.in_ok-values.values) (covered (flat_map vec_items c.in_ok-drawn.drawn.lists.items)) c.in_ok-drawn.drawn.units c.in_ok-drawn.drawn.dates
     (λ text. (k : ℕ) × Appends (g.W.Write.contents (under c.args.out.now)) (g.W.Write.contents (under c.write_report.new.out)) (take k text))
     c.in_ok-values.ensures.rules c.in_ok-drawn.ensures.design (c.in_err-write_report.ensures.prefix
     (ap Err (as_error c.from_residual-in_err-write_report.result p.0 c.in_err-write_report.field-0.0 Report p.1 p.2 is)))
@@ -33,6 +35,6 @@ returns-in_err-write_report-clause-prefix g c =
 pub returns-clause-written : goal.returns-clause-written
 returns-clause-written g c =
     check_written (g.R.Read.remaining (under c.args.rules.now)) (g.D.Read.remaining (under c.args.design.now))
-    (values_of c.in_ok-values.values) (covered c.in_ok-drawn.drawn.rects.items) c.in_ok-drawn.drawn.units c.in_ok-drawn.drawn.dates
+    (values_of c.in_ok-values.values) (covered (flat_map vec_items c.in_ok-drawn.drawn.lists.items)) c.in_ok-drawn.drawn.units c.in_ok-drawn.drawn.dates
     (Appends (g.W.Write.contents (under c.args.out.now)) (g.W.Write.contents (under c.write_report.new.out)))
     c.in_ok-values.ensures.rules c.in_ok-drawn.ensures.design c.in_ok-write_report.ensures.whole
