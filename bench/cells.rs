@@ -2,16 +2,16 @@
 //! rectangles are listed for the rows that they meet, those of a row are shared out to its cells, and each window is a difference of
 //! sums. The algorithm is that of the proved crates.
 use crate::sweep::{Rect, Windows};
+use crate::threads::share_out;
 use std::ops::Range;
-use std::sync::Mutex;
 
 /// The rows of cells are cut into at most so many groups, which threads take one after another.
 const MOST_GROUPS: usize = 16;
 
 /// A group of rows of windows has about so many windows or more.
-const LEAST_GROUP: usize = 16_384;
+const LEAST_GROUP: usize = 4_096;
 
-/// The rectangles are cut into at most so many parts, each of so many or of all that are left.
+/// The rectangles are cut into about so many parts, each of about so many or of all of a shorter list.
 const MOST_PARTS: usize = 16;
 const LEAST_PART: usize = 8_192;
 
@@ -158,29 +158,14 @@ fn by_row(rects: &[Rect], up: &[i32]) -> Vec<Vec<u32>> {
     lists
 }
 
-/// Does the work of each item, on as many threads as there are processors. What a thread writes often is best its own until it is
-/// whole: the lengths of lists that lie side by side would go from one processor to the other at each write.
-pub fn share_out<T: Send>(items: impl Iterator<Item = T> + Send, work: impl Fn(T) + Sync) {
-    let threads = std::thread::available_parallelism().map_or(1, |count| count.get());
-    let items = Mutex::new(items);
-    let next = || items.lock().expect("no thread panics").next();
-    std::thread::scope(|scope| {
-        for _ in 0..threads {
-            scope.spawn(|| {
-                while let Some(item) = next() {
-                    work(item);
-                }
-            });
-        }
-    });
-}
-
-/// The parts of the rectangles, each with the places of those that meet each row.
-fn by_parts<'a>(rects: &'a [Rect], up: &[i32]) -> Vec<(&'a [Rect], Vec<Vec<u32>>)> {
-    let parts = rects.chunks(rects.len().div_ceil(MOST_PARTS).max(LEAST_PART));
-    let mut lists = vec![Vec::new(); parts.len()];
-    share_out(parts.clone().zip(&mut lists), |(part, list)| *list = by_row(part, up));
-    parts.zip(lists).collect()
+/// Parts of the lists, each of about one size, and each with the places of those that meet each row.
+fn by_parts<'a>(lists: &'a [Vec<Rect>], up: &[i32]) -> Vec<(&'a [Rect], Vec<Vec<u32>>)> {
+    let size = lists.iter().map(Vec::len).sum::<usize>().div_ceil(MOST_PARTS).max(LEAST_PART);
+    let cut = |list: &'a Vec<Rect>| list.chunks(list.len().div_ceil(((list.len() + size / 2) / size).max(1)).max(1));
+    let parts: Vec<&[Rect]> = lists.iter().flat_map(cut).collect();
+    let mut rows = vec![Vec::new(); parts.len()];
+    share_out(parts.iter().zip(&mut rows), |(part, rows)| *rows = by_row(part, up));
+    parts.into_iter().zip(rows).collect()
 }
 
 /// The rectangles of a row, where they lie all over one another joined.
@@ -389,14 +374,16 @@ fn lines_of(first: i32, size: i32, step: i32, count: usize) -> Vec<i32> {
 }
 
 /// How far apart lines are to be across and upwards.
-fn pitch_of(rects: &[Rect], across: &[i32], up: &[i32]) -> (u64, u64) {
+fn pitch_of(lists: &[Vec<Rect>], across: &[i32], up: &[i32]) -> (u64, u64) {
     let whole = Rect { x1: across[0], y1: up[0], x2: across[across.len() - 1], y2: up[up.len() - 1] };
-    let looked: Vec<&Rect> = rects.chunks(rects.len() / SAMPLES + 1).map(|part| &part[0]).collect();
+    let number = lists.iter().map(Vec::len).sum::<usize>();
+    let step = number / SAMPLES + 1;
+    let looked: Vec<&Rect> = lists.iter().flat_map(|list| list.chunks(step)).map(|part| &part[0]).collect();
     let met: Vec<&Rect> = looked.iter().filter(|rect| clip(rect, &whole).is_some()).copied().collect();
     let count = (met.len() as u64).max(1);
     let width = met.iter().map(|rect| u64::from(rect.x2.abs_diff(rect.x1))).sum::<u64>() / count + 1;
     let height = met.iter().map(|rect| u64::from(rect.y2.abs_diff(rect.y1))).sum::<u64>() / count + 1;
-    let within = rects.len() as u64 * met.len() as u64 / (looked.len() as u64).max(1);
+    let within = number as u64 * met.len() as u64 / (looked.len() as u64).max(1);
     let (wide, tall) = (u64::from(whole.x2.abs_diff(whole.x1)), u64::from(whole.y2.abs_diff(whole.y1)));
     let each = wide * tall / within.max(1);
     let quarters_for = |count: u64| (each * count * 16 / (width * height)).isqrt().max(1);
@@ -491,14 +478,14 @@ fn sides(lines: &[i32], first: i32, size: i32, step: i32, count: usize) -> Vec<(
     (0..count as i32).map(|a| (at(first + a * step), at(first + a * step + size))).collect()
 }
 
-/// The areas of all windows, row by row.
-pub fn measure_rects(rects: &[Rect], windows: &Windows) -> Vec<i64> {
+/// The areas of all windows, row by row, of the rectangles of all lists.
+pub fn measure_rects(lists: &[Vec<Rect>], windows: &Windows) -> Vec<i64> {
     let across = lines_of(windows.origin.0, windows.size.0, windows.step.0, windows.columns);
     let up = lines_of(windows.origin.1, windows.size.1, windows.step.1, windows.rows);
-    let (width, height) = pitch_of(rects, &across, &up);
+    let (width, height) = pitch_of(lists, &across, &up);
     let (across, up) = (cut(across, width), cut(up, height));
     let (columns, rows) = (across.len() - 1, up.len() - 1);
-    let parts = by_parts(rects, &up);
+    let parts = by_parts(lists, &up);
     let height = rows.div_ceil(MOST_GROUPS);
     let mut groups = vec![Vec::new(); rows.div_ceil(height)];
     share_out(groups.iter_mut().enumerate(), |(k, group)| {

@@ -3,7 +3,12 @@
 #![allow(dead_code)] // no benchmark uses all of it
 
 use crate::sweep::Rect;
+use crate::threads::share_out;
 use std::collections::HashMap;
+
+/// The copies are carried in at most so many shares, each of so many or of all that are left.
+const MOST_SHARES: usize = 16;
+const LEAST_SHARE: usize = 8_192;
 
 type Point = (i64, i64);
 
@@ -68,7 +73,8 @@ struct Link {
 #[derive(Default)]
 pub struct Cell {
     pieces: Vec<Rect>,
-    shapes: usize,
+    /// How many pieces the shapes have up to each one.
+    ends: Vec<usize>,
     links: Vec<Link>,
 }
 
@@ -257,13 +263,19 @@ impl Element {
 
 impl Cell {
     fn put_boundary(&mut self, points: &[Point]) {
-        self.shapes += 1;
         fill(points, &mut self.pieces);
+        self.ends.push(self.pieces.len());
     }
 
     fn put_path(&mut self, numbers: Numbers, points: &[Point]) {
-        self.shapes += 1;
         wire(numbers, points, &mut self.pieces);
+        self.ends.push(self.pieces.len());
+    }
+
+    /// The pieces of the shapes from one to another.
+    fn pieces_of(&self, from: usize, to: usize) -> &[Rect] {
+        let begin = |shape: usize| if shape == 0 { 0 } else { self.ends[shape - 1] };
+        &self.pieces[begin(from)..begin(to)]
     }
 
     /// Puts an element into the cell as it is read.
@@ -341,7 +353,7 @@ impl Design {
         if let Some(count) = self.counts[cell] {
             return count;
         }
-        let mut total = self.cells[cell].shapes;
+        let mut total = self.cells[cell].ends.len();
         for k in 0..self.targets[cell].len() {
             let each = self.count(self.targets[cell][k]);
             let link = &self.cells[cell].links[k];
@@ -351,29 +363,50 @@ impl Design {
         total
     }
 
-    fn carry(&self, cell: usize, at: &Placement, out: &mut Vec<Rect>) {
-        out.extend(self.cells[cell].pieces.iter().map(|piece| at.rect(piece)));
+    /// Carries the copies of a cell from one number up to another.
+    fn carry(&self, cell: usize, at: &Placement, (from, to): (usize, usize), out: &mut Vec<Rect>) {
+        let own = self.cells[cell].ends.len();
+        let pieces = self.cells[cell].pieces_of(from.min(own), to.min(own));
+        out.extend(pieces.iter().map(|piece| at.rect(piece)));
+        let (mut from, mut to) = (from.saturating_sub(own), to.saturating_sub(own));
         for (link, target) in self.cells[cell].links.iter().zip(&self.targets[cell]) {
-            if self.counts[*target] == Some(0) {
-                continue;
+            if to == 0 {
+                return;
             }
-            for row in 0..link.rows {
-                for column in 0..link.columns {
-                    let x = link.placement.x + column * link.column_step.0 + row * link.row_step.0;
-                    let y = link.placement.y + column * link.column_step.1 + row * link.row_step.1;
-                    self.carry(*target, &at.after(&Placement { x, y, ..link.placement }), out);
-                }
+            let each = self.counts[*target].expect("counted");
+            let turns = if each == 0 { 0 } else { (link.columns * link.rows) as usize };
+            if from < turns * each {
+                self.carry_turns(link, *target, each, at, (from, to.min(turns * each)), out);
             }
+            from = from.saturating_sub(turns * each);
+            to = to.saturating_sub(turns * each);
+        }
+    }
+
+    fn carry_turns(&self, link: &Link, target: usize, each: usize, at: &Placement, (from, to): (usize, usize), out: &mut Vec<Rect>) {
+        for turn in from / each..to.div_ceil(each) {
+            let (column, row) = (turn as i64 % link.columns, turn as i64 / link.columns);
+            let x = link.placement.x + column * link.column_step.0 + row * link.row_step.0;
+            let y = link.placement.y + column * link.column_step.1 + row * link.row_step.1;
+            let share = (from.saturating_sub(turn * each), (to - turn * each).min(each));
+            self.carry(target, &at.after(&Placement { x, y, ..link.placement }), share, out);
         }
     }
 }
 
-pub fn flatten((cells, indices): (Vec<Cell>, HashMap<Vec<u8>, usize>), top: &[u8]) -> Vec<Rect> {
+/// The rectangles of the top in lists, each of a share of its copies.
+pub fn flatten((cells, indices): (Vec<Cell>, HashMap<Vec<u8>, usize>), top: &[u8]) -> Vec<Vec<Rect>> {
     let targets = cells.iter().map(|cell| cell.links.iter().map(|link| indices[&link.name]).collect()).collect();
     let counts = vec![None; cells.len()];
     let mut design = Design { cells, targets, counts };
-    let count = design.count(indices[top]);
-    let mut rects = Vec::with_capacity(count);
-    design.carry(indices[top], &Placement::shift(0, 0), &mut rects);
-    rects
+    let (top, count) = (indices[top], design.count(indices[top]));
+    let size = count.div_ceil(MOST_SHARES).max(LEAST_SHARE);
+    let mut lists = vec![Vec::new(); count.div_ceil(size)];
+    share_out(lists.iter_mut().enumerate(), |(k, list)| {
+        let share = (k * size, count.min((k + 1) * size));
+        let mut rects = Vec::with_capacity(share.1 - share.0);
+        design.carry(top, &Placement::shift(0, 0), share, &mut rects);
+        *list = rects;
+    });
+    lists
 }

@@ -10,11 +10,14 @@ mod design;
 mod rules;
 #[path = "../sweep.rs"]
 mod sweep;
+#[path = "../threads.rs"]
+mod threads;
 
-use cells::{measure_rects, share_out};
+use cells::measure_rects;
 use design::{flatten, read_cells, read_library};
 use rules::{Lines, Rules};
 use std::io::Write;
+use threads::share_out;
 
 /// The lines are made in at most so many parts, each of so many windows or more, or of all that are left. A line is mostly no longer than so many bytes.
 const MOST_PARTS: usize = 16;
@@ -42,13 +45,13 @@ fn main() {
     let layer = rules.layer();
     let is_way = |name: &str| way.iter().any(|word| word == name);
     let cells = if is_way("library") { read_library(bytes, layer) } else { read_cells(&bytes, layer) };
-    let rects = flatten(cells, rules.text("top"));
+    let lists = flatten(cells, rules.text("top"));
     if is_way("rects") {
-        let bytes: Vec<u8> = rects.iter().flat_map(|r| [r.x1, r.y1, r.x2, r.y2]).flat_map(i32::to_le_bytes).collect();
+        let bytes: Vec<u8> = lists.iter().flatten().flat_map(|r| [r.x1, r.y1, r.x2, r.y2]).flat_map(i32::to_le_bytes).collect();
         return std::io::stdout().write_all(&bytes).expect("the rectangles");
     }
     let lines = Lines::of(&rules);
-    let areas = measure_rects(&rects, &lines.windows);
-    drop(rects);
+    let areas = measure_rects(&lists, &lines.windows);
+    drop(lists);
     report(&lines, &areas).iter().for_each(|part| std::io::stdout().write_all(part).expect("the report"));
 }

@@ -22,7 +22,7 @@ rounds=${ROUNDS:-3}
 
 python3 "$here/generate.py" 1000 deep "$work"
 "$here/../build.sh" "$here" phases "$work" "$work/rules.csv $work/design.gds" \
-    "fill_base fill_raster fill_spans fill_region fill_size fill_area fill_cells fill_measure gds_record gds_grammar gds_shape gds_flatten fill_text fill_job fill_core fill_report" \
+    "fill_base fill_raster fill_spans fill_region fill_size fill_area fill_cells fill_threads fill_measure gds_record gds_grammar gds_shape gds_flatten fill_text fill_job fill_core fill_report" \
     "rayon csv itoa indexmap thiserror anyhow"
 
 # time_phases COUNT WINDOWS PROCESSORS: a line for each way, of rectangles and of the region: seconds to flatten, to measure the windows (the region

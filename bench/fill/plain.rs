@@ -6,6 +6,8 @@ mod design;
 mod rules;
 #[path = "../sweep.rs"]
 mod sweep;
+#[path = "../threads.rs"]
+mod threads;
 
 use design::{flatten, head, read_library};
 use rules::{Lines, Rules};
@@ -206,7 +208,7 @@ fn main() {
     let bytes = std::fs::read(design).expect("the design");
     let (units, dates) = head(&bytes);
     let (units, dates) = (units.to_vec(), dates.to_vec());
-    let metal = from_rects(&flatten(read_library(bytes, rules.layer()), rules.text("top")));
+    let metal = from_rects(&flatten(read_library(bytes, rules.layer()), rules.text("top")).concat());
     let lines = Lines::of(&rules);
     let areas = measure_all(&metal, &lines.windows);
     let low: Vec<bool> = areas.iter().map(|area| lines.is_low(*area)).collect();

@@ -4,6 +4,8 @@
 mod cells;
 #[path = "../sweep.rs"]
 mod sweep;
+#[path = "../threads.rs"]
+mod threads;
 
 use cells::{measure_rects, sum_cells};
 use std::time::{Duration, Instant};
@@ -56,9 +58,9 @@ fn time_cells(what: &str, bands: &Bands, windows: &Windows) {
     say(what, areas.iter().sum(), start.elapsed());
 }
 
-fn time_rects(what: &str, rects: &[Rect], windows: &Windows) {
+fn time_rects(what: &str, lists: &[Vec<Rect>], windows: &Windows) {
     let start = Instant::now();
-    let areas = measure_rects(rects, windows);
+    let areas = measure_rects(lists, windows);
     say(what, areas.iter().sum(), start.elapsed());
 }
 
@@ -81,10 +83,11 @@ fn main() {
     time_cells("cells_10000", &bands, &windows_over(side, 100, 100, 2));
     time_cells("cells_100000", &bands, &windows_over(side, 250, 400, 2));
     time_cells("cells_1000000", &bands, &windows_over(side, 1000, 1000, 4));
-    time_rects("rects_1", &rects, &windows_over(side, 1, 1, 1));
-    time_rects("rects_10000", &rects, &windows_over(side, 100, 100, 2));
-    time_rects("rects_100000", &rects, &windows_over(side, 250, 400, 2));
-    time_rects("rects_1000000", &rects, &windows_over(side, 1000, 1000, 4));
+    let lists = [rects];
+    time_rects("rects_1", &lists, &windows_over(side, 1, 1, 1));
+    time_rects("rects_10000", &lists, &windows_over(side, 100, 100, 2));
+    time_rects("rects_100000", &lists, &windows_over(side, 250, 400, 2));
+    time_rects("rects_1000000", &lists, &windows_over(side, 1000, 1000, 4));
     let start = Instant::now();
     let clear = count_clear(&bands, side);
     say("is_clear", clear as i64, start.elapsed());

@@ -20,7 +20,7 @@ set -eu
 . "$(dirname "$0")/../common.sh"
 
 python3 "$here/generate.py" 1000 "$work/first"
-"$here/../build.sh" "$here" layer "$work" "$work/first" "fill_base fill_spans fill_region fill_size fill_area fill_cells fill_measure" "rayon anyhow"
+"$here/../build.sh" "$here" layer "$work" "$work/first" "fill_base fill_spans fill_region fill_size fill_area fill_cells fill_threads fill_measure" "rayon anyhow"
 
 # time_both SIZE PROCESSORS: runs both programs three times on the first so many processors.
 time_both() {

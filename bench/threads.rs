@@ -1,0 +1,22 @@
+//! Work that threads share in plain Rust, for the benchmarks alone.
+use std::sync::Mutex;
+
+/// Does the work of each item, on as many threads as there are processors, of which this is one: each takes the next item that none
+/// has taken. What a thread writes often is best its own until it is whole: the lengths of lists that lie side by side would go from
+/// one processor to the other at each write.
+pub fn share_out<T: Send>(items: impl Iterator<Item = T> + Send, work: impl Fn(T) + Sync) {
+    let threads = std::thread::available_parallelism().map_or(1, |count| count.get());
+    let items = Mutex::new(items);
+    let next = || items.lock().expect("no thread panics").next();
+    let turns = || {
+        while let Some(item) = next() {
+            work(item);
+        }
+    };
+    std::thread::scope(|scope| {
+        (1..threads).for_each(|_| {
+            scope.spawn(turns);
+        });
+        turns();
+    });
+}
