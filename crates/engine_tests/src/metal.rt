@@ -154,17 +154,17 @@ fn parts_have_the_lines_of_neighbouring_windows(rt: HostRuntime) -> Result<(), F
     let rules = rules_of(rt.alloc(), MANY_WINDOWS)?;
     let mut lists = Vec::new(rt.alloc());
     lists.push(Vec::new(rt.alloc()))?;
-    lists.push(vec![in rt.alloc(); Rect::new(250, 6, 251, 7)?]?)?;
-    lists.push(vec![in rt.alloc(); Rect::new(250, 6, 251, 7)?]?)?;
+    lists.push(vec![in rt.alloc(); Rect::new(125, 3, 126, 4)?]?)?;
+    lists.push(vec![in rt.alloc(); Rect::new(125, 3, 126, 4)?]?)?;
     let parts = report_parts_of_rects(&rt, rt.alloc(), lists, &rules)?;
     let text = parts.concat(rt.alloc())?;
     let lines = text.iter().filter(|c| **c == b'\n').count();
     assert_eq!(rt; lines, 100_000);
-    // Sixteen parts have 6,250 windows each, so the second begins in the seventh row. Its one square is in two lists, and counts once.
-    assert_eq!(rt; parts.len(), 16);
+    // Thirty-two parts have 3,125 windows each, so the second begins in the fourth row. Its one square is in two lists, and counts once.
+    assert_eq!(rt; parts.len(), 32);
     assert!(rt;
         parts.get(1).is_some_and(|part| part.starts_with(
-            b"250,6,250,6,251,7,1,0,1,1000000,HIGH\n251,6,"
+            b"125,3,125,3,126,4,1,0,1,1000000,HIGH\n126,3,"
         ))
     );
     Ok(())

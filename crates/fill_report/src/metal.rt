@@ -21,10 +21,10 @@ use std::alloc::Global;
 use std::thread::Threads;
 
 /// The lines are made in at most so many parts, by threads that take one after another.
-const MOST_PARTS: usize = 16;
+const MOST_PARTS: usize = 32;
 
 /// A part has the lines of so many windows or more, or of all that are left: fewer take no longer than a thread needs to begin.
-const LEAST_PART: usize = 1_024;
+const LEAST_PART: usize = 512;
 
 /// A line is mostly no longer than so many bytes: each part has room for as many at the start.
 const LINE: usize = 72;

@@ -1,5 +1,5 @@
 //! Turns that threads take: each is one call with a number that no other turn has.
-ghost use Rattle.std.specs.Prelude.{◌≡◌, ℕ, ◌<◌, All, length, vec_len, IfOk, OnOk, Ok};
+ghost use Rattle.std.specs.Prelude.{◌≡◌, ℕ, ◌<◌, All, vec_len, IfOk, Ok};
 ghost use Rattle.std.specs.Fork.{GivesEach};
 ghost use Rattle.fill_threads.specs.Turns.{ArePlaces, IsTurn};
 
