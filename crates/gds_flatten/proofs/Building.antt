@@ -1,22 +1,25 @@
 -- Cells built from their elements, one after the other.
-use Rattle.std.proofs.Common.{◌≡◌, ℕ, zero, suc, ◌+◌, ◌<◌, ◌⊎◌, inl, inr, List, [], ◌∷◌, ◌++◌, length, take, drop, map, get_or, refl, sym, ap, subst, arith, ◌∙◌}
+use Rattle.std.proofs.Common.{◌≡◌, ℕ, ◌+◌, drop, suc, zero, ◌<◌, ◌⊎◌, inl, inr, List, [], ◌∷◌, ◌++◌, length, take, map, get_or, refl, sym, ap, subst, arith, ◌∙◌}
 use Rattle.std.specs.Prelude.{slice_get, filter, Option, Some, None}
 use Rattle.std.proofs.lemmas.Bool.{cases_order}
-use Rattle.std.proofs.lemmas.List.{take_more, get_or-take, get_or_append_left}
+use Rattle.std.proofs.lemmas.List.{take_more, get_or-take, get_or_append_left, map-append}
 use Rattle.std.proofs.lemmas.Option.{slice_get_read, slice_get_past, slice_get-get_or}
 use Rattle.std.proofs.Math.Seq.{get_or-append_seam}
 use Rattle.std.proofs.lemmas.Grind.{common_steps, flat_map-append}
 use Rattle.gds_grammar.specs.declared.element.Element.{Element}
 use Rattle.gds_grammar.specs.declared.element.Element.TheVariants.{Boundary, Path, Ref, Array}
 use Rattle.gds_flatten.specs.declared.cell.Cell.{Cell}
+use Rattle.gds_flatten.specs.declared.cell.Run.{Run}
+use Rattle.gds_flatten.specs.declared.link.Link.{Link}
+use Rattle.gds_flatten.specs.declared.shape.Shape.{Shape}
 use Rattle.gds_flatten.specs.declared.error.FlattenError.{FlattenError}
 use Rattle.gds_flatten.specs.declared.error.FlattenError.TheVariants.{Memory}
 use Rattle.gds_flatten.specs.Graphs.{item, next}
 use Rattle.gds_flatten.specs.References.{placements_of, name_of}
 use Rattle.gds_flatten.specs.Shapes.{is_shape}
 use Rattle.gds_flatten.specs.Designs.{Entry, graph_of, index_of, elements_at, target_if, targets, singles_to, singles_among, element_fault, AreFine}
-use Rattle.gds_flatten.specs.steps.Walks.{own_in, singles_in}
-use Rattle.gds_flatten.specs.steps.Built.{own_of, links_from, singles_from, index_if, IsAdded, IsCell, IsFaulty, IsCellAt, AreBuilt, IsFaultAmong}
+use Rattle.gds_flatten.specs.steps.Walks.{singles_of, own_in, singles_in}
+use Rattle.gds_flatten.specs.steps.Built.{own_of, links_from, singles_from, index_if, IsAdded, AreOf, IsRun, IsCell, IsFaulty, IsCellAt, AreBuilt, IsFaultAmong}
 
 -- ---- elements
 
@@ -71,49 +74,56 @@ module _ (layer data_type : ℕ) where
     target_same None index is = refl
 
     -- the reference of the element stands behind those of the elements before it
-    index_at : (xs ys : List Element) (e : Element) (name : List ℕ) → name_of e ≡ Some name
+    pub index_at : (xs ys : List Element) (e : Element) (name : List ℕ) → name_of e ≡ Some name
         → item (targets cells (xs ++ e ∷ ys)) (length (targets cells xs)) ≡ index_of cells name
     index_at xs ys e name named =
         ap (λ zs. item zs (length (targets cells xs))) (flat_map-append (λ x. target_if cells (name_of x)) xs (e ∷ ys)
         ∙ ap (λ o. targets cells xs ++ (target_if cells o ++ targets cells ys)) named)
         ∙ get_or-append_seam (targets cells xs) (index_of cells name) (targets cells ys) 0
 
-    pub cell_more : (es : List Element) (k : ℕ) (e : Element) (row : List ℕ) (index : ℕ) (old new : Cell) → k < length es → e ≡ get_or es k e
-        → row ≡ targets cells es → index ≡ item row (length old.links.items) → IsCell cells layer data_type (take k es) old
-        → IsAdded e layer data_type index old new → IsCell cells layer data_type (take (k + 1) es) new
-    cell_more es k e row index old new within is row_is index_is before added = record { own = own; links = links; singles = singles } where
-      upto : take (k + 1) es ≡ take k es ++ e ∷ []
-      upto = take_more es k e within ∙ ap (λ x. take k es ++ x ∷ []) (sym is)
-
+    pub run_more : (es : List Element) (k : ℕ) (e : Element) (index : ℕ) (old new : Run) → k < length es → e ≡ get_or es k e
+        → (es ≡ take k es ++ e ∷ drop (k + 1) es → length old.links.items ≡ length (targets cells (take k es)) → (name : List ℕ) → name_of e ≡ Some name → index ≡ index_of cells name)
+        → IsRun cells layer data_type (take k es) old → IsAdded e layer data_type index old new → IsRun cells layer data_type (take (k + 1) es) new
+    run_more es k e index old new within is told before added = record { own = own; links = links; singles = singles } where
       split : es ≡ take k es ++ e ∷ drop (k + 1) es
       split = split_at es k e within is where
         split_at : (xs : List Element) (i : ℕ) (x : Element) → i < length xs → x ≡ get_or xs i x → xs ≡ take i xs ++ x ∷ drop (i + 1) xs
         split_at xs i x inside here = grind (arith, common_steps, inside, here)
 
       before_it : length old.links.items ≡ length (targets cells (take k es))
-      before_it = (let all = ap length before.links in let same : length (links_from old) ≡ length old.links.items = grind (arith, common_steps) in sym same ∙ all)
+      before_it = (let all = ap length before.links in let same : length (links_from old.links.items) ≡ length old.links.items = grind (arith, common_steps) in sym same ∙ all)
 
-      index_of_it : (name : List ℕ) → name_of e ≡ Some name → index ≡ index_of cells name
-      index_of_it name named =
-          index_is ∙ ap (item row) before_it ∙ ap (λ r. item r (length (targets cells (take k es)))) (row_is ∙ ap (targets cells) split)
-          ∙ index_at (take k es) (drop (k + 1) es) e name named
+      index_is : (name : List ℕ) → name_of e ≡ Some name → index ≡ index_of cells name
+      index_is = told split before_it
+
+      upto : take (k + 1) es ≡ take k es ++ e ∷ []
+      upto = take_more es k e within ∙ ap (λ x. take k es ++ x ∷ []) (sym is)
 
       nil_right : {X : Type 0} (xs : List X) → xs ≡ xs ++ []
       nil_right xs = grind (arith, common_steps)
 
-      own : own_of new ≡ filter (is_shape layer data_type) (take (k + 1) es)
+      own : own_of new.shapes.items ≡ filter (is_shape layer data_type) (take (k + 1) es)
       own = added.own ∙ ap (λ xs. xs ++ filter (is_shape layer data_type) (e ∷ [])) before.own
           ∙ sym (ap (filter (is_shape layer data_type)) upto ∙ filter_joins (take k es) (e ∷ []))
 
-      links : links_from new ≡ targets cells (take (k + 1) es)
+      links : links_from new.links.items ≡ targets cells (take (k + 1) es)
       links = added.links ∙ ap (λ xs. xs ++ index_if index (name_of e)) before.links
-          ∙ ap (λ xs. targets cells (take k es) ++ xs) (target_same (name_of e) index index_of_it ∙ nil_right (target_if cells (name_of e)))
+          ∙ ap (λ xs. targets cells (take k es) ++ xs) (target_same (name_of e) index index_is ∙ nil_right (target_if cells (name_of e)))
           ∙ sym (ap (targets cells) upto ∙ flat_map-append (λ x. target_if cells (name_of x)) (take k es) (e ∷ []))
 
-      singles : singles_from new ≡ singles_among cells (take (k + 1) es)
+      singles : singles_from new.links.items ≡ singles_among cells (take (k + 1) es)
       singles = added.singles ∙ ap (λ xs. xs ++ map (λ p. (index, p)) (placements_of e)) before.singles
-          ∙ ap (λ xs. singles_among cells (take k es) ++ xs) (singles_same e index index_of_it ∙ nil_right (singles_to cells (name_of e) (placements_of e)))
+          ∙ ap (λ xs. singles_among cells (take k es) ++ xs) (singles_same e index index_is ∙ nil_right (singles_to cells (name_of e) (placements_of e)))
           ∙ sym (ap (singles_among cells) upto ∙ flat_map-append (λ x. singles_to cells (name_of x) (placements_of x)) (take k es) (e ∷ []))
+
+    -- two lists of elements, one after the other
+    pub joins : (es fs : List Element) (ss ts : List Shape) (ks ls : List Link) → AreOf cells layer data_type es ss ks → AreOf cells layer data_type fs ts ls
+        → AreOf cells layer data_type (es ++ fs) (ss ++ ts) (ks ++ ls)
+    joins es fs ss ts ks ls first second = record {
+      own = map-append (λ (s : Shape). s.element.now) ss ts ∙ rw (first.own, second.own) (sym (filter_joins es fs));
+      links = map-append (λ (l : Link). l.cell) ks ls ∙ rw (first.links, second.links) (sym (flat_map-append (λ x. target_if cells (name_of x)) es fs));
+      singles = flat_map-append singles_of ks ls ∙ rw (first.singles, second.singles) (sym (flat_map-append (λ x. singles_to cells (name_of x) (placements_of x)) es fs));
+    }
 
 -- ---- cells
 

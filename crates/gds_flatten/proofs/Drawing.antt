@@ -15,7 +15,7 @@ use Rattle.gds_flatten.specs.declared.placement.Placement.{Placement}
 use Rattle.gds_flatten.specs.Placements.{carried, composed}
 use Rattle.gds_flatten.specs.Shapes.{covers_of, StaysInRange}
 use Rattle.gds_flatten.specs.Copies.{Copy, own_copy, carry_copy, copies, copy_covers, drawn, AllStayInRange}
-use Rattle.gds_flatten.specs.steps.Walks.{singles_of, own_in, singles_in, hierarchy, shape_copies, single_copies, link_copies, cell_copies, IsDrawn}
+use Rattle.gds_flatten.specs.steps.Walks.{shapes_in, singles_of, own_in, singles_in, hierarchy, shape_copies, single_copies, link_copies, cell_copies, IsDrawn}
 use Rattle.gds_flatten.specs.declared.cell.Cell.{Cell}
 use Rattle.gds_flatten.specs.declared.link.Link.{Link}
 use Rattle.gds_flatten.specs.declared.shape.Shape.{Shape}
@@ -147,7 +147,7 @@ module _ (at : Placement) (below : ℕ → List Copy) where
   cell_carried None = refl
   cell_carried (Some c) =
       map-append (carry_copy at) (map own_copy (own_in (Some c))) (flat_map through (singles_in (Some c)))
-      ∙ rw (own_carried at c.shapes.items, links_carried c.links.items) refl
+      ∙ rw (own_carried at (shapes_in c), links_carried c.links.items) refl
 
 pub copies_carried : (cells : List Cell) (n i : ℕ) (at : Placement)
     → map (carry_copy at) (copies (hierarchy cells) (suc n) i) ≡ cell_copies at (copies (hierarchy cells) n) (slice_get cells i)
@@ -187,7 +187,7 @@ turn_leaves f n k within leaves =
 
 pub all_copies : (cells : List Cell) (n i : ℕ) (cell : Cell) (at : Placement) → 0 < n → slice_get cells i ≡ Some cell
     → map (carry_copy at) (copies (hierarchy cells) n i)
-    ≡ flat_map (shape_copies at) cell.shapes.items ++ flat_map (link_copies at (copies (hierarchy cells) (n - 1))) cell.links.items
+    ≡ flat_map (shape_copies at) (shapes_in cell) ++ flat_map (link_copies at (copies (hierarchy cells) (n - 1))) cell.links.items
 all_copies cells zero i cell at some is = absurd (omega (arith, some))
 all_copies cells (suc n) i cell at some is =
     let less : suc n - 1 ≡ n = omega arith in
@@ -200,7 +200,7 @@ pub link_of_cell_leaves : (cells : List Cell) (n i : ℕ) (cell : Cell) (at : Pl
     → AllStayInRange (map (carry_copy at) (copies (hierarchy cells) n i)) → ⊥
 link_of_cell_leaves cells n i cell at j l some is in_links l_is leaves all =
     let below = copies (hierarchy cells) (n - 1) in
-    later_leaves (flat_map (shape_copies at) cell.shapes.items) (flat_map (link_copies at below) cell.links.items)
+    later_leaves (flat_map (shape_copies at) (shapes_in cell)) (flat_map (link_copies at below) cell.links.items)
     (next_leaves (link_copies at below) cell.links.items j l in_links
     (λ stays. leaves (subst (λ m. AllStayInRange (link_copies at below m)) (sym l_is) stays)))
     (subst (λ cs. AllStayInRange cs) (all_copies cells n i cell at some is) all)

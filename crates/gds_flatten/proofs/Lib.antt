@@ -15,6 +15,7 @@ pub mod Wholes
 pub mod Drawing
 pub mod Sharing
 pub mod Results
+pub mod Running
 pub mod Capping
 pub mod CountsInOrder
 pub mod Naming

@@ -20,9 +20,9 @@ use Rattle.gds_flatten.specs.declared.placement.Placement.{Placement}
 use Rattle.gds_flatten.specs.declared.shape.Shape.{Shape}
 use Rattle.gds_flatten.specs.Shapes.{StaysInRange}
 use Rattle.gds_flatten.specs.Copies.{Copy, own_copy, carry_copy, copies, AllStayInRange}
-use Rattle.gds_flatten.specs.steps.Walks.{hierarchy, shape_copies, single_copies, link_copies, part, IsDrawn}
+use Rattle.gds_flatten.specs.steps.Walks.{shapes_in, hierarchy, shape_copies, single_copies, link_copies, part, IsDrawn}
 use Rattle.gds_flatten.specs.steps.Counting.{IsCapped}
-use Rattle.gds_flatten.proofs.Drawing.{all_copies, drawn_more, nothing_drawn, range_more, list_more, first_leaves, whole_flat}
+use Rattle.gds_flatten.proofs.Drawing.{all_copies, drawn_more, nothing_drawn, range_more, list_more, first_leaves, next_leaves, whole_flat}
 
 -- ---- parts of lists
 
@@ -247,28 +247,62 @@ all_shared draw xs ys k f t g u old new same ended shared =
 
 -- ---- a cell
 
-pub cell_shared : (cells : List Cell) (n i : ℕ) (cell : Cell) (at : Placement) (f t g u : ℕ) (shapes : List Shape) (old mid new : List Rect) → 0 < n → slice_get cells i ≡ Some cell
-    → shapes ≡ part f t cell.shapes.items → IsDrawn (flat_map (shape_copies at) shapes) old mid
-    → g ≡ f - length cell.shapes.items → u ≡ t - length cell.shapes.items
+pub cell_shared : (cells : List Cell) (n i : ℕ) (cell : Cell) (at : Placement) (f t g u : ℕ) (old mid new : List Rect) → 0 < n → slice_get cells i ≡ Some cell
+    → IsDrawn (part f t (flat_map (shape_copies at) (shapes_in cell))) old mid
+    → g ≡ f - length (shapes_in cell) → u ≡ t - length (shapes_in cell)
     → IsDrawn (part g u (flat_map (link_copies at (copies (hierarchy cells) (n - 1))) cell.links.items)) mid new
     → IsDrawn (part f t (map (carry_copy at) (copies (hierarchy cells) n i))) old new
-cell_shared cells n i cell at f t g u shapes old mid new some is taken own first last links =
-    let front = flat_map (shape_copies at) cell.shapes.items in
+cell_shared cells n i cell at f t g u old mid new some is own first last links =
+    let front = flat_map (shape_copies at) (shapes_in cell) in
     let back = flat_map (link_copies at (copies (hierarchy cells) (n - 1))) cell.links.items in
-    let long = own_long at cell.shapes.items in
+    let long = own_long at (shapes_in cell) in
     rw (ap (part f t) (all_copies cells n i cell at some is) ∙ part_joins f t front back)
-    (drawn_more (part f t front) (part (f - length front) (t - length front) back) old mid new
-    (subst (λ cs. IsDrawn cs old mid) (ap (flat_map (shape_copies at)) taken ∙ own_part at f t cell.shapes.items) own)
+    (drawn_more (part f t front) (part (f - length front) (t - length front) back) old mid new own
     (subst (λ cs. IsDrawn cs mid new) (same_part g u (f - length front) (t - length front) back (omega (arith, first, long)) (omega (arith, last, long))) links))
 
-pub own_leave : (cells : List Cell) (n i : ℕ) (cell : Cell) (at : Placement) (f t : ℕ) (shapes : List Shape) → 0 < n → slice_get cells i ≡ Some cell
-    → shapes ≡ part f t cell.shapes.items → (AllStayInRange (flat_map (shape_copies at) shapes) → ⊥)
-    → AllStayInRange (map (carry_copy at) (copies (hierarchy cells) n i)) → ⊥
-own_leave cells n i cell at f t shapes some is taken leaves all =
-    first_leaves (flat_map (shape_copies at) cell.shapes.items) (flat_map (link_copies at (copies (hierarchy cells) (n - 1))) cell.links.items)
-    (λ stay. leaves (subst AllStayInRange (sym (ap (flat_map (shape_copies at)) taken ∙ own_part at f t cell.shapes.items))
-    (part_stays f t (flat_map (shape_copies at) cell.shapes.items) stay)))
+pub own_leave : (cells : List Cell) (n i : ℕ) (cell : Cell) (at : Placement) → 0 < n → slice_get cells i ≡ Some cell
+    → (AllStayInRange (flat_map (shape_copies at) (shapes_in cell)) → ⊥) → AllStayInRange (map (carry_copy at) (copies (hierarchy cells) n i)) → ⊥
+own_leave cells n i cell at some is leaves all =
+    first_leaves (flat_map (shape_copies at) (shapes_in cell)) (flat_map (link_copies at (copies (hierarchy cells) (n - 1))) cell.links.items) leaves
     (subst (λ cs. AllStayInRange cs) (all_copies cells n i cell at some is) all)
+
+-- ---- runs of shapes, one after another
+
+abbrev pub run_copies : Placement → Vec Shape → List Copy
+run_copies at run = flat_map (shape_copies at) run.items
+
+pub of_runs : (at : Placement) (runs : List (Vec Shape)) → flat_map (run_copies at) runs ≡ flat_map (shape_copies at) (flat_map vec_items runs)
+of_runs at [] = refl
+of_runs at (run ∷ runs) = ap (λ cs. flat_map (shape_copies at) run.items ++ cs) (of_runs at runs) ∙ sym (flat_map-append (shape_copies at) run.items (flat_map vec_items runs))
+
+module _ (at : Placement) (runs : List (Vec Shape)) (k : ℕ) (run : Vec Shape) (within : k < length runs) (run_is : run ≡ get_or runs k run) where
+  pub run_shared : (f t g u h v : ℕ) (own : List Shape) (old mid new : List Rect) → IsShared (run_copies at) runs k f t g u old mid → own ≡ part g u run.items
+      → IsDrawn (flat_map (shape_copies at) own) mid new → h ≡ g - length run.items → v ≡ u - length run.items → IsShared (run_copies at) runs (k + 1) f t h v old new
+  run_shared f t g u h v own old mid new before own_is drawn first last =
+      let long = own_long at run.items in
+      next_shared (run_copies at) runs k run f t g u h v old mid new within before
+      (subst (λ r. IsDrawn (part g u (run_copies at r)) mid new) run_is (subst (λ cs. IsDrawn cs mid new) (ap (flat_map (shape_copies at)) own_is ∙ own_part at g u run.items) drawn))
+      (subst (λ r. h ≡ g - length (run_copies at r)) run_is (first ∙ ap (λ n. g - n) (sym long)))
+      (subst (λ r. v ≡ u - length (run_copies at r)) run_is (last ∙ ap (λ n. u - n) (sym long)))
+
+  pub run_leaves : (g u : ℕ) (own : List Shape) → own ≡ part g u run.items → (AllStayInRange (flat_map (shape_copies at) own) → ⊥)
+      → AllStayInRange (flat_map (shape_copies at) (flat_map vec_items runs)) → ⊥
+  run_leaves g u own own_is leaves all =
+      next_leaves (run_copies at) runs k run within
+      (λ stay. leaves (subst AllStayInRange (sym (ap (flat_map (shape_copies at)) own_is ∙ own_part at g u run.items))
+      (part_stays g u (run_copies at run) (subst (λ r. AllStayInRange (run_copies at r)) (sym run_is) stay))))
+      (subst AllStayInRange (sym (of_runs at runs)) all)
+
+pub all_runs : (at : Placement) (runs : List (Vec Shape)) (k f t g u : ℕ) (old new : List Rect) → (k < length runs → ⊥) → IsShared (run_copies at) runs k f t g u old new
+    → IsDrawn (part f t (flat_map (shape_copies at) (flat_map vec_items runs))) old new
+    × ((g ≡ f - length (flat_map vec_items runs)) × (u ≡ t - length (flat_map vec_items runs)))
+all_runs at runs k f t g u old new ended shared =
+    let whole : take k runs ≡ runs = grind (arith, common_steps, ended) in
+    let long : length (flat_map (run_copies at) (take k runs)) ≡ length (flat_map vec_items runs) =
+    ap (λ rs. length (flat_map (run_copies at) rs)) whole ∙ ap length (of_runs at runs) ∙ own_long at (flat_map vec_items runs) in (
+      subst (λ cs. IsDrawn (part f t cs) old new) (of_runs at runs) (all_shared (run_copies at) runs runs k f t g u old new refl ended shared),
+      (shared.from ∙ ap (λ n. f - n) long, shared.to ∙ ap (λ n. t - n) long),
+    )
 
 -- ---- shares of all copies, put together
 

@@ -1,6 +1,8 @@
 //! How many copies of shapes cells draw, counted before any is made.
 
 ghost use Rattle.std.specs.Prelude.{◌≡◌, ℕ, ◌+◌, ◌*◌, ◌<◌, ◌≤◌, ◌^◌, length, IfOk};
+ghost use Rattle.std.specs.List.{flat_map};
+ghost use Rattle.std.specs.Vec.{vec_items};
 ghost use Rattle.gds_flatten.specs.Graphs.{Graph, item};
 ghost use Rattle.gds_flatten.specs.steps.Counting.{IsCapped, counted, AreRight, IsTied, IsCount};
 ghost use Rattle.gds_flatten.specs.steps.Searches.{IsOrdered};
@@ -8,6 +10,7 @@ ghost use Rattle.gds_flatten.specs.steps.Searches.{IsOrdered};
 use crate::cell::Cell;
 use crate::link::Link;
 use crate::search::number_at;
+use crate::shape::Shape;
 use std::alloc::{AllocError, Global};
 
 /// One more copy than a design may have.
@@ -30,13 +33,24 @@ pub fn count_link(link: &Link, each: usize) -> usize
     turns * each
 }
 
+/// How many shapes the runs have, at most `TOO_MANY`.
+fn count_own(runs: &[Vec<Shape<'_>>]) -> usize
+    ensures { IsCapped (length (flat_map vec_items runs.now)) result }
+{
+    let mut total = 0;
+    'runs: for run in runs {
+        total = capped(total + capped(run.len()));
+    }
+    total
+}
+
 /// How many copies the cell draws, at most `TOO_MANY`, by the counts of those that it refers to.
 fn count_cell(cell: &Cell<'_>, counts: &[usize]) -> usize
     requires { (c : ℕ) → item counts.now c ≤ 4000001 }
     ensures { (f : ℕ → ℕ) → AreRight f counts.now cell.now.links.items
         → IsCapped (counted f cell.now) result }
 {
-    let mut total = capped(cell.shapes.len());
+    let mut total = count_own(&cell.shapes);
     let links = cell.links.as_slice();
     'links: for link in links {
         let more = count_link(link, number_at(counts, link.cell));

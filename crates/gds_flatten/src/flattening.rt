@@ -11,6 +11,7 @@ ghost use Rattle.gds_flatten.specs.Flattening.{HasTop, copies_of, IsCountable, I
 ghost use Rattle.gds_flatten.specs.steps.Counting.{AreCounted};
 ghost use Rattle.gds_flatten.specs.steps.Walks.{top_copies};
 
+use crate::builder::{Alone, Builder, Together};
 use crate::cells::cells_of;
 use crate::counts::{TOO_MANY, counts_of};
 use crate::design::Design;
@@ -39,13 +40,15 @@ fn top_of(cells: &IndexMap<Vec<u8>, Vec<Element>>, top: &[u8]) -> Result<usize, 
 }
 
 /// The design of the top on the layer, its copies counted.
-fn design_of<'a>(
+fn design_of<'a, B: Builder>(
+    builder: &B,
     alloc: Global,
     library: &'a Library,
     top: &[u8],
     layer: u16,
     data_type: u16,
 ) -> Result<Design<'a>, FlattenError>
+    requires { B.can_build builder.now }
     ensures fine { IfOk result (λ d. IsCountable library.now.cells.entries top.now layer data_type) }
     ensures counted { IfOk result (λ d. AreCounted d.cells.items d.counts.items 256 d.top) }
     ensures same { IfOk result (λ d. top_copies d.cells.items d.top
@@ -56,7 +59,15 @@ fn design_of<'a>(
     let top = top_of(cells, top)?;
     let graph = graph_of(alloc, cells)?;
     let found = survey(alloc, &graph, top)?;
-    let built = cells_of(alloc, cells, &graph, &found.steps, layer, data_type)?;
+    let built = cells_of(
+        builder,
+        alloc,
+        cells,
+        &graph,
+        &found.steps,
+        layer,
+        data_type,
+    )?;
     let counts = counts_of(alloc, &built, &found.order)?;
     let number = number_at(&counts, top);
     if number >= TOO_MANY {
@@ -92,7 +103,7 @@ pub fn flatten_rects(
         ≡ drawn (copies_of library.now.cells.entries top.now layer data_type) x y) }
     ensures refused { IfErr result (λ e. IsRefused library.now.cells.entries top.now layer data_type e) }
 {
-    let design = design_of(alloc, library, top, layer, data_type)?;
+    let design = design_of(&Alone, alloc, library, top, layer, data_type)?;
     design.rects(alloc)
 }
 
@@ -116,7 +127,7 @@ pub fn flatten_parts(
         ≡ drawn (copies_of library.now.cells.entries top.now layer data_type) x y) }
     ensures refused { IfErr result (λ e. IsRefused library.now.cells.entries top.now layer data_type e) }
 {
-    let design = design_of(alloc, library, top, layer, data_type)?;
+    let design = design_of(&Together(rt), alloc, library, top, layer, data_type)?;
     design.parts(rt, alloc)
 }
 

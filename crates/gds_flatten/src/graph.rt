@@ -29,7 +29,7 @@ pub fn elements_at(cells: &IndexMap<Vec<u8>, Vec<Element>>, index: usize) -> &[E
 }
 
 /// The name of the cell that the element refers to.
-fn name_of(element: &Element) -> Option<&[u8]>
+pub fn name_of(element: &Element) -> Option<&[u8]>
     ensures { option_map (λ n. n.now) result ≡ name_of element.now }
 {
     match element {

@@ -3,6 +3,7 @@
 //! references say, and each refusal comes exactly where its cause is the first.
 #![tactic(auto)]
 
+mod builder;
 mod cell;
 mod cells;
 mod counts;
@@ -16,6 +17,7 @@ mod link;
 mod pieces;
 mod placement;
 mod reference;
+mod runs;
 mod search;
 mod shape;
 mod shapes;

@@ -1,7 +1,8 @@
 //! Carries what a cell draws, with all that it refers to: all of its copies, or a share of them.
 
-ghost use Rattle.std.specs.Prelude.{◌≡◌, ◌⊎◌, ◌-◌, ◌*◌, ◌≤◌, ◌<◌, [], Some, map, slice_get, IfErr, IfNone, IfSome, OnOk};
+ghost use Rattle.std.specs.Prelude.{◌≡◌, ◌⊎◌, ◌-◌, ◌*◌, ◌≤◌, ◌<◌, [], length, Some, map, slice_get, IfOk, IfErr, IfNone, IfSome, OnOk};
 ghost use Rattle.std.specs.List.{flat_map};
+ghost use Rattle.std.specs.Vec.{vec_items};
 ghost use Rattle.gds_flatten.specs.Copies.{carry_copy, copies};
 ghost use Rattle.gds_flatten.specs.steps.Counting.{AreCounted};
 ghost use Rattle.gds_flatten.specs.steps.Ranges.{IsWithin};
@@ -42,6 +43,28 @@ fn own_share<'a, 'b>(shapes: &'b [Shape<'a>], share: Share) -> &'b [Shape<'a>]
     let end = share.to.min(shapes.len());
     let start = share.from.min(end);
     &shapes[start..end]
+}
+
+/// Appends a share of what the shapes of all runs cover, carried so, and answers what is left of the share behind them.
+fn carry_own(
+    runs: &[Vec<Shape<'_>>],
+    at: &Placement,
+    share: Share,
+    out: &mut Vec<Rect>,
+) -> Result<Share, FlattenError>
+    requires { IsWithin 257 at.now }
+    ensures drawn { IfOk result (λ rest. IsDrawn (part share.from share.to (flat_map (shape_copies at.now) (flat_map vec_items runs.now)))
+        out.old.items out.new.items) }
+    ensures from { IfOk result (λ rest. rest.from ≡ share.from - length (flat_map vec_items runs.now)) }
+    ensures to { IfOk result (λ rest. rest.to ≡ share.to - length (flat_map vec_items runs.now)) }
+    ensures refused { IfErr result (IsRefusal (flat_map (shape_copies at.now) (flat_map vec_items runs.now))) }
+{
+    let mut rest = share;
+    'runs: for run in runs {
+        carry_shapes(own_share(run, rest), at, out)?;
+        rest = rest.behind(run.len());
+    }
+    Ok(rest)
 }
 
 /// The cell at the index, or `None` where it draws nothing by chains of so many cells.
@@ -133,8 +156,7 @@ pub fn carry_cell(
     let Some(cell) = cell_at(cells, depth, index) else {
         return Ok(());
     };
-    carry_shapes(own_share(cell.shapes.as_slice(), share), at, out)?;
-    let mut rest = share.behind(cell.shapes.len());
+    let mut rest = carry_own(cell.shapes.as_slice(), at, share, out)?;
     let links = cell.links.as_slice();
     'links: for link in links {
         if rest.to == 0 {

@@ -11,7 +11,7 @@ use std::thread::Threads;
 
 /// An element of a drafted cell. Cells have numbers, by which references name them.
 #[derive(Clone, Copy)]
-enum Draft<'a> {
+pub(crate) enum Draft<'a> {
     /// A boundary of the layer.
     Boundary(u16, &'a [(i32, i32)]),
     /// A path of the layer `METAL` without a width.
@@ -35,7 +35,7 @@ type Turn = Option<(u16, u32)>;
 type Edges = (i64, i64, i64, i64);
 
 /// The cells of a design with their numbers, in the order of the file.
-type Cells<'a> = &'a [(u16, &'a [Draft<'a>])];
+pub(crate) type Cells<'a> = &'a [(u16, &'a [Draft<'a>])];
 
 /// The first four bytes of 45 and 90 degrees.
 const HALF_RIGHT: u32 = 0x422d_0000;
@@ -46,10 +46,10 @@ const RIGHT: u32 = 0x425a_0000;
 const OBLONG: &[(i32, i32)] = &[(0, 0), (4, 0), (4, 2), (0, 2), (0, 0)];
 
 /// A boundary with a slanted edge.
-const SLANTED: &[(i32, i32)] = &[(0, 0), (4, 4), (4, 0), (0, 0)];
+pub(crate) const SLANTED: &[(i32, i32)] = &[(0, 0), (4, 4), (4, 0), (0, 0)];
 
 /// One square at the origin.
-const SQUARE: &[(i32, i32)] = &[(0, 0), (1, 0), (1, 1), (0, 1), (0, 0)];
+pub(crate) const SQUARE: &[(i32, i32)] = &[(0, 0), (1, 0), (1, 1), (0, 1), (0, 0)];
 
 /// Appends STRANS and ANGLE.
 fn put_angle(bytes: &mut Vec<u8>, flags: u16, angle: u32) -> Result<(), Fail> {
@@ -150,7 +150,7 @@ fn put_cell(bytes: &mut Vec<u8>, cell: u16, elements: &[Draft<'_>]) -> Result<()
 }
 
 /// The library of these cells in the order of the file.
-fn design(alloc: Global, cells: Cells<'_>) -> Result<Library, Fail> {
+pub(crate) fn design(alloc: Global, cells: Cells<'_>) -> Result<Library, Fail> {
     let mut bytes = head(alloc)?;
     for (cell, elements) in cells {
         put_cell(&mut bytes, *cell, *elements)?;
@@ -187,7 +187,7 @@ fn drawn_in_parts(
 }
 
 /// Why what cell 0 draws on the layer `METAL` can't be told.
-fn refused(
+pub(crate) fn refused(
     rt: &(impl Threads + Sync),
     alloc: Global,
     cells: Cells<'_>,
@@ -218,7 +218,7 @@ const HERE: (i32, i32) = (0, 0);
 const STEPS: &[(i32, i32)] = &[(0, 0), (30, 0), (0, 40)];
 
 /// The same with columns that no whole number is between.
-const UNEVEN: &[(i32, i32)] = &[(0, 0), (31, 0), (0, 40)];
+pub(crate) const UNEVEN: &[(i32, i32)] = &[(0, 0), (31, 0), (0, 40)];
 
 /// The points of an array without steps.
 const STILL: &[(i32, i32)] = &[(0, 0), (0, 0), (0, 0)];

@@ -11,6 +11,8 @@ mod placements;
 #[cfg(test)]
 mod records;
 #[cfg(test)]
+mod runs;
+#[cfg(test)]
 mod scan;
 #[cfg(test)]
 mod shape;

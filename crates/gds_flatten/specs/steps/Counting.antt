@@ -5,7 +5,7 @@ use Rattle.gds_flatten.specs.declared.cell.Cell.{Cell}
 use Rattle.gds_flatten.specs.declared.link.Link.{Link}
 use Rattle.gds_flatten.specs.Graphs.{Graph, next, item, IsDeep}
 use Rattle.gds_flatten.specs.Copies.{copies}
-use Rattle.gds_flatten.specs.steps.Walks.{hierarchy}
+use Rattle.gds_flatten.specs.steps.Walks.{hierarchy, shapes_in}
 
 -- the count is the number, or 4,000,001 where the number is that or more
 pub record IsCapped (number count : ℕ) : Type 0 where
@@ -14,7 +14,7 @@ pub record IsCapped (number count : ℕ) : Type 0 where
 
 -- the copies of a cell, where the cells that it refers to have so many
 abbrev pub counted : (ℕ → ℕ) → Cell → ℕ
-counted f c = length c.shapes.items + sum_by (λ l. (l.columns * l.rows) * f l.cell) c.links.items
+counted f c = length (shapes_in c) + sum_by (λ l. (l.columns * l.rows) * f l.cell) c.links.items
 
 -- the counts of the cells that the links refer to are right
 abbrev pub AreRight : (ℕ → ℕ) → List ℕ → List Link → Type 0

@@ -1,6 +1,7 @@
 -- The walk from copy to copy.
 use Rattle.std.specs.Prelude.{◌≡◌, ◌⊎◌, ℕ, ◌*◌, ℤ, ◌||◌, List, [], ◌∷◌, ◌++◌, map, take, drop, slice_get, Option, Some, None}
 use Rattle.std.specs.List.{flat_map, range_with_len}
+use Rattle.std.specs.Vec.{vec_items}
 use Rattle.fill_base.specs.declared.rect.Rect.{Rect}
 use Rattle.fill_region.specs.Squares.{covered}
 use Rattle.gds_grammar.specs.declared.element.Element.{Element}
@@ -18,8 +19,12 @@ use Rattle.gds_flatten.specs.Copies.{Copy, Hierarchy, own_copy, carry_copy, copi
 abbrev pub singles_of : Link → List (ℕ × Placement)
 singles_of l = map (λ p. (l.cell, p)) (singles l)
 
+-- the shapes of all runs of a cell
+abbrev pub shapes_in : Cell → List Shape
+shapes_in c = flat_map vec_items c.shapes.items
+
 abbrev pub own_in : Option Cell → List Element
-own_in (Some c) = map (λ s. s.element.now) c.shapes.items
+own_in (Some c) = map (λ s. s.element.now) (shapes_in c)
 own_in None = []
 
 abbrev pub singles_in : Option Cell → List (ℕ × Placement)
@@ -45,7 +50,7 @@ link_copies at below l = flat_map (single_copies at below l) (range_with_len 0 (
 
 abbrev pub cell_copies : Placement → (ℕ → List Copy) → Option Cell → List Copy
 cell_copies at below (Some c) =
-    flat_map (shape_copies at) c.shapes.items ++ flat_map (link_copies at below) c.links.items
+    flat_map (shape_copies at) (shapes_in c) ++ flat_map (link_copies at below) c.links.items
 cell_copies at below None = []
 
 -- those of a list from one number up to another

@@ -2,4 +2,4 @@ use Rattle.gds_flatten.specs.steps.Built.{AreBuilt}
 use Rattle.gds_flatten.proofs.cells.cells_of.Given as goal
 
 abbrev pub invariant-cells : goal.invariant-cells
-invariant-cells l = AreBuilt l.cells.entries l.layer l.data_type l.steps l.index l.built.items
+invariant-cells g l = AreBuilt l.cells.entries l.layer l.data_type l.steps l.index l.built.items

@@ -1,6 +1,7 @@
 use Rattle.std.proofs.Common.{arith, ◌+◌, ◌*◌, ◌∙◌, subst, ap, take, length}
 use Rattle.gds_flatten.specs.Graphs.{item}
 use Rattle.gds_flatten.specs.steps.Counting.{IsCapped}
+use Rattle.gds_flatten.specs.steps.Walks.{shapes_in}
 use Rattle.gds_flatten.proofs.Capping.{link_counted, some_turns, themselves, all_counted}
 use Rattle.gds_flatten.proofs.counts.count_cell.Goals as goal
 
@@ -12,13 +13,13 @@ overflow_add-total c =
 
 pub links-preserved : goal.links-preserved
 links-preserved c = λ f all.
-    link_counted f c.args.counts.now c.as_slice-links.result.now c.links.link-index c.link-item.result (length c.args.cell.now.shapes.items) c.links.total
-    c.capped-total-in-links.result c.links-test.true c.link-item.is (some_turns c.link-item.result) (c.links.invariant f)
-    (subst (λ m. IsCapped (c.links.total + m) c.capped-total-in-links.result)
-    (c.count_link-more.ensures.value ∙ ap (λ n. (c.link-item.result.columns * c.link-item.result.rows) * n) c.number_at.ensures) c.capped-total-in-links.ensures)
+    link_counted f c.args.counts.now c.as_slice-links.result.now c.links.link-index c.link-item.result (length (shapes_in c.args.cell.now)) c.links.total
+    c.capped-total.result c.links-test.true c.link-item.is (some_turns c.link-item.result) (c.links.invariant f)
+    (subst (λ m. IsCapped (c.links.total + m) c.capped-total.result)
+    (c.count_link-more.ensures.value ∙ ap (λ n. (c.link-item.result.columns * c.link-item.result.rows) * n) c.number_at.ensures) c.capped-total.ensures)
     all
 
 pub returns : goal.returns
 returns c = λ f all.
-    all_counted f c.args.counts.now c.as_slice-links.result.now c.args.cell.now.links.items c.links.link-index (length c.args.cell.now.shapes.items) c.links.total
+    all_counted f c.args.counts.now c.as_slice-links.result.now c.args.cell.now.links.items c.links.link-index (length (shapes_in c.args.cell.now)) c.links.total
     c.as_slice-links.ensures.value (omega (arith, c.links-test.false)) (c.links.invariant f) all

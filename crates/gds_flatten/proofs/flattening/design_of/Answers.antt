@@ -9,11 +9,11 @@ use Rattle.gds_flatten.proofs.Flattened.{unsound_told, told_surveyed, fault_refu
 use Rattle.gds_flatten.proofs.flattening.design_of.Goals as goal
 
 pub survey-requires-clause-whole : goal.survey-requires-clause-whole
-survey-requires-clause-whole c =
+survey-requires-clause-whole g c =
     subst (λ g. IsWhole g) (sym (ap rows c.deref.ensures.value ∙ c.in_ok-graph.ensures)) (whole c.args.library.now.cells.entries)
 
 pub returns-in_err-found-clause-refused : goal.returns-in_err-found-clause-refused
-returns-in_err-found-clause-refused c =
+returns-in_err-found-clause-refused g c =
     let p = err_from_is_err_and c.from_residual-in_err-found.result c.from_residual-in_err-found.ensures.1 in
     let at = c.in_ok-top.ensures.found.1 in
     let is = ap rows c.deref.ensures.value ∙ c.in_ok-graph.ensures in
@@ -21,7 +21,7 @@ returns-in_err-found-clause-refused c =
     c.in_ok-top.ensures.found.0 at is c.in_err-found.field-0.0 c.in_err-found.ensures.refused)
 
 pub returns-in_err-built-clause-refused : goal.returns-in_err-built-clause-refused
-returns-in_err-built-clause-refused c =
+returns-in_err-built-clause-refused g c =
     let p = err_from_is_err_and c.from_residual-in_err-built.result c.from_residual-in_err-built.ensures.1 in
     let at = c.in_ok-top.ensures.found.1 in
     let is = ap rows c.deref.ensures.value ∙ c.in_ok-graph.ensures in
@@ -31,7 +31,7 @@ returns-in_err-built-clause-refused c =
     c.deref-3.ensures.value c.in_err-built.ensures.refused))
 
 pub returns-then-number-ge-TOO_MANY-clause-refused : goal.returns-then-number-ge-TOO_MANY-clause-refused
-returns-then-number-ge-TOO_MANY-clause-refused c =
+returns-then-number-ge-TOO_MANY-clause-refused g c =
     let at = c.in_ok-top.ensures.found.1 in
     let is = ap rows c.deref.ensures.value ∙ c.in_ok-graph.ensures in
     let surveyed = told_surveyed c.args.library.now.cells.entries c.args.top.now c.in_ok-top.top (rows c.deref.result.now) (state_of c.in_ok-found.found) at is c.in_ok-found.ensures.surveyed in
@@ -42,7 +42,7 @@ returns-then-number-ge-TOO_MANY-clause-refused c =
     told.many (omega (arith, number, c.if-number-ge-TOO_MANY.true))
 
 pub returns-clause-fine : goal.returns-clause-fine
-returns-clause-fine c =
+returns-clause-fine g c =
     let at = c.in_ok-top.ensures.found.1 in
     let is = ap rows c.deref.ensures.value ∙ c.in_ok-graph.ensures in
     let surveyed = told_surveyed c.args.library.now.cells.entries c.args.top.now c.in_ok-top.top (rows c.deref.result.now) (state_of c.in_ok-found.found) at is c.in_ok-found.ensures.surveyed in
@@ -53,7 +53,7 @@ returns-clause-fine c =
     told.few (λ many. absurd (omega (arith, many, number, c.if-number-ge-TOO_MANY.false)))
 
 pub returns-clause-counted : goal.returns-clause-counted
-returns-clause-counted c =
+returns-clause-counted g c =
     let at = c.in_ok-top.ensures.found.1 in
     let is = ap rows c.deref.ensures.value ∙ c.in_ok-graph.ensures in
     let surveyed = told_surveyed c.args.library.now.cells.entries c.args.top.now c.in_ok-top.top (rows c.deref.result.now) (state_of c.in_ok-found.found) at is c.in_ok-found.ensures.surveyed in
@@ -63,7 +63,7 @@ returns-clause-counted c =
     told.counted
 
 pub returns-clause-same : goal.returns-clause-same
-returns-clause-same c =
+returns-clause-same g c =
     let at = c.in_ok-top.ensures.found.1 in
     let is = ap rows c.deref.ensures.value ∙ c.in_ok-graph.ensures in
     let surveyed = told_surveyed c.args.library.now.cells.entries c.args.top.now c.in_ok-top.top (rows c.deref.result.now) (state_of c.in_ok-found.found) at is c.in_ok-found.ensures.surveyed in
@@ -73,7 +73,7 @@ returns-clause-same c =
     told.same
 
 pub invariant_of-result : goal.invariant_of-result
-invariant_of-result c =
+invariant_of-result g c =
     let at = c.in_ok-top.ensures.found.1 in
     let is = ap rows c.deref.ensures.value ∙ c.in_ok-graph.ensures in
     let surveyed = told_surveyed c.args.library.now.cells.entries c.args.top.now c.in_ok-top.top (rows c.deref.result.now) (state_of c.in_ok-found.found) at is c.in_ok-found.ensures.surveyed in

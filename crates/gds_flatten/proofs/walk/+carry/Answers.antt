@@ -1,41 +1,42 @@
 use Rattle.std.proofs.Common.{subst, sym, ap, arith, refl, ◌-◌, ◌*◌, ◌<◌, ◌≤◌, ◌≡◌, ◌∙◌, length, get_or, map}
+use Rattle.std.specs.List.{flat_map}
+use Rattle.std.specs.Vec.{vec_items}
 use Rattle.std.proofs.lemmas.Result.{err_from_is_err_and}
 use Rattle.gds_flatten.specs.Placements.{composed}
 use Rattle.gds_flatten.specs.Copies.{carry_copy, copies, AllStayInRange}
 use Rattle.gds_flatten.specs.steps.Counting.{IsCapped}
 use Rattle.gds_flatten.specs.steps.Ranges.{IsWithin}
-use Rattle.gds_flatten.specs.steps.Walks.{hierarchy, single_copies, link_copies, part, IsDrawn}
+use Rattle.gds_flatten.specs.steps.Walks.{hierarchy, shape_copies, single_copies, link_copies, part, IsDrawn, IsRefusal}
 use Rattle.gds_flatten.proofs.Capping.{count_of, counts_below}
 use Rattle.gds_flatten.proofs.Drawing.{link_of_cell_leaves, turn_leaves, refused_more, deeper}
 use Rattle.gds_flatten.proofs.Sharing.{none_shared, next_shared, rest_shared, all_shared, cell_shared, own_leave, link_before, link_passed, turns_begun, turn_shared, turns_done}
 use Rattle.gds_flatten.proofs.walk.+carry.Goals as goal
 
-pub carry_cell-returns-in_err-carry_shapes-clause-refused :
-    goal.carry_cell-returns-in_err-carry_shapes-clause-refused
-carry_cell-returns-in_err-carry_shapes-clause-refused t c =
+pub carry_cell-returns-in_err-rest-clause-refused : goal.carry_cell-returns-in_err-rest-clause-refused
+carry_cell-returns-in_err-rest-clause-refused t c =
     let p = err_from_is_err_and c.from_residual.result c.from_residual.ensures.1 in
     let some = c.in-Some.ensures.some in
-    rw (p.1, p.2) (refused_more c.in_err-carry_shapes.field-0.0
-    (own_leave c.args.cells.now c.args.depth c.args.index c.in-Some.cell.now c.args.at.now c.args.share.from c.args.share.to c.own_share.result.now some.0 some.1
-    (c.own_share.ensures ∙ ap (part c.args.share.from c.args.share.to) c.as_slice.ensures.value))
-    c.in_err-carry_shapes.ensures.refused)
+    rw (p.1, p.2) (refused_more c.in_err-rest.field-0.0
+    (own_leave c.args.cells.now c.args.depth c.args.index c.in-Some.cell.now c.args.at.now some.0 some.1)
+    (subst (λ rs. IsRefusal (flat_map (shape_copies c.args.at.now) (flat_map vec_items rs)) c.in_err-rest.field-0.0) c.as_slice.ensures.value c.in_err-rest.ensures.refused))
 
 pub carry_cell-links-init : goal.carry_cell-links-init
 carry_cell-links-init t c =
     none_shared (link_copies c.args.at.now (copies (hierarchy c.args.cells.now) (c.args.depth - 1))) c.as_slice-links.result.now
-    c.behind-rest.result.from c.behind-rest.result.to c.behind-rest.result.from c.behind-rest.result.to c.carry_shapes.new.out.items refl refl
+    c.in_ok-rest.rest.from c.in_ok-rest.rest.to c.in_ok-rest.rest.from c.in_ok-rest.rest.to c.carry_own.new.out.items refl refl
 
 pub carry_cell-returns-then-rest-eq0-clause-drawn :
     goal.carry_cell-returns-then-rest-eq0-clause-drawn
 carry_cell-returns-then-rest-eq0-clause-drawn t c =
     let some = c.in-Some.ensures.some in
-    let long : c.len.result ≡ length c.in-Some.cell.now.shapes.items = c.len.ensures ∙ sym c.as_slice.ensures.len ∙ ap length c.as_slice.ensures.value in
-    cell_shared c.args.cells.now c.args.depth c.args.index c.in-Some.cell.now c.args.at.now c.args.share.from c.args.share.to c.behind-rest.result.from c.behind-rest.result.to
-    c.own_share.result.now c.args.out.now.items c.carry_shapes.new.out.items c.links.out.items some.0 some.1
-    (c.own_share.ensures ∙ ap (part c.args.share.from c.args.share.to) c.as_slice.ensures.value) c.in_ok-carry_shapes.ensures.drawn
-    (c.behind-rest.ensures.from ∙ ap (λ n. c.args.share.from - n) long) (c.behind-rest.ensures.to ∙ ap (λ n. c.args.share.to - n) long)
+    let told = c.in_ok-rest.ensures in
+    let shapes = ap (λ rs. flat_map vec_items rs) c.as_slice.ensures.value in
+    cell_shared c.args.cells.now c.args.depth c.args.index c.in-Some.cell.now c.args.at.now c.args.share.from c.args.share.to c.in_ok-rest.rest.from c.in_ok-rest.rest.to
+    c.args.out.now.items c.carry_own.new.out.items c.links.out.items some.0 some.1
+    (subst (λ ss. IsDrawn (part c.args.share.from c.args.share.to (flat_map (shape_copies c.args.at.now) ss)) c.args.out.now.items c.carry_own.new.out.items) shapes told.drawn)
+    (told.from ∙ ap (λ ss. c.args.share.from - length ss) shapes) (told.to ∙ ap (λ ss. c.args.share.to - length ss) shapes)
     (rest_shared (link_copies c.args.at.now (copies (hierarchy c.args.cells.now) (c.args.depth - 1))) c.as_slice-links.result.now c.in-Some.cell.now.links.items c.links.link-index
-    c.behind-rest.result.from c.behind-rest.result.to c.links.rest.from c.links.rest.to c.carry_shapes.new.out.items c.links.out.items
+    c.in_ok-rest.rest.from c.in_ok-rest.rest.to c.links.rest.from c.links.rest.to c.carry_own.new.out.items c.links.out.items
     c.as_slice-links.ensures.value c.if-rest-eq0.true c.links.invariant)
 
 pub carry_cell-carry_link-requires : goal.carry_cell-carry_link-requires
@@ -88,24 +89,25 @@ carry_cell-links-preserved t c =
     let rest = c.links.rest in
     let first_few : rest.from ≤ 4000000 = omega (arith, rest.ordered, rest.few) in
     let left = link_passed c.args.at.now below c.link-item.result c.number_at.result right rest.from rest.to first_few rest.few
-    c.count_link.result c.behind-rest-in-links.result.from c.behind-rest-in-links.result.to c.count_link.ensures.value c.behind-rest-in-links.ensures.from c.behind-rest-in-links.ensures.to in
+    c.count_link.result c.behind-rest.result.from c.behind-rest.result.to c.count_link.ensures.value c.behind-rest.ensures.from c.behind-rest.ensures.to in
     next_shared (link_copies c.args.at.now below) c.as_slice-links.result.now c.links.link-index c.link-item.result
-    c.behind-rest.result.from c.behind-rest.result.to rest.from rest.to c.behind-rest-in-links.result.from c.behind-rest-in-links.result.to
-    c.carry_shapes.new.out.items c.links.out.items c.carry_link.new.out.items c.links-test.true c.links.invariant
+    c.in_ok-rest.rest.from c.in_ok-rest.rest.to rest.from rest.to c.behind-rest.result.from c.behind-rest.result.to
+    c.carry_own.new.out.items c.links.out.items c.carry_link.new.out.items c.links-test.true c.links.invariant
     (subst (λ l. IsDrawn (part rest.from rest.to (link_copies c.args.at.now below l)) c.links.out.items c.carry_link.new.out.items) c.link-item.is c.in_ok-carry_link.ensures.drawn)
-    (subst (λ l. c.behind-rest-in-links.result.from ≡ rest.from - length (link_copies c.args.at.now below l)) c.link-item.is left.0)
-    (subst (λ l. c.behind-rest-in-links.result.to ≡ rest.to - length (link_copies c.args.at.now below l)) c.link-item.is left.1)
+    (subst (λ l. c.behind-rest.result.from ≡ rest.from - length (link_copies c.args.at.now below l)) c.link-item.is left.0)
+    (subst (λ l. c.behind-rest.result.to ≡ rest.to - length (link_copies c.args.at.now below l)) c.link-item.is left.1)
 
 pub carry_cell-returns-clause-drawn : goal.carry_cell-returns-clause-drawn
 carry_cell-returns-clause-drawn t c =
     let some = c.in-Some.ensures.some in
-    let long : c.len.result ≡ length c.in-Some.cell.now.shapes.items = c.len.ensures ∙ sym c.as_slice.ensures.len ∙ ap length c.as_slice.ensures.value in
-    cell_shared c.args.cells.now c.args.depth c.args.index c.in-Some.cell.now c.args.at.now c.args.share.from c.args.share.to c.behind-rest.result.from c.behind-rest.result.to
-    c.own_share.result.now c.args.out.now.items c.carry_shapes.new.out.items c.links.out.items some.0 some.1
-    (c.own_share.ensures ∙ ap (part c.args.share.from c.args.share.to) c.as_slice.ensures.value) c.in_ok-carry_shapes.ensures.drawn
-    (c.behind-rest.ensures.from ∙ ap (λ n. c.args.share.from - n) long) (c.behind-rest.ensures.to ∙ ap (λ n. c.args.share.to - n) long)
+    let told = c.in_ok-rest.ensures in
+    let shapes = ap (λ rs. flat_map vec_items rs) c.as_slice.ensures.value in
+    cell_shared c.args.cells.now c.args.depth c.args.index c.in-Some.cell.now c.args.at.now c.args.share.from c.args.share.to c.in_ok-rest.rest.from c.in_ok-rest.rest.to
+    c.args.out.now.items c.carry_own.new.out.items c.links.out.items some.0 some.1
+    (subst (λ ss. IsDrawn (part c.args.share.from c.args.share.to (flat_map (shape_copies c.args.at.now) ss)) c.args.out.now.items c.carry_own.new.out.items) shapes told.drawn)
+    (told.from ∙ ap (λ ss. c.args.share.from - length ss) shapes) (told.to ∙ ap (λ ss. c.args.share.to - length ss) shapes)
     (all_shared (link_copies c.args.at.now (copies (hierarchy c.args.cells.now) (c.args.depth - 1))) c.as_slice-links.result.now c.in-Some.cell.now.links.items c.links.link-index
-    c.behind-rest.result.from c.behind-rest.result.to c.links.rest.from c.links.rest.to c.carry_shapes.new.out.items c.links.out.items
+    c.in_ok-rest.rest.from c.in_ok-rest.rest.to c.links.rest.from c.links.rest.to c.carry_own.new.out.items c.links.out.items
     c.as_slice-links.ensures.value (omega (arith, c.links-test.false)) c.links.invariant)
 
 pub carry_link-count_link-requires : goal.carry_link-count_link-requires

@@ -1,0 +1,187 @@
+//! How a cell is built of its elements: by the calling thread alone, or by several.
+
+ghost use Rattle.std.specs.Prelude.{◌≡◌, ◌⊎◌, ℕ, ◌+◌, ◌≤◌, List, length, take, drop, IfOk, IfErr};
+ghost use Rattle.std.specs.Thread.{IsSync};
+ghost use Rattle.gds_grammar.specs.declared.element.Element.{Element};
+ghost use Rattle.gds_flatten.specs.Designs.{Entry, targets, AreFine};
+ghost use Rattle.gds_flatten.specs.steps.Built.{IsRun, IsCell, IsFaulty, AreRuns};
+
+use crate::cell::{Cell, Run};
+use crate::error::FlattenError;
+use crate::runs::{Targets, run_of};
+use fill_threads::map_ranges;
+use gds_grammar::Element;
+use indexmap::IndexMap;
+use std::alloc::Global;
+use std::thread::Threads;
+
+/// The elements of a cell are cut into at most so many runs, which threads build one after another.
+const MOST_RUNS: usize = 16;
+
+/// A run has so many elements or more, or all that are left: fewer take no longer than a thread needs to begin. A cell of more elements is built in
+/// runs where more of them are shapes than references, whose names are looked up again then.
+const LEAST_RUN: usize = 8_192;
+
+/// Who builds cells.
+pub trait Builder {
+    /// What is asked of it.
+    ghost can_build: { Self → Type 0 };
+
+    /// The cell of these elements, which refer to the cells of the row in turn.
+    ///
+    /// # Errors
+    /// The first fault of a reference or shape in the order of the file, or `Memory` where memory is refused.
+    fn cell<'a>(
+        &self,
+        alloc: Global,
+        cells: &IndexMap<Vec<u8>, Vec<Element>>,
+        elements: &'a [Element],
+        row: &[usize],
+        layer: u16,
+        data_type: u16,
+    ) -> Result<Cell<'a>, FlattenError>
+        requires ready { can_build self.now }
+        requires row { row.now ≡ targets cells.now.entries elements.now }
+        ensures built { IfOk result (λ cell. IsCell cells.now.entries layer data_type elements.now cell) }
+        ensures fine { IfOk result (λ cell. AreFine layer data_type elements.now) }
+        ensures refused { IfErr result (λ e. (e ≡ FlattenError.Memory)
+            ⊎ IsFaulty layer data_type elements.now e) };
+}
+
+/// The calling thread alone.
+#[derive(Drop)]
+pub struct Alone;
+
+/// As many threads as there are processors.
+#[derive(Drop)]
+pub struct Together<'r, R>(pub &'r R);
+
+impl Builder for Alone {
+    ghost can_build = { λ _. Unit {0} };
+
+    fn cell<'a>(
+        &self,
+        alloc: Global,
+        cells: &IndexMap<Vec<u8>, Vec<Element>>,
+        elements: &'a [Element],
+        row: &[usize],
+        layer: u16,
+        data_type: u16,
+    ) -> Result<Cell<'a>, FlattenError> {
+        whole_cell(alloc, elements, row, layer, data_type)
+    }
+}
+
+impl<R: Threads + Sync> Builder for Together<'_, R> {
+    ghost can_build = { λ _. IsSync R.row };
+
+    fn cell<'a>(
+        &self,
+        alloc: Global,
+        cells: &IndexMap<Vec<u8>, Vec<Element>>,
+        elements: &'a [Element],
+        row: &[usize],
+        layer: u16,
+        data_type: u16,
+    ) -> Result<Cell<'a>, FlattenError> {
+        if elements.len() <= row.len().saturating_mul(2).max(LEAST_RUN) {
+            return whole_cell(alloc, elements, row, layer, data_type);
+        }
+        cell_by_runs(self.0, alloc, cells, elements, layer, data_type)
+    }
+}
+
+/// The cell of these elements, which refer to the cells of the row in turn. One run is made of them.
+fn whole_cell<'a>(
+    alloc: Global,
+    elements: &'a [Element],
+    row: &[usize],
+    layer: u16,
+    data_type: u16,
+) -> Result<Cell<'a>, FlattenError>
+    ensures built { IfOk result (λ cell. (entries : List Entry) → row.now ≡ targets entries elements.now → IsCell entries layer data_type elements.now cell) }
+    ensures fine { IfOk result (λ cell. AreFine layer data_type elements.now) }
+    ensures refused { IfErr result (λ e. (e ≡ FlattenError.Memory)
+        ⊎ IsFaulty layer data_type elements.now e) }
+{
+    let run = run_of(alloc, Targets::Row(row), elements, layer, data_type)?;
+    let mut shapes = Vec::new(alloc);
+    shapes.push(run.shapes)?;
+    Ok(Cell {
+        shapes,
+        links: run.links,
+    })
+}
+
+/// The cell of these elements, whose runs several threads build. Their references lead to the cells that have their names, which are looked up.
+fn cell_by_runs<'a>(
+    rt: &(impl Threads + Sync),
+    alloc: Global,
+    cells: &IndexMap<Vec<u8>, Vec<Element>>,
+    elements: &'a [Element],
+    layer: u16,
+    data_type: u16,
+) -> Result<Cell<'a>, FlattenError>
+    ensures built { IfOk result (λ cell. IsCell cells.now.entries layer data_type elements.now cell) }
+    ensures fine { IfOk result (λ cell. AreFine layer data_type elements.now) }
+    ensures refused { IfErr result (λ e. (e ≡ FlattenError.Memory)
+        ⊎ IsFaulty layer data_type elements.now e) }
+{
+    let size = elements.len().div_ceil(MOST_RUNS).max(LEAST_RUN);
+    let runs = map_ranges(
+        rt,
+        alloc,
+        elements.len(),
+        size,
+        &|from: usize, count: usize| -> Result<Run, FlattenError>
+            requires { from + count ≤ length elements.now }
+            ensures built { IfOk result (λ run. IsRun cells.entry.now.entries layer data_type (take count (drop from elements.entry.now)) run) }
+            ensures fine { IfOk result (λ run. AreFine layer data_type (take count (drop from elements.entry.now))) }
+            ensures refused { IfErr result (λ e. (e ≡ FlattenError.Memory)
+                ⊎ IsFaulty layer data_type (take count (drop from elements.entry.now)) e) }
+        { run_between(alloc, cells, elements, from, count, layer, data_type) },
+    )?;
+    joined(alloc, runs)
+}
+
+/// The run of `count` elements from the one at `from` on.
+fn run_between<'a>(
+    alloc: Global,
+    cells: &IndexMap<Vec<u8>, Vec<Element>>,
+    elements: &'a [Element],
+    from: usize,
+    count: usize,
+    layer: u16,
+    data_type: u16,
+) -> Result<Run<'a>, FlattenError>
+    requires { from + count ≤ length elements.now }
+    ensures built { IfOk result (λ run. IsRun cells.now.entries layer data_type (take count (drop from elements.now)) run) }
+    ensures fine { IfOk result (λ run. AreFine layer data_type (take count (drop from elements.now))) }
+    ensures refused { IfErr result (λ e. (e ≡ FlattenError.Memory)
+        ⊎ IsFaulty layer data_type (take count (drop from elements.now)) e) }
+{
+    let run = &elements[from..from + count];
+    run_of(alloc, Targets::Names(cells), run, layer, data_type)
+}
+
+/// The cell of all runs, or the first refusal.
+fn joined<'a>(
+    alloc: Global,
+    runs: Vec<Result<Run<'a>, FlattenError>>,
+) -> Result<Cell<'a>, FlattenError>
+    ensures built { IfOk result (λ cell. (entries : List Entry) (layer data_type size : ℕ) (elements : List Element) →
+        AreRuns entries layer data_type size elements runs.entry.items → IsCell entries layer data_type elements cell) }
+    ensures fine { IfOk result (λ cell. (entries : List Entry) (layer data_type size : ℕ) (elements : List Element) →
+        AreRuns entries layer data_type size elements runs.entry.items → AreFine layer data_type elements) }
+    ensures refused { IfErr result (λ e. (entries : List Entry) (layer data_type size : ℕ) (elements : List Element) →
+        AreRuns entries layer data_type size elements runs.entry.items → (e ≡ FlattenError.Memory) ⊎ IsFaulty layer data_type elements e) }
+{
+    let mut shapes = Vec::with_capacity(alloc, runs.len())?;
+    let mut links = Vec::new(alloc);
+    for run in runs {
+        let mut run = run?;
+        shapes.push(run.shapes)?;
+        links.append(&mut run.links)?;
+    }
+    Ok(Cell { shapes, links })
+}
