@@ -6,6 +6,10 @@ use crate::sweep::Rect;
 use crate::threads::share_out;
 use std::collections::HashMap;
 
+/// The elements of a cell are filled in at most so many runs, each of so many or of all that are left.
+const MOST_RUNS: usize = 16;
+const LEAST_RUN: usize = 8_192;
+
 /// The copies are carried in at most so many shares, each of so many or of all that are left.
 const MOST_SHARES: usize = 16;
 const LEAST_SHARE: usize = 8_192;
@@ -70,11 +74,18 @@ struct Link {
     row_step: Point,
 }
 
+/// Shapes of neighbouring elements, filled.
 #[derive(Default)]
-pub struct Cell {
+struct Run {
     pieces: Vec<Rect>,
     /// How many pieces the shapes have up to each one.
     ends: Vec<usize>,
+}
+
+#[derive(Default)]
+pub struct Cell {
+    /// One run of all elements, or several that threads filled.
+    runs: Vec<Run>,
     links: Vec<Link>,
 }
 
@@ -261,7 +272,7 @@ impl Element {
     }
 }
 
-impl Cell {
+impl Run {
     fn put_boundary(&mut self, points: &[Point]) {
         fill(points, &mut self.pieces);
         self.ends.push(self.pieces.len());
@@ -277,13 +288,28 @@ impl Cell {
         let begin = |shape: usize| if shape == 0 { 0 } else { self.ends[shape - 1] };
         &self.pieces[begin(from)..begin(to)]
     }
+}
+
+impl Cell {
+    /// The run that elements are put into.
+    fn run(&mut self) -> &mut Run {
+        if self.runs.is_empty() {
+            self.runs.push(Run::default());
+        }
+        &mut self.runs[0]
+    }
+
+    /// How many shapes it has.
+    fn own(&self) -> usize {
+        self.runs.iter().map(|run| run.ends.len()).sum()
+    }
 
     /// Puts an element into the cell as it is read.
     fn put_draft(&mut self, kind: u8, draft: &Draft, wanted: (u16, u16)) {
         let is_wanted = (draft.layer, draft.data_type) == wanted;
         match kind {
-            0x08 if is_wanted => self.put_boundary(&points(draft.xy)),
-            0x09 if is_wanted => self.put_path(draft.numbers(), &points(draft.xy)),
+            0x08 if is_wanted => self.run().put_boundary(&points(draft.xy)),
+            0x09 if is_wanted => self.run().put_path(draft.numbers(), &points(draft.xy)),
             0x0a | 0x0b => self.links.push(link(draft, kind == 0x0b)),
             _ => {}
         }
@@ -292,13 +318,34 @@ impl Cell {
     /// Puts an element of a library into the cell.
     fn put_element(&mut self, element: &Element, wanted: (u16, u16)) {
         match element {
-            Element::Boundary { layer, data_type, points } if (*layer, *data_type) == wanted => self.put_boundary(points),
+            Element::Boundary { layer, data_type, points } if (*layer, *data_type) == wanted => self.run().put_boundary(points),
             Element::Path { layer, data_type, numbers, points } if (*layer, *data_type) == wanted => {
-                self.put_path(*numbers, points);
+                self.run().put_path(*numbers, points);
             }
             Element::Link(link) => self.links.push(link.clone()),
             _ => {}
         }
+    }
+
+    /// The cell of these elements, whose runs threads fill.
+    fn of(elements: &[Element], wanted: (u16, u16)) -> Cell {
+        let filled = |elements: &[Element]| {
+            let mut cell = Cell::default();
+            elements.iter().for_each(|element| cell.put_element(element, wanted));
+            cell
+        };
+        if elements.len() <= LEAST_RUN {
+            return filled(elements);
+        }
+        let size = elements.len().div_ceil(MOST_RUNS).max(LEAST_RUN);
+        let mut parts: Vec<Cell> = (0..elements.len().div_ceil(size)).map(|_| Cell::default()).collect();
+        share_out(elements.chunks(size).zip(&mut parts), |(elements, part)| *part = filled(elements));
+        let mut cell = Cell::default();
+        for part in parts {
+            cell.runs.extend(part.runs);
+            cell.links.extend(part.links);
+        }
+        cell
     }
 }
 
@@ -333,12 +380,7 @@ pub fn read_cells(bytes: &[u8], layer: (u16, u16)) -> (Vec<Cell>, HashMap<Vec<u8
 pub fn read_library(bytes: Vec<u8>, layer: (u16, u16)) -> (Vec<Cell>, HashMap<Vec<u8>, usize>) {
     let (library, indices) = read(&bytes, |cell: &mut Vec<Element>, kind, draft| cell.push(Element::of(kind, &draft)));
     drop(bytes);
-    let filled = |elements: &Vec<Element>| -> Cell {
-        let mut cell = Cell::default();
-        elements.iter().for_each(|element| cell.put_element(element, layer));
-        cell
-    };
-    let cells = library.iter().map(filled).collect();
+    let cells = library.iter().map(|elements| Cell::of(elements, layer)).collect();
     (cells, indices)
 }
 
@@ -353,7 +395,7 @@ impl Design {
         if let Some(count) = self.counts[cell] {
             return count;
         }
-        let mut total = self.cells[cell].ends.len();
+        let mut total = self.cells[cell].own();
         for k in 0..self.targets[cell].len() {
             let each = self.count(self.targets[cell][k]);
             let link = &self.cells[cell].links[k];
@@ -365,10 +407,12 @@ impl Design {
 
     /// Carries the copies of a cell from one number up to another.
     fn carry(&self, cell: usize, at: &Placement, (from, to): (usize, usize), out: &mut Vec<Rect>) {
-        let own = self.cells[cell].ends.len();
-        let pieces = self.cells[cell].pieces_of(from.min(own), to.min(own));
-        out.extend(pieces.iter().map(|piece| at.rect(piece)));
-        let (mut from, mut to) = (from.saturating_sub(own), to.saturating_sub(own));
+        let (mut from, mut to) = (from, to);
+        for run in &self.cells[cell].runs {
+            let own = run.ends.len();
+            out.extend(run.pieces_of(from.min(own), to.min(own)).iter().map(|piece| at.rect(piece)));
+            (from, to) = (from.saturating_sub(own), to.saturating_sub(own));
+        }
         for (link, target) in self.cells[cell].links.iter().zip(&self.targets[cell]) {
             if to == 0 {
                 return;

@@ -20,8 +20,8 @@ use std::io::Write;
 use threads::share_out;
 
 /// The lines are made in at most so many parts, each of so many windows or more, or of all that are left. A line is mostly no longer than so many bytes.
-const MOST_PARTS: usize = 16;
-const LEAST_PART: usize = 1_024;
+const MOST_PARTS: usize = 32;
+const LEAST_PART: usize = 512;
 const LINE: usize = 72;
 
 /// The lines of windows with these areas, in parts that are made at once. Each text is its thread's own until it is whole, since lengths that

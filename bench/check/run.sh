@@ -6,40 +6,53 @@
 # fails; so the report of a flat design is compared with that of the deep one, too.
 #
 # A second table has the phases of a check of the designs in five levels, timed by a program of its own (phases.rt.txt): flattening, measuring the
-# windows straight from the rectangles or by the region of all of them and `measure_all`, as before there was a straight way, and making
-# the lines of the report. Peaks are those of the whole process, with its report.
+# windows straight from the rectangles or by the region of all of them and `measure_all`, as before there was a straight way, and all
+# that comes after flattening, the lines of the report included. Peaks are those of the whole process, with its report. It is run on one processor,
+# on one processor each as often at once as there are processors, and on all: processors that share a core or its clock with others are slower
+# together than one alone, and what threads gain is seen beside processes that have as much of the machine. Of processes at once the mean counts.
 #
 # Where `klayout` is installed (Debian's package of that name), a last table has KLayout's own ways over the 10,000 windows, run once each: the
 # areas of all windows by its tiling processor (areas.py), and the low windows by with_density (density.drc). Its areas and
-# its low windows must be those of the report.
+# its low windows must be those of the report. Designs of more copies than KLAYOUT says are left out there.
 #
-# usage: [ROUNDS=N] bench/check/run.sh [COUNT ..]     (after make build; needs rt, rustc, python3, taskset and GNU time; without COUNT
+# usage: [ROUNDS=N] [KLAYOUT=COUNT] bench/check/run.sh [COUNT ..]     (after make build; needs rt, rustc, python3, taskset and GNU time; without COUNT
 #                                           some ten minutes and 4 GB, more where the crates were
 #                                           not proved before, and half an hour with KLayout)
 set -eu
 . "$(dirname "$0")/../common.sh"
 rounds=${ROUNDS:-3}
+most=${KLAYOUT:-4000000}
 
 python3 "$here/generate.py" 1000 deep "$work"
 "$here/../build.sh" "$here" phases "$work" "$work/rules.csv $work/design.gds" \
     "fill_base fill_raster fill_spans fill_region fill_size fill_area fill_cells fill_threads fill_measure gds_record gds_grammar gds_shape gds_flatten fill_text fill_job fill_core fill_report" \
     "rayon csv itoa indexmap thiserror anyhow"
 
-# time_phases COUNT WINDOWS PROCESSORS: a line for each way, of rectangles and of the region: seconds to flatten, to measure the windows (the region
-# included) and to make the lines of the report, each the best of all rounds, and the peak in MB.
+# run_phases WAY PROCESSORS PROCESSES: the mean of each phase of so many processes at once, and the greatest peak, to WORK/phases.
+run_phases() {
+    local process
+    for process in $(seq 0 $(($3 - 1))); do
+        /usr/bin/time -f 'peak %M' -o "$work/peak_$process" taskset -c "$process-$((process + $2 - 1))" "$work/rattle" "$rules" \
+            "$work/design.gds" $([ "$1" = rects ] || echo "$1") > "$work/said_$process" &
+    done
+    wait
+    cat "$work"/said_* | awk -v processes="$3" '{ sum[$1] += $2 } END { for (phase in sum) print phase, sum[phase] / processes }' >> "$work/phases"
+    cat "$work"/peak_* >> "$work/phases"
+    rm "$work"/said_* "$work"/peak_*
+}
+
+# time_phases COUNT WINDOWS PROCESSORS PROCESSES: a line for each way, of rectangles and of the region: seconds to flatten, to measure the windows (the region
+# included) and to make the report (the windows included), each the best of all rounds, and the peak in MB.
 time_phases() {
     local way
     for way in rects region; do
         for _ in $(seq "$rounds"); do
-            /usr/bin/time -f 'peak %M' -o "$work/peak" taskset -c "0-$(($3 - 1))" "$work/rattle" "$rules" "$work/design.gds" \
-                $([ $way = rects ] || echo $way) > "$work/said"
-            cat "$work/said" "$work/peak" >> "$work/phases"
+            run_phases $way "$3" "$4"
         done
-        awk -v start="$1 $2 $3 $way" '
+        awk -v start="$1 $2 $3 $4 $way" '
             { if ($1 == "peak" ? $2 > took[$1] : !($1 in took) || $2 < took[$1]) took[$1] = $2 }
             END {
-                lines = took["report"] - took["windows"]
-                printf "%s %.3f %.3f %.3f %.0f\n", start, took["flatten"] / 1e6, (took["region"] + took["windows"]) / 1e6, (lines > 0 ? lines : 0) / 1e6, took["peak"] / 1024
+                printf "%s %.4f %.4f %.4f %.0f\n", start, took["flatten"] / 1e6, (took["region"] + took["windows"]) / 1e6, took["report"] / 1e6, took["peak"] / 1024
             }' "$work/phases"
         rm "$work/phases"
     done
@@ -75,10 +88,13 @@ for count in "$@"; do
                 direct=$(measure direct "$processors" "$rounds")
                 cmp "$work/densfill.csv" "$work/plain.csv"
                 cmp "$work/densfill.csv" "$work/direct.csv"
-                [ $form = flat ] || time_phases "$count" $windows "$processors" >> "$work/timed"
+                if [ $form = deep ]; then
+                    time_phases "$count" $windows "$processors" 1 >> "$work/timed"
+                    [ "$processors" = "$all" ] || time_phases "$count" $windows 1 "$all" >> "$work/timed"
+                fi
                 echo "$form $count $windows $processors $ours $theirs $direct" |
                     awk '{ printf "%-6s %10d %10d %10d %12.2f %8.2f %6.2f %9.2f %12d %9d %10d\n", $1, $2, $3, $4, $5, $7, ($7 > 0 ? $5 / $7 : 0), $9, $6, $8, $10 }'
-                [ $windows = 10000 ] && command -v klayout > "$work/found" || continue
+                [ $windows = 10000 ] && [ "$count" -le "$most" ] && command -v klayout > "$work/found" || continue
                 areas=$(measure areas.py "$processors" 1)
                 low=$(measure density.drc "$processors" 1)
                 cut -d, -f1,2,7 "$work/densfill.csv" | cmp - "$work/areas.py.csv"
@@ -95,11 +111,11 @@ for count in "$@"; do
 done
 awk '
     BEGIN {
-        printf "\n%10s %10s %10s %9s %10s %10s %9s %11s %11s\n", "copies", "windows", "processors", "flatten s", "by rects s", "by region s", "lines s",
-            "by rects MB", "by region MB"
+        printf "\n%10s %10s %10s %10s %10s %10s %11s %9s %11s %12s\n", "copies", "windows", "processors", "processes", "flatten s", "by rects s", "by region s",
+            "report s", "by rects MB", "by region MB"
     }
-    $4 == "rects" { rects = $6; lines = $7; peak = $8 }
-    $4 == "region" { printf "%10d %10d %10d %9.3f %10.3f %11.3f %9.3f %11d %12d\n", $1, $2, $3, $5, rects, $6, lines, peak, $8 }' "$work/timed"
+    $5 == "rects" { rects = $7; report = $8; peak = $9 }
+    $5 == "region" { printf "%10d %10d %10d %10d %10.4f %10.4f %11.4f %9.4f %11d %12d\n", $1, $2, $3, $4, $6, rects, $7, report, peak, $9 }' "$work/timed"
 [ ! -s "$work/klayout" ] || awk '
     BEGIN {
         printf "\n%-6s %10s %10s %12s %8s %14s %8s %12s %12s\n", "form", "copies", "processors", "areas s", "times", "with_density s", "times",
