@@ -7,6 +7,8 @@ mod designs;
 #[cfg(test)]
 mod grammar;
 #[cfg(test)]
+mod large;
+#[cfg(test)]
 mod placements;
 #[cfg(test)]
 mod records;
