@@ -12,7 +12,7 @@ use Rattle.fill_base.proofs.Counting.{sum_between_split, sum_between_add, sum_be
 use Rattle.fill_area.proofs.Begun.{by_lt}
 use Rattle.fill_cells.specs.Mesh.{AreLines, gaps}
 use Rattle.fill_measure.specs.steps.Groups.{IsRow}
-use Rattle.fill_measure.specs.steps.Corners.{block_area, AreCorners, IsLine}
+use Rattle.fill_measure.specs.steps.Corners.{block_area, AreCorners}
 
 -- an area splits at a number between its sides
 area_wider : (p : ℤ → ℤ → Bool) (left mid right bottom top : ℤ) → left ≤ℤ mid → mid ≤ℤ right
@@ -87,24 +87,13 @@ corner_in w h i j i_in j_in = let le : (j + 1) * w ≤ h * w = mul-le-mul (omega
     same : (n : ℕ) → n ≤ n
     same n = omega arith
 
--- the squares between two lines across, below the line `j`: a difference of two numbers of that line
-pub lines_difference : (p : ℤ → ℤ → Bool) (across up line : List ℤ) (left right j : ℕ) → AreLines across → AreLines up → IsLine p across up j line
-    → left ≤ right → right < length across → j < length up → (x y : ℤ) → x ≡ get_or line right x → y ≡ get_or line left y → (d : ℤ)
-    → FitsSigned w64 (read x -ℤ read y) × (read (read x -ℤ read y) ≡ pos (block_area p across up left 0 right j d))
-lines_difference p across up line left right j x_are y_are are le x_in y_in x y x_is y_is d = difference_of _ _ _ _ _
-    (number right x x_in x_is)
-    (number left y left_in y_is)
-    (area_wider p (get_or across 0 d) (get_or across left d) (get_or across right d) (get_or up 0 d) (get_or up j d) (line_le across 0 left d x_are (omega arith) left_in) (line_le across left right d x_are le x_in))
-    (small right x_in)
-  where
-    left_in : left < length across
-    left_in = omega (arith, le, x_in)
-
-    small : (i : ℕ) → i < length across → block_area p across up 0 0 i j d ≤ 2 ^ 62
-    small i i_in = block_small p across up 0 0 i j d x_are y_are (omega arith) i_in (omega arith) y_in
-
-    number : (i : ℕ) (z : ℤ) → i < length across → z ≡ get_or line i z → read z ≡ pos (block_area p across up 0 0 i j d)
-    number i z i_in is = count_read _ _ (is ∙ (get_or_default line i z d (rw are.count i_in) ∙ are.each i d i_in)) (small i i_in)
+-- the squares between two lines across, below the line `j`: a difference of what lies left of each
+pub lines_difference : (p : ℤ → ℤ → Bool) (across up : List ℤ) (left right j : ℕ) (x y : ℤ) (d : ℤ) → AreLines across → AreLines up → left ≤ right → right < length across → j < length up
+    → x ≡ pos (block_area p across up 0 0 right j d) → y ≡ pos (block_area p across up 0 0 left j d)
+    → FitsSigned w64 (x -ℤ y) × (read (x -ℤ y) ≡ pos (block_area p across up left 0 right j d))
+lines_difference p across up left right j x y d x_are y_are le x_in y_in x_is y_is = difference_of _ _ _ _ _ x_is y_is
+    (area_wider p (get_or across 0 d) (get_or across left d) (get_or across right d) (get_or up 0 d) (get_or up j d) (line_le across 0 left d x_are (omega arith) (omega (arith, le, x_in))) (line_le across left right d x_are le x_in))
+    (block_small p across up 0 0 right j d x_are y_are (omega arith) x_in (omega arith) y_in)
 
 -- the squares between two lines upwards: a difference of such
 pub rows_difference : (p : ℤ → ℤ → Bool) (across up : List ℤ) (left bottom right top : ℕ) (x y : ℤ) (d : ℤ) → AreLines across → AreLines up → left ≤ right → right < length across → bottom ≤ top → top < length up

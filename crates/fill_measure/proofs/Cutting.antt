@@ -16,7 +16,7 @@ use Rattle.fill_area.specs.declared.axis.Axis.{Axis}
 use Rattle.fill_cells.specs.Mesh.{AreLines, gaps}
 use Rattle.fill_measure.specs.declared.mesh.Mesh.{Mesh}
 use Rattle.fill_measure.specs.steps.Groups.{AreCells, IsRow, cell_area}
-use Rattle.fill_measure.specs.steps.Meshes.{AreCornersOf, AreGroups, IsGroupOf}
+use Rattle.fill_measure.specs.steps.Meshes.{AreCornersOf, AreGroupsOf, IsGroupOf}
 use Rattle.fill_measure.specs.steps.Corners.{AreCorners}
 use Rattle.fill_measure.specs.steps.Cuts.{IsCut, AreEven}
 use Rattle.fill_measure.specs.steps.Ends.{HoldEnds}
@@ -194,7 +194,7 @@ row_of_cells p across up cells j are j_in = subst (λ n. IsRow p across up n (ta
     whole w l le = omega (arith, le)
 
 -- the corners of all rows are one group
-pub one_group : (mesh : Mesh) (v : Vec ℤ Global) (groups : List (Vec ℤ Global)) → AreLines mesh.up.now → AreCornersOf mesh 0 (gaps mesh.up.now + 1) v.items → groups ≡ v ∷ [] → AreGroups mesh (gaps mesh.up.now) groups
+pub one_group : (mesh : Mesh) (v : Vec ℤ Global) (groups : List (Vec ℤ Global)) → AreLines mesh.up.now → AreCornersOf mesh 0 (gaps mesh.up.now + 1) v.items → groups ≡ v ∷ [] → AreGroupsOf mesh (gaps mesh.up.now) groups
 one_group mesh v groups y_are corners is = rw is (record {
   all = omega arith;
   some = λ k lt. let some : 2 ≤ length mesh.up.now = y_are.some in let none : k ≡ 0 = omega (arith, lt) in rw none (omega (arith, some));

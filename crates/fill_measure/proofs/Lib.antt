@@ -1,9 +1,10 @@
 pub mod CornerSums
+pub mod Cutting
 pub mod Ends
 pub mod Grouping
+pub mod Joining
+pub mod Listing
 pub mod Parting
 pub mod Placing
-pub mod Windowing
-pub mod Cutting
-pub mod Listing
 pub mod Stacking
+pub mod Windowing

@@ -1,32 +1,14 @@
 -- What lies below a group, and the numbers of a line from those of its group.
-use Rattle.std.proofs.Common.{◌≡◌, ℕ, ◌+◌, ◌-◌, ◌*◌, ◌/◌, ◌≤◌, ◌<◌, min, ℤ, pos, ◌+ℤ◌, Bool, List, [], ◌∷◌, ◌++◌, length, get_or, arith, ap, subst, ◌∙◌, sym, below_more, w64, FitsSigned, Vec, Global, vec_len}
+use Rattle.std.proofs.Common.{◌≡◌, ℕ, ◌+◌, ◌-◌, ◌*◌, ◌/◌, ◌≤◌, ◌<◌, min, ℤ, pos, ◌+ℤ◌, Bool, List, length, get_or, arith, ap, subst, ◌∙◌, sym, w64, FitsSigned, Vec, Global, vec_len}
 use Rattle.std.proofs.lemmas.Grind.{common_steps}
-use Rattle.std.proofs.lemmas.List.{get_or_append_left, length_push}
 use Rattle.std.proofs.Math.Nat.{mul-le-mul, div-mul-le_self, lt-div-mul-add}
-use Rattle.std.proofs.Math.Seq.{get_or-append_seam}
 use Rattle.fill_base.proofs.Signed.{read}
 use Rattle.fill_area.proofs.Begun.{by_lt}
 use Rattle.fill_cells.specs.Mesh.{AreLines, gaps}
 use Rattle.fill_measure.proofs.CornerSums.{corner_in, corner_read, stacked}
 use Rattle.fill_measure.specs.declared.corners.Corners.{Corners}
-use Rattle.fill_measure.specs.declared.mesh.Mesh.{Mesh}
 use Rattle.fill_measure.specs.steps.Corners.{block_area, AreCorners}
-use Rattle.fill_measure.specs.steps.Meshes.{AreGroupsOf, IsGroupOf}
-
--- the first `n` numbers of a line
-pub record IsLineTo (p : ℤ → ℤ → Bool) (across up : List ℤ) (j n : ℕ) (numbers : List ℤ) : Type 0 where
-  pub count : length numbers ≡ n
-  pub each : (i : ℕ) (d : ℤ) → i < n → get_or numbers i d ≡ pos (block_area p across up 0 0 i j d)
-
--- one number more
-pub line_more : (p : ℤ → ℤ → Bool) (across up old new : List ℤ) (j n : ℕ) (value : ℤ) → IsLineTo p across up j n old → new ≡ old ++ value ∷ [] → ((d : ℤ) → value ≡ pos (block_area p across up 0 0 n j d)) → IsLineTo p across up j (n + 1) new
-line_more p across up old new j n value to new_is value_is = rw new_is (record {
-  count = length_push old value ∙ ap (λ n. n + 1) to.count;
-  each = λ i d lt. below_more (λ i. get_or (old ++ value ∷ []) i d ≡ pos (block_area p across up 0 0 i j d)) n
-      (λ i lt. get_or_append_left old (value ∷ []) d i (rw to.count lt) ∙ to.each i d lt)
-      (ap (λ i. get_or (old ++ value ∷ []) i d) (sym to.count) ∙ (get_or-append_seam old value [] d ∙ value_is d))
-      i lt;
-})
+use Rattle.fill_measure.specs.steps.Meshes.{AreAllCorners, IsGroup}
 
 -- the group in which a line is looked for, and how far above the lowest of that group it lies
 pub group_of : (j height groups rows k : ℕ) → 1 ≤ rows → rows ≤ groups * height → j ≤ rows → k ≡ min (j / height) (groups - 1)
@@ -57,16 +39,16 @@ group_of j height groups rows k some all j_in k_is = by_lt (j / height) groups
         let whole : groups * height ≡ n * height + height = ap (λ m. m * height) is ∙ omega arith in
         rw k_n (omega (arith, is), (omega (arith, whole, le), omega (arith, whole, le, all, j_in)))
 
--- the same of the corners of a mesh
-pub found : (mesh : Mesh) (corners : Corners) (j k m : ℕ) → AreGroupsOf mesh corners → AreLines mesh.up.now → j < length mesh.up.now → m ≡ vec_len corners.groups → k ≡ min (j / corners.height) (m - 1)
-    → (k < length corners.groups.items) × ((k * corners.height ≤ j) × (j - k * corners.height ≤ min corners.height (gaps mesh.up.now - k * corners.height)))
-found mesh corners j k m are y_are j_in m_is k_is =
+-- the same of the corners on lines
+pub found : (p : ℤ → ℤ → Bool) (across up : List ℤ) (corners : Corners) (j k m : ℕ) → AreAllCorners p across up corners → AreLines up → j < length up → m ≡ vec_len corners.groups → k ≡ min (j / corners.height) (m - 1)
+    → (k < length corners.groups.items) × ((k * corners.height ≤ j) × (j - k * corners.height ≤ min corners.height (gaps up - k * corners.height)))
+found p across up corners j k m are y_are j_in m_is k_is =
     let count : vec_len corners.groups ≡ length corners.groups.items = grind (arith, common_steps) in
-    let some : 2 ≤ length mesh.up.now = y_are.some in
-    group_of j corners.height (length corners.groups.items) (gaps mesh.up.now) k (omega (arith, some)) are.groups.all (omega (arith, j_in)) (rw (m_is ∙ count) at k_is)
+    let some : 2 ≤ length up = y_are.some in
+    group_of j corners.height (length corners.groups.items) (gaps up) k (omega (arith, some)) are.groups.all (omega (arith, j_in)) (rw (m_is ∙ count) at k_is)
 
-pub group_at : (mesh : Mesh) (corners : Corners) (k : ℕ) (v : Vec ℤ Global) (xs : List ℤ) → AreGroupsOf mesh corners → k < length corners.groups.items → v ≡ get_or corners.groups.items k v → xs ≡ v.items → IsGroupOf mesh corners.height k xs
-group_at mesh corners k v xs are k_in v_is xs_is = subst (IsGroupOf mesh corners.height k) (sym (xs_is ∙ ap (λ (v : Vec ℤ Global). v.items) v_is)) (are.groups.each k v k_in)
+pub group_at : (p : ℤ → ℤ → Bool) (across up : List ℤ) (corners : Corners) (k : ℕ) (v : Vec ℤ Global) (xs : List ℤ) → AreAllCorners p across up corners → k < length corners.groups.items → v ≡ get_or corners.groups.items k v → xs ≡ v.items → IsGroup p across up corners.height k xs
+group_at p across up corners k v xs are k_in v_is xs_is = subst (IsGroup p across up corners.height k) (sym (xs_is ∙ ap (λ (v : Vec ℤ Global). v.items) v_is)) (are.groups.each k v k_in)
 
 -- the number of a line in a column: what lies below its group, and what lies above in the group
 pub number_of : (p : ℤ → ℤ → Bool) (across up below group : List ℤ) (i j k height groups count : ℕ) (x : ℤ) (e : ℤ) → AreLines across → AreLines up → i < length across → j < length up → (k < groups) × ((k * height ≤ j) × (j - k * height ≤ count))
@@ -116,3 +98,27 @@ added_below p across up below group i k height count n x e x_are y_are i_in some
 
     back : (k - 1) * height + height * 1 ≡ 0 + k * height
     back = omega (arith, before)
+
+-- where the number of a crossing stands in the list of what lies below the groups, and in that of its group
+pub record IsPlaced (corners : Corners) (xs : List ℤ) (w i j k : ℕ) : Type 0 where
+  pub below : k * w + i < length corners.below.items
+  pub above : (j - k * corners.height) * w + i < length xs
+
+pub placed : (p : ℤ → ℤ → Bool) (across up : List ℤ) (corners : Corners) (i j k m : ℕ) (v : Vec ℤ Global) (xs : List ℤ) → AreAllCorners p across up corners → AreLines up → i < length across → j < length up → m ≡ vec_len corners.groups → k ≡ min (j / corners.height) (m - 1)
+    → v ≡ get_or corners.groups.items k v → xs ≡ v.items → IsPlaced corners xs (length across) i j k
+placed p across up corners i j k m v xs are y_are i_in j_in m_is k_is v_is xs_is =
+    let place = found p across up corners j k m are y_are j_in m_is k_is in
+    let group = group_at p across up corners k v xs are place.0 v_is xs_is in
+    let low = corner_in (length across) (length corners.groups.items) i k i_in place.0 in
+    let within : j - k * corners.height < min corners.height (gaps up - k * corners.height) + 1 = omega (arith, place.1.1) in
+    let high = corner_in (length across) _ i (j - k * corners.height) i_in within in
+    record { below = rw are.below.count low; above = rw group.count high }
+
+-- what both together tell
+pub placed_number : (p : ℤ → ℤ → Bool) (across up : List ℤ) (corners : Corners) (i j k m : ℕ) (v : Vec ℤ Global) (xs : List ℤ) (x e : ℤ) → AreAllCorners p across up corners → AreLines across → AreLines up → i < length across → j < length up → m ≡ vec_len corners.groups → k ≡ min (j / corners.height) (m - 1)
+    → v ≡ get_or corners.groups.items k v → xs ≡ v.items → x ≡ get_or corners.below.items (k * length across + i) x
+    → FitsSigned w64 (read x +ℤ read (get_or xs ((j - k * corners.height) * length across + i) e)) × ((d : ℤ) → read (read x +ℤ read (get_or xs ((j - k * corners.height) * length across + i) e)) ≡ pos (block_area p across up 0 0 i j d))
+placed_number p across up corners i j k m v xs x e are x_are y_are i_in j_in m_is k_is v_is xs_is x_is =
+    let place = found p across up corners j k m are y_are j_in m_is k_is in
+    let group = group_at p across up corners k v xs are place.0 v_is xs_is in
+    number_of p across up corners.below.items xs i j k corners.height (length corners.groups.items) _ x e x_are y_are i_in j_in place are.below group x_is

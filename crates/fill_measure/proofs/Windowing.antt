@@ -1,79 +1,100 @@
--- The areas of windows, one after the other and row by row.
-use Rattle.std.proofs.Common.{◌≡◌, ℕ, ◌+◌, ◌*◌, ◌/◌, ◌%◌, ◌<◌, ℤ, pos, Bool, List, [], ◌∷◌, ◌++◌, All, length, get_or, refl, arith, ap, subst, ◌∙◌, sym, below_more, mul_comm, ◌-ℤ◌, w64, FitsSigned}
-use Rattle.std.proofs.lemmas.List.{get_or_append_left, length_push}
-use Rattle.std.proofs.lemmas.Nat.{div-add-mod', mod_below, div_below}
-use Rattle.std.proofs.Math.Seq.{get_or-append_seam}
+-- The areas of windows: a difference of numbers at crossings, and a list of them.
+use Rattle.std.proofs.Common.{◌≡◌, ℕ, ◌+◌, ◌-◌, ◌*◌, ◌/◌, ◌%◌, ◌≤◌, ◌<◌, min, ℤ, pos, ◌-ℤ◌, Bool, List, [], ◌∷◌, ◌++◌, All, map, Result, Ok, IfOk, length, get_or, refl, arith, ap, ◌∙◌, sym, subst, w64, FitsSigned}
+use Rattle.std.specs.Global.{Vec}
+use Rattle.std.specs.List.{flat_map}
+use Rattle.std.specs.Vec.{vec_items}
+use Rattle.std.specs.declared.alloc.AllocError.{AllocError}
+use Rattle.std.proofs.Math.Logic.{∥∥₁_elim}
+use Rattle.std.proofs.Props.{props}
+use Rattle.std.proofs.lemmas.List.FromFn.{get_or-map-range_with_len, length-map-range_with_len, map-range_with_len_more}
 use Rattle.fill_base.proofs.Signed.{read}
-use Rattle.fill_area.proofs.Begun.{by_lt}
-use Rattle.fill_area.proofs.Measuring.{area_at, bounded}
+use Rattle.fill_area.proofs.Measuring.{area_at, bounded, measured}
 use Rattle.fill_area.specs.Density.{window_area, AreMeasured, IsArea}
 use Rattle.fill_area.specs.Grid.{Grid, IsGrid}
 use Rattle.fill_cells.specs.Mesh.{AreLines}
-use Rattle.fill_measure.proofs.CornerSums.{lines_difference, rows_difference}
+use Rattle.fill_measure.proofs.CornerSums.{block_small, count_read, lines_difference, rows_difference}
+use Rattle.fill_measure.proofs.Joining.{map_split, ranges_joined}
+use Rattle.fill_measure.specs.Sums.{areas_from}
 use Rattle.fill_measure.specs.declared.sides.Sides.{Sides}
-use Rattle.fill_measure.specs.steps.Corners.{block_area, IsLine}
-use Rattle.fill_measure.specs.steps.Groups.{AreRows}
+use Rattle.fill_measure.specs.declared.sums.WindowSums.{WindowSums}
+use Rattle.fill_measure.specs.steps.Corners.{block_area}
 use Rattle.fill_measure.specs.steps.Sides.{IsBetween}
 
 -- the area between the sides of a window
-pub sides_area : (p : ℤ → ℤ → Bool) (g : Grid) (across up : List ℤ) (a b : ℕ) (s t : Sides) (d : ℤ) → IsBetween g.across across a s → IsBetween g.up up b t
+sides_area : (p : ℤ → ℤ → Bool) (g : Grid) (across up : List ℤ) (a b : ℕ) (s t : Sides) (d : ℤ) → IsBetween g.across across a s → IsBetween g.up up b t
     → block_area p across up s.begin t.begin s.end t.end d ≡ window_area p g a b
 sides_area p g across up a b s t d x_is y_is = rw (x_is.begins d, x_is.ends d, y_is.begins d, y_is.ends d) refl
 
 -- the area of a window, as the code finds it: the difference of what its sides across cut off from the lines at which it ends and begins
-pub window_of : (p : ℤ → ℤ → Bool) (g : Grid) (across up lower upper : List ℤ) (a b : ℕ) (s t : Sides) (x1 x0 y1 y0 : ℤ) → AreLines across → AreLines up → IsBetween g.across across a s → IsBetween g.up up b t
-    → IsLine p across up t.begin lower → IsLine p across up t.end upper → x1 ≡ get_or upper s.end x1 → x0 ≡ get_or upper s.begin x0 → y1 ≡ get_or lower s.end y1 → y0 ≡ get_or lower s.begin y0
-    → (FitsSigned w64 (read x1 -ℤ read x0) × FitsSigned w64 (read y1 -ℤ read y0))
-    × (FitsSigned w64 (read (read x1 -ℤ read x0) -ℤ read (read y1 -ℤ read y0)) × (read (read (read x1 -ℤ read x0) -ℤ read (read y1 -ℤ read y0)) ≡ pos (window_area p g a b)))
-window_of p g across up lower upper a b s t x1 x0 y1 y0 x_are y_are column row below above x1_is x0_is y1_is y0_is =
-    let bottom_in : t.begin < length up = omega (arith, row.order.ordered, row.order.within) in
-    let high = lines_difference p across up upper s.begin s.end t.end x_are y_are above column.order.ordered column.order.within row.order.within x1 x0 x1_is x0_is (pos 0) in
-    let low = lines_difference p across up lower s.begin s.end t.begin x_are y_are below column.order.ordered column.order.within bottom_in y1 y0 y1_is y0_is (pos 0) in
+pub window_of : (p : ℤ → ℤ → Bool) (g : Grid) (across up : List ℤ) (a b : ℕ) (s t : Sides) (x1 x0 y1 y0 : ℤ) → AreLines across → AreLines up → IsBetween g.across across a s → IsBetween g.up up b t
+    → x1 ≡ pos (block_area p across up 0 0 s.end t.end (pos 0)) → x0 ≡ pos (block_area p across up 0 0 s.begin t.end (pos 0)) → y1 ≡ pos (block_area p across up 0 0 s.end t.begin (pos 0)) → y0 ≡ pos (block_area p across up 0 0 s.begin t.begin (pos 0))
+    → (FitsSigned w64 (read x1 -ℤ read x0) × FitsSigned w64 (read y1 -ℤ read y0)) × (FitsSigned w64 (read (read x1 -ℤ read x0) -ℤ read (read y1 -ℤ read y0)) × (read (read (read x1 -ℤ read x0) -ℤ read (read y1 -ℤ read y0)) ≡ pos (window_area p g a b)))
+window_of p g across up a b s t x1 x0 y1 y0 x_are y_are column row x1_is x0_is y1_is y0_is =
+    let high = lines_difference p across up s.begin s.end t.end (read x1) (read x0) (pos 0) x_are y_are column.order.ordered column.order.within row.order.within (number s.end t.end x1 column.order.within row.order.within x1_is) (number s.begin t.end x0 left_in row.order.within x0_is) in
+    let low = lines_difference p across up s.begin s.end t.begin (read y1) (read y0) (pos 0) x_are y_are column.order.ordered column.order.within bottom_in (number s.end t.begin y1 column.order.within bottom_in y1_is) (number s.begin t.begin y0 left_in bottom_in y0_is) in
     let whole = rows_difference p across up s.begin t.begin s.end t.end (read (read x1 -ℤ read x0)) (read (read y1 -ℤ read y0)) (pos 0) x_are y_are column.order.ordered column.order.within row.order.ordered row.order.within high.1 low.1 in
     ((high.0, low.0), (whole.0, whole.1 ∙ ap pos (sides_area p g across up a b s t (pos 0) column row)))
+  where
+    left_in : s.begin < length across
+    left_in = omega (arith, column.order.ordered, column.order.within)
 
--- the areas of the first `n` windows of row `b`
-pub record IsRowTo (p : ℤ → ℤ → Bool) (g : Grid) (b n : ℕ) (areas : List ℤ) : Type 0 where
-  pub count : length areas ≡ n
-  pub each : (a : ℕ) (d : ℤ) → a < n → get_or areas a d ≡ pos (window_area p g a b)
+    bottom_in : t.begin < length up
+    bottom_in = omega (arith, row.order.ordered, row.order.within)
+
+    number : (i j : ℕ) (z : ℤ) → i < length across → j < length up → z ≡ pos (block_area p across up 0 0 i j (pos 0)) → read z ≡ pos (block_area p across up 0 0 i j (pos 0))
+    number i j z i_in j_in is = count_read z _ is (block_small p across up 0 0 i j (pos 0) x_are y_are (omega arith) i_in (omega arith) j_in)
+
+-- the same of the sums' own lines and sides
+between : (sums : WindowSums) (a b : ℕ) (s t : Sides) → a < sums.windows.across.count → b < sums.windows.up.count → s ≡ get_or sums.columns.items a s → t ≡ get_or sums.rows.items b t
+    → IsBetween sums.windows.across sums.across.items a s × IsBetween sums.windows.up sums.up.items b t
+between sums a b s t a_in b_in s_is t_is =
+    (subst (IsBetween sums.windows.across sums.across.items a) (sym s_is) (sums.columns_are.each a s a_in), subst (IsBetween sums.windows.up sums.up.items b) (sym t_is) (sums.rows_are.each b t b_in))
+
+pub window_at : (p : ℤ → ℤ → Bool) (sums : WindowSums) (a b : ℕ) (s t : Sides) (x1 x0 y1 y0 : ℤ) → a < sums.windows.across.count → b < sums.windows.up.count → s ≡ get_or sums.columns.items a s → t ≡ get_or sums.rows.items b t
+    → x1 ≡ pos (block_area p sums.across.items sums.up.items 0 0 s.end t.end (pos 0)) → x0 ≡ pos (block_area p sums.across.items sums.up.items 0 0 s.begin t.end (pos 0))
+    → y1 ≡ pos (block_area p sums.across.items sums.up.items 0 0 s.end t.begin (pos 0)) → y0 ≡ pos (block_area p sums.across.items sums.up.items 0 0 s.begin t.begin (pos 0))
+    → (FitsSigned w64 (read x1 -ℤ read x0) × FitsSigned w64 (read y1 -ℤ read y0)) × (FitsSigned w64 (read (read x1 -ℤ read x0) -ℤ read (read y1 -ℤ read y0)) × (read (read (read x1 -ℤ read x0) -ℤ read (read y1 -ℤ read y0)) ≡ pos (window_area p sums.windows a b)))
+window_at p sums a b s t x1 x0 y1 y0 a_in b_in s_is t_is =
+    let both = between sums a b s t a_in b_in s_is t_is in
+    window_of p sums.windows sums.across.items sums.up.items a b s t x1 x0 y1 y0 sums.across_lines sums.up_lines both.0 both.1
+
+pub above_fits : (p : ℤ → ℤ → Bool) (sums : WindowSums) (a b : ℕ) (s t : Sides) (x1 x0 : ℤ) → a < sums.windows.across.count → b < sums.windows.up.count → s ≡ get_or sums.columns.items a s → t ≡ get_or sums.rows.items b t
+    → x1 ≡ pos (block_area p sums.across.items sums.up.items 0 0 s.end t.end (pos 0)) → x0 ≡ pos (block_area p sums.across.items sums.up.items 0 0 s.begin t.end (pos 0)) → FitsSigned w64 (read x1 -ℤ read x0)
+above_fits p sums a b s t x1 x0 a_in b_in s_is t_is x1_is x0_is = (window_at p sums a b s t x1 x0 _ _ a_in b_in s_is t_is x1_is x0_is refl refl).0.0
+
+-- the areas of all windows are what is asked for
+all_at : (p : ℤ → ℤ → Bool) (g : Grid) (k : ℕ) (d : ℤ) → k < g.across.count * g.up.count → get_or (areas_from p g 0 (g.across.count * g.up.count)) k d ≡ area_at p g k
+all_at p g k d lt = get_or-map-range_with_len (area_at p g) 0 (g.across.count * g.up.count) k k d lt (omega arith)
+
+pub all_measured : (p : ℤ → ℤ → Bool) (g : Grid) (areas : List ℤ) (n : ℕ) → IsGrid g → n ≡ g.across.count * g.up.count → areas ≡ areas_from p g 0 n → AreMeasured p g areas
+all_measured p g areas n grid all is = rw (is, all) (measured p g _ grid (length-map-range_with_len (area_at p g) 0 (g.across.count * g.up.count)) (all_at p g))
+
+pub all_bounded : (p : ℤ → ℤ → Bool) (g : Grid) (areas : List ℤ) (n : ℕ) → IsGrid g → n ≡ g.across.count * g.up.count → areas ≡ areas_from p g 0 n → All IsArea areas
+all_bounded p g areas n grid all is = rw (is, all) (bounded p g _ grid (length-map-range_with_len (area_at p g) 0 (g.across.count * g.up.count)) (all_at p g))
 
 -- one window more
-pub row_more : (p : ℤ → ℤ → Bool) (g : Grid) (old new : List ℤ) (b n : ℕ) (value : ℤ) → IsRowTo p g b n old → new ≡ old ++ value ∷ [] → value ≡ pos (window_area p g n b) → IsRowTo p g b (n + 1) new
-row_more p g old new b n value to new_is value_is = rw new_is (record {
-  count = length_push old value ∙ ap (λ n. n + 1) to.count;
-  each = λ a d lt. below_more (λ a. get_or (old ++ value ∷ []) a d ≡ pos (window_area p g a b)) n
-      (λ a lt. get_or_append_left old (value ∷ []) d a (rw to.count lt) ∙ to.each a d lt)
-      (ap (λ a. get_or (old ++ value ∷ []) a d) (sym to.count) ∙ (get_or-append_seam old value [] d ∙ value_is))
-      a lt;
-})
+pub areas_more : (p : ℤ → ℤ → Bool) (g : Grid) (old new : List ℤ) (from n k a b : ℕ) (value : ℤ) → old ≡ areas_from p g from n → new ≡ old ++ value ∷ [] → from + n ≡ k → a ≡ k % g.across.count → b ≡ k / g.across.count
+    → value ≡ pos (window_area p g a b) → new ≡ areas_from p g from (n + 1)
+areas_more p g old new from n k a b value so_far new_is at a_is b_is value_is =
+    new_is ∙ (ap (λ xs. xs ++ value ∷ []) so_far ∙ (ap (λ z. areas_from p g from n ++ z ∷ []) (value_is ∙ rw (a_is, b_is) refl) ∙ sym (map-range_with_len_more (area_at p g) from n k at)))
 
--- a whole row
-pub row_whole : (p : ℤ → ℤ → Bool) (g : Grid) (areas : List ℤ) (b n : ℕ) → n ≡ g.across.count → IsRowTo p g b n areas → AreRows (window_area p g) g.across.count b 1 areas
-row_whole p g areas b n all to = record {
-  count = to.count ∙ (all ∙ omega arith);
-  each = λ i j d i_in j_in.
-      let none : j ≡ 0 = omega (arith, j_in) in
-      let at : j * g.across.count + i ≡ i = ap (λ n. n * g.across.count + i) none ∙ omega arith in
-      let row : b + j ≡ b = omega (arith, none) in
-      ap (λ n. get_or areas n d) at ∙ (to.each i d (rw all i_in) ∙ ap (λ n. pos (window_area p g i n)) (sym row));
-}
-
--- all rows are what is asked for
-pub rows_measured : (p : ℤ → ℤ → Bool) (g : Grid) (areas : List ℤ) → IsGrid g → AreRows (window_area p g) g.across.count 0 g.up.count areas → AreMeasured p g areas
-rows_measured p g areas grid rows = record {
-  grid = grid;
-  count = rows.count ∙ mul_comm g.up.count g.across.count;
-  each = λ a b a_in b_in. let row : 0 + b ≡ b = omega arith in rows.each a b (pos 0) a_in b_in ∙ ap (λ n. pos (window_area p g a n)) row;
-}
-
-pub rows_bounded : (p : ℤ → ℤ → Bool) (g : Grid) (areas : List ℤ) → IsGrid g → AreRows (window_area p g) g.across.count 0 g.up.count areas → All IsArea areas
-rows_bounded p g areas grid rows = bounded p g areas grid (rows.count ∙ mul_comm g.up.count g.across.count) at
+-- how many there are, and that each is an area
+pub areas_bounded : (p : ℤ → ℤ → Bool) (g : Grid) (areas : List ℤ) (from n : ℕ) → IsGrid g → from + n ≤ g.across.count * g.up.count → areas ≡ areas_from p g from n → All IsArea areas
+areas_bounded p g areas from n grid within is = rw is (λ k d lt.
+    let k_in : k < n = rw (length-map-range_with_len (area_at p g) from n) at lt in
+    rw (get_or-map-range_with_len (area_at p g) from n k (from + k) d k_in refl) (at (from + k) (omega (arith, k_in, within))))
   where
-    at : (k : ℕ) (d : ℤ) → k < g.across.count * g.up.count → get_or areas k d ≡ area_at p g k
-    at k d lt =
-        let lt' : k < g.up.count * g.across.count = rw (mul_comm g.up.count g.across.count) lt in
-        let some : 0 < g.across.count = by_lt 0 g.across.count (λ lt. lt) (λ none. absurd (let flat : k < g.up.count * 0 = subst (λ n. k < g.up.count * n) (omega (arith, none)) lt' in omega (arith, flat))) in
-        let row : 0 + k / g.across.count ≡ k / g.across.count = omega arith in
-        ap (λ n. get_or areas n d) (sym (div-add-mod' k g.across.count))
-        ∙ (rows.each (k % g.across.count) (k / g.across.count) d (mod_below k g.across.count some) (div_below k g.across.count g.up.count some lt')
-        ∙ ap (λ n. pos (window_area p g (k % g.across.count) n)) row)
+    at : (k : ℕ) → k < g.across.count * g.up.count → IsArea (area_at p g k)
+    at k lt =
+        let all = areas_from p g 0 (g.across.count * g.up.count) in
+        let count = length-map-range_with_len (area_at p g) 0 (g.across.count * g.up.count) in
+        rw (all_at p g k (pos 0) lt) at (bounded p g all grid count (all_at p g) k (pos 0) (rw count lt))
+
+-- what follows from a fact that is merely there, where it is that a number is an area
+pub merely_area : {A : Type 0} {z : ℤ} → ∥ A ∥₁ → (A → IsArea z) → IsArea z
+merely_area there is = record { least = ∥∥₁_elim there (hlevel props) (λ x. (is x).least); most = ∥∥₁_elim there (hlevel props) (λ x. (is x).most) }
+
+-- the areas of all ranges of windows, one after another, are those of all windows
+pub areas_joined : (p : ℤ → ℤ → Bool) (g : Grid) (size n : ℕ) (ranges : List (Result (Vec ℤ) AllocError)) (lists : List (Vec ℤ)) → 0 < size → length ranges ≡ n / size + min 1 (n % size)
+    → ((k : ℕ) (d : Result (Vec ℤ) AllocError) → k < length ranges → IfOk (get_or ranges k d) (λ v. v.items ≡ areas_from p g (k * size) (min size (n - k * size)))) → ranges ≡ map Ok lists → flat_map vec_items lists ≡ areas_from p g 0 n
+areas_joined p g size n ranges lists some count each are = ranges_joined (areas_from p g) size n ranges lists (λ a. refl) (map_split (area_at p g)) some count each are

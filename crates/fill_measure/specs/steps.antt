@@ -7,4 +7,3 @@ pub mod Meshes
 pub mod Parts
 pub mod Shapes
 pub mod Sides
-pub mod Sums

@@ -1,7 +1,7 @@
 //! How many covered squares lie below and left of each crossing of two lines: an area between lines is a difference of such numbers.
 ghost use Rattle.std.specs.Prelude.{◌≡◌, ◌+◌, ◌-◌, ◌*◌, ◌<◌, ◌≤◌, pos, IfOk, OnOk, length, replicate};
 ghost use Rattle.fill_cells.specs.Mesh.{gaps};
-ghost use Rattle.fill_measure.specs.steps.Meshes.{AreBelow, AreCellsOf, AreCornersOf, AreGroups, AreGroupsOf, IsGroupOf, IsLineOf, IsRowOf};
+ghost use Rattle.fill_measure.specs.steps.Meshes.{AreAllCornersOf, AreBelow, AreCellsOf, AreCornersOf, AreGroupsOf, IsGroupOf, IsRowOf};
 
 use crate::mesh::Mesh;
 use std::alloc::{AllocError, Global};
@@ -53,7 +53,7 @@ impl Mesh<'_> {
     /// The corners by the areas of all cells, row by row, as one group.
     pub(crate) fn corners_of(&self, alloc: Global, cells: &[i64]) -> Result<Corners, AllocError>
         requires { AreCellsOf self.now cells.now }
-        ensures { IfOk result (λ c. AreGroupsOf self.now c) }
+        ensures { IfOk result (λ c. AreAllCornersOf self.now c) }
     {
         let (columns, rows) = (self.across.len() - 1, self.up.len() - 1);
         let mut corners = self.lowest(alloc, rows)?;
@@ -73,8 +73,8 @@ impl Mesh<'_> {
         height: usize,
         groups: Vec<Vec<i64>>,
     ) -> Result<Corners, AllocError>
-        requires { AreGroups self.now height groups.items }
-        ensures { IfOk result (λ c. AreGroupsOf self.now c) }
+        requires { AreGroupsOf self.now height groups.items }
+        ensures { IfOk result (λ c. AreAllCornersOf self.now c) }
     {
         let mut below = self.lowest(alloc, groups.len())?;
         for k in 1..groups.len() {
@@ -106,27 +106,5 @@ impl Mesh<'_> {
             below.push(below[last + i] + group[top + i])?;
         }
         Ok(())
-    }
-
-    /// How many covered squares lie below the line at `j` and left of each line across.
-    pub(crate) fn line(
-        &self,
-        alloc: Global,
-        corners: &Corners,
-        j: usize,
-    ) -> Result<Vec<i64>, AllocError>
-        requires corners { AreGroupsOf self.now corners.now }
-        requires line { j < length self.now.up.now }
-        ensures { IfOk result (λ v. IsLineOf self.now j v.items) }
-    {
-        let width = self.across.len();
-        let k = (j / corners.height).min(corners.groups.len() - 1);
-        let group = corners.groups[k].as_slice();
-        let (below, above) = (k * width, (j - k * corners.height) * width);
-        let mut line = Vec::with_capacity(alloc, width)?;
-        for i in 0..width {
-            line.push(corners.below[below + i] + group[above + i])?;
-        }
-        Ok(line)
     }
 }

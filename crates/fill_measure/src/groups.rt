@@ -4,7 +4,7 @@ ghost use Rattle.std.specs.List.{flat_map};
 ghost use Rattle.std.specs.Vec.{vec_items};
 ghost use Rattle.fill_region.specs.Squares.{covered};
 ghost use Rattle.fill_cells.specs.Mesh.{gaps};
-ghost use Rattle.fill_measure.specs.steps.Meshes.{AreCornersOf, AreGroupsOf, IsGroupOf};
+ghost use Rattle.fill_measure.specs.steps.Meshes.{AreAllCornersOf, AreCornersOf, IsGroupOf};
 ghost use Rattle.fill_measure.specs.steps.Parts.{ArePartLists};
 ghost use Rattle.fill_measure.specs.steps.Shapes.{squares_of};
 
@@ -17,9 +17,10 @@ use fill_threads::map_ranges;
 use std::alloc::{AllocError, Global};
 use std::thread::Threads;
 
-/// The rows of cells are cut into at most so many groups of neighbours, which threads measure one after another: few enough that
-/// the lists of a row's cells, which are used again for the next row, are seldom made anew.
-const MOST_GROUPS: usize = 16;
+/// The rows of cells are cut into at most so many groups of neighbours, which threads measure one after another: so many that no
+/// thread works long on its last one, and few enough that the lists of a row's cells, which are used again for the next row, are
+/// seldom made anew.
+const MOST_GROUPS: usize = 32;
 
 impl Mesh<'_> {
     /// The corners of a mesh of rectangles. Parts of the rectangles are shared out to rows in parallel, and then groups of rows are
@@ -31,7 +32,7 @@ impl Mesh<'_> {
         lists: &[Vec<Rect>],
     ) -> Result<Corners, AllocError>
         requires shapes { squares_of self.now.shapes ≡ covered (flat_map vec_items lists.now) }
-        ensures { IfOk result (λ c. AreGroupsOf self.now c) }
+        ensures { IfOk result (λ c. AreAllCornersOf self.now c) }
     {
         let parts = by_parts(rt, alloc, lists, self.up)?;
         let parts = parts.as_slice();
@@ -61,7 +62,7 @@ impl Mesh<'_> {
         requires all { gaps self.now.up.now ≤ length groups.items * height }
         requires some { (k : ℕ) → k < length groups.items → k * height < gaps self.now.up.now }
         requires each { (k : ℕ) (d : _) → k < length groups.items → IfOk (slice_index_or groups.items k d) (λ v. IsGroupOf self.now height k v.items) }
-        ensures { IfOk result (λ c. AreGroupsOf self.now c) }
+        ensures { IfOk result (λ c. AreAllCornersOf self.now c) }
     {
         let groups = all_of(alloc, groups)?;
         self.put_together(alloc, height, groups)

@@ -14,4 +14,5 @@ mod sides;
 mod sums;
 mod windows;
 
-pub use measure::{measure_rects, measure_region};
+pub use measure::{measure_rects, measure_region, sum_rects};
+pub use sums::WindowSums;

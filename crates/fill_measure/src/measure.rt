@@ -1,16 +1,18 @@
 //! All windows of a grid, measured straight from rectangles, or from a region with one walk over its rows however much they overlap.
-ghost use Rattle.std.specs.Prelude.{IfOk, All};
+ghost use Rattle.std.specs.Prelude.{◌≡◌, IfOk, All};
 ghost use Rattle.std.specs.List.{flat_map};
 ghost use Rattle.std.specs.Vec.{vec_items};
 ghost use Rattle.fill_area.specs.Density.{AreMeasured, IsArea};
 ghost use Rattle.fill_region.specs.Bands.{holds};
 ghost use Rattle.fill_region.specs.Squares.{covered};
+ghost use Rattle.fill_measure.specs.Sums.{AreSumsOf};
 ghost use Rattle.fill_measure.specs.steps.Cuts.{IsCut};
 
 use crate::cuts::cut_windows;
 use crate::lines::{lines_of, side_by_side};
 use crate::mesh::{Mesh, Shapes};
 use crate::pitch::pitch_of;
+use crate::sums::WindowSums;
 use fill_area::{Windows, measure_all};
 use fill_base::Rect;
 use fill_region::Region;
@@ -18,8 +20,7 @@ use std::alloc::{AllocError, Global};
 use std::thread::Threads;
 
 /// How many unit squares of each window some rectangle of some list holds: row by row, the window in column `a` and row `b` at
-/// `b * columns + a`. The lines at which windows begin or end make a mesh, whose rows of cells are measured in parallel; each
-/// window is then a difference of sums, however many windows overlap. The answer is the same for any number of threads, and however
+/// `b * columns + a`. Each is a difference of sums, however many windows overlap. The answer is the same for any number of threads, and however
 /// the rectangles are shared out to the lists.
 ///
 /// # Errors
@@ -33,6 +34,23 @@ pub fn measure_rects(
     ensures areas { IfOk result (λ v. AreMeasured (covered (flat_map vec_items lists.now)) windows.now v.items) }
     ensures bounded { IfOk result (λ v. All IsArea v.items) }
 {
+    sum_rects(rt, alloc, lists, windows)?.areas(rt, alloc)
+}
+
+/// The sums of which each window's area is a difference, in terms of the squares that some rectangle of some list holds. The lines at
+/// which windows begin or end make a mesh, whose rows of cells are measured in parallel.
+///
+/// # Errors
+/// `AllocError` where memory is refused.
+pub fn sum_rects(
+    rt: &(impl Threads + Sync),
+    alloc: Global,
+    lists: &[Vec<Rect>],
+    windows: &Windows,
+) -> Result<WindowSums, AllocError>
+    ensures windows { IfOk result (λ s. s.windows ≡ windows.now) }
+    ensures sums { IfOk result (AreSumsOf (covered (flat_map vec_items lists.now))) }
+{
     let pitch = pitch_of(lists, windows);
     let across = lines_of(alloc, windows.across(), pitch.across)?;
     let up = lines_of(alloc, windows.up(), pitch.up)?;
@@ -42,7 +60,7 @@ pub fn measure_rects(
         up: &up,
     };
     let corners = mesh.corners(rt, alloc, lists)?;
-    mesh.window_areas(rt, alloc, windows, &corners)
+    WindowSums::new(alloc, windows, across, up, corners)
 }
 
 /// How many squares of each window are in the region: `measure_all`, word for word. Where the windows overlap and a size is a multiple
@@ -88,5 +106,5 @@ fn measure_cut(
         up: &up,
     };
     let corners = mesh.corners_of(alloc, &cells)?;
-    mesh.window_areas(rt, alloc, windows, &corners)
+    WindowSums::new(alloc, windows, across, up, corners)?.areas(rt, alloc)
 }

@@ -1,26 +1,32 @@
-//! Windows over a mesh, and what their areas are differences of.
-ghost use Rattle.fill_measure.specs.steps.Meshes.{AreGroupsOf};
+//! Windows over lines, and what the area of each is a difference of.
+ghost use Rattle.std.specs.Prelude.{ℤ, Bool};
+ghost use Rattle.fill_cells.specs.Mesh.{AreLines};
+ghost use Rattle.fill_measure.specs.steps.Meshes.{AreAllCorners};
 ghost use Rattle.fill_measure.specs.steps.Sides.{AreSides};
 
 use crate::corners::Corners;
-use crate::mesh::Mesh;
 use crate::sides::Sides;
 use fill_area::Windows;
 
-/// What the areas of windows are differences of.
-#[derive(Clone, Copy)]
-pub(crate) struct Sums<'a> {
-    /// The mesh.
-    pub(crate) mesh: Mesh<'a>,
-    /// Its corners.
-    pub(crate) corners: &'a Corners,
+/// What the areas of windows are differences of. It holds nothing of the shapes that were measured, so these may be let go of
+/// before an area is asked for; a million windows take some hundred megabytes less so.
+#[derive(Drop)]
+pub struct WindowSums {
     /// The windows.
-    pub(crate) windows: &'a Windows,
+    pub(crate) windows: Windows,
+    /// The lines across, from left to right.
+    pub(crate) across: Vec<i64>,
+    /// The lines upwards.
+    pub(crate) up: Vec<i64>,
+    /// How many squares lie below and left of each crossing of two lines.
+    pub(crate) corners: Corners,
     /// Where the sides of each column of windows stand among the lines across.
-    pub(crate) columns: &'a [Sides],
+    pub(crate) columns: Vec<Sides>,
     /// Where those of each row of windows stand among the lines upwards.
-    pub(crate) rows: &'a [Sides],
-    ghost corners_are: { AreGroupsOf mesh corners.now },
-    ghost columns_are: { AreSides windows.now.across mesh.across.now windows.now.across.count columns.now },
-    ghost rows_are: { AreSides windows.now.up mesh.up.now windows.now.up.count rows.now },
+    pub(crate) rows: Vec<Sides>,
+    ghost across_lines: { AreLines across.items },
+    ghost up_lines: { AreLines up.items },
+    ghost columns_are: { AreSides windows.across across.items windows.across.count columns.items },
+    ghost rows_are: { AreSides windows.up up.items windows.up.count rows.items },
+    ghost measured: { ∥ ((p : ℤ → ℤ → Bool) × AreAllCorners p across.items up.items corners) ∥₁ },
 }

@@ -1,122 +1,131 @@
-//! The areas of windows whose sides are lines of a mesh, by its corners: groups of rows of windows in parallel.
-ghost use Rattle.std.specs.Prelude.{ℕ, ◌+◌, ◌*◌, ◌<◌, ◌≤◌, IfOk, All, length, slice_index_or};
-ghost use Rattle.fill_area.specs.Density.{AreMeasured, IsArea};
-ghost use Rattle.fill_measure.specs.steps.Meshes.{AreGroupsOf};
+//! The areas of windows whose sides are lines, by sums: each is a difference of four.
+ghost use Rattle.std.specs.Prelude.{◌≡◌, ℕ, ℤ, pos, Bool, ◌+◌, ◌*◌, ◌<◌, ◌≤◌, IfOk, All, length, slice_index_or};
+ghost use Rattle.fill_area.specs.Density.{AreMeasured, IsArea, window_area};
+ghost use Rattle.fill_cells.specs.Mesh.{AreLines};
+ghost use Rattle.fill_measure.specs.Sums.{AreSumsOf, areas_from};
+ghost use Rattle.fill_measure.specs.steps.Corners.{block_area};
 ghost use Rattle.fill_measure.specs.steps.Ends.{HoldEnds};
-ghost use Rattle.fill_measure.specs.steps.Shapes.{squares_of};
-ghost use Rattle.fill_measure.specs.steps.Sums.{AreWindowsOf, IsWindowGroup};
+ghost use Rattle.fill_measure.specs.steps.Meshes.{AreAllCorners};
 
 use crate::corners::Corners;
-use crate::mesh::Mesh;
+use crate::lists::all_of;
 use crate::sides::sides_of;
-use crate::sums::Sums;
+use crate::sums::WindowSums;
 use fill_area::Windows;
 use fill_threads::map_ranges;
 use std::alloc::{AllocError, Global};
 use std::thread::Threads;
 
-/// The rows of windows are cut into at most so many groups of neighbours, which threads sum one after another.
-const MOST_GROUPS: usize = 16;
+/// The windows are cut into at most so many ranges, which threads sum one after another.
+const MOST_RANGES: usize = 16;
 
-/// A group has about so many windows or more, or all that are left: fewer take no longer than a thread needs to begin.
-const LEAST_GROUP: usize = 4_096;
+/// A range has so many windows or more, or all that are left: fewer take no longer than a thread needs to begin.
+const LEAST_RANGE: usize = 16_384;
 
-impl Mesh<'_> {
-    /// How many covered squares lie in each window, row by row, by the corners.
-    pub(crate) fn window_areas(
+impl WindowSums {
+    /// The sums of these windows, each of whose sides is one of the lines.
+    pub(crate) fn new(
+        alloc: Global,
+        windows: &Windows,
+        across: Vec<i64>,
+        up: Vec<i64>,
+        corners: Corners,
+    ) -> Result<WindowSums, AllocError>
+        requires across_lines { AreLines across.items }
+        requires up_lines { AreLines up.items }
+        requires across { HoldEnds across.items windows.now.across windows.now.across.count }
+        requires up { HoldEnds up.items windows.now.up windows.now.up.count }
+        requires measured { ∥ ((p : ℤ → ℤ → Bool) × AreAllCorners p across.items up.items corners) ∥₁ }
+        ensures windows { IfOk result (λ s. s.windows ≡ windows.now) }
+        ensures sums { IfOk result (λ s. (p : ℤ → ℤ → Bool) → AreAllCorners p across.items up.items corners → AreSumsOf p s) }
+    {
+        let columns = sides_of(alloc, windows.across(), &across)?;
+        let rows = sides_of(alloc, windows.up(), &up)?;
+        Ok(WindowSums {
+            windows: *windows,
+            across,
+            up,
+            corners,
+            columns,
+            rows,
+        })
+    }
+
+    /// The windows.
+    pub fn windows(&self) -> &Windows
+        ensures { result.now ≡ self.now.windows }
+    {
+        &self.windows
+    }
+
+    /// How many squares lie below the line upwards at `j` and left of the line across at `i`.
+    fn number(&self, j: usize, i: usize) -> i64
+        requires line { j < length self.now.up.items }
+        requires column { i < length self.now.across.items }
+        ensures { (p : ℤ → ℤ → Bool) → AreSumsOf p self.now → (d : ℤ) → result ≡ pos (block_area p self.now.across.items self.now.up.items 0 0 i j d) }
+    {
+        let width = self.across.len();
+        let height = self.corners.height;
+        let k = (j / height).min(self.corners.groups.len() - 1);
+        let group = self.corners.groups[k].as_slice();
+        self.corners.below[k * width + i] + group[(j - k * height) * width + i]
+    }
+
+    /// The area of the window in column `a` and row `b`.
+    pub fn area(&self, a: u32, b: u32) -> i64
+        requires column { a < self.now.windows.across.count }
+        requires row { b < self.now.windows.up.count }
+        ensures is { (p : ℤ → ℤ → Bool) → AreSumsOf p self.now → result ≡ pos (window_area p self.now.windows a b) }
+    {
+        let (column, row) = (self.columns[a as usize], self.rows[b as usize]);
+        let above = self.number(row.end, column.end) - self.number(row.end, column.begin);
+        let below = self.number(row.begin, column.end) - self.number(row.begin, column.begin);
+        above - below
+    }
+
+    /// The areas of `count` windows from the one at place `from` on, row by row.
+    ///
+    /// # Errors
+    /// `AllocError` where memory is refused.
+    pub fn areas_from(
+        &self,
+        alloc: Global,
+        from: usize,
+        count: usize,
+    ) -> Result<Vec<i64>, AllocError>
+        requires { from + count ≤ self.now.windows.across.count * self.now.windows.up.count }
+        ensures areas { IfOk result (λ v. (p : ℤ → ℤ → Bool) → AreSumsOf p self.now → v.items ≡ areas_from p self.now.windows from count) }
+        ensures count { IfOk result (λ v. length v.items ≡ count) }
+        ensures bounded { IfOk result (λ v. All IsArea v.items) }
+    {
+        let mut areas = Vec::with_capacity(alloc, count.min(self.windows.len()))?;
+        for i in 0..count {
+            let (a, b) = self.windows.column_and_row(from + i);
+            areas.push(self.area(a, b))?;
+        }
+        Ok(areas)
+    }
+
+    /// The areas of all windows, row by row, as threads find them.
+    pub(crate) fn areas(
         &self,
         rt: &(impl Threads + Sync),
         alloc: Global,
-        windows: &Windows,
-        corners: &Corners,
     ) -> Result<Vec<i64>, AllocError>
-        requires across { HoldEnds self.now.across.now windows.now.across windows.now.across.count }
-        requires up { HoldEnds self.now.up.now windows.now.up windows.now.up.count }
-        requires corners { AreGroupsOf self.now corners.now }
-        ensures areas { IfOk result (λ v. AreMeasured (squares_of self.now.shapes) windows.now v.items) }
+        ensures areas { IfOk result (λ v. (p : ℤ → ℤ → Bool) → AreSumsOf p self.now → AreMeasured p self.now.windows v.items) }
         ensures bounded { IfOk result (λ v. All IsArea v.items) }
     {
-        let columns = sides_of(alloc, windows.across(), self.across)?;
-        let rows = sides_of(alloc, windows.up(), self.up)?;
-        let sums = Sums {
-            mesh: *self,
-            corners,
-            windows,
-            columns: &columns,
-            rows: &rows,
-        };
-        sums.areas(rt, alloc)
-    }
-}
-
-impl Sums<'_> {
-    /// The areas of all windows, row by row.
-    fn areas(&self, rt: &(impl Threads + Sync), alloc: Global) -> Result<Vec<i64>, AllocError>
-        ensures areas { IfOk result (λ v. AreMeasured (squares_of self.now.mesh.shapes) self.now.windows.now v.items) }
-        ensures bounded { IfOk result (λ v. All IsArea v.items) }
-    {
-        let least = LEAST_GROUP.div_ceil(self.columns.len().max(1));
-        let height = self.rows.len().div_ceil(MOST_GROUPS).max(least);
-        let groups = map_ranges(
+        let size = self.windows.len().div_ceil(MOST_RANGES).max(LEAST_RANGE);
+        let ranges = map_ranges(
             rt,
             alloc,
-            self.rows.len(),
-            height,
+            self.windows.len(),
+            size,
             &|from: usize, count: usize| -> Result<Vec<i64>, AllocError>
-                requires { from + count ≤ length self.now.rows.now }
-                ensures { IfOk result (λ v. AreWindowsOf self.entry.now from count v.items) }
-            { self.group(alloc, from, count) },
+                requires { from + count ≤ self.now.windows.across.count * self.now.windows.up.count }
+                ensures { IfOk result (λ v. (p : ℤ → ℤ → Bool) → AreSumsOf p self.entry.now → v.items ≡ areas_from p self.entry.now.windows from count) }
+            { self.areas_from(alloc, from, count) },
         )?;
-        self.joined(alloc, height, groups)
-    }
-
-    /// The areas in `count` rows of windows from row `from` on.
-    fn group(&self, alloc: Global, from: usize, count: usize) -> Result<Vec<i64>, AllocError>
-        requires { from + count ≤ length self.now.rows.now }
-        ensures { IfOk result (λ v. AreWindowsOf self.now from count v.items) }
-    {
-        let mut areas = Vec::with_capacity(alloc, count.saturating_mul(self.columns.len()))?;
-        for k in 0..count {
-            let row = self.row(alloc, from + k)?;
-            areas.extend_from_slice(&row)?;
-        }
-        Ok(areas)
-    }
-
-    /// The areas in row `b` of the windows.
-    fn row(&self, alloc: Global, b: usize) -> Result<Vec<i64>, AllocError>
-        requires { b < length self.now.rows.now }
-        ensures { IfOk result (λ v. AreWindowsOf self.now b 1 v.items) }
-    {
-        let row = self.rows[b];
-        let lower = self.mesh.line(alloc, self.corners, row.begin)?;
-        let upper = self.mesh.line(alloc, self.corners, row.end)?;
-        let mut areas = Vec::with_capacity(alloc, self.columns.len())?;
-        for sides in self.columns {
-            let above = upper[sides.end] - upper[sides.begin];
-            let below = lower[sides.end] - lower[sides.begin];
-            areas.push(above - below)?;
-        }
-        Ok(areas)
-    }
-
-    /// The areas of all groups of `height` rows, one group after the other. The last group may have fewer rows.
-    fn joined(
-        &self,
-        alloc: Global,
-        height: usize,
-        groups: Vec<Result<Vec<i64>, AllocError>>,
-    ) -> Result<Vec<i64>, AllocError>
-        requires all { length self.now.rows.now ≤ length groups.items * height }
-        requires rows { (k : ℕ) (d : _) → k < length groups.items → IfOk (slice_index_or groups.items k d) (λ v. IsWindowGroup self.now height k v.items) }
-        ensures areas { IfOk result (λ v. AreMeasured (squares_of self.now.mesh.shapes) self.now.windows.now v.items) }
-        ensures bounded { IfOk result (λ v. All IsArea v.items) }
-    {
-        let mut areas = Vec::with_capacity(alloc, self.windows.len())?;
-        for group in groups {
-            let group = group?;
-            areas.extend_from_slice(&group)?;
-        }
-        Ok(areas)
+        all_of(alloc, ranges)?.concat(alloc)
     }
 }

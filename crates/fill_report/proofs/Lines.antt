@@ -1,14 +1,20 @@
 -- The lines of a report, one after another.
-use Rattle.std.proofs.Common.{◌≡◌, ℕ, zero, suc, ◌+◌, ◌*◌, ◌/◌, ◌%◌, ◌≤◌, ◌<◌, ℤ, pos, List, ◌++◌, get_or, length, refl, arith, ap, ◌∙◌, sym, w64, FitsSigned, Some, Bool, false, true, ◌||◌}
+use Rattle.std.proofs.Common.{◌≡◌, ℕ, zero, suc, ◌+◌, ◌-◌, ◌*◌, ◌/◌, ◌%◌, ◌≤◌, ◌<◌, min, map, take, drop, Result, Ok, IfOk, ℤ, pos, List, ◌++◌, get_or, length, refl, arith, ap, ◌∙◌, sym, w64, FitsSigned, Some, Bool, false, true, ◌||◌}
+use Rattle.std.specs.Global.{Vec}
 use Rattle.std.specs.List.{flat_map, range_with_len, All}
-use Rattle.std.proofs.lemmas.List.{append-nil, append_assoc}
+use Rattle.std.specs.Vec.{vec_items}
+use Rattle.std.proofs.lemmas.List.{append-nil, append_assoc, get_or_default, get_or-drop, get_or-take, length-drop, length-take-le}
+use Rattle.std.proofs.lemmas.List.FromFn.{get_or-map-range_with_len, length-map-range_with_len}
 use Rattle.std.proofs.Math.Nat.{div-add-mod, div-lt_iff_lt-mul}
 use Rattle.fill_base.proofs.Signed.{read, read_is}
 use Rattle.fill_area.specs.Grid.{Grid, IsGrid, window_left, window_right, window_bottom, window_top}
 use Rattle.fill_area.specs.Density.{IsArea, AreMeasured, window_area}
-use Rattle.fill_area.proofs.Measuring.{same_area, no_area, longer}
+use Rattle.fill_area.proofs.Measuring.{area_at, same_area, no_area, longer}
 use Rattle.fill_report.specs.declared.line.Measures.{Measures}
-use Rattle.fill_report.specs.Report.{first_lines, lines_from, line_at, window_line, windows_text, report_text, measures_of, drawn_only, nothing}
+use Rattle.fill_report.specs.declared.error.OutOfMemory.{OutOfMemory}
+use Rattle.fill_report.specs.Report.{AreDrawn, first_lines, lines_from, line_at, metal_alone, window_line, windows_text, report_text, measures_of, drawn_only, nothing}
+use Rattle.fill_measure.proofs.Joining.{ranges_joined}
+use Rattle.fill_measure.specs.Sums.{areas_from}
 use Rattle.fill_report.specs.Writing.{Lines, written}
 use Rattle.fill_area.proofs.Shares.{area_read}
 
@@ -28,13 +34,10 @@ lines_split f a (suc n) m =
 one_more : (f : ℕ → List ℕ) (a n : ℕ) → flat_map f (range_with_len a (n + 1)) ≡ flat_map f (range_with_len a n) ++ f (a + n)
 one_more f a n = lines_split f a n 1 ∙ ap (λ t. flat_map f (range_with_len a n) ++ t) (append-nil (f (a + n)))
 
--- the measures of a window with this area of metal
-measures_at : (g : Grid) (totals : List ℤ) (k : ℕ) → k < length totals → All IsArea totals
-    → let m : Measures = record { drawn = read (get_or totals k (pos 0)); fill = pos 0; total = read (get_or totals k (pos 0)) } in m ≡ drawn_only g totals (k % g.across.count) (k / g.across.count)
-measures_at g totals k lt areas =
-    let place : k / g.across.count * g.across.count + k % g.across.count ≡ k = let d = div-add-mod k g.across.count in omega (arith, d) in
-    let is : read (get_or totals k (pos 0)) ≡ get_or totals (k / g.across.count * g.across.count + k % g.across.count) (pos 0) = area_read _ (areas k (pos 0) lt) ∙ ap (λ i. get_or totals i (pos 0)) (sym place) in
-    ap (λ (z : ℤ). let m : Measures = record { drawn = z; fill = pos 0; total = z } in m) is
+-- the measures of a window with this area of metal, as the code reads it
+drawn_at : (g : Grid) (from : ℕ) (areas : List ℤ) (measures : ℕ → ℕ → Measures) (i : ℕ) → i < length areas → All IsArea areas → AreDrawn g from areas measures
+    → let m : Measures = record { drawn = read (get_or areas i (pos 0)); fill = pos 0; total = read (get_or areas i (pos 0)) } in m ≡ measures ((from + i) % g.across.count) ((from + i) / g.across.count)
+drawn_at g from areas measures i lt areas_are drawn = ap metal_alone (area_read _ (areas_are i (pos 0) lt)) ∙ drawn i (pos 0) lt
 
 -- the lines so far, and behind them the next one
 pub next_line : (g : Grid) (least most : ℤ) (measures : ℕ → ℕ → Measures) (m : Measures) (from n k : ℕ) (w new : Lines) → k ≡ from + n → m ≡ measures (k % g.across.count) (k / g.across.count)
@@ -47,11 +50,11 @@ next_line g least most measures m from n k w new place is so_far put =
     ∙ ap (λ (t : List ℕ). Some t) (ap (λ l. before ++ window_line g least most l (k % g.across.count) (k / g.across.count)) is
     ∙ (ap (λ i. before ++ line_at g least most measures i) place ∙ sym (one_more (line_at g least most measures) from n)))
 
-pub lines_more : (g : Grid) (least most : ℤ) (totals : List ℤ) (from n k : ℕ) (w new : Lines) → k ≡ from + n → k < length totals → All IsArea totals
-    → written w ≡ Some (lines_from g least most (drawn_only g totals) from n)
-    → ((front : List ℕ) → written w ≡ Some front → written new ≡ Some (front ++ window_line g least most (record { drawn = read (get_or totals k (pos 0)); fill = pos 0; total = read (get_or totals k (pos 0)) }) (k % g.across.count) (k / g.across.count)))
-    → written new ≡ Some (lines_from g least most (drawn_only g totals) from (n + 1))
-lines_more g least most totals from n k w new place lt areas so_far put = next_line g least most (drawn_only g totals) _ from n k w new place (measures_at g totals k lt areas) so_far put
+pub lines_more : (g : Grid) (least most : ℤ) (areas : List ℤ) (measures : ℕ → ℕ → Measures) (from i : ℕ) (w new : Lines) → i < length areas → All IsArea areas → AreDrawn g from areas measures
+    → written w ≡ Some (lines_from g least most measures from i)
+    → ((front : List ℕ) → written w ≡ Some front → written new ≡ Some (front ++ window_line g least most (record { drawn = read (get_or areas i (pos 0)); fill = pos 0; total = read (get_or areas i (pos 0)) }) ((from + i) % g.across.count) ((from + i) / g.across.count)))
+    → written new ≡ Some (lines_from g least most measures from (i + 1))
+lines_more g least most areas measures from i w new lt areas_are drawn so_far put = next_line g least most measures _ from i (from + i) w new refl (drawn_at g from areas measures i lt areas_are drawn) so_far put
 
 -- the lines of all windows are the whole text
 pub all_lines : (g : Grid) (least most : ℤ) (measures : ℕ → ℕ → Measures) (k n : ℕ) (text so_far : List ℕ) → n ≤ k → k ≤ n → n ≡ g.across.count * g.up.count → text ≡ so_far
@@ -114,3 +117,31 @@ report_is p g least most totals measured =
 -- what the code reads back is the number itself
 pub read_at : (z t : ℤ) → FitsSigned w64 z → z ≡ t → read z ≡ t
 read_at z t fits is = read_is z fits ∙ is
+
+-- a part of the areas of all windows
+pub part_drawn : (g : Grid) (totals part : List ℤ) (from n : ℕ) → from + n ≤ length totals → part ≡ take n (drop from totals) → AreDrawn g from part (drawn_only g totals)
+part_drawn g totals part from n within is i d lt =
+    let count : length part ≡ n = ap length is ∙ length-take-le n (drop from totals) (rw (length-drop from totals) (omega (arith, within))) in
+    let i_in : i < n = rw count at lt in
+    let place : (from + i) / g.across.count * g.across.count + (from + i) % g.across.count ≡ from + i = let e = div-add-mod (from + i) g.across.count in omega (arith, e) in
+    ap metal_alone (ap (λ xs. get_or xs i d) is ∙ (get_or-take n (drop from totals) i d i_in ∙ (get_or-drop from totals i d ∙ (get_or_default totals (from + i) d (pos 0) (omega (arith, i_in, within)) ∙ ap (λ k. get_or totals k (pos 0)) (sym place)))))
+
+-- the areas of a set of metal
+pub sums_drawn : (p : ℤ → ℤ → Bool) (g : Grid) (areas : List ℤ) (from n : ℕ) → IsGrid g → areas ≡ areas_from p g from n → AreDrawn g from areas (measures_of p nothing g)
+sums_drawn p g areas from n grid is i d lt =
+    let count : length areas ≡ n = ap length is ∙ length-map-range_with_len (area_at p g) from n in
+    let i_in : i < n = rw count at lt in
+    let a = (from + i) % g.across.count in
+    let b = (from + i) / g.across.count in
+    alone (get_or areas i d) (pos (window_area p g a b)) (pos (window_area nothing g a b)) (pos (window_area (λ x y. p x y || nothing x y) g a b))
+    (ap (λ xs. get_or xs i d) is ∙ get_or-map-range_with_len (area_at p g) from n i (from + i) d i_in refl) (ap pos (sym (area_of_nothing g a b grid))) (ap pos (sym (area_or_nothing p g a b grid)))
+  where
+    alone : (t e f u : ℤ) → t ≡ e → pos 0 ≡ f → e ≡ u → let m : Measures = record { drawn = e; fill = f; total = u } in metal_alone t ≡ m
+    alone t e f u x y z = let w = x ∙ z in cc
+
+-- the lines of all parts, one after another, are those of all windows
+pub parts_joined : (g : Grid) (least most : ℤ) (measures : ℕ → ℕ → Measures) (size n : ℕ) (parts : List (Result (Vec ℕ) OutOfMemory)) (texts : List (Vec ℕ)) → 0 < size → length parts ≡ n / size + min 1 (n % size)
+    → ((k : ℕ) (d : Result (Vec ℕ) OutOfMemory) → k < length parts → IfOk (get_or parts k d) (λ v. v.items ≡ lines_from g least most measures (k * size) (min size (n - k * size)))) → parts ≡ map Ok texts
+    → n ≡ g.across.count * g.up.count → flat_map vec_items texts ≡ windows_text g least most measures
+parts_joined g least most measures size n parts texts some count each are all =
+    ranges_joined (lines_from g least most measures) size n parts texts (λ a. refl) (lines_split (line_at g least most measures)) some count each are ∙ ap (first_lines g least most measures) all

@@ -1,5 +1,5 @@
 -- The density report: one line a window, row by row from the lowest, in a row from the left.
-use Rattle.std.specs.Prelude.{ℕ, ◌+◌, ◌*◌, ◌/◌, ◌%◌, ℤ, pos, ◌*ℤ◌, Bool, false, ◌||◌, cond, List, [], ◌∷◌, ◌++◌, map, codes, get_or, int_lt, unsigned_abs}
+use Rattle.std.specs.Prelude.{◌≡◌, ℕ, ◌+◌, ◌*◌, ◌/◌, ◌%◌, ◌<◌, length, ℤ, pos, ◌*ℤ◌, Bool, false, ◌||◌, cond, List, [], ◌∷◌, ◌++◌, map, codes, get_or, int_lt, unsigned_abs}
 use Rattle.std.specs.List.{flat_map, range_with_len, join_with_byte}
 use Rattle.std.specs.Fmt.{signed_decimal}
 use Rattle.fill_area.specs.Grid.{Grid, window_left, window_right, window_bottom, window_top}
@@ -64,9 +64,17 @@ first_lines g least most measures n = lines_from g least most measures 0 n
 abbrev pub windows_text : Grid → ℤ → ℤ → (ℕ → ℕ → Measures) → List ℕ
 windows_text g least most measures = first_lines g least most measures (g.across.count * g.up.count)
 
+-- an area of metal and no fill
+abbrev pub metal_alone : ℤ → Measures
+metal_alone drawn = record { drawn = drawn; fill = pos 0; total = drawn }
+
 -- areas of metal in a list, row by row, and no fill
 abbrev pub drawn_only : Grid → List ℤ → ℕ → ℕ → Measures
-drawn_only g totals a b = record { drawn = get_or totals (b * g.across.count + a) (pos 0); fill = pos 0; total = get_or totals (b * g.across.count + a) (pos 0) }
+drawn_only g totals a b = metal_alone (get_or totals (b * g.across.count + a) (pos 0))
+
+-- the measures of the windows from place `from` on are these areas of metal, and no fill
+abbrev pub AreDrawn : Grid → ℕ → List ℤ → (ℕ → ℕ → Measures) → Type 0
+AreDrawn g from areas measures = (i : ℕ) (d : ℤ) → i < length areas → metal_alone (get_or areas i d) ≡ measures ((from + i) % g.across.count) ((from + i) / g.across.count)
 
 -- the report of a set of metal and a set of fill
 abbrev pub report_text : (ℤ → ℤ → Bool) → (ℤ → ℤ → Bool) → Grid → ℤ → ℤ → List ℕ

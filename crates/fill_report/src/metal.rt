@@ -1,11 +1,11 @@
 //! The report of metal alone.
-ghost use Rattle.std.specs.Prelude.{◌≡◌, ◌+◌, ◌*◌, ◌≤◌, length, map, Ok, IfOk, All};
+ghost use Rattle.std.specs.Prelude.{◌≡◌, ℕ, ◌+◌, ◌*◌, ◌<◌, ◌≤◌, length, map, Ok, IfOk, All};
 ghost use Rattle.std.specs.List.{flat_map};
 ghost use Rattle.std.specs.Vec.{vec_items};
 ghost use Rattle.fill_region.specs.Bands.{holds};
 ghost use Rattle.fill_text.specs.ValuesOfRules.{values_of};
 ghost use Rattle.fill_area.specs.Density.{IsArea, IsShare};
-ghost use Rattle.fill_report.specs.Report.{lines_from, windows_text, report_text, drawn_only, nothing};
+ghost use Rattle.fill_report.specs.Report.{AreDrawn, lines_from, windows_text, report_text, drawn_only, nothing};
 ghost use Rattle.fill_report.specs.RulesReport.{metal_report};
 
 use crate::error::OutOfMemory;
@@ -98,12 +98,11 @@ pub(crate) fn drawn_lines(
     requires most { IsShare most }
     ensures { IfOk result (λ v. flat_map vec_items v.items ≡ windows_text windows.now least most (drawn_only windows.now totals.now)) }
 {
-    let size = totals.len().div_ceil(MOST_PARTS).max(LEAST_PART);
     let parts = map_ranges(
         rt,
         alloc,
         totals.len(),
-        size,
+        part_size(totals.len()),
         &|from: usize, count: usize| -> Result<Vec<u8>, OutOfMemory>
             requires count { length totals.now ≡ windows.now.across.count * windows.now.up.count }
             requires within { from + count ≤ length totals.now }
@@ -117,13 +116,20 @@ pub(crate) fn drawn_lines(
 }
 
 /// What all parts are, or the first refusal of memory.
-fn all_parts(
+pub(crate) fn all_parts(
     alloc: Global,
     parts: Vec<Result<Vec<u8>, OutOfMemory>>,
 ) -> Result<Vec<Vec<u8>>, OutOfMemory>
     ensures { IfOk result (λ v. parts.items ≡ map Ok v.items) }
 {
     parts.into_iter().try_collect(alloc)
+}
+
+/// Of how many windows a part has the lines, where there are so many windows.
+pub(crate) fn part_size(count: usize) -> usize
+    ensures { 0 < result }
+{
+    count.div_ceil(MOST_PARTS).max(LEAST_PART)
 }
 
 /// The lines of `count` windows from the one at place `from` on, with these areas of metal and no fill.
@@ -143,17 +149,35 @@ fn part_lines(
     requires most { IsShare most }
     ensures { IfOk result (λ v. v.items ≡ lines_from windows.now least most (drawn_only windows.now totals.now) from count) }
 {
-    let text = Vec::with_capacity(alloc, count.saturating_mul(LINE))?;
+    let areas = &totals[from..from + count];
+    lines_of(alloc, windows, areas, from, least, most)
+}
+
+/// The lines of the windows from the one at place `from` on, with these areas of metal and no fill.
+pub(crate) fn lines_of(
+    alloc: Global,
+    windows: &Windows,
+    areas: &[i64],
+    from: usize,
+    least: i64,
+    most: i64,
+) -> Result<Vec<u8>, OutOfMemory>
+    requires within { from + length areas.now ≤ windows.now.across.count * windows.now.up.count }
+    requires areas { All IsArea areas.now }
+    requires least { IsShare least }
+    requires most { IsShare most }
+    ensures { IfOk result (λ v. (measures : ℕ → ℕ → Measures) → AreDrawn windows.now from areas.now measures → v.items ≡ lines_from windows.now least most measures from (length areas.now)) }
+{
+    let text = Vec::with_capacity(alloc, areas.len().saturating_mul(LINE))?;
     let mut writer = Writer::from_writer(text);
     let mut row = ByteRecord::new(alloc);
-    for i in 0..count {
-        let k = from + i;
+    for i in 0..areas.len() {
         let measures = Measures {
-            drawn: totals[k],
+            drawn: areas[i],
             fill: 0,
-            total: totals[k],
+            total: areas[i],
         };
-        put_window(&mut writer, &mut row, windows, k, measures, least, most)?;
+        put_window(&mut writer, &mut row, windows, from + i, measures, least, most)?;
     }
     let text = writer.into_inner()?;
     Ok(text)

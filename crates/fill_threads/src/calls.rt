@@ -41,7 +41,7 @@ pub fn map_indices<R: Threads + Sync, X: Send + Drop, F: Fn(usize) -> X + Sync>(
 }
 
 /// How many processors there are, or one where that is not known.
-fn processors(rt: &impl Threads) -> usize {
+pub(crate) fn processors(rt: &impl Threads) -> usize {
     match thread::available_parallelism(rt) {
         Ok(count) => count.get(),
         Err(_) => 1,

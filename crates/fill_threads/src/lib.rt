@@ -3,6 +3,8 @@
 #![tactic(auto)]
 
 mod calls;
+mod sharing;
 mod turns;
 
 pub use calls::{map_indices, map_ranges};
+pub use sharing::let_go;

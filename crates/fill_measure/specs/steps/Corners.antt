@@ -10,8 +10,3 @@ block_area p across up left bottom right top d = area_between p (get_or across l
 pub record AreCorners (p : ℤ → ℤ → Bool) (across up : List ℤ) (bottom step n : ℕ) (corners : List ℤ) : Type 0 where
   pub count : length corners ≡ n
   pub each : (i j : ℕ) (d : ℤ) → i < length across → j * length across + i < n → get_or corners (j * length across + i) d ≡ pos (block_area p across up 0 bottom i (bottom + j * step) d)
-
--- how many lie below the line `j` and left of each line across
-pub record IsLine (p : ℤ → ℤ → Bool) (across up : List ℤ) (j : ℕ) (numbers : List ℤ) : Type 0 where
-  pub count : length numbers ≡ length across
-  pub each : (i : ℕ) (d : ℤ) → i < length across → get_or numbers i d ≡ pos (block_area p across up 0 0 i j d)

@@ -16,8 +16,3 @@ pub record AreCells (p : ℤ → ℤ → Bool) (across up areas : List ℤ) : Ty
 pub record IsRow (p : ℤ → ℤ → Bool) (across up : List ℤ) (j : ℕ) (areas : List ℤ) : Type 0 where
   pub count : length areas ≡ gaps across
   pub each : (i : ℕ) (d : ℤ) → i < gaps across → get_or areas i d ≡ pos (cell_area p across up i j d)
-
--- the areas in `n` rows from row `from` on, where `area` tells them by column and row
-pub record AreRows (area : ℕ → ℕ → ℕ) (columns from n : ℕ) (areas : List ℤ) : Type 0 where
-  pub count : length areas ≡ n * columns
-  pub each : (i j : ℕ) (d : ℤ) → i < columns → j < n → get_or areas (j * columns + i) d ≡ pos (area i (from + j))

@@ -1,4 +1,6 @@
-use Rattle.std.proofs.Common.{◌∙◌, sym}
+use Rattle.std.proofs.Common.{◌∙◌, subst, sym}
+use Rattle.std.proofs.lemmas.Result.{IfOk-weaker}
+use Rattle.fill_area.specs.Density.{AreMeasured}
 use Rattle.fill_region.specs.Bands.{holds}
 use Rattle.fill_measure.proofs.Cutting.{even_lines, cells_are, cut_ends}
 use Rattle.fill_measure.proofs.measure.measure_cut.Goals as goal
@@ -19,8 +21,14 @@ corners_of-requires g c =
     rw (c.deref.ensures.value, c.deref-2.ensures.value, c.deref-3.ensures.value)
     (cells_are (holds c.args.region.now) cut _ _ _ c.in_ok-cells.ensures.areas wide tall (rw c.across.ensures.value at c.in_ok-across.ensures) (rw c.up.ensures.value at c.in_ok-up.ensures))
 
-pub window_areas-requires-clause-across : goal.window_areas-requires-clause-across
-window_areas-requires-clause-across g c κs live = rw c.deref.ensures.value (cut_ends c.args.windows.now.across c.args.cut.now.across _ c.requires.across (rw c.across.ensures.value at c.in_ok-across.ensures))
+pub new-requires-clause-across : goal.new-requires-clause-across
+new-requires-clause-across g c = cut_ends c.args.windows.now.across c.args.cut.now.across _ c.requires.across (rw c.across.ensures.value at c.in_ok-across.ensures)
 
-pub window_areas-requires-clause-up : goal.window_areas-requires-clause-up
-window_areas-requires-clause-up g c κs live = rw c.deref-2.ensures.value (cut_ends c.args.windows.now.up c.args.cut.now.up _ c.requires.up (rw c.up.ensures.value at c.in_ok-up.ensures))
+pub new-requires-clause-up : goal.new-requires-clause-up
+new-requires-clause-up g c = cut_ends c.args.windows.now.up c.args.cut.now.up _ c.requires.up (rw c.up.ensures.value at c.in_ok-up.ensures)
+
+pub returns-clause-areas : goal.returns-clause-areas
+returns-clause-areas g c =
+    let p = holds c.args.region.now in
+    let corners = rw (c.deref.ensures.value, c.deref-2.ensures.value) at c.in_ok-corners.ensures in
+    IfOk-weaker c.areas.result _ _ (λ v are. subst (λ w. AreMeasured p w v.items) c.in_ok-new.ensures.windows (are p (c.in_ok-new.ensures.sums p corners))) c.areas.ensures.areas

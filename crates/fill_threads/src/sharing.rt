@@ -1,0 +1,35 @@
+//! Values that threads let go of, shared out to them.
+
+use crate::calls::processors;
+use std::alloc::{AllocError, Global};
+use std::mem;
+use std::thread;
+use std::thread::Threads;
+
+/// Lets go of the values on as many threads as there are processors: giving much memory back takes one thread long. Where there is
+/// no memory to share them out, all are let go of here.
+pub fn let_go<R: Threads + Sync, T: Send + Drop>(rt: &R, alloc: Global, values: Vec<T>) {
+    let Ok(shares) = shared_out(alloc, values, processors(rt)) else {
+        return;
+    };
+    let _ = thread::map_vec(rt, shares, &|share: Vec<T>| drop(share));
+}
+
+/// The values in lists of neighbours, about so many lists of about one length.
+fn shared_out<T: Drop>(
+    alloc: Global,
+    values: Vec<T>,
+    count: usize,
+) -> Result<Vec<Vec<T>>, AllocError> {
+    let size = values.len().div_ceil(count.max(1));
+    let mut shares = Vec::with_capacity(alloc, count)?;
+    let mut share = Vec::new(alloc);
+    for value in values {
+        if share.len() >= size {
+            shares.push(mem::replace(&mut share, Vec::new(alloc)))?;
+        }
+        share.push(value)?;
+    }
+    shares.push(share)?;
+    Ok(shares)
+}
