@@ -1,6 +1,7 @@
 //! The areas of windows whose sides are lines, by sums: each is a difference of four.
 ghost use Rattle.std.specs.Prelude.{◌≡◌, ℕ, ℤ, pos, Bool, ◌+◌, ◌*◌, ◌<◌, ◌≤◌, IfOk, All, length, slice_index_or};
 ghost use Rattle.fill_area.specs.Density.{AreMeasured, IsArea, window_area};
+ghost use Rattle.fill_area.specs.Grid.{IsGrid};
 ghost use Rattle.fill_cells.specs.Mesh.{AreLines};
 ghost use Rattle.fill_measure.specs.Sums.{AreSumsOf, areas_from};
 ghost use Rattle.fill_measure.specs.steps.Corners.{block_area};
@@ -96,6 +97,7 @@ impl WindowSums {
         requires { from + count ≤ self.now.windows.across.count * self.now.windows.up.count }
         ensures areas { IfOk result (λ v. (p : ℤ → ℤ → Bool) → AreSumsOf p self.now → v.items ≡ areas_from p self.now.windows from count) }
         ensures count { IfOk result (λ v. length v.items ≡ count) }
+        ensures grid { IfOk result (λ v. IsGrid self.now.windows) }
         ensures bounded { IfOk result (λ v. All IsArea v.items) }
     {
         let mut areas = Vec::with_capacity(alloc, count.min(self.windows.len()))?;

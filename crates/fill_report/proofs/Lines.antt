@@ -56,6 +56,12 @@ pub lines_more : (g : Grid) (least most : ℤ) (areas : List ℤ) (measures : �
     → written new ≡ Some (lines_from g least most measures from (i + 1))
 lines_more g least most areas measures from i w new lt areas_are drawn so_far put = next_line g least most measures _ from i (from + i) w new refl (drawn_at g from areas measures i lt areas_are drawn) so_far put
 
+-- what a writer has written is the text
+pub text_is : (f : ℕ → List ℕ) (text so_far : List ℕ) (k n : ℕ) → n ≤ k → k ≤ n → text ≡ so_far → Some so_far ≡ Some (f k) → text ≡ f n
+text_is f text so_far k n above below is lines =
+    let same : so_far ≡ f k = cc in
+    is ∙ (same ∙ ap f (omega (arith, above, below)))
+
 -- the lines of all windows are the whole text
 pub all_lines : (g : Grid) (least most : ℤ) (measures : ℕ → ℕ → Measures) (k n : ℕ) (text so_far : List ℕ) → n ≤ k → k ≤ n → n ≡ g.across.count * g.up.count → text ≡ so_far
     → Some so_far ≡ Some (first_lines g least most measures k) → text ≡ windows_text g least most measures

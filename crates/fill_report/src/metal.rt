@@ -168,7 +168,8 @@ pub(crate) fn lines_of(
     requires most { IsShare most }
     ensures { IfOk result (λ v. (measures : ℕ → ℕ → Measures) → AreDrawn windows.now from areas.now measures → v.items ≡ lines_from windows.now least most measures from (length areas.now)) }
 {
-    let text = Vec::with_capacity(alloc, areas.len().saturating_mul(LINE))?;
+    let lines = areas.len().min(windows.len());
+    let text = Vec::with_capacity(alloc, lines.saturating_mul(LINE))?;
     let mut writer = Writer::from_writer(text);
     let mut row = ByteRecord::new(alloc);
     for i in 0..areas.len() {
@@ -177,7 +178,15 @@ pub(crate) fn lines_of(
             fill: 0,
             total: areas[i],
         };
-        put_window(&mut writer, &mut row, windows, from + i, measures, least, most)?;
+        put_window(
+            &mut writer,
+            &mut row,
+            windows,
+            from + i,
+            measures,
+            least,
+            most,
+        )?;
     }
     let text = writer.into_inner()?;
     Ok(text)
