@@ -9,11 +9,11 @@ ghost use Rattle.fill_measure.specs.steps.Parts.{ArePartLists};
 ghost use Rattle.fill_measure.specs.steps.Shapes.{squares_of};
 
 use crate::corners::Corners;
-use crate::lists::{Part, all_of, by_parts, row_of};
+use crate::lists::{Part, all_of, by_parts, count_of, row_of};
 use crate::mesh::Mesh;
 use fill_base::Rect;
 use fill_cells::row_areas;
-use fill_threads::map_ranges;
+use fill_threads::{let_go, map_ranges};
 use std::alloc::{AllocError, Global};
 use std::thread::Threads;
 
@@ -21,6 +21,9 @@ use std::thread::Threads;
 /// thread works long on its last one, and few enough that the lists of a row's cells, which are used again for the next row, are
 /// seldom made anew.
 const MOST_GROUPS: usize = 32;
+
+/// What the parts of so many rectangles or more list is given back by several threads.
+const MANY: usize = 1_048_576;
 
 impl Mesh<'_> {
     /// The corners of a mesh of rectangles. Parts of the rectangles are shared out to rows in parallel, and then groups of rows are
@@ -34,8 +37,8 @@ impl Mesh<'_> {
         requires shapes { squares_of self.now.shapes ≡ covered (flat_map vec_items lists.now) }
         ensures { IfOk result (λ c. AreAllCornersOf self.now c) }
     {
-        let parts = by_parts(rt, alloc, lists, self.up)?;
-        let parts = parts.as_slice();
+        let listed = by_parts(rt, alloc, lists, self.up)?;
+        let parts = listed.as_slice();
         let rows = self.up.len() - 1;
         let height = rows.div_ceil(MOST_GROUPS);
         let groups = map_ranges(
@@ -49,6 +52,9 @@ impl Mesh<'_> {
                 ensures { IfOk result (λ v. AreCornersOf self.entry.now from (count + 1) v.items) }
             { self.group(alloc, parts, from, count) },
         )?;
+        if count_of(lists) >= MANY {
+            let_go(rt, alloc, listed);
+        }
         self.gathered(alloc, height, groups)
     }
 
