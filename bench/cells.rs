@@ -2,14 +2,18 @@
 //! rectangles are listed for the rows that they meet, those of a row are shared out to its cells, and each window is a difference of
 //! sums. The algorithm is that of the proved crates.
 use crate::sweep::{Rect, Windows};
-use crate::threads::share_out;
+use crate::threads::{let_go, share_out};
 use std::ops::Range;
 
 /// The rows of cells are cut into at most so many groups, which threads take one after another.
-const MOST_GROUPS: usize = 16;
+const MOST_GROUPS: usize = 32;
 
-/// A group of rows of windows has about so many windows or more.
-const LEAST_GROUP: usize = 4_096;
+/// The windows are cut into at most so many ranges, each of so many or of all that are left.
+const MOST_RANGES: usize = 16;
+const LEAST_RANGE: usize = 16_384;
+
+/// What the parts of so many rectangles or more list is given back by several threads.
+const MANY: usize = 1_048_576;
 
 /// The rectangles are cut into about so many parts, each of about so many or of all of a shorter list.
 const MOST_PARTS: usize = 16;
@@ -432,32 +436,48 @@ impl Corners {
         Corners { width, height, groups, below }
     }
 
-    /// How many covered squares lie below the line at `j` and left of each line across.
-    fn line(&self, j: usize) -> Vec<i64> {
+    /// How many covered squares lie below the line at `j` and left of the line at `i`.
+    fn number(&self, j: usize, i: usize) -> i64 {
         let k = (j / self.height).min(self.groups.len() - 1);
-        let (below, above) = (k * self.width, (j - k * self.height) * self.width);
-        let group = &self.groups[k][above..above + self.width];
-        self.below[below..below + self.width].iter().zip(group).map(|(below, above)| below + above).collect()
+        self.below[k * self.width + i] + self.groups[k][(j - k * self.height) * self.width + i]
     }
+}
 
-    /// The areas of all windows, groups of rows of windows at once.
-    fn window_areas(&self, windows: &Windows, across: &[i32], up: &[i32]) -> Vec<i64> {
+/// What the areas of windows are differences of: the corners, and at which lines each column and each row of windows begins and ends.
+pub struct Sums {
+    corners: Corners,
+    columns: Vec<(usize, usize)>,
+    rows: Vec<(usize, usize)>,
+}
+
+impl Sums {
+    fn new(corners: Corners, windows: &Windows, across: &[i32], up: &[i32]) -> Sums {
         let columns = sides(across, windows.origin.0, windows.size.0, windows.step.0, windows.columns);
         let rows = sides(up, windows.origin.1, windows.size.1, windows.step.1, windows.rows);
-        let height = windows.rows.div_ceil(MOST_GROUPS).max(LEAST_GROUP.div_ceil(windows.columns));
-        let mut groups = vec![Vec::new(); windows.rows.div_ceil(height)];
-        share_out(rows.chunks(height).zip(&mut groups), |(rows, group)| {
-            let mut areas = Vec::with_capacity(rows.len() * columns.len());
-            for (bottom, top) in rows {
-                let (lower, upper) = (self.line(*bottom), self.line(*top));
-                let area = |(left, right): &(usize, usize)| upper[*right] - upper[*left] - lower[*right] + lower[*left];
-                areas.extend(columns.iter().map(area));
-            }
-            *group = areas;
-        });
-        let mut areas = Vec::with_capacity(windows.columns * windows.rows);
-        groups.iter().for_each(|group| areas.extend_from_slice(group));
-        areas
+        Sums { corners, columns, rows }
+    }
+
+    /// How many windows there are.
+    pub fn len(&self) -> usize {
+        self.columns.len() * self.rows.len()
+    }
+
+    /// The areas of so many windows from the one at a place on, row by row.
+    pub fn areas_from(&self, from: usize, count: usize) -> Vec<i64> {
+        let area = |k: usize| {
+            let ((left, right), (bottom, top)) = (self.columns[k % self.columns.len()], self.rows[k / self.columns.len()]);
+            let above = self.corners.number(top, right) - self.corners.number(top, left);
+            above - (self.corners.number(bottom, right) - self.corners.number(bottom, left))
+        };
+        (from..from + count).map(area).collect()
+    }
+
+    /// The areas of all windows, ranges of them at once.
+    fn areas(&self) -> Vec<i64> {
+        let size = self.len().div_ceil(MOST_RANGES).max(LEAST_RANGE);
+        let mut ranges = vec![Vec::new(); self.len().div_ceil(size)];
+        share_out(ranges.iter_mut().enumerate(), |(k, range)| *range = self.areas_from(k * size, size.min(self.len() - k * size)));
+        ranges.concat()
     }
 }
 
@@ -478,8 +498,8 @@ fn sides(lines: &[i32], first: i32, size: i32, step: i32, count: usize) -> Vec<(
     (0..count as i32).map(|a| (at(first + a * step), at(first + a * step + size))).collect()
 }
 
-/// The areas of all windows, row by row, of the rectangles of all lists.
-pub fn measure_rects(lists: &[Vec<Rect>], windows: &Windows) -> Vec<i64> {
+/// The sums of the windows, of the rectangles of all lists.
+pub fn sum_rects(lists: &[Vec<Rect>], windows: &Windows) -> Sums {
     let across = lines_of(windows.origin.0, windows.size.0, windows.step.0, windows.columns);
     let up = lines_of(windows.origin.1, windows.size.1, windows.step.1, windows.rows);
     let (width, height) = pitch_of(lists, &across, &up);
@@ -502,7 +522,16 @@ pub fn measure_rects(lists: &[Vec<Rect>], windows: &Windows) -> Vec<i64> {
         }
         *group = corners;
     });
-    Corners::new(columns + 1, height, groups).window_areas(windows, &across, &up)
+    if lists.iter().map(Vec::len).sum::<usize>() >= MANY {
+        let_go(parts);
+    }
+    Sums::new(Corners::new(columns + 1, height, groups), windows, &across, &up)
+}
+
+/// The areas of all windows, row by row, of the rectangles of all lists.
+#[allow(dead_code)] // bench/layer calls it, bench/check does not
+pub fn measure_rects(lists: &[Vec<Rect>], windows: &Windows) -> Vec<i64> {
+    sum_rects(lists, windows).areas()
 }
 
 /// The areas of windows by those of the cells that their steps cut, which are given row by row.
@@ -513,5 +542,5 @@ pub fn sum_cells(cells: &[i64], cut: &Windows, windows: &Windows) -> Vec<i64> {
     let lines = |first: i32, step: i32, count: usize| -> Vec<i32> { (0..=count as i32).map(|a| first + a * step).collect() };
     let across = lines(cut.origin.0, cut.step.0, cut.columns);
     let up = lines(cut.origin.1, cut.step.1, cut.rows);
-    Corners::new(cut.columns + 1, cut.rows, vec![corners]).window_areas(windows, &across, &up)
+    Sums::new(Corners::new(cut.columns + 1, cut.rows, vec![corners]), windows, &across, &up).areas()
 }

@@ -1,4 +1,5 @@
 //! Work that threads share in plain Rust, for the benchmarks alone.
+#![allow(dead_code)] // no benchmark uses all of it
 use std::sync::Mutex;
 
 /// Does the work of each item, on as many threads as there are processors, of which this is one: each takes the next item that none
@@ -19,4 +20,13 @@ pub fn share_out<T: Send>(items: impl Iterator<Item = T> + Send, work: impl Fn(T
         });
         turns();
     });
+}
+
+/// Lets go of the values on as many threads as there are processors.
+pub fn let_go<T: Send>(values: Vec<T>) {
+    let threads = std::thread::available_parallelism().map_or(1, |count| count.get());
+    let size = values.len().div_ceil(threads).max(1);
+    let mut values = values.into_iter();
+    let shares = (0..threads).map(|_| values.by_ref().take(size).collect::<Vec<T>>()).collect::<Vec<_>>();
+    share_out(shares.into_iter(), drop);
 }

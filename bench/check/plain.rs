@@ -13,23 +13,37 @@ mod sweep;
 #[path = "../threads.rs"]
 mod threads;
 
-use cells::measure_rects;
+use cells::{sum_rects, Sums};
 use design::{flatten, read_cells, read_library};
 use rules::{Lines, Rules};
 use std::io::Write;
-use threads::share_out;
+use sweep::{Rect, Windows};
+use threads::{let_go, share_out};
 
 /// The lines are made in at most so many parts, each of so many windows or more, or of all that are left. A line is mostly no longer than so many bytes.
 const MOST_PARTS: usize = 32;
 const LEAST_PART: usize = 512;
 const LINE: usize = 72;
 
-/// The lines of windows with these areas, in parts that are made at once. Each text is its thread's own until it is whole, since lengths that
-/// lie side by side and are written at each byte would cost more than threads gain.
-fn report(lines: &Lines, areas: &[i64]) -> Vec<Vec<u8>> {
-    let size = areas.len().div_ceil(MOST_PARTS).max(LEAST_PART);
-    let mut parts = vec![Vec::new(); areas.len().div_ceil(size)];
-    share_out(areas.chunks(size).zip(&mut parts).enumerate(), |(n, (areas, part))| {
+/// A list of so many rectangles or more is given back to the system page by page.
+const LARGE: usize = 65_536;
+
+/// The sums of the windows. The lists are let go of.
+fn sums_of(lists: Vec<Vec<Rect>>, windows: &Windows) -> Sums {
+    let sums = sum_rects(&lists, windows);
+    if lists.iter().any(|list| list.len() >= LARGE) {
+        let_go(lists);
+    }
+    sums
+}
+
+/// The lines of windows with these sums, in parts that are made at once: one thread sums a part's windows and writes their lines. Each text is its
+/// thread's own until it is whole, since lengths that lie side by side and are written at each byte would cost more than threads gain.
+fn report(lines: &Lines, sums: &Sums) -> Vec<Vec<u8>> {
+    let size = sums.len().div_ceil(MOST_PARTS).max(LEAST_PART);
+    let mut parts = vec![Vec::new(); sums.len().div_ceil(size)];
+    share_out(parts.iter_mut().enumerate(), |(n, part)| {
+        let areas = sums.areas_from(n * size, size.min(sums.len() - n * size));
         let mut text = Vec::with_capacity(areas.len() * LINE);
         areas.iter().enumerate().for_each(|(k, area)| lines.put(n * size + k, *area, 0, &mut text));
         *part = text;
@@ -51,7 +65,6 @@ fn main() {
         return std::io::stdout().write_all(&bytes).expect("the rectangles");
     }
     let lines = Lines::of(&rules);
-    let areas = measure_rects(&lists, &lines.windows);
-    drop(lists);
-    report(&lines, &areas).iter().for_each(|part| std::io::stdout().write_all(part).expect("the report"));
+    let sums = sums_of(lists, &lines.windows);
+    report(&lines, &sums).iter().for_each(|part| std::io::stdout().write_all(part).expect("the report"));
 }

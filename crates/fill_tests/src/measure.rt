@@ -1,7 +1,7 @@
 //! Windows measured straight from rectangles, beside those measured by a region, and by hand.
 use fill_area::{Windows, measure_all};
 use fill_base::{Point, Rect};
-use fill_measure::{measure_rects, measure_region};
+use fill_measure::{measure_rects, measure_region, sum_rects};
 use fill_region::Region;
 use std::alloc::Global;
 use std::test::Fail;
@@ -95,6 +95,32 @@ fn squares_of_two_rectangles_count_once(rt: HostRuntime) -> Result<(), Fail> {
     let lists = in_lists(alloc, &rects, 2)?;
     let areas = measure_rects(&rt, alloc, &lists, &windows)?;
     assert_eq!(rt; areas.as_slice(), [15, 12, 11, 14].as_slice());
+    Ok(())
+}
+
+#[test]
+fn sums_outlive_the_rectangles(rt: HostRuntime) -> Result<(), Fail> {
+    // The windows and the areas of the test before.
+    let alloc = rt.alloc();
+    let windows = Windows::new(Point { x: 0, y: 0 }, (6, 4), (4, 2), (2, 2))?;
+    let rects = [Rect::new(1, 1, 6, 4)?, Rect::new(5, 2, 9, 5)?];
+    let lists = in_lists(alloc, &rects, 2)?;
+    let sums = sum_rects(&rt, alloc, &lists, &windows)?;
+    drop(lists);
+    assert!(rt; *sums.windows() == windows);
+    assert_eq!(rt;
+        sums.areas_from(alloc, 0, 4)?.as_slice(),
+        [15, 12, 11, 14].as_slice()
+    );
+    assert_eq!(rt;
+        sums.areas_from(alloc, 1, 2)?.as_slice(),
+        [12, 11].as_slice()
+    );
+    assert!(rt; sums.areas_from(alloc, 4, 0)?.is_empty());
+    assert_eq!(rt;
+        (sums.area(0, 0), sums.area(1, 0), sums.area(0, 1)),
+        (15, 12, 11)
+    );
     Ok(())
 }
 

@@ -1,5 +1,5 @@
 //! Calls that are shared out to threads.
-use fill_threads::{map_indices, map_ranges};
+use fill_threads::{let_go, map_indices, map_ranges};
 use std::sync::atomic::{AtomicUsize, Ordering};
 use std::test::Fail;
 
@@ -38,5 +38,18 @@ fn ranges_have_all_numbers(rt: HostRuntime) -> Result<(), Fail> {
     assert_eq!(rt; ranges.as_slice(), [(0, 3)].as_slice());
     let ranges = map_ranges(&rt, alloc, 0, 5, &whole)?;
     assert!(rt; ranges.is_empty());
+    Ok(())
+}
+
+#[test]
+fn few_values_and_many_are_let_go_of(rt: HostRuntime) -> Result<(), Fail> {
+    let alloc = rt.alloc();
+    for count in [0u32, 1, 3, 100, 5000] {
+        let mut lists = Vec::new(alloc);
+        for number in 0..count {
+            lists.push(Vec::from_elem(alloc, number, 100)?)?;
+        }
+        let_go(&rt, alloc, lists);
+    }
     Ok(())
 }
