@@ -2,9 +2,8 @@
 
 use crate::calls::processors;
 use std::alloc::{AllocError, Global};
-use std::mem;
-use std::thread;
 use std::thread::Threads;
+use std::{mem, thread};
 
 /// Lets go of the values on as many threads as there are processors: giving much memory back takes one thread long. Where there is
 /// no memory to share them out, all are let go of here.
