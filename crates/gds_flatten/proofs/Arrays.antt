@@ -10,10 +10,9 @@ use Rattle.fill_base.specs.declared.place.Point.{Point}
 use Rattle.gds_record.specs.Numbers.{IsStored}
 use Rattle.gds_grammar.specs.declared.element.Transform.{Transform}
 use Rattle.gds_grammar.specs.declared.element.Array.{Array}
-use Rattle.gds_grammar.specs.declared.element.Element.TheVariants as elements
 use Rattle.gds_flatten.specs.declared.placement.Placement.{Placement}
 use Rattle.gds_flatten.specs.Placements.{placed}
-use Rattle.gds_flatten.specs.References.{is_bad_transform, is_count, is_whole, has_steps, reference_fault, placement_of, placements_of, turns_in, is_reflected, point_at, step_of, grid_point}
+use Rattle.gds_flatten.specs.References.{is_bad_transform, is_count, is_whole, has_steps, array_fault, array_placements, placement_of, turns_in, is_reflected, point_at, step_of, grid_point}
 use Rattle.gds_flatten.specs.Links.{stepped}
 use Rattle.gds_flatten.specs.steps.Ranges.{IsGrid}
 use Rattle.gds_flatten.proofs.Wholes.{whole_size}
@@ -42,7 +41,7 @@ laid_is p m d e r n x y k h =
 
 pub array_is : (a : Array) (p : Placement) (m n : ℕ) (d e : Point) → p ≡ placement_of a.transform (point_at a.points 0) → m ≡ a.columns → n ≡ a.rows
     → d ≡ step_of (point_at a.points 0) (point_at a.points 1) a.columns → e ≡ step_of (point_at a.points 0) (point_at a.points 2) a.rows
-    → map (laid p m d e) (range_with_len 0 (m * n)) ≡ placements_of (elements.Array a)
+    → map (laid p m d e) (range_with_len 0 (m * n)) ≡ array_placements a
 array_is a p m n d e hp hm hn hd he =
     let t = a.transform in
     let first = point_at a.points 0 in
@@ -118,5 +117,5 @@ stored_at (p ∷ points) (suc k) h = stored_at points k (λ j d lt. h (suc j) d 
 -- why it isn't refused
 pub fine : (a : Array) → is_bad_transform a.transform ≡ false → is_count a.columns ≡ true → is_count a.rows ≡ true
     → has_steps (point_at a.points 0) (point_at a.points 1) a.columns ≡ true → has_steps (point_at a.points 0) (point_at a.points 2) a.rows ≡ true
-    → reference_fault (elements.Array a) ≡ None
+    → array_fault a ≡ None
 fine a t m n d e = rw (t, m, n, d, e) refl

@@ -66,7 +66,7 @@ module _ (layer data_type : ℕ) where
     singles_same (Boundary b) index is = refl
     singles_same (Path p) index is = refl
     singles_same (Ref r) index is = ap (λ (i : ℕ). map (λ p. (i, p)) (placements_of (Ref r))) (is r.cell.items refl)
-    singles_same (Array a) index is = ap (λ (i : ℕ). map (λ p. (i, p)) (placements_of (Array a))) (is a.cell.items refl)
+    singles_same (Array a) index is = ap (λ (i : ℕ). map (λ p. (i, p)) (placements_of (Array a))) (is a.value.cell.items refl)
 
     target_same : (o : Option (List ℕ)) (index : ℕ) → ((name : List ℕ) → o ≡ Some name → index ≡ index_of cells name)
         → index_if index o ≡ target_if cells o

@@ -86,7 +86,7 @@ own_ref : (e : Element) → IsOwn (reference_fault e)
 own_ref (Boundary b) = tt
 own_ref (Path p) = tt
 own_ref (Ref r) = own_single (is_bad_transform r.transform)
-own_ref (Array a) = own_reference (is_bad_transform a.transform) (is_bad_array a.columns a.rows a.points)
+own_ref (Array a) = own_reference (is_bad_transform a.value.transform) (is_bad_array a.value.columns a.value.rows a.value.points)
 
 own_fault : (layer data_type : ℕ) (e : Element) → IsOwn (element_fault layer data_type e)
 own_fault layer data_type e = cases (is_shape layer data_type e) where

@@ -11,7 +11,7 @@ among kinds kind = list_any (λ k. k == kind) kinds
 
 -- some row of the manual's table has this kind and this data type
 abbrev pub has_row : ℕ → ℕ → Bool
-has_row kind form = list_any (λ row. row.1 == form && row.0 == kind) manual
+has_row kind form = list_any (λ row. row.0 == kind && row.1 == form) manual
 
 -- whether a record of the kind has that data type
 unfoldable pub has_form : ℕ → ℕ → Bool

@@ -28,7 +28,8 @@ shape_of (elements.Boundary b) = boundary b.layer b.data_type b.points.items
 shape_of (elements.Path p) =
     path p.layer p.data_type p.path_type p.width p.begin_extension p.end_extension p.points.items
 shape_of (elements.Ref r) = reference r.cell.items r.transform r.origin
-shape_of (elements.Array a) = array a.cell.items a.transform a.columns a.rows a.points
+shape_of (elements.Array a) =
+    array a.value.cell.items a.value.transform a.value.columns a.value.rows a.value.points
 
 abbrev pub cell_of : Vec ℕ × Vec Element → Cell
 cell_of entry = record { name = entry.0.items; shapes = map shape_of entry.1.items }

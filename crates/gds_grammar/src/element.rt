@@ -94,8 +94,9 @@ pub enum Element {
     Path(Path),
     /// A reference to a cell.
     Ref(Ref),
-    /// An array of references to a cell.
-    Array(Array),
+    /// An array of references to a cell, boxed so that the other elements, of which there are more, take
+    /// less memory.
+    Array(Box<Array>),
 }
 
 /// What an element is. Texts, nodes and boxes carry no metal, and are read over.

@@ -219,7 +219,10 @@ pub fn element_of(
         ElementKind::Boundary => Ok(Some(Element::Boundary(boundary_of(alloc, before, xy)?))),
         ElementKind::Path => Ok(Some(Element::Path(path_of(alloc, before, xy)?))),
         ElementKind::Reference => Ok(Some(Element::Ref(ref_of(alloc, before, xy)?))),
-        ElementKind::Array => Ok(Some(Element::Array(array_element_of(alloc, before, xy)?))),
+        ElementKind::Array => {
+            let array = array_element_of(alloc, before, xy)?;
+            Ok(Some(Element::Array(Box::new(alloc, array)?)))
+        }
         ElementKind::Text | ElementKind::Node | ElementKind::Box => Ok(None),
     }
 }
