@@ -2,25 +2,26 @@
 # Times the whole of `densfill check` on generated designs of 100,000, 1,000,000 and 3,900,000 copies of shapes, flat and
 # in five levels, over 10,000 windows that overlap by half, some 70,000 side by side and a million that overlap by three quarters,
 # beside the same algorithms in plain Rust (plain.rs), on one processor and on all: `plain` keeps the whole library as values before it fills a shape, as `densfill` does, and `direct` fills each shape as it is read.
-# Seconds are the best of three runs, or of as many as ROUNDS says, peaks in MB those of the whole process. Where two reports differ in a byte, the run
+# Seconds are the median of five runs, or of as many as ROUNDS says, of all programs in turns: a machine whose processors run at one speed now and at another then has both for each of them. Peaks in MB are those of the whole process. Where two reports differ in a byte, the run
 # fails; so the report of a flat design is compared with that of the deep one, too.
 #
 # A second table has the phases of a check of the designs in five levels, timed by a program of its own (phases.rt.txt): flattening, measuring the
 # windows straight from the rectangles or by the region of all of them and `measure_all`, as before there was a straight way, and all
 # that comes after flattening, the lines of the report included. Peaks are those of the whole process, with its report. It is run on one processor,
 # on one processor each as often at once as there are processors, and on all: processors that share a core or its clock with others are slower
-# together than one alone, and what threads gain is seen beside processes that have as much of the machine. Of processes at once the mean counts.
+# together than one alone, and what threads gain is seen beside processes that have as much of the machine. Of processes at once the mean counts. These three are run in turns too, three times as often, and
+# seconds are medians again; the region is run as often as the programs above.
 #
 # Where `klayout` is installed (Debian's package of that name), a last table has KLayout's own ways over the 10,000 windows, run once each: the
 # areas of all windows by its tiling processor (areas.py), and the low windows by with_density (density.drc). Its areas and
 # its low windows must be those of the report. Designs of more copies than KLAYOUT says are left out there.
 #
 # usage: [ROUNDS=N] [KLAYOUT=COUNT] bench/check/run.sh [COUNT ..]     (after make build; needs rt, rustc, python3, taskset and GNU time; without COUNT
-#                                           some ten minutes and 4 GB, more where the crates were
+#                                           some fifteen minutes and 4 GB, more where the crates were
 #                                           not proved before, and half an hour with KLayout)
 set -eu
 . "$(dirname "$0")/../common.sh"
-rounds=${ROUNDS:-3}
+rounds=${ROUNDS:-5}
 most=${KLAYOUT:-4000000}
 
 python3 "$here/generate.py" 1000 deep "$work"
@@ -28,34 +29,63 @@ python3 "$here/generate.py" 1000 deep "$work"
     "fill_base fill_raster fill_spans fill_region fill_size fill_area fill_cells fill_threads fill_measure gds_record gds_grammar gds_shape gds_flatten fill_text fill_job fill_core fill_report" \
     "rayon csv itoa indexmap thiserror anyhow"
 
-# run_phases WAY PROCESSORS PROCESSES: the mean of each phase of so many processes at once, and the greatest peak, to WORK/phases.
+# run_phases WAY PROCESSORS PROCESSES: the mean of each phase of so many processes at once, and the greatest peak, to
+# WORK/phases_WAY_PROCESSORS_PROCESSES.
 run_phases() {
-    local process
+    local process to=$work/phases_$1_$2_$3
     for process in $(seq 0 $(($3 - 1))); do
         /usr/bin/time -f 'peak %M' -o "$work/peak_$process" taskset -c "$process-$((process + $2 - 1))" "$work/rattle" "$rules" \
             "$work/design.gds" $([ "$1" = rects ] || echo "$1") > "$work/said_$process" &
     done
     wait
-    cat "$work"/said_* | awk -v processes="$3" '{ sum[$1] += $2 } END { for (phase in sum) print phase, sum[phase] / processes }' >> "$work/phases"
-    cat "$work"/peak_* >> "$work/phases"
+    cat "$work"/said_* | awk -v processes="$3" '{ sum[$1] += $2 } END { for (phase in sum) print phase, sum[phase] / processes }' >> "$to"
+    cat "$work"/peak_* >> "$to"
     rm "$work"/said_* "$work"/peak_*
 }
 
-# time_phases COUNT WINDOWS PROCESSORS PROCESSES: a line for each way, of rectangles and of the region: seconds to flatten, to measure the windows (the region
-# included) and to make the report (the windows included), each the best of all rounds, and the peak in MB.
+# median_of PHASE FILE: the median of what the file has for the phase, in microseconds, or 0.
+median_of() {
+    grep "^$1 " "$2" | sort -k2,2g | awk '{ took[NR] = $2 } END { print NR ? took[int((NR + 1) / 2)] : 0 }'
+}
+
+# time_phases COUNT WINDOWS: a line for each way, of rectangles and of the region, on one processor, on one each at once, and on all: median seconds to flatten, to measure the windows (the region
+# included) and to make the report (the windows included), and the peak in MB.
 time_phases() {
-    local way
-    for way in rects region; do
-        for _ in $(seq "$rounds"); do
-            run_phases $way "$3" "$4"
+    local way on file ons="1_1"
+    [ "$all" = 1 ] || ons="1_1 1_$all ${all}_1"
+    for round in $(seq $((3 * rounds))); do
+        for way in rects region; do
+            [ $way = rects ] || [ "$round" -le "$rounds" ] || continue
+            for on in $ons; do
+                run_phases $way "${on%_*}" "${on#*_}"
+            done
         done
-        awk -v start="$1 $2 $3 $4 $way" '
-            { if ($1 == "peak" ? $2 > took[$1] : !($1 in took) || $2 < took[$1]) took[$1] = $2 }
-            END {
-                printf "%s %.4f %.4f %.4f %.0f\n", start, took["flatten"] / 1e6, (took["region"] + took["windows"]) / 1e6, took["report"] / 1e6, took["peak"] / 1024
-            }' "$work/phases"
-        rm "$work/phases"
     done
+    for on in $ons; do
+        for way in rects region; do
+            file=$work/phases_${way}_$on
+            echo "$1 $2 ${on%_*} ${on#*_} $way" "$(median_of flatten "$file")" "$(median_of region "$file")" "$(median_of windows "$file")" "$(median_of report "$file")" \
+                "$(sort -k2,2gr "$file" | awk '$1 == "peak" { print $2; exit }')" |
+                awk '{ printf "%s %s %s %s %s %.4f %.4f %.4f %.0f\n", $1, $2, $3, $4, $5, $6 / 1e6, ($7 + $8) / 1e6, $9 / 1e6, $10 / 1024 }'
+            rm "$file"
+        done
+    done
+}
+
+# in_turns PROCESSORS PROGRAM ..: for each program the median of its seconds, and its peak in MB, of so many rounds in which each is run once.
+in_turns() {
+    local processors=$1 program
+    shift
+    for _ in $(seq "$rounds"); do
+        for program in "$@"; do
+            /usr/bin/time -f "$program %e %M" -a -o "$work/cost" taskset -c "0-$((processors - 1))" bash -c "run $program $processors"
+        done
+    done
+    for program in "$@"; do
+        grep "^$program " "$work/cost" | sort -k2,2g |
+            awk '{ took[NR] = $2 } $3 > peak { peak = $3 } END { printf "%.2f %.0f ", took[int((NR + 1) / 2)], peak / 1024 }'
+    done
+    rm "$work/cost"
 }
 
 # run PROGRAM PROCESSORS: the report of the design to WORK/PROGRAM.csv.
@@ -83,16 +113,10 @@ for count in "$@"; do
             export rules=$work/rules_$windows.csv
             [ $windows != 10000 ] || rules=$work/rules.csv
             for processors in $(one_and_all); do
-                ours=$(measure densfill "$processors" "$rounds")
-                theirs=$(measure plain "$processors" "$rounds")
-                direct=$(measure direct "$processors" "$rounds")
+                took=$(in_turns "$processors" densfill plain direct)
                 cmp "$work/densfill.csv" "$work/plain.csv"
                 cmp "$work/densfill.csv" "$work/direct.csv"
-                if [ $form = deep ]; then
-                    time_phases "$count" $windows "$processors" 1 >> "$work/timed"
-                    [ "$processors" = "$all" ] || time_phases "$count" $windows 1 "$all" >> "$work/timed"
-                fi
-                echo "$form $count $windows $processors $ours $theirs $direct" |
+                echo "$form $count $windows $processors $took" |
                     awk '{ printf "%-6s %10d %10d %10d %12.2f %8.2f %6.2f %9.2f %12d %9d %10d\n", $1, $2, $3, $4, $5, $7, ($7 > 0 ? $5 / $7 : 0), $9, $6, $8, $10 }'
                 [ $windows = 10000 ] && [ "$count" -le "$most" ] && command -v klayout > "$work/found" || continue
                 areas=$(measure areas.py "$processors" 1)
@@ -100,8 +124,9 @@ for count in "$@"; do
                 cut -d, -f1,2,7 "$work/densfill.csv" | cmp - "$work/areas.py.csv"
                 awk -F, '/LOW/ { print "(" $3 "," $4 ";" $5 "," $6 ")" }' "$work/densfill.csv" | LC_ALL=C sort > "$work/low"
                 LC_ALL=C sort "$work/density.drc.csv" | cmp - "$work/low"
-                echo "$form $count $processors $areas $low $ours" >> "$work/klayout"
+                echo "$form $count $processors $areas $low $took" >> "$work/klayout"
             done
+            [ $form = flat ] || time_phases "$count" $windows >> "$work/timed"
             mv "$work/plain.csv" "$work/${form}_$windows.csv"
         done
     done
