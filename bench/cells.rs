@@ -5,8 +5,11 @@ use crate::sweep::{Rect, Windows};
 use crate::threads::{let_go, share_out};
 use std::ops::Range;
 
-/// The rows of cells are cut into at most so many groups, which threads take one after another.
+/// The rows of cells are cut into at most so many groups, which threads take one after another, each of so many rows or more, but into so many groups
+/// where there are rows for them.
 const MOST_GROUPS: usize = 32;
+const LEAST_HEIGHT: usize = 8;
+const LEAST_GROUPS: usize = 16;
 
 /// The windows are cut into at most so many ranges, each of so many or of all that are left.
 const MOST_RANGES: usize = 16;
@@ -506,7 +509,7 @@ pub fn sum_rects(lists: &[Vec<Rect>], windows: &Windows) -> Sums {
     let (across, up) = (cut(across, width), cut(up, height));
     let (columns, rows) = (across.len() - 1, up.len() - 1);
     let parts = by_parts(lists, &up);
-    let height = rows.div_ceil(MOST_GROUPS);
+    let height = rows.div_ceil(MOST_GROUPS).max(rows.div_ceil(LEAST_GROUPS).min(LEAST_HEIGHT));
     let mut groups = vec![Vec::new(); rows.div_ceil(height)];
     share_out(groups.iter_mut().enumerate(), |(k, group)| {
         let mut lists = vec![Vec::new(); columns];

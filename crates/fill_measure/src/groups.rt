@@ -18,9 +18,14 @@ use std::alloc::{AllocError, Global};
 use std::thread::Threads;
 
 /// The rows of cells are cut into at most so many groups of neighbours, which threads measure one after another: so many that no
-/// thread works long on its last one, and few enough that the lists of a row's cells, which are used again for the next row, are
-/// seldom made anew.
+/// thread works long on its last one.
 const MOST_GROUPS: usize = 32;
+
+/// A group has so many rows or more: the lists of a row's cells are used again for the next one, and are made anew for each group.
+const LEAST_HEIGHT: usize = 8;
+
+/// But there are about so many groups or more, as far as there are rows: all processors have some to measure.
+const LEAST_GROUPS: usize = 16;
 
 /// What the parts of so many rectangles or more list is given back by several threads.
 const MANY: usize = 1_048_576;
@@ -40,7 +45,8 @@ impl Mesh<'_> {
         let listed = by_parts(rt, alloc, lists, self.up)?;
         let parts = listed.as_slice();
         let rows = self.up.len() - 1;
-        let height = rows.div_ceil(MOST_GROUPS);
+        let least = rows.div_ceil(LEAST_GROUPS).min(LEAST_HEIGHT);
+        let height = rows.div_ceil(MOST_GROUPS).max(least);
         let groups = map_ranges(
             rt,
             alloc,

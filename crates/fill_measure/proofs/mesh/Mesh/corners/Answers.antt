@@ -9,5 +9,5 @@ gathered-requires-clause-some g c k lt =
     let mesh = c.args.self.now in
     let lines : 2 ≤ length mesh.up.now = mesh.up_lines.some in
     let count : length c.in_ok-groups.groups.items ≡ vec_len c.in_ok-groups.groups = grind (arith, common_steps) in
-    let height = c.div_ceil-height.ensures in
-    group_begins (gaps mesh.up.now) c.div_ceil-height.result (length c.in_ok-groups.groups.items) k (omega (arith, lines, height)) (count ∙ c.in_ok-groups.ensures.len) lt
+    let height = c.max-height.ensures in
+    group_begins (gaps mesh.up.now) c.max-height.result (length c.in_ok-groups.groups.items) k (omega (arith, lines, height)) (count ∙ c.in_ok-groups.ensures.len) lt
