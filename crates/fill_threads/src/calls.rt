@@ -1,13 +1,14 @@
 //! One call for each number or range of numbers, taken by threads in turn.
 ghost use Rattle.std.specs.Prelude.{◌≡◌, ℕ, ◌+◌, ◌*◌, ◌/◌, ◌%◌, ◌<◌, min, All, IfOk, vec_len};
 ghost use Rattle.std.specs.Fork.{GivesEach};
+ghost use denote.Param.Send.{IsSend, IsSync};
 ghost use Rattle.fill_threads.specs.Ranges.{AcceptsRanges, GivesRange, GivesRanges};
 ghost use Rattle.fill_threads.specs.Turns.{IsTurn};
 
 use crate::turns::{Calls, Turn};
 use std::alloc::{AllocError, Global};
 use std::thread;
-use std::thread::Threads;
+use std::thread::{Threads, join};
 
 /// Calls `f` with each number below `count` and gives the results in order, as `std::thread::map_indices` does. There are only as
 /// many threads as processors, and each takes the next number that none has taken: a thread that is slow, or begins late, has
@@ -26,18 +27,44 @@ pub fn map_indices<R: Threads + Sync, X: Send + Drop, F: Fn(usize) -> X + Sync>(
     ensures each { IfOk result (λ v. GivesEach F.Fn f.now count v.items) }
 {
     let calls = Calls::new(count, f);
-    let calls = &calls;
-    let taken = thread::map_indices(
-        rt,
-        alloc,
-        processors(rt).min(count),
-        &|_: usize| -> Result<Vec<Turn<X>>, AllocError>
-            requires { (i : ℕ) → i < calls.now.count → F.pre calls.now.f.now i }
-            ensures { IfOk result (λ v. All (IsTurn F.Fn calls.entry.now.f.now calls.entry.now.count) v.items) }
-        { calls.turns(alloc) },
-    )?;
+    let threads = processors(rt).min(count);
+    let taken = if threads > 1 {
+        take_turns(rt, alloc, threads, &calls)?
+    } else {
+        Vec::new(alloc)
+    };
     let places = calls.places(alloc, taken)?;
     calls.values(alloc, places)
+}
+
+/// The turns of so many threads, each of which begins here, one after another. This thread takes none and waits for them: where it works
+/// on, one that it began is often given its processor, and waits for it while another processor is idle.
+#[cycle(turns)]
+fn take_turns<R: Threads + Sync, X: Send + Drop, F: Fn(usize) -> X + Sync>(
+    rt: &R,
+    alloc: Global,
+    threads: usize,
+    calls: &Calls<F>,
+) -> Result<Vec<Vec<Turn<X>>>, AllocError>
+    requires { (i : ℕ) → i < calls.now.count → F.pre calls.now.f.now i }
+    ensures { IfOk result (λ v. All (λ turns. All (IsTurn F.Fn calls.now.f.now calls.now.count) turns.items) v.items) }
+{
+    if threads == 0 {
+        return Ok(Vec::new(alloc));
+    }
+    let first = move || -> Result<Vec<Turn<X>>, AllocError>
+        requires { (i : ℕ) → i < calls.now.count → F.pre calls.now.f.now i }
+        ensures { IfOk result (λ v. All (IsTurn F.Fn calls.entry.now.f.now calls.entry.now.count) v.items) }
+    { calls.turns(alloc) };
+    let left = threads - 1;
+    let others = move || -> Result<Vec<Vec<Turn<X>>>, AllocError>
+        requires { IsSync R.row × IsSync F.row × IsSend X.row × ((i : ℕ) → i < calls.now.count → F.pre calls.now.f.now i) }
+        ensures { IfOk result (λ v. All (λ turns. All (IsTurn F.Fn calls.entry.now.f.now calls.entry.now.count) turns.items) v.items) }
+    { take_turns(rt, alloc, left, calls) };
+    let (turns, others) = join(rt, first, others);
+    let mut all = others?;
+    all.push(turns?)?;
+    Ok(all)
 }
 
 /// How many processors there are, or one where that is not known.

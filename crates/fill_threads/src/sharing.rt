@@ -1,9 +1,11 @@
 //! Values that threads let go of, shared out to them.
 
+ghost use denote.Param.Send.{IsSend, IsSync};
+
 use crate::calls::processors;
 use std::alloc::{AllocError, Global};
-use std::thread::Threads;
-use std::{mem, thread};
+use std::mem;
+use std::thread::{Threads, join};
 
 /// Lets go of the values on as many threads as there are processors: giving much memory back takes one thread long. Where there is
 /// no memory to share them out, all are let go of here.
@@ -11,7 +13,19 @@ pub fn let_go<R: Threads + Sync, T: Send + Drop>(rt: &R, alloc: Global, values: 
     let Ok(shares) = shared_out(alloc, values, processors(rt)) else {
         return;
     };
-    let _ = thread::map_vec(rt, shares, &|share: Vec<T>| drop(share));
+    let_go_each(rt, shares);
+}
+
+/// Lets go of each share on a thread of its own, and waits for all of them.
+#[cycle(shares)]
+fn let_go_each<R: Threads + Sync, T: Send + Drop>(rt: &R, mut shares: Vec<T>) {
+    let Some(share) = shares.pop() else {
+        return;
+    };
+    let others = move ||
+        requires { IsSync R.row × IsSend T.row }
+    { let_go_each(rt, shares) };
+    join(rt, move || drop(share), others);
 }
 
 /// The values in lists of neighbours, about so many lists of about one length.

@@ -62,14 +62,14 @@ impl<X: Drop, F: Fn(usize) -> X> Calls<'_, F> {
     pub(crate) fn places(
         &self,
         alloc: Global,
-        taken: Vec<Result<Vec<Turn<X>>, AllocError>>,
+        taken: Vec<Vec<Turn<X>>>,
     ) -> Result<Vec<Option<X>>, AllocError>
-        requires { All (λ r. IfOk r (λ v. All (IsTurn F.Fn self.now.f.now self.now.count) v.items)) taken.items }
+        requires { All (λ turns. All (IsTurn F.Fn self.now.f.now self.now.count) turns.items) taken.items }
         ensures { IfOk result (λ v. ArePlaces F.Fn self.now.f.now self.now.count v.items) }
     {
         let mut places = self.none(alloc)?;
         for turns in taken {
-            self.put(&mut places, turns?);
+            self.put(&mut places, turns);
         }
         Ok(places)
     }

@@ -1,5 +1,4 @@
-use Rattle.std.proofs.Common.{◌≡◌, ◌∷◌, All, IfOk, Result, Vec, Global, subst}
-use Rattle.std.specs.declared.alloc.AllocError.{AllocError}
+use Rattle.std.proofs.Common.{◌≡◌, ◌∷◌, All, Vec, Global}
 use Rattle.std.specs.Vec.Iter.{into_iter_items}
 use Rattle.std.proofs.lemmas.List.Elements.{All-rest, All-head}
 use Rattle.fill_threads.specs.declared.turns.Turn.{Turn}
@@ -10,14 +9,14 @@ pub put-requires-clause-turns : goal.put-requires-clause-turns
 put-requires-clause-turns g c =
     let calls = c.args.self.now in
     let steps : into_iter_items c.loop-turns.turns-iterator ≡ c.in-Some.turns ∷ into_iter_items c.next.new.self = c.in-Some.ensures.steps.0 in
-    let taken = λ (r : Result (Vec (Turn g.row.X.Denot) Global) AllocError). IfOk r (λ v. All (IsTurn g.F.Fn calls.f.now calls.count) v.items) in
-    subst taken c.in_ok-turns.was (All-head taken c.in-Some.turns _ (rw steps at c.loop-turns.invariant.taken))
+    let taken = λ (turns : Vec (Turn g.row.X.Denot) Global). All (IsTurn g.F.Fn calls.f.now calls.count) turns.items in
+    All-head taken c.in-Some.turns _ (rw steps at c.loop-turns.invariant.taken)
 
 pub loop-turns-preserved : goal.loop-turns-preserved
 loop-turns-preserved g c =
     let calls = c.args.self.now in
     let steps : into_iter_items c.loop-turns.turns-iterator ≡ c.in-Some.turns ∷ into_iter_items c.next.new.self = c.in-Some.ensures.steps.0 in
-    let taken = λ (r : Result (Vec (Turn g.row.X.Denot) Global) AllocError). IfOk r (λ v. All (IsTurn g.F.Fn calls.f.now calls.count) v.items) in
+    let taken = λ (turns : Vec (Turn g.row.X.Denot) Global). All (IsTurn g.F.Fn calls.f.now calls.count) turns.items in
     record {
       taken = All-rest taken c.in-Some.turns _ _ steps c.loop-turns.invariant.taken;
       places = c.put.ensures;
