@@ -7,6 +7,9 @@ ghost use Rattle.fill_cells.specs.steps.Within.{AreWithin, AreMore, IsWhole, IsW
 use fill_base::Rect;
 use std::alloc::{AllocError, Global};
 
+/// A list begins with room for so many. Most have no more, and one that grows is moved each time.
+const FIRST_ROOM: usize = 16;
+
 /// The squares of the rectangles within a part, as a list that is mostly short: one rectangle where one of them covers the whole
 /// part, and neighbours in the list that make one rectangle joined.
 pub(crate) fn within(alloc: Global, rects: &[Rect], part: &Rect) -> Result<Vec<Rect>, AllocError>
@@ -20,6 +23,7 @@ pub(crate) fn within(alloc: Global, rects: &[Rect], part: &Rect) -> Result<Vec<R
 }
 
 /// Puts the squares of a rectangle within the part to those of the list.
+#[inline(always)]
 pub(crate) fn hold(list: &mut Vec<Rect>, rect: &Rect, part: &Rect) -> Result<(), AllocError>
     ensures { OnOk result (AreMore part.now rect.now list.old.items list.new.items) }
 {
@@ -82,6 +86,9 @@ fn with_last(list: &[Rect], piece: &Rect) -> Option<Rect>
 fn push(list: &mut Vec<Rect>, rect: Rect) -> Result<(), AllocError>
     ensures { OnOk result (list.new.items ≡ list.old.items ++ rect ∷ []) }
 {
+    if list.is_empty() {
+        list.reserve(FIRST_ROOM)?;
+    }
     list.push(rect)?;
     Ok(())
 }

@@ -14,6 +14,9 @@ use std::alloc::{AllocError, Global};
 /// A row is deep where the rectangles are together so many times as wide as it.
 const DEEP: i64 = 64;
 
+/// The list of a row begins with room for so many places.
+const FIRST_ROOM: usize = 16;
+
 /// For each row between neighbouring lines the rectangles that meet it, by their places in the list, which take four bytes each. A
 /// rectangle costs a guess at the first row, and a step for each.
 ///
@@ -60,7 +63,11 @@ fn put_at(lists: &mut [Vec<u32>], place: u32, k: usize) -> Result<(), AllocError
     requires { k < length lists.old }
     ensures { OnOk result ((rects : List Rect) (up : List ℤ) (d : Rect) → place < length rects → IsListedAt rects up (get_or rects place d) k lists.old lists.new) }
 {
-    lists[k].push(place)?;
+    let list = &mut lists[k];
+    if list.is_empty() {
+        list.reserve(FIRST_ROOM)?;
+    }
+    list.push(place)?;
     Ok(())
 }
 

@@ -130,6 +130,7 @@ fn are_even(lines: &[i64], step: i64) -> bool
 }
 
 /// The gaps between lines that have a number from `lo` on and below `hi`: mostly the one that is guessed.
+#[inline(always)]
 pub(crate) fn gaps_met(lines: &[i64], pace: u64, lo: i64, hi: i64) -> Range<usize>
     requires { AreLines lines.now }
     ensures { AreMet lines.now lo hi result.start result.end }

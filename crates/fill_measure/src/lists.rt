@@ -17,7 +17,7 @@ use std::thread::Threads;
 const MOST_PARTS: usize = 16;
 
 /// A part has about so many rectangles or more, or all of a list that is shorter.
-const LEAST_PART: usize = 8_192;
+const LEAST_PART: usize = 4_096;
 
 /// No part has more, so that four bytes hold a place in it.
 const MOST_IN_PART: usize = 1 << 32;

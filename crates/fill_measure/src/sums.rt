@@ -9,7 +9,7 @@ use crate::sides::Sides;
 use fill_area::Windows;
 
 /// What the areas of windows are differences of. It holds nothing of the shapes that were measured, so these may be let go of
-/// before an area is asked for; a million windows take some hundred megabytes less so.
+/// before an area is asked for.
 #[derive(Drop)]
 pub struct WindowSums {
     /// The windows.

@@ -1,5 +1,5 @@
 //! The areas of windows whose sides are lines, by sums: each is a difference of four.
-ghost use Rattle.std.specs.Prelude.{◌≡◌, ℕ, ℤ, pos, Bool, ◌+◌, ◌*◌, ◌<◌, ◌≤◌, IfOk, All, length, slice_index_or};
+ghost use Rattle.std.specs.Prelude.{◌≡◌, ℤ, pos, Bool, ◌+◌, ◌*◌, ◌<◌, ◌≤◌, IfOk, All, length};
 ghost use Rattle.fill_area.specs.Density.{AreMeasured, IsArea, window_area};
 ghost use Rattle.fill_area.specs.Grid.{IsGrid};
 ghost use Rattle.fill_cells.specs.Mesh.{AreLines};
