@@ -26,3 +26,4 @@ pub mod Placing
 pub mod Surveying
 pub mod Agreeing
 pub mod Flattened
+pub mod Extending

@@ -7,5 +7,5 @@ pub mod Ranges
 pub mod Walks
 pub mod Counting
 pub mod Built
-pub mod Pieces
+pub mod Filled
 pub mod Prepared

@@ -11,7 +11,7 @@ ghost use Rattle.gds_flatten.specs.steps.Prepared.{edges_of, way_back};
 ghost use Rattle.gds_flatten.specs.steps.Ranges.{IsWithin};
 
 use crate::error::FlattenError;
-use crate::pieces::Pieces;
+use crate::filled::Filled;
 use crate::placement::Placement;
 use crate::shape::Shape;
 use fill_base::Rect;
@@ -67,11 +67,8 @@ fn boundary_shape<'a>(
         return Err(FlattenError::NotManhattan);
     }
     let extent = put_boundary_at_corner(alloc, rects, &boundary.points)?;
-    Ok(Shape {
-        element,
-        pieces: Pieces::taken(alloc, rects),
-        extent: Some(extent),
-    })
+    let filled = Filled::taken(alloc, rects, Some(extent))?;
+    Ok(Shape { element, filled })
 }
 
 /// The path, filled in the empty list.
@@ -89,11 +86,8 @@ fn path_shape<'a>(
     ensures refused { IfErr result (λ e. (e ≡ FlattenError.Memory) ⊎ (shape_fault element.now ≡ Some e)) }
 {
     let extent = put_path_at_corner(alloc, rects, path)?;
-    Ok(Shape {
-        element,
-        pieces: Pieces::taken(alloc, rects),
-        extent,
-    })
+    let filled = Filled::taken(alloc, rects, extent)?;
+    Ok(Shape { element, filled })
 }
 
 /// The element, filled, if it's a boundary or path of the layer and data type; `None` for every other
@@ -211,12 +205,12 @@ pub fn carry_shape(
     ensures refused { IfErr result (λ e. (e ≡ FlattenError.Memory)
         ⊎ ((e ≡ FlattenError.OutOfRange) × (StaysInRange at.now shape.now.element.now → ⊥))) }
 {
-    let Some(extent) = shape.extent else {
+    let Some(extent) = shape.filled.extent() else {
         return Ok(());
     };
     if !is_in_range(&carried_bounds(at, &extent)) {
         return Err(FlattenError::OutOfRange);
     }
-    carry_pieces(shape.pieces.as_slice(), &from_corner(at, &extent), out)?;
+    carry_pieces(shape.filled.rects(), &from_corner(at, &extent), out)?;
     Ok(())
 }

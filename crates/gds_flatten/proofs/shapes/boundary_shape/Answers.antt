@@ -1,5 +1,4 @@
-use Rattle.std.proofs.Common.{inr, subst, sym, Some}
-use Rattle.gds_flatten.specs.steps.Prepared.{IsPrepared}
+use Rattle.std.proofs.Common.{inr}
 use Rattle.gds_flatten.proofs.Filling.{boundary_is_slanted, boundary_is_fine, boundary_prepared}
 use Rattle.gds_flatten.proofs.shapes.boundary_shape.Goals as goal
 
@@ -15,7 +14,7 @@ pub invariant_of-result : goal.invariant_of-result
 invariant_of-result c =
     let e = c.in_ok-extent.ensures in
     record {
-      prepared = subst (λ rs. IsPrepared c.args.element.now rs (Some c.in_ok-extent.extent)) (sym c.taken.ensures.is)
+      prepared = rw (c.in_ok-filled.ensures.rects, c.in_ok-filled.ensures.extent)
           (boundary_prepared c.args.element.now c.args.boundary.now c.deref-2.result.now c.put_boundary_at_corner.new.out.items c.args.rects.now.items c.in_ok-extent.extent
           c.requires.is c.deref-2.ensures.value c.requires.empty e.extent e.near e.inside e.added);
     }
