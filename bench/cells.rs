@@ -20,7 +20,7 @@ const MANY: usize = 1_048_576;
 
 /// The rectangles are cut into about so many parts, each of about so many or of all of a shorter list.
 const MOST_PARTS: usize = 16;
-const LEAST_PART: usize = 8_192;
+const LEAST_PART: usize = 4_096;
 
 /// Lines are evenly spaced where a guess at one is at most so many steps off.
 const NEAR: i64 = 8;
@@ -31,6 +31,9 @@ const SHIFT: u32 = 32;
 /// A row is deep where the rectangles are together so many times as wide as it.
 const DEEP: i64 = 64;
 
+/// A list begins with room for so many. Most have no more, and one that grows is moved each time.
+const FIRST_ROOM: usize = 16;
+
 /// So many rectangles are counted at once, and so many are looked at pair by pair first.
 const FEW: usize = 1024;
 const PAIRED: usize = 16;
@@ -39,7 +42,7 @@ const PAIRED: usize = 16;
 const COUNTED: usize = 64;
 
 /// About so many rectangles are looked at, to know them all by.
-const SAMPLES: usize = 4096;
+const SAMPLES: usize = 1024;
 
 /// So many rectangles that lie apart are to be in a cell, and so many that overlap or are long.
 const FEW_IN_CELL: u64 = 7;
@@ -79,6 +82,7 @@ fn joined(a: &Rect, b: &Rect) -> Option<Rect> {
 }
 
 /// Puts what a rectangle has in the part to the list.
+#[inline(always)]
 fn hold(list: &mut Vec<Rect>, rect: &Rect, part: &Rect) {
     if list.first().is_some_and(|first| is_same(first, part)) {
         return;
@@ -92,7 +96,10 @@ fn hold(list: &mut Vec<Rect>, rect: &Rect, part: &Rect) {
             Some(both) => *last = both,
             None => list.push(piece),
         },
-        None => list.push(piece),
+        None => {
+            list.reserve(FIRST_ROOM);
+            list.push(piece);
+        }
     }
 }
 
@@ -122,6 +129,7 @@ fn guess(lines: &[i32], pace: u64, number: i32) -> usize {
 }
 
 /// The gaps between lines that a range meets: mostly the one that is guessed.
+#[inline(always)]
 fn gaps_met(lines: &[i32], pace: u64, lo: i32, hi: i32) -> Range<usize> {
     let last = lines.len() - 1;
     if hi <= lines[0] || lines[last] <= lo {
@@ -159,7 +167,11 @@ fn by_row(rects: &[Rect], up: &[i32]) -> Vec<Vec<u32>> {
     let pace = even_pace(up);
     for (k, rect) in rects.iter().enumerate() {
         for gap in gaps_met(up, pace, rect.y1, rect.y2) {
-            lists[gap].push(k as u32);
+            let list: &mut Vec<u32> = &mut lists[gap];
+            if list.is_empty() {
+                list.reserve(FIRST_ROOM);
+            }
+            list.push(k as u32);
         }
     }
     lists

@@ -2,9 +2,9 @@
 #![allow(dead_code)] // no benchmark uses all of it
 use std::sync::Mutex;
 
-/// Does the work of each item, on as many threads as there are processors, of which this is one: each takes the next item that none
-/// has taken. What a thread writes often is best its own until it is whole: the lengths of lists that lie side by side would go from
-/// one processor to the other at each write.
+/// Does the work of each item, on as many threads as there are processors: each takes the next item that none has taken. This thread
+/// waits for them, since one that it began is often given its processor while it works on. What a thread writes often is best its own
+/// until it is whole: the lengths of lists that lie side by side would go from one processor to the other at each write.
 pub fn share_out<T: Send>(items: impl Iterator<Item = T> + Send, work: impl Fn(T) + Sync) {
     let threads = std::thread::available_parallelism().map_or(1, |count| count.get());
     let items = Mutex::new(items);
@@ -14,11 +14,13 @@ pub fn share_out<T: Send>(items: impl Iterator<Item = T> + Send, work: impl Fn(T
             work(item);
         }
     };
+    if threads == 1 {
+        return turns();
+    }
     std::thread::scope(|scope| {
-        (1..threads).for_each(|_| {
+        (0..threads).for_each(|_| {
             scope.spawn(turns);
         });
-        turns();
     });
 }
 

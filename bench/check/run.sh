@@ -2,7 +2,8 @@
 # Times the whole of `densfill check` on generated designs of 100,000, 1,000,000 and 3,900,000 copies of shapes, flat and
 # in five levels, over 10,000 windows that overlap by half, some 70,000 side by side and a million that overlap by three quarters,
 # beside the same algorithms in plain Rust (plain.rs), on one processor and on all: `plain` keeps the whole library as values before it fills a shape, as `densfill` does, and `direct` fills each shape as it is read.
-# Seconds are the median of five runs, or of as many as ROUNDS says, of all programs in turns: a machine whose processors run at one speed now and at another then has both for each of them. Peaks in MB are those of the whole process. Where two reports differ in a byte, the run
+# Seconds are the median of five runs, or of as many as ROUNDS says, of all programs in turns: a machine whose processors run at one speed now and at another then has both for each of them. How many times as long as plain Rust
+# `densfill` takes is told by medians and by the fastest runs. Peaks in MB are those of the whole process. Where two reports differ in a byte, the run
 # fails; so the report of a flat design is compared with that of the deep one, too.
 #
 # A second table has the phases of a check of the designs in five levels, timed by a program of its own (phases.rt.txt): flattening, measuring the
@@ -10,7 +11,7 @@
 # that comes after flattening, the lines of the report included. Peaks are those of the whole process, with its report. It is run on one processor,
 # on one processor each as often at once as there are processors, and on all: processors that share a core or its clock with others are slower
 # together than one alone, and what threads gain is seen beside processes that have as much of the machine. Of processes at once the mean counts. These three are run in turns too, three times as often, and
-# seconds are medians again; the region is run as often as the programs above.
+# seconds are medians again, for the report with the fastest run beside; the region is run as often as the programs above.
 #
 # Where `klayout` is installed (Debian's package of that name), a last table has KLayout's own ways over the 10,000 windows, run once each: the
 # areas of all windows by its tiling processor (areas.py), and the low windows by with_density (density.drc). Its areas and
@@ -43,13 +44,16 @@ run_phases() {
     rm "$work"/said_* "$work"/peak_*
 }
 
-# median_of PHASE FILE: the median of what the file has for the phase, in microseconds, or 0.
+# median_of PHASE FILE: the median of what the file has for the phase, in microseconds, or 0, and least_of the least.
 median_of() {
     grep "^$1 " "$2" | sort -k2,2g | awk '{ took[NR] = $2 } END { print NR ? took[int((NR + 1) / 2)] : 0 }'
 }
+least_of() {
+    grep "^$1 " "$2" | sort -k2,2g | awk 'NR == 1 { print $2 }'
+}
 
 # time_phases COUNT WINDOWS: a line for each way, of rectangles and of the region, on one processor, on one each at once, and on all: median seconds to flatten, to measure the windows (the region
-# included) and to make the report (the windows included), and the peak in MB.
+# included) and to make the report (the windows included), the peak in MB, and the least seconds to make the report.
 time_phases() {
     local way on file ons="1_1"
     [ "$all" = 1 ] || ons="1_1 1_$all ${all}_1"
@@ -65,46 +69,56 @@ time_phases() {
         for way in rects region; do
             file=$work/phases_${way}_$on
             echo "$1 $2 ${on%_*} ${on#*_} $way" "$(median_of flatten "$file")" "$(median_of region "$file")" "$(median_of windows "$file")" "$(median_of report "$file")" \
-                "$(sort -k2,2gr "$file" | awk '$1 == "peak" { print $2; exit }')" |
-                awk '{ printf "%s %s %s %s %s %.4f %.4f %.4f %.0f\n", $1, $2, $3, $4, $5, $6 / 1e6, ($7 + $8) / 1e6, $9 / 1e6, $10 / 1024 }'
+                "$(sort -k2,2gr "$file" | awk '$1 == "peak" { print $2; exit }')" "$(least_of report "$file")" |
+                awk '{ printf "%s %s %s %s %s %.4f %.4f %.4f %.0f %.4f\n", $1, $2, $3, $4, $5, $6 / 1e6, ($7 + $8) / 1e6, $9 / 1e6, $10 / 1024, $11 / 1e6 }'
             rm "$file"
         done
     done
 }
 
-# in_turns PROCESSORS PROGRAM ..: for each program the median of its seconds, and its peak in MB, of so many rounds in which each is run once.
-in_turns() {
-    local processors=$1 program
-    shift
-    for _ in $(seq "$rounds"); do
-        for program in "$@"; do
-            /usr/bin/time -f "$program %e %M" -a -o "$work/cost" taskset -c "0-$((processors - 1))" bash -c "run $program $processors"
-        done
-    done
-    for program in "$@"; do
-        grep "^$program " "$work/cost" | sort -k2,2g |
-            awk '{ took[NR] = $2 } $3 > peak { peak = $3 } END { printf "%.2f %.0f ", took[int((NR + 1) / 2)], peak / 1024 }'
-    done
-    rm "$work/cost"
+# timed PROGRAM OUT COMMAND ..: runs the command, with what it prints to OUT, and adds a line to WORK/cost: the program, its microseconds and its peak in kB.
+timed() {
+    local program=$1 out=$2 from to
+    shift 2
+    from=$EPOCHREALTIME
+    /usr/bin/time -f %M -o "$work/peak" "$@" > "$out"
+    to=$EPOCHREALTIME
+    echo "$program $((${to/./} - ${from/./})) $(cat "$work/peak")" >> "$work/cost"
 }
 
 # run PROGRAM PROCESSORS: the report of the design to WORK/PROGRAM.csv.
 run() {
     local out=$work/$1.csv
     case $1 in
-        densfill) "$root/bin/densfill" check "$rules" "$work/design.gds" > "$out" ;;
-        plain) "$work/plain" "$rules" "$work/design.gds" library > "$out" ;;
-        direct) "$work/plain" "$rules" "$work/design.gds" > "$out" ;;
+        densfill) timed "$1" "$out" "$root/bin/densfill" check "$rules" "$work/design.gds" ;;
+        plain) timed "$1" "$out" "$work/plain" "$rules" "$work/design.gds" library ;;
+        direct) timed "$1" "$out" "$work/plain" "$rules" "$work/design.gds" ;;
         areas.py | density.drc)
             QT_QPA_PLATFORM=offscreen klayout -b -r "$here/$1" -rd design="$work/design.gds" -rd rules="$rules" \
                 -rd threads="$2" -rd out="$out" ;;
     esac
 }
-export -f run
+export -f run timed
 export here root work
 
-printf '%-6s %10s %10s %10s %12s %8s %6s %9s %12s %9s %10s\n' \
-    form copies windows processors "densfill s" "plain s" ratio "direct s" "densfill MB" "plain MB" "direct MB"
+# in_turns PROCESSORS PROGRAM ..: for each program the median and the least of its seconds, and its peak in MB, of so many rounds in which each is run once.
+in_turns() {
+    local processors=$1 program
+    shift
+    for _ in $(seq "$rounds"); do
+        for program in "$@"; do
+            taskset -c "0-$((processors - 1))" bash -c "run $program $processors"
+        done
+    done
+    for program in "$@"; do
+        grep "^$program " "$work/cost" | sort -k2,2g |
+            awk '{ took[NR] = $2 } $3 > peak { peak = $3 } END { printf "%.4f %.4f %.0f ", took[int((NR + 1) / 2)] / 1e6, took[1] / 1e6, peak / 1024 }'
+    done
+    rm "$work/cost"
+}
+
+printf '%-6s %10s %10s %10s %12s %10s %14s %9s %12s %9s %10s\n' \
+    form copies windows processors "densfill s" "plain s" "ratio (least)" "direct s" "densfill MB" "plain MB" "direct MB"
 [ $# -gt 0 ] || set -- 100000 1000000 3900000
 for count in "$@"; do
     for form in flat deep; do
@@ -117,7 +131,7 @@ for count in "$@"; do
                 cmp "$work/densfill.csv" "$work/plain.csv"
                 cmp "$work/densfill.csv" "$work/direct.csv"
                 echo "$form $count $windows $processors $took" |
-                    awk '{ printf "%-6s %10d %10d %10d %12.2f %8.2f %6.2f %9.2f %12d %9d %10d\n", $1, $2, $3, $4, $5, $7, ($7 > 0 ? $5 / $7 : 0), $9, $6, $8, $10 }'
+                    awk '{ printf "%-6s %10d %10d %10d %12.3f %10.3f   %.2f (%.2f) %10.3f %12d %9d %10d\n", $1, $2, $3, $4, $5, $8, $5 / $8, $6 / $9, $11, $7, $10, $13 }'
                 [ $windows = 10000 ] && [ "$count" -le "$most" ] && command -v klayout > "$work/found" || continue
                 areas=$(measure areas.py "$processors" 1)
                 low=$(measure density.drc "$processors" 1)
@@ -136,11 +150,11 @@ for count in "$@"; do
 done
 awk '
     BEGIN {
-        printf "\n%10s %10s %10s %10s %10s %10s %11s %9s %11s %12s\n", "copies", "windows", "processors", "processes", "flatten s", "by rects s", "by region s",
-            "report s", "by rects MB", "by region MB"
+        printf "\n%10s %10s %10s %10s %10s %10s %11s %9s %9s %11s %12s\n", "copies", "windows", "processors", "processes", "flatten s", "by rects s", "by region s",
+            "report s", "(least)", "by rects MB", "by region MB"
     }
-    $5 == "rects" { rects = $7; report = $8; peak = $9 }
-    $5 == "region" { printf "%10d %10d %10d %10d %10.4f %10.4f %11.4f %9.4f %11d %12d\n", $1, $2, $3, $4, $6, rects, $7, report, peak, $9 }' "$work/timed"
+    $5 == "rects" { rects = $7; report = $8; peak = $9; least = $10 }
+    $5 == "region" { printf "%10d %10d %10d %10d %10.4f %10.4f %11.4f %9.4f %9.4f %11d %12d\n", $1, $2, $3, $4, $6, rects, $7, report, least, peak, $9 }' "$work/timed"
 [ ! -s "$work/klayout" ] || awk '
     BEGIN {
         printf "\n%-6s %10s %10s %12s %8s %14s %8s %12s %12s\n", "form", "copies", "processors", "areas s", "times", "with_density s", "times",
