@@ -42,7 +42,7 @@ const PAIRED: usize = 16;
 const COUNTED: usize = 64;
 
 /// About so many rectangles are looked at, to know them all by.
-const SAMPLES: usize = 1024;
+const SAMPLES: usize = 4096;
 
 /// So many rectangles that lie apart are to be in a cell, and so many that overlap or are long.
 const FEW_IN_CELL: u64 = 7;

@@ -8,7 +8,7 @@ use fill_area::{Axis, Windows};
 use fill_base::Rect;
 
 /// About so many rectangles are looked at, at even distances in their lists: enough to know them all by, and soon done.
-const SAMPLES: usize = 1024;
+const SAMPLES: usize = 4096;
 
 /// So many rectangles that lie apart are to be in a cell: more take longer to tell apart, and fewer do not repay the cell's own work.
 const FEW: u64 = 7;
