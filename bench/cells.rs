@@ -31,7 +31,7 @@ const SHIFT: u32 = 32;
 /// A row is deep where the rectangles are together so many times as wide as it.
 const DEEP: i64 = 64;
 
-/// A list begins with room for so many. Most have no more, and one that grows is moved each time.
+/// The list of a cell begins with room for so many, and that of a row for as many or more. Most have no more, and one that grows is moved each time.
 const FIRST_ROOM: usize = 16;
 
 /// So many rectangles are counted at once, and so many are looked at pair by pair first.
@@ -41,8 +41,10 @@ const PAIRED: usize = 16;
 /// Up to so many towers are counted, and not searched.
 const COUNTED: usize = 64;
 
-/// About so many rectangles are looked at, to know them all by.
-const SAMPLES: usize = 4096;
+/// About one of so many rectangles is looked at, to know them all by, but no fewer and no more than so many.
+const LOOKED_SHARE: usize = 64;
+const LEAST_SAMPLES: usize = 1024;
+const MOST_SAMPLES: usize = 4096;
 
 /// So many rectangles that lie apart are to be in a cell, and so many that overlap or are long.
 const FEW_IN_CELL: u64 = 7;
@@ -161,15 +163,17 @@ fn share_to_cells(lists: &mut [Vec<Rect>], rects: &[Rect], across: &[i32], cell:
     }
 }
 
-/// For each row the rectangles that meet it, by their places.
+/// For each row the rectangles that meet it, by their places. A list begins with room for half as many again as an even share.
 fn by_row(rects: &[Rect], up: &[i32]) -> Vec<Vec<u32>> {
     let mut lists = vec![Vec::new(); up.len() - 1];
     let pace = even_pace(up);
+    let even = rects.len() / lists.len();
+    let room = (even + even / 2).max(FIRST_ROOM);
     for (k, rect) in rects.iter().enumerate() {
         for gap in gaps_met(up, pace, rect.y1, rect.y2) {
             let list: &mut Vec<u32> = &mut lists[gap];
             if list.is_empty() {
-                list.reserve(FIRST_ROOM);
+                list.reserve(room);
             }
             list.push(k as u32);
         }
@@ -396,7 +400,7 @@ fn lines_of(first: i32, size: i32, step: i32, count: usize) -> Vec<i32> {
 fn pitch_of(lists: &[Vec<Rect>], across: &[i32], up: &[i32]) -> (u64, u64) {
     let whole = Rect { x1: across[0], y1: up[0], x2: across[across.len() - 1], y2: up[up.len() - 1] };
     let number = lists.iter().map(Vec::len).sum::<usize>();
-    let step = number / SAMPLES + 1;
+    let step = number / (number / LOOKED_SHARE).clamp(LEAST_SAMPLES, MOST_SAMPLES) + 1;
     let looked: Vec<&Rect> = lists.iter().flat_map(|list| list.chunks(step)).map(|part| &part[0]).collect();
     let met: Vec<&Rect> = looked.iter().filter(|rect| clip(rect, &whole).is_some()).copied().collect();
     let count = (met.len() as u64).max(1);

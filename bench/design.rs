@@ -12,7 +12,7 @@ const LEAST_RUN: usize = 8_192;
 
 /// The copies are carried in at most so many shares, each of so many or of all that are left.
 const MOST_SHARES: usize = 16;
-const LEAST_SHARE: usize = 8_192;
+const LEAST_SHARE: usize = 4_096;
 
 type Point = (i64, i64);
 

@@ -14,8 +14,8 @@ use std::alloc::{AllocError, Global};
 /// A row is deep where the rectangles are together so many times as wide as it.
 const DEEP: i64 = 64;
 
-/// The list of a row begins with room for so many places.
-const FIRST_ROOM: usize = 16;
+/// The list of a row begins with room for so many places or more.
+const LEAST_ROOM: usize = 16;
 
 /// For each row between neighbouring lines the rectangles that meet it, by their places in the list, which take four bytes each. A
 /// rectangle costs a guess at the first row, and a step for each.
@@ -30,18 +30,27 @@ pub fn by_row(alloc: Global, rects: &[Rect], up: &[i64]) -> Result<Vec<Vec<u32>>
     let mut lists = Vec::new(alloc);
     empty_all(alloc, &mut lists, up.len() - 1)?;
     let pace = even_pace(up);
+    let room = first_room(rects.len(), lists.len());
     for place in 0..rects.len() {
-        put(&mut lists, rects, up, pace, place)?;
+        put(&mut lists, rects, up, pace, room, place)?;
     }
     Ok(lists)
 }
 
-/// Puts the rectangle at a place to the list of each row that it meets.
+/// For how many places the list of a row begins with room: half as many again as an even share of them, since some rectangles meet more
+/// than one row. A list that grows moves what it has.
+fn first_room(places: usize, rows: usize) -> usize {
+    let even = places / rows.max(1);
+    even.saturating_add(even / 2).max(LEAST_ROOM)
+}
+
+/// Puts the rectangle at a place to the list of each row that it meets. A list begins with that much room.
 fn put(
     lists: &mut [Vec<u32>],
     rects: &[Rect],
     up: &[i64],
     pace: u64,
+    room: usize,
     place: usize,
 ) -> Result<(), AllocError>
     requires lines { AreLines up.now }
@@ -53,19 +62,19 @@ fn put(
     let rect = &rects[place];
     let met = gaps_met(up, pace, rect.y1(), rect.y2());
     for k in met.start..met.end {
-        put_at(lists, place as u32, k)?;
+        put_at(lists, room, place as u32, k)?;
     }
     Ok(())
 }
 
-/// Puts a place to the list of the row at `k`.
-fn put_at(lists: &mut [Vec<u32>], place: u32, k: usize) -> Result<(), AllocError>
+/// Puts a place to the list of the row at `k`, which begins with that much room.
+fn put_at(lists: &mut [Vec<u32>], room: usize, place: u32, k: usize) -> Result<(), AllocError>
     requires { k < length lists.old }
     ensures { OnOk result ((rects : List Rect) (up : List ℤ) (d : Rect) → place < length rects → IsListedAt rects up (get_or rects place d) k lists.old lists.new) }
 {
     let list = &mut lists[k];
     if list.is_empty() {
-        list.reserve(FIRST_ROOM)?;
+        list.reserve(room)?;
     }
     list.push(place)?;
     Ok(())

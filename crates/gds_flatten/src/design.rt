@@ -23,7 +23,7 @@ const DEEPEST: u32 = 256;
 const MOST_SHARES: usize = 16;
 
 /// A share has so many copies or more, or all that are left: fewer take no longer than a thread needs to begin.
-const LEAST_SHARE: usize = 8_192;
+const LEAST_SHARE: usize = 4_096;
 
 /// The cells that a top reaches, and how many copies of shapes it draws: 4,000,000 or fewer.
 #[derive(Debug, Drop)]
