@@ -3,7 +3,7 @@
 #![allow(dead_code)] // no benchmark uses all of it
 
 use crate::sweep::Rect;
-use crate::threads::share_out;
+use crate::threads::{let_go, share_out};
 use std::collections::HashMap;
 
 /// The elements of a cell are filled in at most so many runs, each of so many or of all that are left.
@@ -452,5 +452,6 @@ pub fn flatten((cells, indices): (Vec<Cell>, HashMap<Vec<u8>, usize>), top: &[u8
         design.carry(top, &Placement::shift(0, 0), share, &mut rects);
         *list = rects;
     });
+    design.cells.into_iter().filter(|cell| cell.runs.len() > 1).for_each(|cell| let_go(cell.runs));
     lists
 }

@@ -21,6 +21,7 @@ use crate::search::number_at;
 use crate::survey::survey;
 use fill_base::Rect;
 use fill_region::Region;
+use fill_threads::let_go;
 use gds_grammar::{Element, Library};
 use indexmap::IndexMap;
 use std::alloc::Global;
@@ -128,7 +129,18 @@ pub fn flatten_parts(
     ensures refused { IfErr result (λ e. IsRefused library.now.cells.entries top.now layer data_type e) }
 {
     let design = design_of(&Together(rt), alloc, library, top, layer, data_type)?;
-    design.parts(rt, alloc)
+    let parts = design.parts(rt, alloc);
+    let_go_of(rt, alloc, design);
+    parts
+}
+
+/// Lets go of a design. The shapes of a large cell, which several threads filled, are given back by several threads.
+fn let_go_of(rt: &(impl Threads + Sync), alloc: Global, design: Design<'_>) {
+    for cell in design.cells {
+        if cell.shapes.len() > 1 {
+            let_go(rt, alloc, cell.shapes);
+        }
+    }
 }
 
 /// The squares that the top draws on the layer, as a region.
