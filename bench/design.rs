@@ -1,9 +1,9 @@
-//! Designs in plain Rust, for the benchmarks alone: reads a GDSII library and carries the shapes of a layer to their copies. It takes
-//! sound inputs for granted.
+//! Designs in plain Rust, for the benchmarks alone: reads a GDSII library and carries the shapes of a layer to their copies. Records are
+//! checked as `gds_grammar` checks them, and a library that breaks a rule is not read; shapes and references are taken for sound.
 #![allow(dead_code)] // no benchmark uses all of it
 
 use crate::sweep::Rect;
-use crate::threads::{let_go, share_out};
+use crate::threads::{beside, let_go, share_out};
 use std::collections::HashMap;
 
 /// The elements of a cell are filled in at most so many runs, each of so many or of all that are left.
@@ -13,6 +13,10 @@ const LEAST_RUN: usize = 8_192;
 /// The copies are carried in at most so many shares, each of so many or of all that are left.
 const MOST_SHARES: usize = 16;
 const LEAST_SHARE: usize = 4_096;
+
+/// So many bytes, or elements of one cell, take longer to give back than a thread takes to begin.
+const MANY_BYTES: usize = 4_194_304;
+const MANY_ELEMENTS: usize = 65_536;
 
 type Point = (i64, i64);
 
@@ -65,7 +69,7 @@ impl Placement {
 }
 
 #[derive(Clone)]
-struct Link {
+pub struct Link {
     name: Vec<u8>,
     placement: Placement,
     columns: i64,
@@ -130,10 +134,37 @@ fn points(xy: &[u8]) -> Vec<Point> {
     xy.chunks_exact(8).map(|b| (number(b).into(), number(&b[4..]).into())).collect()
 }
 
+/// Whether a record has the data type and the amount of data that the manual gives its kind. Some kinds are skipped whatever they have.
+fn is_well(kind: u8, form: u8, body: &[u8]) -> bool {
+    let wanted = match kind {
+        0x04 | 0x07..=0x0c | 0x11 | 0x15 | 0x2d | 0x38 => 0,
+        0x17 | 0x1a | 0x26 => 1,
+        0x00 | 0x01 | 0x05 | 0x0d | 0x0e | 0x13 | 0x16 | 0x21 | 0x22 | 0x2a | 0x2b | 0x2e | 0x36 => 2,
+        0x0f | 0x10 | 0x2f | 0x30 | 0x31 => 3,
+        0x03 | 0x1b | 0x1c => 5,
+        0x02 | 0x06 | 0x12 | 0x19 | 0x1f | 0x20 | 0x23 | 0x2c | 0x37 => 6,
+        0x34 | 0x39 | 0x3a | 0x3b => form,
+        _ => return false,
+    };
+    let has_size = match kind {
+        0x0d | 0x0e | 0x1a | 0x21 => body.len() == 2,
+        0x0f | 0x13 | 0x30 | 0x31 => body.len() == 4,
+        0x1b | 0x1c => body.len() == 8,
+        0x03 => body.len() == 16,
+        0x01 | 0x05 => body.len() == 24,
+        0x06 | 0x12 => body.iter().any(|byte| *byte != 0),
+        _ => true,
+    };
+    wanted == form && has_size
+}
+
+#[inline(always)]
 pub fn next<'a>(bytes: &'a [u8], at: &mut usize) -> (u8, &'a [u8]) {
     let len = word(&bytes[*at..]) as usize;
+    assert!(len >= 4 && len % 2 == 0, "a record's length is odd or too short");
+    let (kind, form) = (bytes[*at + 2], bytes[*at + 3]);
     let body = &bytes[*at + 4..*at + len];
-    let kind = bytes[*at + 2];
+    assert!(is_well(kind, form, body), "a record is not as its kind");
     *at += len;
     (kind, body)
 }
@@ -179,7 +210,7 @@ fn fill(points: &[Point], out: &mut Vec<Rect>) {
 
 /// The numbers of a path: its type, its width and its two extensions.
 #[derive(Clone, Copy)]
-struct Numbers {
+pub struct Numbers {
     path_type: u16,
     width: i32,
     begin: i32,
@@ -223,16 +254,56 @@ fn link(draft: &Draft, array: bool) -> Link {
     Link { name: name(draft.cell), placement, columns, rows, column_step, row_step }
 }
 
-/// The records of an element up to its end.
-fn draft<'a>(bytes: &'a [u8], at: &mut usize) -> Draft<'a> {
+/// The kinds of records that an element of a kind needs before its points, and those that it may have, each as a set of bits.
+fn kinds_before(element: u8) -> (u64, u64) {
+    let set = |kinds: &[u8]| kinds.iter().fold(0, |set, kind| set | 1 << *kind);
+    match element {
+        0x08 => (set(&[0x0d, 0x0e]), 0),
+        0x09 => (set(&[0x0d, 0x0e]), set(&[0x21, 0x0f, 0x30, 0x31])),
+        0x0a => (set(&[0x12]), set(&[0x1a, 0x1b, 0x1c])),
+        0x0b => (set(&[0x12, 0x13]), set(&[0x1a, 0x1b, 0x1c])),
+        0x0c => (set(&[0x0d, 0x16]), set(&[0x17, 0x21, 0x0f, 0x1a, 0x1b, 0x1c])),
+        0x15 => (set(&[0x0d, 0x2a]), 0),
+        0x2d => (set(&[0x0d, 0x2e]), 0),
+        _ => panic!("no element begins so"),
+    }
+}
+
+/// Whether an element of a kind has these points: whole ones, as many as it needs, and a boundary's last is its first.
+fn is_body(element: u8, xy: &[u8]) -> bool {
+    let count = xy.len() / 8;
+    let has_count = match element {
+        0x08 => count > 3 && xy[..8] == xy[xy.len() - 8..],
+        0x0a => count == 1,
+        0x0b => count == 3,
+        _ => count > 0,
+    };
+    xy.len() % 8 == 0 && has_count
+}
+
+/// The records of an element up to its end: those before its points in any order, each once, but flags and plex first.
+fn draft<'a>(element: u8, bytes: &'a [u8], at: &mut usize) -> Draft<'a> {
     let mut draft = Draft::default();
+    let (needed, other) = kinds_before(element);
+    let mut seen = 0u64;
     loop {
         let (record, body) = next(bytes, at);
+        if record == 0x10 {
+            assert!(seen & needed == needed && is_body(element, body), "an element has other records or points");
+            draft.xy = body;
+            break;
+        }
+        let may_stand = match record {
+            0x26 => seen == 0,
+            0x2f => seen & !(1 << 0x26) == 0,
+            _ => (needed | other) >> record & 1 == 1 && seen >> record & 1 == 0,
+        };
+        assert!(may_stand, "a record where it may not stand");
+        seen |= 1 << record;
         match record {
             0x0d => draft.layer = word(body),
             0x0e => draft.data_type = word(body),
             0x0f => draft.width = number(body),
-            0x10 => draft.xy = body,
             0x12 => draft.cell = body,
             0x13 => (draft.columns, draft.rows) = (word(body), word(&body[2..])),
             0x1a => draft.flags = word(body),
@@ -240,8 +311,15 @@ fn draft<'a>(bytes: &'a [u8], at: &mut usize) -> Draft<'a> {
             0x21 => draft.path_type = word(body),
             0x30 => draft.begin = number(body),
             0x31 => draft.end = number(body),
-            0x11 => return draft,
             _ => {}
+        }
+    }
+    assert!(element != 0x0c || next(bytes, at).0 == 0x19, "a text without a string");
+    loop {
+        match next(bytes, at).0 {
+            0x2b => assert_eq!(next(bytes, at).0, 0x2c, "a property without a value"),
+            0x11 => return draft,
+            _ => panic!("a record behind an element's points"),
         }
     }
 }
@@ -253,7 +331,7 @@ impl Draft<'_> {
 }
 
 /// An element as a value of its own, as a library keeps it.
-enum Element {
+pub enum Element {
     Boundary { layer: u16, data_type: u16, points: Vec<Point> },
     Path { layer: u16, data_type: u16, numbers: Numbers, points: Vec<Point> },
     Link(Link),
@@ -355,12 +433,13 @@ fn read<'a, C: Default>(bytes: &'a [u8], take: impl Fn(&mut C, u8, Draft<'a>)) -
     loop {
         match next(bytes, &mut at).0 {
             0x05 => {
-                indices.insert(name(next(bytes, &mut at).1), cells.len());
+                assert!(indices.insert(name(next(bytes, &mut at).1), cells.len()).is_none(), "two cells of one name");
                 let mut cell = C::default();
                 loop {
                     match next(bytes, &mut at).0 {
                         0x07 => break,
-                        kind => take(&mut cell, kind, draft(bytes, &mut at)),
+                        0x34 => {}
+                        kind => take(&mut cell, kind, draft(kind, bytes, &mut at)),
                     }
                 }
                 cells.push(cell);
@@ -372,16 +451,28 @@ fn read<'a, C: Default>(bytes: &'a [u8], take: impl Fn(&mut C, u8, Draft<'a>)) -
 }
 
 /// The cells' rectangles of the layer and their references, filled as they are read.
-pub fn read_cells(bytes: &[u8], layer: (u16, u16)) -> (Vec<Cell>, HashMap<Vec<u8>, usize>) {
+pub fn read_cells(bytes: &[u8], layer: (u16, u16)) -> Cells {
     read(bytes, |cell: &mut Cell, kind, draft| cell.put_draft(kind, &draft, layer))
 }
 
-/// The same by way of a library: each element of each layer is a value before one shape is filled.
-pub fn read_library(bytes: Vec<u8>, layer: (u16, u16)) -> (Vec<Cell>, HashMap<Vec<u8>, usize>) {
+/// The elements of each cell.
+pub type Library = Vec<Vec<Element>>;
+
+/// Cells, and their places by name.
+pub type Cells = (Vec<Cell>, HashMap<Vec<u8>, usize>);
+
+/// The same by way of a library: each element of each layer is a value before one shape is filled. The library is answered too, for whoever lets
+/// go of it. Another thread lets go of many bytes while the shapes are filled.
+pub fn read_library(bytes: Vec<u8>, layer: (u16, u16)) -> (Cells, Library) {
     let (library, indices) = read(&bytes, |cell: &mut Vec<Element>, kind, draft| cell.push(Element::of(kind, &draft)));
-    drop(bytes);
-    let cells = library.iter().map(|elements| Cell::of(elements, layer)).collect();
-    (cells, indices)
+    let is_large = bytes.len() >= MANY_BYTES;
+    let cells = beside(bytes, is_large, || library.iter().map(|elements| Cell::of(elements, layer)).collect());
+    ((cells, indices), library)
+}
+
+/// Whether a cell of the library has many elements: to give them back takes long.
+pub fn is_large(library: &Library) -> bool {
+    library.iter().any(|elements| elements.len() >= MANY_ELEMENTS)
 }
 
 struct Design {
@@ -439,7 +530,7 @@ impl Design {
 }
 
 /// The rectangles of the top in lists, each of a share of its copies.
-pub fn flatten((cells, indices): (Vec<Cell>, HashMap<Vec<u8>, usize>), top: &[u8]) -> Vec<Vec<Rect>> {
+pub fn flatten((cells, indices): Cells, top: &[u8]) -> Vec<Vec<Rect>> {
     let targets = cells.iter().map(|cell| cell.links.iter().map(|link| indices[&link.name]).collect()).collect();
     let counts = vec![None; cells.len()];
     let mut design = Design { cells, targets, counts };

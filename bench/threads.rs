@@ -32,3 +32,15 @@ pub fn let_go<T: Send>(values: Vec<T>) {
     let shares = (0..threads).map(|_| values.by_ref().take(size).collect::<Vec<T>>()).collect::<Vec<_>>();
     share_out(shares.into_iter(), drop);
 }
+
+/// What a call answers. The value is let go of, by another thread meanwhile where that takes long.
+pub fn beside<T: Send, X>(value: T, takes_long: bool, call: impl FnOnce() -> X) -> X {
+    if !takes_long {
+        drop(value);
+        return call();
+    }
+    std::thread::scope(|scope| {
+        scope.spawn(move || drop(value));
+        call()
+    })
+}

@@ -1,5 +1,5 @@
 //! `densfill check` without proofs, for the benchmark alone: reads the rule file and the design, carries the shapes of
-//! the layer to their copies, measures the windows straight from the rectangles and makes the lines of the report on all processors, and prints them. It takes sound inputs for granted. With the third word `library` it keeps the whole library as values before it
+//! the layer to their copies, measures the windows straight from the rectangles and makes the lines of the report on all processors, and prints them. Records are checked as `densfill` checks them; shapes, references and rules are taken for sound. With the third word `library` it keeps the whole library as values before it
 //! fills a shape, as `densfill` does; without one it fills each shape of the layer as it is read. With the word `rects` it prints the
 //! rectangles alone, as a layer's file of `bench/layer` has them.
 #[path = "../cells.rs"]
@@ -14,11 +14,11 @@ mod sweep;
 mod threads;
 
 use cells::{sum_rects, Sums};
-use design::{flatten, read_cells, read_library};
+use design::{flatten, is_large, read_cells, read_library};
 use rules::{Lines, Rules};
 use std::io::Write;
 use sweep::{Rect, Windows};
-use threads::{let_go, share_out};
+use threads::{beside, let_go, share_out};
 
 /// The lines are made in at most so many parts, each of so many windows or more, or of all that are left. A line is mostly no longer than so many bytes.
 const MOST_PARTS: usize = 32;
@@ -58,13 +58,14 @@ fn main() {
     let bytes = std::fs::read(design).expect("the design");
     let layer = rules.layer();
     let is_way = |name: &str| way.iter().any(|word| word == name);
-    let cells = if is_way("library") { read_library(bytes, layer) } else { read_cells(&bytes, layer) };
+    let (cells, library) = if is_way("library") { read_library(bytes, layer) } else { (read_cells(&bytes, layer), Vec::new()) };
     let lists = flatten(cells, rules.text("top"));
     if is_way("rects") {
         let bytes: Vec<u8> = lists.iter().flatten().flat_map(|r| [r.x1, r.y1, r.x2, r.y2]).flat_map(i32::to_le_bytes).collect();
         return std::io::stdout().write_all(&bytes).expect("the rectangles");
     }
     let lines = Lines::of(&rules);
-    let sums = sums_of(lists, &lines.windows);
-    report(&lines, &sums).iter().for_each(|part| std::io::stdout().write_all(part).expect("the report"));
+    let takes_long = is_large(&library);
+    let parts = beside(library, takes_long, || report(&lines, &sums_of(lists, &lines.windows)));
+    parts.iter().for_each(|part| std::io::stdout().write_all(part).expect("the report"));
 }

@@ -208,7 +208,7 @@ fn main() {
     let bytes = std::fs::read(design).expect("the design");
     let (units, dates) = head(&bytes);
     let (units, dates) = (units.to_vec(), dates.to_vec());
-    let metal = from_rects(&flatten(read_library(bytes, rules.layer()), rules.text("top")).concat());
+    let metal = from_rects(&flatten(read_library(bytes, rules.layer()).0, rules.text("top")).concat());
     let lines = Lines::of(&rules);
     let areas = measure_all(&metal, &lines.windows);
     let low: Vec<bool> = areas.iter().map(|area| lines.is_low(*area)).collect();

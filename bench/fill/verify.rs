@@ -406,7 +406,7 @@ fn verify([rules, design, script, out, report]: &[String; 5]) -> Result<String, 
     let bytes = std::fs::read(design).expect("the design");
     let (units, dates) = head(&bytes);
     let (units, dates) = (units.to_vec(), dates.to_vec());
-    let rects = flatten(read_library(bytes, rules.layer()), rules.text("top")).concat();
+    let rects = flatten(read_library(bytes, rules.layer()).0, rules.text("top")).concat();
     let edits = read_script(script);
     let room: Vec<Rect> = rects.iter().copied().chain(edits.iter().map(|edit| edit.rect)).collect();
     let mut history = History::open(&rules, &rects, &room);

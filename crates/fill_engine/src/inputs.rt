@@ -1,10 +1,12 @@
 //! The inputs, each read to its end and interpreted.
-ghost use Rattle.std.specs.Prelude.{◌≡◌, ◌↔◌, true, false, map, IfOk, IfErr, IfSome, IsErrOf, Ok};
+ghost use Rattle.std.specs.Prelude.{◌≡◌, ◌↔◌, ℤ, true, false, map, IfOk, IfErr, IfSome, IsErrOf, Ok};
 ghost use Rattle.std.specs.List.{flat_map};
 ghost use Rattle.std.specs.Vec.{vec_items};
 ghost use Rattle.fill_device.specs.Taps.{has_failed, under};
 ghost use Rattle.fill_region.specs.Bands.{holds};
 ghost use Rattle.fill_region.specs.Squares.{covered};
+ghost use Rattle.gds_flatten.specs.Copies.{AllStayInRange, drawn};
+ghost use Rattle.gds_flatten.specs.Flattening.{IsCountable, IsRefused, copies_of};
 ghost use Rattle.fill_text.specs.Script.{change_of};
 ghost use Rattle.fill_text.specs.ValuesOfRules.{values_of};
 ghost use Rattle.fill_engine.specs.Designs.{layer_in, data_type_in, IsDesign, IsDesignFault};
@@ -15,14 +17,17 @@ use fill_base::Rect;
 use fill_device::{InputError, Tap, read_input};
 use fill_region::Region;
 use fill_text::{Edit, RuleError, Rules, ScriptError, read_rules, read_script};
-use gds_flatten::flatten_parts;
-use gds_grammar::read_library;
+use gds_flatten::{FlattenError, flatten_parts};
+use gds_grammar::{Library, read_library};
 use std::alloc::{AllocError, Global};
 use std::io::Read;
-use std::thread::Threads;
+use std::thread::{Threads, join};
 
 /// How many bytes an input may have.
 const MOST_BYTES: usize = 2_147_483_648;
+
+/// So many bytes or more take longer to give back than a thread takes to begin.
+const MANY_BYTES: usize = 4_194_304;
 
 /// The rules that the reader behind the tap gives.
 pub fn take_rules<R: Read>(alloc: Global, tap: &mut Tap<R>) -> Result<Rules, InputFault<RuleError>>
@@ -74,6 +79,38 @@ pub struct Drawing {
     pub units: [u8; 16],
     /// The data of its BGNLIB: the dates of its last change and access.
     pub dates: [u8; 24],
+    /// What it was drawn from. It is of no more use, and to give a large one back takes as long as to measure its metal.
+    pub library: Library,
+}
+
+/// The rectangles of the library's top on the layer, in lists. The bytes that the library was read from are let go of, by another thread
+/// where they are many.
+fn flatten_beside(
+    rt: &(impl Threads + Sync),
+    alloc: Global,
+    library: &Library,
+    top: &[u8],
+    layer: u16,
+    data_type: u16,
+    bytes: Vec<u8>,
+) -> Result<Vec<Vec<Rect>>, FlattenError>
+    ensures fine { IfOk result (λ v. IsCountable library.now.cells.entries top.now layer data_type) }
+    ensures inside { IfOk result (λ v. AllStayInRange (copies_of library.now.cells.entries top.now layer data_type)) }
+    ensures squares { IfOk result (λ v. (x y : ℤ) → covered (flat_map vec_items v.items) x y ≡ drawn (copies_of library.now.cells.entries top.now layer data_type) x y) }
+    ensures refused { IfErr result (λ e. IsRefused library.now.cells.entries top.now layer data_type e) }
+{
+    if bytes.len() < MANY_BYTES {
+        drop(bytes);
+        return flatten_parts(rt, alloc, library, top, layer, data_type);
+    }
+    let flatten = || -> Result<Vec<Vec<Rect>>, FlattenError>
+        ensures fine { IfOk result (λ v. IsCountable library.entry.now.cells.entries top.entry.now layer data_type) }
+        ensures inside { IfOk result (λ v. AllStayInRange (copies_of library.entry.now.cells.entries top.entry.now layer data_type)) }
+        ensures squares { IfOk result (λ v. (x y : ℤ) → covered (flat_map vec_items v.items) x y ≡ drawn (copies_of library.entry.now.cells.entries top.entry.now layer data_type) x y) }
+        ensures refused { IfErr result (λ e. IsRefused library.entry.now.cells.entries top.entry.now layer data_type e) }
+    { flatten_parts(rt, alloc, library, top, layer, data_type) };
+    let ((), lists) = join(rt, move || drop(bytes), flatten);
+    lists
 }
 
 /// What the design behind the tap draws on the rules' layer, with its units and dates.
@@ -90,19 +127,20 @@ pub fn take_drawing<D: Read>(
 {
     let bytes = read_input(alloc, tap, MOST_BYTES)?;
     let library = read_library(alloc, &bytes)?;
-    drop(bytes);
-    let lists = flatten_parts(
+    let lists = flatten_beside(
         rt,
         alloc,
         &library,
         rules.top(),
         layer_of(rules),
         data_type_of(rules),
+        bytes,
     )?;
     Ok(Drawing {
         lists,
         units: library.units,
         dates: library.dates,
+        library,
     })
 }
 
@@ -130,6 +168,7 @@ pub fn take_design<D: Read>(
     ensures refused { IfErr result (λ f. IfSome (D.remaining (under tap.old)) (λ bytes. IsDesignFault bytes (values_of rules.now) f)) }
 {
     let drawing = take_drawing(rt, alloc, tap, rules)?;
+    drop(drawing.library);
     let metal = region_of(alloc, &drawing.lists)?;
     Ok(Design {
         metal,
