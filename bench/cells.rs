@@ -41,10 +41,8 @@ const PAIRED: usize = 16;
 /// Up to so many towers are counted, and not searched.
 const COUNTED: usize = 64;
 
-/// About one of so many rectangles is looked at, to know them all by, but no fewer and no more than so many.
-const LOOKED_SHARE: usize = 64;
-const LEAST_SAMPLES: usize = 1024;
-const MOST_SAMPLES: usize = 4096;
+/// About so many rectangles are looked at, to know them all by.
+const SAMPLES: usize = 4096;
 
 /// So many rectangles that lie apart are to be in a cell, and so many that overlap or are long.
 const FEW_IN_CELL: u64 = 7;
@@ -400,7 +398,7 @@ fn lines_of(first: i32, size: i32, step: i32, count: usize) -> Vec<i32> {
 fn pitch_of(lists: &[Vec<Rect>], across: &[i32], up: &[i32]) -> (u64, u64) {
     let whole = Rect { x1: across[0], y1: up[0], x2: across[across.len() - 1], y2: up[up.len() - 1] };
     let number = lists.iter().map(Vec::len).sum::<usize>();
-    let step = number / (number / LOOKED_SHARE).clamp(LEAST_SAMPLES, MOST_SAMPLES) + 1;
+    let step = number / SAMPLES + 1;
     let looked: Vec<&Rect> = lists.iter().flat_map(|list| list.chunks(step)).map(|part| &part[0]).collect();
     let met: Vec<&Rect> = looked.iter().filter(|rect| clip(rect, &whole).is_some()).copied().collect();
     let count = (met.len() as u64).max(1);

@@ -7,14 +7,8 @@ use crate::lists::count_of;
 use fill_area::{Axis, Windows};
 use fill_base::Rect;
 
-/// About one of so many rectangles is looked at, at even distances in their lists: the look is soon done beside what it saves.
-const LOOKED_SHARE: usize = 64;
-
-/// But about so many are, where there are as many: enough to know few rectangles by.
-const LEAST_SAMPLES: usize = 1024;
-
-/// And no more than about so many: enough to know them all by.
-const MOST_SAMPLES: usize = 4096;
+/// About so many rectangles are looked at, at even distances in their lists: enough to know them all by, and soon done.
+const SAMPLES: usize = 4096;
 
 /// So many rectangles that lie apart are to be in a cell: more take longer to tell apart, and fewer do not repay the cell's own work.
 const FEW: u64 = 7;
@@ -71,7 +65,7 @@ struct Looks {
 pub(crate) fn pitch_of(lists: &[Vec<Rect>], windows: &Windows) -> Pitch {
     let (across, up) = (ends(windows.across()), ends(windows.up()));
     let count = count_of(lists);
-    let looks = looks_of(lists, look_step(count), across, up);
+    let looks = looks_of(lists, count / SAMPLES + 1, across, up);
     let within = (count as u64).saturating_mul(looks.met) / looks.looked.max(1);
     let whole = Size {
         width: across.1.abs_diff(across.0),
@@ -92,13 +86,6 @@ pub(crate) fn pitch_of(lists: &[Vec<Rect>], windows: &Windows) -> Pitch {
         across: in_quarters(mean.width, quarters).max(width),
         up: in_quarters(mean.height, quarters).max(height).min(rows),
     }
-}
-
-/// One of how many rectangles is looked at, of so many.
-fn look_step(count: usize) -> usize
-    ensures { 0 < result }
-{
-    count / (count / LOOKED_SHARE).clamp(LEAST_SAMPLES, MOST_SAMPLES) + 1
 }
 
 /// Where the first span of the axis begins, and where the last one ends.
