@@ -8,8 +8,8 @@
 #
 # A second table has the phases of a check of the designs in five levels, timed by a program of its own (phases.rt.txt): flattening, measuring the
 # windows straight from the rectangles or by the region of all of them and `measure_all`, as before there was a straight way, and all
-# that comes after flattening, the lines of the report included. Peaks are those of the whole process, with its report. It is run on one processor,
-# on one processor each as often at once as there are processors, and on all: processors that share a core or its clock with others are slower
+# that comes after flattening, the lines of the report included. Peaks are those of the whole process, with its report. It is run on one processor, each of
+# them in turn, on one processor each as often at once as there are processors, and on all: processors that share a core or its clock with others are slower
 # together than one alone, and what threads gain is seen beside processes that have as much of the machine. Of processes at once the mean counts. These three are run in turns too, three times as often, and
 # seconds are medians again, for the report with the fastest run beside; the region is run as often as the programs above.
 #
@@ -30,11 +30,11 @@ python3 "$here/generate.py" 1000 deep "$work"
     "fill_base fill_raster fill_spans fill_region fill_size fill_area fill_cells fill_threads fill_measure gds_record gds_grammar gds_shape gds_flatten fill_text fill_job fill_core fill_report" \
     "rayon csv itoa indexmap thiserror anyhow"
 
-# run_phases WAY PROCESSORS PROCESSES: the mean of each phase of so many processes at once, and the greatest peak, to
+# run_phases WAY PROCESSORS PROCESSES FIRST: the mean of each phase of so many processes at once, from the processor FIRST on, and the greatest peak, to
 # WORK/phases_WAY_PROCESSORS_PROCESSES.
 run_phases() {
     local process to=$work/phases_$1_$2_$3
-    for process in $(seq 0 $(($3 - 1))); do
+    for process in $(seq "$4" $(($4 + $3 - 1))); do
         /usr/bin/time -f 'peak %M' -o "$work/peak_$process" taskset -c "$process-$((process + $2 - 1))" "$work/rattle" "$rules" \
             "$work/design.gds" $([ "$1" = rects ] || echo "$1") > "$work/said_$process" &
     done
@@ -61,7 +61,10 @@ time_phases() {
         for way in rects region; do
             [ $way = rects ] || [ "$round" -le "$rounds" ] || continue
             for on in $ons; do
-                run_phases $way "${on%_*}" "${on#*_}"
+                case $on in
+                    1_1) run_phases $way 1 1 $((round % all)) ;;
+                    *) run_phases $way "${on%_*}" "${on#*_}" 0 ;;
+                esac
             done
         done
     done
