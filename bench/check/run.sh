@@ -3,7 +3,7 @@
 # in five levels, over 10,000 windows that overlap by half, some 70,000 side by side and a million that overlap by three quarters,
 # beside the same algorithms in plain Rust (plain.rs), on one processor and on all: `plain` keeps the whole library as values before it fills a shape, as `densfill` does, and `direct` fills each shape as it is read.
 # Seconds are the median of five runs, or of as many as ROUNDS says, of all programs in turns: a machine whose processors run at one speed now and at another then has both for each of them. How many times as long as plain Rust
-# `densfill` takes is told by medians and by the fastest runs. Peaks in MB are those of the whole process. Where two reports differ in a byte, the run
+# `densfill` takes is told by the median over the rounds, and by the fastest runs. Peaks in MB are those of the whole process. Where two reports differ in a byte, the run
 # fails; so the report of a flat design is compared with that of the deep one, too.
 #
 # A second table has the phases of a check of the designs in five levels, timed by a program of its own (phases.rt.txt): flattening, measuring the
@@ -11,7 +11,8 @@
 # that comes after flattening, the lines of the report included. Peaks are those of the whole process, with its report. It is run on one processor, each of
 # them in turn, on one processor each as often at once as there are processors, and on all: processors that share a core or its clock with others are slower
 # together than one alone, and what threads gain is seen beside processes that have as much of the machine. Of processes at once the mean counts. These three are run in turns too, three times as often, and
-# seconds are medians again, for the report with the fastest run beside; the region is run as often as the programs above.
+# seconds are medians again, for the report with the fastest run beside; the region is run as often as the programs above. What four threads gain over one, and over processes at
+# once, is told by the medians over the rounds: what a round runs, it runs within a second or a few, and processors that change their speed do so less often.
 #
 # Where `klayout` is installed (Debian's package of that name), a last table has KLayout's own ways over the 10,000 windows, run once each: the
 # areas of all windows by its tiling processor (areas.py), and the low windows by with_density (density.drc). Its areas and
@@ -52,8 +53,14 @@ least_of() {
     grep "^$1 " "$2" | sort -k2,2g | awk 'NR == 1 { print $2 }'
 }
 
+# gain_of FILE FILE: how many times as long the report took in the first file as in the second, the median over all rounds.
+gain_of() {
+    paste <(grep '^report ' "$1") <(grep '^report ' "$2") | awk '{ print $2 / $4 }' | sort -g |
+        awk '{ gain[NR] = $1 } END { printf "%.2f", gain[int((NR + 1) / 2)] }'
+}
+
 # time_phases COUNT WINDOWS: a line for each way, of rectangles and of the region, on one processor, on one each at once, and on all: median seconds to flatten, to measure the windows (the region
-# included) and to make the report (the windows included), the peak in MB, and the least seconds to make the report.
+# included) and to make the report (the windows included), the peak in MB, and the least seconds to make the report; on all, for the way of rectangles, what is gained over one and over processes at once.
 time_phases() {
     local way on file ons="1_1"
     [ "$all" = 1 ] || ons="1_1 1_$all ${all}_1"
@@ -68,12 +75,13 @@ time_phases() {
             done
         done
     done
+    gains="$(gain_of "$work/phases_rects_1_1" "$work/phases_rects_${all}_1") $(gain_of "$work/phases_rects_1_$all" "$work/phases_rects_${all}_1")"
     for on in $ons; do
         for way in rects region; do
             file=$work/phases_${way}_$on
             echo "$1 $2 ${on%_*} ${on#*_} $way" "$(median_of flatten "$file")" "$(median_of region "$file")" "$(median_of windows "$file")" "$(median_of report "$file")" \
-                "$(sort -k2,2gr "$file" | awk '$1 == "peak" { print $2; exit }')" "$(least_of report "$file")" |
-                awk '{ printf "%s %s %s %s %s %.4f %.4f %.4f %.0f %.4f\n", $1, $2, $3, $4, $5, $6 / 1e6, ($7 + $8) / 1e6, $9 / 1e6, $10 / 1024, $11 / 1e6 }'
+                "$(sort -k2,2gr "$file" | awk '$1 == "peak" { print $2; exit }')" "$(least_of report "$file")" "$gains" |
+                awk '{ printf "%s %s %s %s %s %.4f %.4f %.4f %.0f %.4f %s %s\n", $1, $2, $3, $4, $5, $6 / 1e6, ($7 + $8) / 1e6, $9 / 1e6, $10 / 1024, $11 / 1e6, $12, $13 }'
             rm "$file"
         done
     done
@@ -104,7 +112,8 @@ run() {
 export -f run timed
 export here root work
 
-# in_turns PROCESSORS PROGRAM ..: for each program the median and the least of its seconds, and its peak in MB, of so many rounds in which each is run once.
+# in_turns PROCESSORS PROGRAM ..: for each program the median and the least of its seconds, and its peak in MB, of so many rounds in which each is run once;
+# then how many times as long as the second program the first one took, the median over the rounds.
 in_turns() {
     local processors=$1 program
     shift
@@ -117,6 +126,8 @@ in_turns() {
         grep "^$program " "$work/cost" | sort -k2,2g |
             awk '{ took[NR] = $2 } $3 > peak { peak = $3 } END { printf "%.4f %.4f %.0f ", took[int((NR + 1) / 2)] / 1e6, took[1] / 1e6, peak / 1024 }'
     done
+    awk -v first="$1" -v second="$2" '$1 == first { took = $2 } $1 == second { print took / $2 }' "$work/cost" | sort -g |
+        awk '{ times[NR] = $1 } END { printf "%.4f", times[int((NR + 1) / 2)] }'
     rm "$work/cost"
 }
 
@@ -134,7 +145,7 @@ for count in "$@"; do
                 cmp "$work/densfill.csv" "$work/plain.csv"
                 cmp "$work/densfill.csv" "$work/direct.csv"
                 echo "$form $count $windows $processors $took" |
-                    awk '{ printf "%-6s %10d %10d %10d %12.3f %10.3f   %.2f (%.2f) %10.3f %12d %9d %10d\n", $1, $2, $3, $4, $5, $8, $5 / $8, $6 / $9, $11, $7, $10, $13 }'
+                    awk '{ printf "%-6s %10d %10d %10d %12.3f %10.3f   %.2f (%.2f) %10.3f %12d %9d %10d\n", $1, $2, $3, $4, $5, $8, $14, $6 / $9, $11, $7, $10, $13 }'
                 [ $windows = 10000 ] && [ "$count" -le "$most" ] && command -v klayout > "$work/found" || continue
                 areas=$(measure areas.py "$processors" 1)
                 low=$(measure density.drc "$processors" 1)
@@ -153,11 +164,13 @@ for count in "$@"; do
 done
 awk '
     BEGIN {
-        printf "\n%10s %10s %10s %10s %10s %10s %11s %9s %9s %11s %12s\n", "copies", "windows", "processors", "processes", "flatten s", "by rects s", "by region s",
-            "report s", "(least)", "by rects MB", "by region MB"
+        printf "\n%10s %10s %10s %10s %10s %10s %11s %9s %9s %11s %12s %15s\n", "copies", "windows", "processors", "processes", "flatten s", "by rects s", "by region s",
+            "report s", "(least)", "by rects MB", "by region MB", "gains by rounds"
     }
-    $5 == "rects" { rects = $7; report = $8; peak = $9; least = $10 }
-    $5 == "region" { printf "%10d %10d %10d %10d %10.4f %10.4f %11.4f %9.4f %9.4f %11d %12d\n", $1, $2, $3, $4, $6, rects, $7, report, least, peak, $9 }' "$work/timed"
+    $5 == "rects" { rects = $7; report = $8; peak = $9; least = $10; gains = $3 == 1 ? "" : $11 ", " $12 }
+    $5 == "region" {
+        printf "%10d %10d %10d %10d %10.4f %10.4f %11.4f %9.4f %9.4f %11d %12d %15s\n", $1, $2, $3, $4, $6, rects, $7, report, least, peak, $9, gains
+    }' "$work/timed"
 [ ! -s "$work/klayout" ] || awk '
     BEGIN {
         printf "\n%-6s %10s %10s %12s %8s %14s %8s %12s %12s\n", "form", "copies", "processors", "areas s", "times", "with_density s", "times",
