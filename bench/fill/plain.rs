@@ -1,5 +1,5 @@
 //! `densfill fill` with an empty script and one worker, without proofs, for the benchmark alone: the same algorithms as the program's.
-//! It takes sound inputs for granted.
+//! It checks the records of the design, and takes all else for sound.
 #[path = "../design.rs"]
 mod design;
 #[path = "../rules.rs"]
