@@ -48,7 +48,7 @@ fn corner_of(number: u32) -> (i64, i64) {
     (x, y)
 }
 
-/// 20,001 squares are carried in three shares: each copy once, in the order of the walk.
+/// 20,001 squares are carried in five shares: each copy once, in the order of the walk.
 #[test]
 fn parts_of_a_large_design(rt: HostRuntime) -> Result<(), Fail> {
     let alloc = rt.alloc();
@@ -64,7 +64,10 @@ fn parts_of_a_large_design(rt: HostRuntime) -> Result<(), Fail> {
     for part in &parts {
         lengths.push(part.len())?;
     }
-    assert_eq!(rt; lengths.as_slice(), [8_192, 8_192, 3_617].as_slice());
+    assert_eq!(rt;
+        lengths.as_slice(),
+        [4_096, 4_096, 4_096, 4_096, 3_617].as_slice()
+    );
     let mut wrong = 0u32;
     let mut number = 0u32;
     for rect in &parts.concat(alloc)? {
