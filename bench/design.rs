@@ -1,5 +1,5 @@
 //! Designs in plain Rust, for the benchmarks alone: reads a GDSII library and carries the shapes of a layer to their copies. Records are
-//! checked as `gds_grammar` checks them, and a library that breaks a rule is not read; shapes and references are taken for sound.
+//! checked as `gds_grammar` checks them, each by itself and as they stand in an element; the order of the records around elements, shapes and references are taken for sound.
 #![allow(dead_code)] // no benchmark uses all of it
 
 use crate::sweep::Rect;
