@@ -33,5 +33,6 @@ bench: build
 	bench/job/run.sh
 	bench/book/run.sh
 	bench/check/run.sh
+	bench/check/gains.sh
 	bench/fill/run.sh
 	bench/fill/late.sh

@@ -4,12 +4,12 @@
 use crate::sweep::{Rect, Windows};
 use crate::threads::{let_go, share_out};
 use std::ops::Range;
+use std::sync::Mutex;
 
-/// The rows of cells are cut into at most so many groups, which threads take one after another, each of so many rows or more, but into so many groups
-/// where there are rows for them.
-const MOST_GROUPS: usize = 32;
-const LEAST_HEIGHT: usize = 8;
-const LEAST_GROUPS: usize = 16;
+/// The rows of cells are cut into at most so many groups, which threads take one after another. The last ones let go of their lists of cells, which
+/// others leave for the next group.
+const MOST_GROUPS: usize = 64;
+const LAST_GROUPS: usize = 4;
 
 /// The windows are cut into at most so many ranges, each of so many or of all that are left.
 const MOST_RANGES: usize = 16;
@@ -523,10 +523,12 @@ pub fn sum_rects(lists: &[Vec<Rect>], windows: &Windows) -> Sums {
     let (across, up) = (cut(across, width), cut(up, height));
     let (columns, rows) = (across.len() - 1, up.len() - 1);
     let parts = by_parts(lists, &up);
-    let height = rows.div_ceil(MOST_GROUPS).max(rows.div_ceil(LEAST_GROUPS).min(LEAST_HEIGHT));
+    let height = rows.div_ceil(MOST_GROUPS);
     let mut groups = vec![Vec::new(); rows.div_ceil(height)];
+    let shelf = Mutex::new(Vec::new());
     share_out(groups.iter_mut().enumerate(), |(k, group)| {
-        let mut lists = vec![Vec::new(); columns];
+        let on_shelf: Option<Vec<Vec<Rect>>> = shelf.try_lock().ok().and_then(|mut shelf| shelf.pop());
+        let mut lists = on_shelf.unwrap_or_else(|| vec![Vec::new(); columns]);
         let mut areas = vec![0i64; columns];
         let mut corners = vec![0i64; columns + 1];
         for at in k * height..rows.min((k + 1) * height) {
@@ -538,6 +540,9 @@ pub fn sum_rects(lists: &[Vec<Rect>], windows: &Windows) -> Sums {
             add_line(&mut corners, &areas);
         }
         *group = corners;
+        if rows >= (k + 1 + LAST_GROUPS) * height {
+            let _ = shelf.try_lock().map(|mut shelf| shelf.push(lists));
+        }
     });
     if lists.iter().map(Vec::len).sum::<usize>() >= MANY {
         let_go(parts);

@@ -13,6 +13,7 @@
 # together than one alone, and what threads gain is seen beside processes that have as much of the machine. Of processes at once the mean counts. These three are run in turns too, three times as often, and
 # seconds are medians again, for the report with the fastest run beside; the region is run as often as the programs above. What four threads gain over one, and over processes at
 # once, is told by the medians over the rounds: what a round runs, it runs within a second or a few, and processors that change their speed do so less often.
+# Where they do so oftener, gains.sh tells the gains of one design by rounds at full speed.
 #
 # Where `klayout` is installed (Debian's package of that name), a last table has KLayout's own ways over the 10,000 windows, run once each: the
 # areas of all windows by its tiling processor (areas.py), and the low windows by with_density (density.drc). Its areas and
@@ -27,9 +28,7 @@ rounds=${ROUNDS:-5}
 most=${KLAYOUT:-4000000}
 
 python3 "$here/generate.py" 1000 deep "$work"
-"$here/../build.sh" "$here" phases "$work" "$work/rules.csv $work/design.gds" \
-    "fill_base fill_raster fill_spans fill_region fill_size fill_area fill_cells fill_threads fill_measure gds_record gds_grammar gds_shape gds_flatten fill_text fill_job fill_core fill_report" \
-    "rayon csv itoa indexmap thiserror anyhow"
+. "$here/phases.sh"
 
 # run_phases WAY PROCESSORS PROCESSES FIRST: the mean of each phase of so many processes at once, from the processor FIRST on, and the greatest peak, to
 # WORK/phases_WAY_PROCESSORS_PROCESSES.

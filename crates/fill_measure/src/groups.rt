@@ -11,6 +11,7 @@ ghost use Rattle.fill_measure.specs.steps.Shapes.{squares_of};
 use crate::corners::Corners;
 use crate::lists::{Part, all_of, by_parts, count_of, row_of};
 use crate::mesh::Mesh;
+use crate::shelf::Shelf;
 use fill_base::Rect;
 use fill_cells::row_areas;
 use fill_threads::{let_go, map_ranges};
@@ -19,47 +20,46 @@ use std::thread::Threads;
 
 /// The rows of cells are cut into at most so many groups of neighbours, which threads measure one after another: so many that no
 /// thread works long on its last one.
-const MOST_GROUPS: usize = 32;
+const MOST_GROUPS: usize = 64;
 
-/// A group has so many rows or more: the lists of a row's cells are used again for the next one, and are made anew for each group.
-const LEAST_HEIGHT: usize = 8;
-
-/// But there are about so many groups or more, as far as there are rows: all processors have some to measure.
-const LEAST_GROUPS: usize = 16;
+/// So many of the last groups let go of their lists of cells, each on the thread that measured it.
+const LAST_GROUPS: usize = 4;
 
 /// What the parts of so many rectangles or more list is given back by several threads.
 const MANY: usize = 1_048_576;
 
 impl Mesh<'_> {
     /// The corners of a mesh of rectangles. Parts of the rectangles are shared out to rows in parallel, and then groups of rows are
-    /// measured so; a thread holds the rectangles of one row at a time.
+    /// measured so, on at most so many threads; a thread holds the rectangles of one row at a time.
     pub(crate) fn corners(
         &self,
         rt: &(impl Threads + Sync),
         alloc: Global,
+        threads: usize,
         lists: &[Vec<Rect>],
     ) -> Result<Corners, AllocError>
         requires shapes { squares_of self.now.shapes ≡ covered (flat_map vec_items lists.now) }
         ensures { IfOk result (λ c. AreAllCornersOf self.now c) }
     {
-        let listed = by_parts(rt, alloc, lists, self.up)?;
+        let listed = by_parts(rt, alloc, threads, lists, self.up)?;
         let parts = listed.as_slice();
         let rows = self.up.len() - 1;
-        let least = rows.div_ceil(LEAST_GROUPS).min(LEAST_HEIGHT);
-        let height = rows.div_ceil(MOST_GROUPS).max(least);
+        let height = rows.div_ceil(MOST_GROUPS).max(1);
+        let shelf = Shelf::new(alloc);
         let groups = map_ranges(
             rt,
             alloc,
+            threads,
             rows,
             height,
             &|from: usize, count: usize| -> Result<Vec<i64>, AllocError>
                 requires within { from + count ≤ gaps self.now.up.now }
                 requires parts { ArePartLists self.now.up.now (squares_of self.now.shapes) parts.now }
                 ensures { IfOk result (λ v. AreCornersOf self.entry.now from (count + 1) v.items) }
-            { self.group(alloc, parts, from, count) },
+            { self.group(alloc, &shelf, parts, from, count) },
         )?;
         if count_of(lists) >= MANY {
-            let_go(rt, alloc, listed);
+            let_go(rt, alloc, threads, listed);
         }
         self.gathered(alloc, height, groups)
     }
@@ -81,10 +81,11 @@ impl Mesh<'_> {
     }
 
     /// The corners on the lines of `count` rows of cells from row `from` on, above the lowest of these lines. The lists of a row's
-    /// cells are used again for the next.
+    /// cells are used again for the next, and for other groups but the last ones.
     fn group(
         &self,
         alloc: Global,
+        shelf: &Shelf,
         parts: &[Part],
         from: usize,
         count: usize,
@@ -94,7 +95,7 @@ impl Mesh<'_> {
         ensures { IfOk result (λ v. AreCornersOf self.now from (count + 1) v.items) }
     {
         let mut corners = self.lowest(alloc, count)?;
-        let mut held = Vec::new(alloc);
+        let mut held = shelf.take(alloc);
         for k in 0..count {
             let j = from + k;
             let rects = row_of(alloc, parts, j)?;
@@ -107,6 +108,9 @@ impl Mesh<'_> {
                 self.up[j + 1],
             )?;
             self.add_line(from, k, &row, &mut corners)?;
+        }
+        if self.up.len() - (from + count) > count.saturating_mul(LAST_GROUPS) {
+            shelf.put(held);
         }
         Ok(corners)
     }

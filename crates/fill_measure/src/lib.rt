@@ -10,6 +10,7 @@ mod lists;
 mod measure;
 mod mesh;
 mod pitch;
+mod shelf;
 mod sides;
 mod sums;
 mod windows;

@@ -35,6 +35,7 @@ pub(crate) struct Part<'a> {
 pub(crate) fn by_parts<'a>(
     rt: &(impl Threads + Sync),
     alloc: Global,
+    threads: usize,
     lists: &'a [Vec<Rect>],
     up: &[i64],
 ) -> Result<Vec<Part<'a>>, AllocError>
@@ -46,6 +47,7 @@ pub(crate) fn by_parts<'a>(
     let listed = map_indices(
         rt,
         alloc,
+        threads,
         parts.len(),
         &|k: usize| -> Result<Part, AllocError>
             requires lines { AreLines up.now }

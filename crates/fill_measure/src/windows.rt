@@ -113,6 +113,7 @@ impl WindowSums {
         &self,
         rt: &(impl Threads + Sync),
         alloc: Global,
+        threads: usize,
     ) -> Result<Vec<i64>, AllocError>
         ensures areas { IfOk result (λ v. (p : ℤ → ℤ → Bool) → AreSumsOf p self.now → AreMeasured p self.now.windows v.items) }
         ensures bounded { IfOk result (λ v. All IsArea v.items) }
@@ -121,6 +122,7 @@ impl WindowSums {
         let ranges = map_ranges(
             rt,
             alloc,
+            threads,
             self.windows.len(),
             size,
             &|from: usize, count: usize| -> Result<Vec<i64>, AllocError>

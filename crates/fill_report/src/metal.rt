@@ -16,7 +16,7 @@ use fill_area::Windows;
 use fill_measure::measure_region;
 use fill_region::Region;
 use fill_text::Rules;
-use fill_threads::map_ranges;
+use fill_threads::{map_ranges, processors};
 use std::alloc::Global;
 use std::thread::Threads;
 
@@ -101,6 +101,7 @@ pub(crate) fn drawn_lines(
     let parts = map_ranges(
         rt,
         alloc,
+        processors(rt),
         totals.len(),
         part_size(totals.len()),
         &|from: usize, count: usize| -> Result<Vec<u8>, OutOfMemory>

@@ -15,7 +15,7 @@ use fill_area::Windows;
 use fill_base::Rect;
 use fill_measure::{WindowSums, sum_rects};
 use fill_text::Rules;
-use fill_threads::{let_go, map_ranges};
+use fill_threads::{let_go, map_ranges, processors};
 use std::alloc::{AllocError, Global};
 use std::thread::Threads;
 
@@ -38,13 +38,15 @@ pub fn report_parts_of_rects(
 {
     let least = rules.min();
     let most = rules.max();
-    windows_report(rt, alloc, lists, &rules.windows(), least, most)
+    let threads = processors(rt);
+    windows_report(rt, alloc, threads, lists, &rules.windows(), least, most)
 }
 
 /// The same over these windows: the lists are let go of before a line is made. A window is `LOW` below `least` parts in a million and `HIGH` above `most`.
 fn windows_report(
     rt: &(impl Threads + Sync),
     alloc: Global,
+    threads: usize,
     lists: Vec<Vec<Rect>>,
     windows: &Windows,
     least: i64,
@@ -54,23 +56,24 @@ fn windows_report(
     requires most { IsShare most }
     ensures { IfOk result (λ v. flat_map vec_items v.items ≡ report_text (covered (flat_map vec_items lists.items)) nothing windows.now least most) }
 {
-    let sums = sums_of(rt, alloc, lists, windows)?;
-    sum_lines(rt, alloc, &sums, least, most)
+    let sums = sums_of(rt, alloc, threads, lists, windows)?;
+    sum_lines(rt, alloc, threads, &sums, least, most)
 }
 
 /// The sums of the windows in terms of the squares that some rectangle holds. The lists are let go of.
 fn sums_of(
     rt: &(impl Threads + Sync),
     alloc: Global,
+    threads: usize,
     lists: Vec<Vec<Rect>>,
     windows: &Windows,
 ) -> Result<WindowSums, AllocError>
     ensures windows { IfOk result (λ s. s.windows ≡ windows.now) }
     ensures sums { IfOk result (AreSumsOf (covered (flat_map vec_items lists.items))) }
 {
-    let sums = sum_rects(rt, alloc, &lists, windows)?;
+    let sums = sum_rects(rt, alloc, threads, &lists, windows)?;
     if lists.iter().any(|list| list.len() >= LARGE) {
-        let_go(rt, alloc, lists);
+        let_go(rt, alloc, threads, lists);
     }
     Ok(sums)
 }
@@ -79,6 +82,7 @@ fn sums_of(
 fn sum_lines(
     rt: &(impl Threads + Sync),
     alloc: Global,
+    threads: usize,
     sums: &WindowSums,
     least: i64,
     most: i64,
@@ -91,6 +95,7 @@ fn sum_lines(
     let parts = map_ranges(
         rt,
         alloc,
+        threads,
         count,
         part_size(count),
         &|from: usize, count: usize| -> Result<Vec<u8>, OutOfMemory>

@@ -10,15 +10,16 @@ use std::alloc::{AllocError, Global};
 use std::thread;
 use std::thread::{Threads, join};
 
-/// Calls `f` with each number below `count` and gives the results in order, as `std::thread::map_indices` does. There are only as
-/// many threads as processors, and each takes the next number that none has taken: a thread that is slow, or begins late, has
-/// fewer, and no thread begins for each call.
+/// Calls `f` with each number below `count` and gives the results in order, as `std::thread::map_indices` does. There are at most so
+/// many threads, mostly as many as `processors` says, and each takes the next number that none has taken: a thread that is slow, or
+/// begins late, has fewer, and no thread begins for each call. The results are the same for any number of threads.
 ///
 /// # Errors
 /// `AllocError` where memory runs out.
 pub fn map_indices<R: Threads + Sync, X: Send + Drop, F: Fn(usize) -> X + Sync>(
     rt: &R,
     alloc: Global,
+    threads: usize,
     count: usize,
     f: &F,
 ) -> Result<Vec<X>, AllocError>
@@ -27,7 +28,7 @@ pub fn map_indices<R: Threads + Sync, X: Send + Drop, F: Fn(usize) -> X + Sync>(
     ensures each { IfOk result (λ v. GivesEach F.Fn f.now count v.items) }
 {
     let calls = Calls::new(count, f);
-    let threads = processors(rt).min(count);
+    let threads = threads.min(count);
     let taken = if threads > 1 {
         take_turns(rt, alloc, threads, &calls)?
     } else {
@@ -67,8 +68,9 @@ fn take_turns<R: Threads + Sync, X: Send + Drop, F: Fn(usize) -> X + Sync>(
     Ok(all)
 }
 
-/// How many processors there are, or one where that is not known.
-pub(crate) fn processors(rt: &impl Threads) -> usize {
+/// How many processors there are, or one where that is not known. To ask the system for it takes up to 40 microseconds, so that who makes
+/// several calls, one after another, asks once.
+pub fn processors(rt: &impl Threads) -> usize {
     match thread::available_parallelism(rt) {
         Ok(count) => count.get(),
         Err(_) => 1,
@@ -76,13 +78,14 @@ pub(crate) fn processors(rt: &impl Threads) -> usize {
 }
 
 /// Cuts the numbers below `len` into ranges of `size`, of which the last may be shorter, calls `f` with the first number of each and
-/// how many it has, and gives the results in order, by `map_indices`.
+/// how many it has, and gives the results in order, by `map_indices` on at most so many threads.
 ///
 /// # Errors
 /// `AllocError` where memory runs out.
 pub fn map_ranges<R: Threads + Sync, X: Send + Drop, F: Fn(usize, usize) -> X + Sync>(
     rt: &R,
     alloc: Global,
+    threads: usize,
     len: usize,
     size: usize,
     f: &F,
@@ -96,7 +99,7 @@ pub fn map_ranges<R: Threads + Sync, X: Send + Drop, F: Fn(usize, usize) -> X + 
         requires { (0 < size) × (k * size < len) × AcceptsRanges F.Fn f.now len }
         ensures { GivesRange F.Fn f.entry.now len size k result }
     { f(k * size, size.min(len - k * size)) };
-    map_indices(rt, alloc, range_count(len, size), &range)
+    map_indices(rt, alloc, threads, range_count(len, size), &range)
 }
 
 /// How many ranges there are.

@@ -6,5 +6,5 @@ mod calls;
 mod sharing;
 mod turns;
 
-pub use calls::{map_indices, map_ranges};
+pub use calls::{map_indices, map_ranges, processors};
 pub use sharing::let_go;

@@ -2,15 +2,19 @@
 
 ghost use denote.Param.Send.{IsSend, IsSync};
 
-use crate::calls::processors;
 use std::alloc::{AllocError, Global};
 use std::mem;
 use std::thread::{Threads, join};
 
-/// Lets go of the values on as many threads as there are processors: giving much memory back takes one thread long. Where there is
-/// no memory to share them out, all are let go of here.
-pub fn let_go<R: Threads + Sync, T: Send + Drop>(rt: &R, alloc: Global, values: Vec<T>) {
-    let Ok(shares) = shared_out(alloc, values, processors(rt)) else {
+/// Lets go of the values on so many threads, mostly as many as there are processors: giving much memory back takes one thread long. Where
+/// there is no memory to share them out, all are let go of here.
+pub fn let_go<R: Threads + Sync, T: Send + Drop>(
+    rt: &R,
+    alloc: Global,
+    threads: usize,
+    values: Vec<T>,
+) {
+    let Ok(shares) = shared_out(alloc, values, threads) else {
         return;
     };
     let_go_each(rt, shares);

@@ -9,7 +9,7 @@ ghost use Rattle.gds_flatten.specs.steps.Built.{IsRun, IsCell, IsFaulty, AreRuns
 use crate::cell::{Cell, Run};
 use crate::error::FlattenError;
 use crate::runs::{Targets, run_of};
-use fill_threads::map_ranges;
+use fill_threads::{map_ranges, processors};
 use gds_grammar::Element;
 use indexmap::IndexMap;
 use std::alloc::Global;
@@ -131,6 +131,7 @@ fn cell_by_runs<'a>(
     let runs = map_ranges(
         rt,
         alloc,
+        processors(rt),
         elements.len(),
         size,
         &|from: usize, count: usize| -> Result<Run, FlattenError>

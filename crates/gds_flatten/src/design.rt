@@ -12,7 +12,7 @@ use crate::placement::Placement;
 use crate::share::Share;
 use crate::walk::carry_cell;
 use fill_base::Rect;
-use fill_threads::map_indices;
+use fill_threads::{map_indices, processors};
 use std::alloc::Global;
 use std::thread::Threads;
 
@@ -87,6 +87,7 @@ impl Design<'_> {
         let parts = map_indices(
             rt,
             alloc,
+            processors(rt),
             self.number.div_ceil(size),
             &|index: usize| -> Result<Vec<Rect>, FlattenError>
                 requires counted { AreCounted self.now.cells.items self.now.counts.items 256 self.now.top }

@@ -21,7 +21,7 @@ use crate::search::number_at;
 use crate::survey::survey;
 use fill_base::Rect;
 use fill_region::Region;
-use fill_threads::let_go;
+use fill_threads::{let_go, processors};
 use gds_grammar::{Element, Library};
 use indexmap::IndexMap;
 use std::alloc::Global;
@@ -138,7 +138,7 @@ pub fn flatten_parts(
 fn let_go_of(rt: &(impl Threads + Sync), alloc: Global, design: Design<'_>) {
     for cell in design.cells {
         if cell.shapes.len() > 1 {
-            let_go(rt, alloc, cell.shapes);
+            let_go(rt, alloc, processors(rt), cell.shapes);
         }
     }
 }
