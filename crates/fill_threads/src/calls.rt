@@ -12,7 +12,7 @@ use std::thread::{Threads, join};
 
 /// Calls `f` with each number below `count` and gives the results in order, as `std::thread::map_indices` does. There are at most so
 /// many threads, mostly as many as `processors` says, and each takes the next number that none has taken: a thread that is slow, or
-/// begins late, has fewer, and no thread begins for each call. The results are the same for any number of threads.
+/// begins late, has fewer, and no thread begins for each call. What each may be is the same for any number of them.
 ///
 /// # Errors
 /// `AllocError` where memory runs out.
