@@ -16,6 +16,7 @@ import struct
 import sys
 
 SREF, AREF, END = 0x0A, 0x0B, 0x11
+LONGEST = 32767
 
 
 def record(kind, form, data=b""):
@@ -32,42 +33,56 @@ def records(data):
 
 
 class Library:
-    """A fill library: the bytes around its references, and for each of these the first box's corner and how many boxes it places."""
+    """A fill library: the bytes around its references, and for each of these the first box's corner and its columns and rows of boxes."""
 
     def __init__(self, data):
-        self.pieces, first, last = [], None, None
+        self.stacks, first, last = [], None, None
         for at, kind, body in records(data):
             if kind in (SREF, AREF):
-                first, count = first or at, 1
+                first, counts = first or at, (1, 1)
             elif kind == 0x12:
                 self.name = body
             elif kind == 0x13:
-                count = struct.unpack(">H", body[:2])[0]
+                counts = struct.unpack(">HH", body)
             elif kind == 0x10 and first:
-                self.pieces.append((*struct.unpack(">ii", body[:8]), count))
+                self.stacks.append((*struct.unpack(">ii", body[:8]), *counts))
             elif kind == END:
                 last = at + 4
         self.front, self.back = data[:first], data[last:]
 
-    def boxes(self, step):
-        return {(y, x + k * step) for x, y, count in self.pieces for k in range(count)}
+    def boxes(self, steps):
+        return {
+            (y + r * steps[1], x + c * steps[0])
+            for x, y, columns, rows in self.stacks for r in range(rows) for c in range(columns)
+        }
 
-    def place(self, boxes, step):
+    def place(self, boxes, steps):
         """Places just these boxes."""
-        self.pieces = []
+        pieces = []
         for y, x in sorted(boxes):
-            if self.pieces and self.pieces[-1][2] < 32767 and self.pieces[-1][1] == y and self.pieces[-1][0] + self.pieces[-1][2] * step == x:
-                self.pieces[-1] = (*self.pieces[-1][:2], self.pieces[-1][2] + 1)
+            if pieces and pieces[-1][2] < LONGEST and pieces[-1][1] == y and pieces[-1][0] + pieces[-1][2] * steps[0] == x:
+                pieces[-1] = (*pieces[-1][:2], pieces[-1][2] + 1)
             else:
-                self.pieces.append((x, y, 1))
+                pieces.append((x, y, 1))
+        found = set(pieces)
+        depth = {}
+        self.stacks = []
+        for x, y, columns in pieces:
+            depth[x, y, columns] = (depth.get((x, y - steps[1], columns), -1) + 1) % LONGEST
+            if depth[x, y, columns] == 0:
+                rows = 1
+                while rows < LONGEST and (x, y + rows * steps[1], columns) in found:
+                    rows += 1
+                self.stacks.append((x, y, columns, rows))
 
-    def reference(self, x, y, count, step_x, step_y):
-        points = (x, y) if count == 1 else (x, y, x + count * step_x, y, x, y + step_y)
-        name = record(0x12, 6, self.name) + (b"" if count == 1 else record(0x13, 2, struct.pack(">HH", count, 1)))
-        return record(SREF if count == 1 else AREF, 0) + name + record(0x10, 3, struct.pack(">%di" % len(points), *points)) + record(END, 0)
+    def reference(self, x, y, columns, rows, step_x, step_y):
+        alone = columns == rows == 1
+        points = (x, y) if alone else (x, y, x + columns * step_x, y, x, y + rows * step_y)
+        name = record(0x12, 6, self.name) + (b"" if alone else record(0x13, 2, struct.pack(">HH", columns, rows)))
+        return record(SREF if alone else AREF, 0) + name + record(0x10, 3, struct.pack(">%di" % len(points), *points)) + record(END, 0)
 
     def text(self, step_x, step_y):
-        return self.front + b"".join(self.reference(*piece, step_x, step_y) for piece in self.pieces) + self.back
+        return self.front + b"".join(self.reference(*stack, step_x, step_y) for stack in self.stacks) + self.back
 
 
 def counted(line, fill, least):
@@ -104,9 +119,10 @@ def low_place(report, rules, boxes, filled):
 
 def altered(kind, rules, library, report):
     """The library and the report with the box of a low window left out or added."""
-    boxes = library.boxes(rules["step_x"])
+    steps = rules["step_x"], rules["step_y"]
+    boxes = library.boxes(steps)
     box = low_place(report, rules, boxes, kind == "dropped")
-    library.place(boxes ^ {box}, rules["step_x"])
+    library.place(boxes ^ {box}, steps)
     return list(recounted(report, box, -1 if kind == "dropped" else 1, rules))
 
 
@@ -119,10 +135,10 @@ def main(kind, rules_path, out_path, report_path, folder):
     with open(report_path) as file:
         report = [line.rstrip("\n").split(",") for line in file]
     if kind == "moved":
-        x, y, count = library.pieces[0]
-        library.pieces[0] = (x + 1, y, count)
+        x, y, columns, rows = library.stacks[0]
+        library.stacks[0] = (x + 1, y, columns, rows)
     elif kind == "doubled":
-        library.pieces.append(library.pieces[-1])
+        library.stacks.append(library.stacks[-1])
     elif kind == "short":
         library.back = library.back[:-4]
     elif kind in ("dropped", "crowded"):

@@ -163,6 +163,34 @@ fn put_points(out: &mut Vec<u8>, points: &[(i32, i32)]) {
     put(out, 0x10, 0x03, &body);
 }
 
+/// How many boxes an array has in a row, and how many rows.
+const LONGEST: usize = 32_767;
+
+fn has_piece(row: &[Range<i32>], piece: &Range<i32>) -> bool {
+    row.binary_search_by_key(&piece.start, |other| other.start).is_ok_and(|k| row[k] == *piece)
+}
+
+/// How many rows below a piece have it, over the length of a stack.
+fn level(below: &[(Range<i32>, usize)], piece: &Range<i32>) -> usize {
+    match below.binary_search_by_key(&piece.start, |(other, _)| other.start) {
+        Ok(k) if below[k].0 == *piece => (below[k].1 + 1) % LONGEST,
+        _ => 0,
+    }
+}
+
+fn put_stack(out: &mut Vec<u8>, cell: &[u8], (x, y): (i32, i32), (columns, rows): (i32, i32), step: (i32, i32)) {
+    let is_array = columns > 1 || rows > 1;
+    put(out, if is_array { 0x0b } else { 0x0a }, 0x00, &[]);
+    put_name(out, 0x12, cell);
+    if is_array {
+        put(out, 0x13, 0x02, &[(columns as u16).to_be_bytes(), (rows as u16).to_be_bytes()].concat());
+        put_points(out, &[(x, y), (x + columns * step.0, y), (x, y + rows * step.1)]);
+    } else {
+        put_points(out, &[(x, y)]);
+    }
+    put(out, 0x11, 0x00, &[]);
+}
+
 /// The fill library.
 fn library(rules: &Rules, fill: &Fill, units: &[u8], dates: &[u8]) -> Vec<u8> {
     let (width, height, step) = (fill.across.size, fill.up.size, (fill.across.step, fill.up.step));
@@ -182,19 +210,17 @@ fn library(rules: &Rules, fill: &Fill, units: &[u8], dates: &[u8]) -> Vec<u8> {
     put(&mut out, 0x07, 0x00, &[]);
     put(&mut out, 0x05, 0x02, dates);
     put_name(&mut out, 0x06, rules.text("fill_top"));
-    for j in fill.up.places.clone() {
-        for run in fill.runs(j) {
-            let (x, y, count) = (fill.across.edge(run.start), fill.up.edge(j), run.len() as i32);
-            put(&mut out, if count == 1 { 0x0a } else { 0x0b }, 0x00, &[]);
-            put_name(&mut out, 0x12, cell);
-            if count == 1 {
-                put_points(&mut out, &[(x, y)]);
-            } else {
-                put(&mut out, 0x13, 0x02, &[(count as u16).to_be_bytes(), [0, 1]].concat());
-                put_points(&mut out, &[(x, y), (x + count * step.0, y), (x, y + step.1)]);
-            }
-            put(&mut out, 0x11, 0x00, &[]);
+    let pieces: Vec<Vec<Range<i32>>> = fill.up.places.clone().map(|j| fill.runs(j)).collect();
+    let mut levels: Vec<(Range<i32>, usize)> = Vec::new();
+    for (j, row) in fill.up.places.clone().zip(0..) {
+        let here: Vec<_> = pieces[row].iter().map(|piece| (piece.clone(), level(&levels, piece))).collect();
+        for (piece, _) in here.iter().filter(|(_, level)| *level == 0) {
+            let above = pieces[row..].iter().take(LONGEST).take_while(|others| has_piece(others, piece));
+            let (x, y) = (fill.across.edge(piece.start), fill.up.edge(j));
+            let (columns, rows) = (piece.len() as i32, above.count() as i32);
+            put_stack(&mut out, cell, (x, y), (columns, rows), step);
         }
+        levels = here;
     }
     put(&mut out, 0x07, 0x00, &[]);
     put(&mut out, 0x04, 0x00, &[]);

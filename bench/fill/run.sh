@@ -4,24 +4,19 @@
 # (plain.rs), on one processor and on all. Seconds are the best of three runs, peaks those of the whole process. Where the plain
 # program's library or report differ in a byte, or the windows' metal is told otherwise than by `check`, or the fill on one processor is
 # another one than that on all, the run fails. A second table has fills by 1, 2 and as many workers as there are processors, on all
-# processors; where two numbers of workers give other bytes, the run fails. A third has the phases of a fill on one processor, timed by a
-# program of its own (the fill library by the time of both texts less that of the report).
+# processors; where two numbers of workers give other bytes, the run fails.
 #
 # Where `klayout` is installed (Debian's package of that name), KLayout's own script for the same windows, spacing and raster
 # (fill.drc) runs beside it, once. KLayout lets a box lie across two low windows, so its boxes are compared on a design with one
 # window over all, where both must place the same: the run fails where one of them has a box that the other hasn't.
 #
-# usage: bench/fill/run.sh [COUNT ..]     (after make build; needs rt, rustc, python3, taskset and GNU time; without COUNT some minutes
-#                                          and 2 GB, more with KLayout, and more where the crates were not proved before)
+# usage: bench/fill/run.sh [COUNT ..]     (after make build; needs rustc, python3, taskset and GNU time; without COUNT some minutes and
+#                                          2 GB, more with KLayout)
 set -eu
 . "$(dirname "$0")/../common.sh"
 touch "$work/script.csv"
 
-python3 "$here/../check/generate.py" 1000 flat "$work"
-python3 "$here/rules.py" "$work"
-"$here/../build.sh" "$here" phases "$work" "$work/fill.csv $work/design.gds" \
-    "$(sed -n 's/^\([a-z_]*\):.*/\1/p' "$root/crates.txt" | grep -v -e fill_line -e densfill -e _tests | tr '\n' ' ')" \
-    "rayon csv itoa indexmap thiserror anyhow"
+rustc --edition 2021 -O -o "$work/plain" "$here/plain.rs"
 
 # run PROGRAM PROCESSORS: the report of densfill or the plain program to WORK/PROGRAM.csv, and the fill to WORK/PROGRAM.gds.
 run() {
@@ -74,17 +69,11 @@ for count in "$@"; do
         cmp "$work/by.gds" "$work/fill.gds"
         cmp "$work/by.csv" "$work/filled.csv"
     done
-    taskset -c 0 "$work/rattle" "$work/fill.csv" "$work/design.gds" | sed "s/^/$count;/" >> "$work/phases"
 done
 
 awk '
     BEGIN { printf "\n%10s %10s %9s %9s\n", "copies", "workers", "fill s", "fill MB" }
     { printf "%10d %10d %9.2f %9d\n", $1, $2, $3, $4 }' "$work/workers"
-
-echo
-awk -F';' '
-    BEGIN { printf "%10s  %-18s %9s\n", "copies", "phase", "s" }
-    { printf "%10d  %-18s %9.3f\n", $1, $2, $3 / 1e6 }' "$work/phases"
 
 [ ! -s "$work/klayout" ] || awk '
     BEGIN { printf "\n%10s %10s %9s %11s %6s %9s %11s\n", "copies", "processors", "fill s", "KLayout s", "times", "fill MB", "KLayout MB" }

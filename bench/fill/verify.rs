@@ -139,8 +139,8 @@ impl<'a> Records<'a> {
         self.expect_name(0x06, rules.text("fill_top"))
     }
 
-    /// The next reference: the corner of its first box and how many boxes it places, or none behind the last one.
-    fn take_piece(&mut self, rules: &Rules) -> Result<Option<(i32, i32, usize)>, String> {
+    /// The next reference: the corner of its first box and its columns and rows of boxes, or none behind the last one.
+    fn take_stack(&mut self, rules: &Rules) -> Result<Option<(i32, i32, usize, usize)>, String> {
         let is_array = match self.take()? {
             (0x0a, 0x00, []) => false,
             (0x0b, 0x00, []) => true,
@@ -148,23 +148,58 @@ impl<'a> Records<'a> {
             _ => return self.wrong("no reference before"),
         };
         self.expect_name(0x12, rules.text("fill_cell"))?;
-        let count = match is_array.then(|| self.take()).transpose()? {
-            None => 1,
-            Some((0x13, 0x02, &[high, low, 0, 1])) => u16::from_be_bytes([high, low]),
-            Some(_) => return self.wrong("no COLROW of one row before"),
+        let (columns, rows) = match is_array.then(|| self.take()).transpose()? {
+            None => (1, 1),
+            Some((0x13, 0x02, &[a, b, c, d])) => (u16::from_be_bytes([a, b]), u16::from_be_bytes([c, d])),
+            Some(_) => return self.wrong("no COLROW before"),
         };
         let mut ahead = Records { ..*self };
         let (_, _, &[a, b, c, d, e, f, g, h, ..]) = ahead.take()? else { return self.wrong("no point") };
         let (x, y) = (i32::from_be_bytes([a, b, c, d]), i32::from_be_bytes([e, f, g, h]));
-        let end = i64::from(x) + i64::from(count) * i64::from(rules.key("step_x"));
-        let points = [(x, y), (end as i32, y), (x, y.wrapping_add(rules.key("step_y")))];
+        let right = i64::from(x) + i64::from(columns) * i64::from(rules.key("step_x"));
+        let top = i64::from(y) + i64::from(rows) * i64::from(rules.key("step_y"));
+        let points = [(x, y), (right as i32, y), (x, top as i32)];
         self.expect_points(if is_array { &points } else { &points[..1] })?;
         self.expect(0x11, 0x00, &[])?;
-        if is_array && !(2..=LONGEST).contains(&count.into()) {
-            return self.wrong("an array of one box, or of too many, before");
+        if is_array && columns == 1 && rows == 1 {
+            return self.wrong("an array of one box before");
         }
-        Ok(Some((x, y, count.into())))
+        Ok(Some((x, y, columns.into(), rows.into())))
     }
+}
+
+/// A stack of boxes: its lowest row, its first column, its columns and its rows.
+type Stack = (usize, usize, usize, usize);
+
+/// The stacks that a fill has, in their order: equal pieces of rows that follow one another, as many as can be.
+fn stacks_of(filled: &[bool], columns: usize) -> Vec<Stack> {
+    let pieces: Vec<Vec<(usize, usize)>> = filled.chunks(columns.max(1)).map(pieces_of).collect();
+    let mut stacks = Vec::new();
+    let mut levels: Vec<((usize, usize), usize)> = Vec::new();
+    for (row, row_pieces) in pieces.iter().enumerate() {
+        let level_of = |piece: &(usize, usize)| {
+            levels.binary_search_by_key(piece, |(below, _)| *below).map_or(0, |k| (levels[k].1 + 1) % LONGEST)
+        };
+        let here: Vec<_> = row_pieces.iter().map(|piece| (*piece, level_of(piece))).collect();
+        for (piece, _) in here.iter().filter(|(_, level)| *level == 0) {
+            let above = pieces[row..].iter().take(LONGEST).take_while(|others| others.binary_search(piece).is_ok());
+            stacks.push((row, piece.0, piece.1, above.count()));
+        }
+        levels = here;
+    }
+    stacks
+}
+
+/// The first columns and the lengths of the pieces of a row.
+fn pieces_of(row: &[bool]) -> Vec<(usize, usize)> {
+    let mut pieces: Vec<(usize, usize)> = Vec::new();
+    for column in (0..row.len()).filter(|column| row[*column]) {
+        match pieces.last_mut() {
+            Some((start, count)) if *start + *count == column && *count < LONGEST => *count += 1,
+            _ => pieces.push((column, 1)),
+        }
+    }
+    pieces
 }
 
 /// Which places OUT fills.
@@ -172,29 +207,28 @@ fn read_fill(bytes: &[u8], rules: &Rules, (units, dates): (&[u8], &[u8]), places
     let mut records = Records { bytes, at: 0 };
     records.expect_front(rules, units, dates)?;
     let mut filled = vec![false; places.count()];
-    let columns = places.across.lows.len();
-    let mut last = 0..0;
-    while let Some((x, y, count)) = records.take_piece(rules)? {
+    let (columns, lines) = (places.across.lows.len(), places.up.lows.len());
+    let mut stacks: Vec<Stack> = Vec::new();
+    while let Some((x, y, wide, tall)) = records.take_stack(rules)? {
         let (Ok(column), Ok(row)) = (places.across.lows.binary_search(&x), places.up.lows.binary_search(&y)) else {
             return records.wrong(&format!("the box at {x},{y} stands off the raster or the frame"));
         };
-        if column + count > columns {
-            return records.wrong(&format!("the {count} boxes from {x},{y} leave the frame"));
+        if column + wide > columns || row + tall > lines {
+            return records.wrong(&format!("the boxes from {x},{y} leave the frame"));
         }
-        let piece = row * columns + column..row * columns + column + count;
-        if filled[piece.clone()].contains(&true) {
-            return records.wrong(&format!("a box of the {count} from {x},{y} stands twice"));
+        for line in row..row + tall {
+            let piece = line * columns + column..line * columns + column + wide;
+            if filled[piece.clone()].contains(&true) {
+                return records.wrong(&format!("a box of those from {x},{y} stands twice"));
+            }
+            filled[piece].fill(true);
         }
-        if piece.start < last.end {
-            return records.wrong(&format!("the box at {x},{y} comes too late"));
-        }
-        if !last.is_empty() && piece.start == last.end && column > 0 && last.len() != LONGEST {
-            return records.wrong(&format!("the box at {x},{y} would lengthen the run before"));
-        }
-        filled[piece.clone()].fill(true);
-        last = piece;
+        stacks.push((row, column, wide, tall));
     }
     records.expect(0x04, 0x00, &[])?;
+    if stacks != stacks_of(&filled, columns) {
+        return records.wrong("the stacks are others than those of the fill, or in another order,");
+    }
     if records.at == bytes.len() { Ok(filled) } else { records.wrong("bytes behind the library") }
 }
 

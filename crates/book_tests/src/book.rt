@@ -2,7 +2,7 @@ ghost use Rattle.std.specs.Prelude.{◌≡◌, ◌≤◌, ◌^◌};
 ghost use Rattle.fill_core.specs.Shares.{AllParts};
 
 use fill_base::Rect;
-use fill_book::PlainBook;
+use fill_book::{Book, PlainBook};
 use fill_core::{BookError, Edit, FillBook, Pass, Reply};
 use fill_job::Proposal;
 use fill_region::Region;
@@ -135,6 +135,8 @@ enum Step {
     Add([i64; 4], u32),
     /// A rectangle is cut out, which takes out so many boxes.
     Cut([i64; 4], u32),
+    /// Boxes are to keep out of a rectangle from now on, which takes out so many of them.
+    Keep([i64; 4], u32),
     /// The history is full: for a proposal that was laid aside, and for an edit.
     Full(usize),
     /// The total of a window.
@@ -148,7 +150,7 @@ enum Step {
 }
 
 /// The proposal of a tile.
-fn proposal_of<B: FillBook>(
+pub(crate) fn proposal_of<B: FillBook>(
     rt: &impl Abort,
     alloc: Global,
     book: &B,
@@ -164,12 +166,21 @@ fn proposal_of<B: FillBook>(
 }
 
 /// The total of a window.
-fn total_of<B: FillBook>(rt: &impl Abort, book: &B, a: u32, b: u32) -> i64 {
+pub(crate) fn total_of<B: FillBook>(rt: &impl Abort, book: &B, a: u32, b: u32) -> i64 {
     let windows = book.rules().windows();
     if a >= windows.columns() || b >= windows.rows() {
         panic!(rt; "no window {a}, {b}");
     }
     book.total(a, b)
+}
+
+/// The area of metal in a window.
+pub(crate) fn drawn_of<B: FillBook>(rt: &impl Abort, book: &B, a: u32, b: u32) -> i64 {
+    let windows = book.rules().windows();
+    if a >= windows.columns() || b >= windows.rows() {
+        panic!(rt; "no window {a}, {b}");
+    }
+    book.drawn(a, b)
 }
 
 /// Asserts that each window has this total.
@@ -263,6 +274,10 @@ fn take<B: FillBook>(
             let edit = Edit::Cut(rect_of(corners)?);
             assert_eq!(rt; book.edit(alloc, pass, edit)?, Reply::Withdrawn(want));
         }
+        Step::Keep(corners, want) => {
+            let edit = Edit::Keep(rect_of(corners)?);
+            assert_eq!(rt; book.edit(alloc, pass, edit)?, Reply::Withdrawn(want));
+        }
         Step::Full(k) => assert_full(rt, alloc, book, pass, held_at(rt, held, k))?,
         Step::Counts(places, calls) => {
             assert_eq!(rt; (book.count(), pass.calls()), (places, calls));
@@ -277,9 +292,34 @@ fn take<B: FillBook>(
 struct Case<'a> {
     rules: Rules,
     metal: Region,
+    keep: Region,
     max_events: u32,
     held: Vec<Proposal>,
     steps: &'a [Step],
+}
+
+/// Which of the two books.
+#[derive(Clone, Copy)]
+enum Kind {
+    /// The one that measures each window anew.
+    Plain,
+    /// The one with running sums.
+    Running,
+}
+
+/// Takes the steps.
+fn take_all<B: FillBook>(
+    rt: &impl Abort,
+    alloc: Global,
+    book: &mut B,
+    pass: &mut Pass<B::Calls, B::Placed, B::Withdrawn>,
+    held: &mut Vec<Proposal>,
+    steps: &[Step],
+) -> Result<(), Fail> {
+    for step in steps {
+        take(rt, alloc, book, pass, held, *step)?;
+    }
+    Ok(())
 }
 
 /// Opens a book and takes the steps.
@@ -289,6 +329,7 @@ fn play<C: Ledger + Send + Sync, P: Ledger + Send + Sync, W: Ledger + Send + Syn
     calls: Blank,
     placed: Blank,
     withdrawn: Blank,
+    kind: Kind,
     case: Case<'_>,
 ) -> Result<(), Fail>
     requires names { (calls.name ≡ C.name) × (placed.name ≡ P.name) × (withdrawn.name ≡ W.name) }
@@ -298,33 +339,56 @@ fn play<C: Ledger + Send + Sync, P: Ledger + Send + Sync, W: Ledger + Send + Syn
     let Case {
         rules,
         metal,
+        keep,
         max_events,
         mut held,
         steps,
     } = case;
-    let max_events = u64::from(max_events);
-    let (mut book, mut pass) = PlainBook::<C, P, W>::open(
-        rt, alloc, calls, placed, withdrawn, metal, rules, max_events,
-    )?;
-    for step in steps {
-        take(rt, alloc, &mut book, &mut pass, &mut held, *step)?;
+    let most = u64::from(max_events);
+    match kind {
+        Kind::Plain => {
+            let (mut book, mut pass) = PlainBook::<C, P, W>::open(
+                rt, alloc, calls, placed, withdrawn, metal, keep, rules, most,
+            )?;
+            take_all(rt, alloc, &mut book, &mut pass, &mut held, steps)
+        }
+        Kind::Running => {
+            let (mut book, mut pass) = Book::<C, P, W>::open(
+                rt, alloc, calls, placed, withdrawn, metal, keep, rules, most,
+            )?;
+            take_all(rt, alloc, &mut book, &mut pass, &mut held, steps)
+        }
     }
-    Ok(())
 }
 
 /// Plays a case in a book with ledgers of its own.
-fn run(rt: &(impl Abort + Threads + Sync), alloc: Global, case: Case<'_>) -> Result<(), Fail> {
+fn run(
+    rt: &(impl Abort + Threads + Sync),
+    alloc: Global,
+    kind: Kind,
+    case: Case<'_>,
+) -> Result<(), Fail> {
     play::<Brand, Brand, Brand>(
         rt,
         alloc,
         Blank::new(1024),
         Blank::new(1024),
         Blank::new(1024),
+        kind,
         case,
     )
 }
 
-/// Takes the steps in a book of these rules that opens on these rectangles.
+/// The region of these rectangles.
+fn region_of(alloc: Global, rects: &[[i64; 4]]) -> Result<Region, Fail> {
+    let mut list = Vec::new(alloc);
+    for corners in rects {
+        list.push(rect_of(*corners)?)?;
+    }
+    Ok(Region::from_rects(alloc, &list)?)
+}
+
+/// Takes the steps in both books, of these rules, that open on these rectangles.
 fn run_on(
     rt: &(impl Abort + Threads + Sync),
     alloc: Global,
@@ -332,22 +396,30 @@ fn run_on(
     metal: &[[i64; 4]],
     steps: &[Step],
 ) -> Result<(), Fail> {
-    let mut rects = Vec::new(alloc);
-    for corners in metal {
-        rects.push(rect_of(*corners)?)?;
-    }
-    let metal = Region::from_rects(alloc, &rects)?;
-    run(
-        rt,
-        alloc,
-        Case {
-            rules,
-            metal,
+    run_in(rt, alloc, rules, metal, &[], steps)
+}
+
+/// The same in books that open with these keep-outs, too.
+fn run_in(
+    rt: &(impl Abort + Threads + Sync),
+    alloc: Global,
+    rules: Rules,
+    metal: &[[i64; 4]],
+    keep: &[[i64; 4]],
+    steps: &[Step],
+) -> Result<(), Fail> {
+    for kind in [Kind::Plain, Kind::Running] {
+        let case = Case {
+            rules: rules.copy(alloc)?,
+            metal: region_of(alloc, metal)?,
+            keep: region_of(alloc, keep)?,
             max_events: 1000,
             held: Vec::new(alloc),
             steps,
-        },
-    )
+        };
+        run(rt, alloc, kind, case)?;
+    }
+    Ok(())
 }
 
 #[test]
@@ -380,7 +452,14 @@ fn solid_metal_takes_no_box(rt: HostRuntime) -> Result<(), Fail> {
         &[[0, 0, 100, 100]],
         &[
             Step::Commit(4, Reply::Placed(0)),
-            Step::Fill,
+            Step::Commit(0, Reply::Placed(0)),
+            Step::Commit(1, Reply::Placed(0)),
+            Step::Commit(2, Reply::Placed(0)),
+            Step::Commit(3, Reply::Placed(0)),
+            Step::Commit(5, Reply::Placed(0)),
+            Step::Commit(6, Reply::Placed(0)),
+            Step::Commit(7, Reply::Placed(0)),
+            Step::Commit(8, Reply::Placed(0)),
             Step::Totals(2500),
             Step::Counts(0, 9),
             Step::Version(0, true),
@@ -563,13 +642,11 @@ fn a_raster_without_places_is_complete(rt: HostRuntime) -> Result<(), Fail> {
 #[test]
 fn a_full_history_takes_nothing(rt: HostRuntime) -> Result<(), Fail> {
     let alloc = rt.alloc();
-    let rules = usual_rules(alloc, 300_000)?;
-    run(
-        &rt,
-        alloc,
-        Case {
-            rules,
+    for kind in [Kind::Plain, Kind::Running] {
+        let case = Case {
+            rules: usual_rules(alloc, 300_000)?,
             metal: Region::empty(alloc),
+            keep: Region::empty(alloc),
             max_events: 1,
             held: Vec::new(alloc),
             steps: &[
@@ -581,88 +658,186 @@ fn a_full_history_takes_nothing(rt: HostRuntime) -> Result<(), Fail> {
                 Step::Counts(16, 1),
                 Step::Total(0, 0, 256),
             ],
-        },
-    )
+        };
+        run(&rt, alloc, kind, case)?;
+    }
+    Ok(())
 }
 
-/// The proposal of tile 0 of a book that opens on this rectangle.
+/// The proposal of tile 0 of a book that opens on this metal and these keep-outs.
 fn offer<C: Ledger + Send + Sync, P: Ledger + Send + Sync, W: Ledger + Send + Sync>(
     rt: &(impl Abort + Threads + Sync),
     alloc: Global,
     calls: Blank,
     placed: Blank,
     withdrawn: Blank,
-    corners: [i64; 4],
+    metal: Region,
+    keep: Region,
 ) -> Result<Proposal, Fail>
     requires names { (calls.name ≡ C.name) × (placed.name ≡ P.name) × (withdrawn.name ≡ W.name) }
     requires parts { (calls.parts ≡ C.parts) × (placed.parts ≡ P.parts) × (withdrawn.parts ≡ W.parts) }
     requires all { AllParts C.parts P.parts W.parts }
 {
-    let metal = Region::one(alloc, &rect_of(corners)?)?;
     let rules = usual_rules(alloc, 300_000)?;
-    let (book, _pass) = PlainBook::<C, P, W>::open(
-        rt, alloc, calls, placed, withdrawn, metal, rules, 10,
+    let (book, _pass) = Book::<C, P, W>::open(
+        rt, alloc, calls, placed, withdrawn, metal, keep, rules, 10,
     )?;
     proposal_of(rt, alloc, &book, 0)
 }
 
-/// Commits that proposal to a book of no metal, with what is answered; the tile is then committed anew.
+/// That proposal, of a book with ledgers of its own.
+pub(crate) fn offered(
+    rt: &(impl Abort + Threads + Sync),
+    alloc: Global,
+    metal: &[[i64; 4]],
+    keep: &[[i64; 4]],
+) -> Result<Proposal, Fail> {
+    offer::<Brand, Brand, Brand>(
+        rt,
+        alloc,
+        Blank::new(1024),
+        Blank::new(1024),
+        Blank::new(1024),
+        region_of(alloc, metal)?,
+        region_of(alloc, keep)?,
+    )
+}
+
+/// Takes the steps in both books, of no metal and no keep-outs, with that proposal laid aside.
 fn bring(
     rt: &(impl Abort + Threads + Sync),
     alloc: Global,
-    corners: [i64; 4],
+    metal: &[[i64; 4]],
+    keep: &[[i64; 4]],
     steps: &[Step],
 ) -> Result<(), Fail> {
-    let proposal = offer::<Brand, Brand, Brand>(
-        rt,
-        alloc,
-        Blank::new(1024),
-        Blank::new(1024),
-        Blank::new(1024),
-        corners,
-    )?;
-    let mut held = Vec::new(alloc);
-    held.push(proposal)?;
-    let rules = usual_rules(alloc, 300_000)?;
-    run(
-        rt,
-        alloc,
-        Case {
-            rules,
+    for kind in [Kind::Plain, Kind::Running] {
+        let mut held = Vec::new(alloc);
+        held.push(offered(rt, alloc, metal, keep)?)?;
+        let case = Case {
+            rules: usual_rules(alloc, 300_000)?,
             metal: Region::empty(alloc),
+            keep: Region::empty(alloc),
             max_events: 10,
             held,
             steps,
-        },
-    )
+        };
+        run(rt, alloc, kind, case)?;
+    }
+    Ok(())
 }
 
 #[test]
-fn other_metal_near_the_tile_is_foreign(rt: HostRuntime) -> Result<(), Fail> {
-    bring(
+fn other_metal_or_keep_outs_near_the_tile_are_foreign(rt: HostRuntime) -> Result<(), Fail> {
+    let steps = [
+        Step::Late(0, Reply::Foreign),
+        Step::Counts(0, 1),
+        Step::Commit(0, Reply::Placed(16)),
+        Step::Late(0, Reply::Already),
+    ];
+    bring(&rt, rt.alloc(), &[[10, 10, 21, 20]], &[], &steps)?;
+    bring(&rt, rt.alloc(), &[], &[[10, 10, 20, 20]], &steps)
+}
+
+/// A keep-out is read where the tile's boxes lie, metal where it may be too near to them.
+#[test]
+fn what_is_far_from_the_tile_is_not_read(rt: HostRuntime) -> Result<(), Fail> {
+    let steps = [
+        Step::Late(0, Reply::Placed(16)),
+        Step::Late(0, Reply::Already),
+    ];
+    bring(&rt, rt.alloc(), &[[80, 80, 90, 90]], &[], &steps)?;
+    bring(&rt, rt.alloc(), &[], &[[1, 1, 3, 3]], &steps)
+}
+
+/// A box is taken out where it shares a square with a keep-out, and nowhere else.
+#[test]
+fn keep_outs_take_out_what_they_share(rt: HostRuntime) -> Result<(), Fail> {
+    let rules = usual_rules(rt.alloc(), 300_000)?;
+    run_on(
         &rt,
         rt.alloc(),
-        [10, 10, 21, 20],
+        rules,
+        &[],
         &[
-            Step::Late(0, Reply::Foreign),
-            Step::Counts(0, 1),
-            Step::Commit(0, Reply::Placed(16)),
-            Step::Late(0, Reply::Already),
+            Step::Fill,
+            Step::Keep([57, 50, 63, 60], 0),
+            Step::Totals(400),
+            Step::Version(1, false),
+            Step::Keep([56, 50, 64, 60], 2),
+            Step::Total(1, 1, 368),
+            Step::Total(2, 1, 368),
+            Step::Total(1, 2, 368),
+            Step::Total(2, 2, 368),
+            Step::Total(0, 0, 400),
+            Step::Fill,
+            Step::Total(1, 1, 368),
+            Step::Cut([0, 0, 100, 100], 0),
+            Step::Fill,
+            Step::Counts(98, 30),
+            Step::Version(3, true),
         ],
     )
 }
 
 #[test]
-fn other_metal_far_from_the_tile_is_not_read(rt: HostRuntime) -> Result<(), Fail> {
-    bring(
+fn books_open_with_keep_outs(rt: HostRuntime) -> Result<(), Fail> {
+    let rules = usual_rules(rt.alloc(), 300_000)?;
+    run_in(
         &rt,
         rt.alloc(),
-        [80, 80, 90, 90],
+        rules,
+        &[],
+        &[[50, 50, 60, 60]],
         &[
-            Step::Late(0, Reply::Placed(16)),
-            Step::Late(0, Reply::Already),
+            Step::Totals(0),
+            Step::Fill,
+            Step::Total(0, 0, 400),
+            Step::Total(1, 1, 384),
+            Step::Total(2, 2, 384),
+            Step::Counts(99, 9),
         ],
     )
+}
+
+/// Five by five windows, of which those of the last two columns and rows lie partly or wholly beside the frame.
+const WINDOWS_BESIDE: &str = "win_w,50
+win_h,50
+win_step_x,25
+win_step_y,25
+win_x,0
+win_y,0
+win_nx,5
+win_ny,5
+min,300000
+";
+
+/// Metal beside the frame counts where padding does; boxes lie in the frame.
+#[test]
+fn parts_of_windows_count(rt: HostRuntime) -> Result<(), Fail> {
+    let alloc = rt.alloc();
+    for (padding, with_metal) in [("zero", 1620), ("ignore", 620)] {
+        let windows = format!(in alloc; "{WINDOWS_BESIDE}padding,{padding}\n")?;
+        let rules = rules_of(alloc, HUNDRED_PLACES, windows.as_str())?;
+        run_on(
+            &rt,
+            alloc,
+            rules,
+            &[],
+            &[
+                Step::Fill,
+                Step::Total(2, 2, 400),
+                Step::Total(3, 0, 200),
+                Step::Total(3, 3, 100),
+                Step::Total(4, 0, 0),
+                Step::Add([90, 0, 120, 50], 5),
+                Step::Total(3, 0, with_metal),
+                Step::Cut([90, 0, 120, 50], 0),
+                Step::Total(3, 0, 120),
+            ],
+        )?;
+    }
+    Ok(())
 }
 
 /// The box of place (0, 0) ends at 7, that of (1, 0) begins at 13.

@@ -3,7 +3,7 @@ ghost use Rattle.std.specs.Prelude.{◌≡◌, ◌≤◌, ◌<◌, IfOk};
 ghost use Rattle.fill_core.specs.Shares.{AllParts};
 
 use fill_base::Rect;
-use fill_book::PlainBook;
+use fill_book::Book;
 use fill_core::{BookError, Edit, FillBook, Pass, Reply};
 use fill_region::Region;
 use fill_shared::{Gate, OpenGate, PassMissing, PassOf, RunError, Shared, WorkEnd, run, work};
@@ -100,7 +100,7 @@ pub(crate) fn book_of<C: Ledger, P: Ledger, W: Ledger>(
     placed: Blank,
     withdrawn: Blank,
     opening: Opening,
-) -> Result<(PlainBook<C, P, W>, Pass<C, P, W>), Fail>
+) -> Result<(Book<C, P, W>, Pass<C, P, W>), Fail>
     requires names { (calls.name ≡ C.name) × (placed.name ≡ P.name) × (withdrawn.name ≡ W.name) }
     requires parts { (calls.parts ≡ C.parts) × (placed.parts ≡ P.parts) × (withdrawn.parts ≡ W.parts) }
     requires all { AllParts C.parts P.parts W.parts }
@@ -113,7 +113,10 @@ pub(crate) fn book_of<C: Ledger, P: Ledger, W: Ledger>(
     } = opening;
     let rules = rules_in(alloc, frame)?;
     let most = u64::from(max_events);
-    Ok(PlainBook::open(rt, alloc, calls, placed, withdrawn, metal, rules, most)?)
+    let keep = Region::empty(alloc);
+    Ok(Book::open(
+        rt, alloc, calls, placed, withdrawn, metal, keep, rules, most,
+    )?)
 }
 
 /// How often a flag is looked at before a test gives up.

@@ -25,8 +25,8 @@ fn state_is_worked()
 
 /// The box of place (0, 1) is the square at (0, 2): beside other metal it counts, on metal it doesn't count twice.
 fn areas_of_boxes()
-    ensures apart { total_in small corner (one_point (pos 0) (pos 1)) 0 0 ≡ 2 }
-    ensures alone { total_in small corner no_places 0 0 ≡ 1 }
+    ensures apart { total_in small corner.metal (one_point (pos 0) (pos 1)) 0 0 ≡ 2 }
+    ensures alone { total_in small corner.metal no_places 0 0 ≡ 1 }
     ensures once { total_in small (one_point (pos 0) (pos 2)) (one_point (pos 0) (pos 1)) 0 0 ≡ 1 }
     ensures counted { count_places small.raster (one_point (pos 0) (pos 1)) ≡ 1 }
     ensures not_counted { count_places small.raster (one_point (pos 0) (pos 2)) ≡ 0 }

@@ -5,7 +5,7 @@ ghost use Rattle.fill_job.specs.ReadSets.{touches};
 ghost use Rattle.fill_job.specs.steps.Worked.{worked, one_square, one_window};
 
 use fill_base::{Place, Rect};
-use fill_job::{Job, Proposal};
+use fill_job::{Job, Piece, Proposal, SharedRules};
 use fill_region::Region;
 use fill_text::{Rules, read_rules};
 use std::alloc::{AllocError, Global};
@@ -102,7 +102,11 @@ fn job_at(
     if tile >= rules.raster().tiles() {
         panic!(rt; "no tile {tile}");
     }
-    Job::new(alloc, version, tile, rules, metal, low)
+    let halo = rules.raster().halo(tile, rules.spacing());
+    let piece = Piece::new(alloc, metal.clip(alloc, &halo)?)?;
+    let keep = Piece::new(alloc, Region::empty(alloc))?;
+    let rules = SharedRules::new(alloc, rules.copy(alloc)?)?;
+    Job::new(alloc, version, tile, rules, piece, keep, low)
 }
 
 /// What the job proposes.
@@ -205,8 +209,20 @@ fn assert_match(
     low: &Region,
     same: bool,
 ) -> Result<(), AllocError> {
-    let job = job_at(rt, alloc, 5, 0, rules, metal, low)?;
-    assert_eq!(rt; proposal.matches(&job), same);
+    let _ = job_at(rt, alloc, 5, 0, rules, metal, low)?;
+    if rules.raster().tiles() == 0 {
+        panic!(rt; "no tile");
+    }
+    let halo = rules.raster().halo(0, rules.spacing());
+    assert_eq!(rt;
+        proposal.matches(
+            rules,
+            &metal.clip(alloc, &halo)?,
+            &Region::empty(alloc),
+            low
+        ),
+        same
+    );
     Ok(())
 }
 

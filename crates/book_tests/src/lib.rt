@@ -12,3 +12,5 @@ mod events;
 mod jobs;
 #[cfg(test)]
 mod shared;
+#[cfg(test)]
+mod sums;

@@ -1,6 +1,7 @@
 ghost use Rattle.std.specs.Prelude.{◌≡◌, ◌<◌, ◌≤◌};
 ghost use Rattle.fill_core.specs.Shares.{AllParts};
 
+use crate::book::offered;
 use crate::cases::{
     Count, NO_PLACES, Opening, added, assert_counts, assert_edit, assert_work, book_of, close,
     finished, hundred_places, refuse_to_close, shared_alone, shared_by_three, unfinished,
@@ -177,6 +178,56 @@ fn fill_and_fill_again<B: FillBook>(
     );
     let book = close(rt, shared, Vec::new(alloc), pass, [19, 100, 1], 99)?;
     assert_placed_nothing(rt, &book, 10);
+    Ok(())
+}
+
+/// A commit, an edit and a late commit are answered, and then the tiles are worked on.
+fn work_after_calls<B: FillBook>(
+    rt: &(impl Abort + Wait),
+    alloc: Global,
+    book: B,
+    pass: PassOf<B>,
+) -> Result<(), Fail>
+    requires ledgers { AllParts B.Calls.parts B.Placed.parts B.Withdrawn.parts }
+    requires pass { pass.parts ≡ 1024 }
+{
+    let (shared, mut pass) = shared_alone(rt, alloc, book, pass);
+    let first = proposal_from(rt, alloc, &shared, &mut pass, 0);
+    let late = proposal_from(rt, alloc, &shared, &mut pass, 1);
+    assert!(rt; shared.commit(rt, alloc, &mut pass, &first) == Ok(Reply::Placed(16)));
+    let edit = added()?;
+    assert_edit(rt, alloc, &shared, &mut pass, edit, Ok(Reply::Withdrawn(1)));
+    assert!(rt; shared.commit(rt, alloc, &mut pass, &late) == Ok(Reply::Stale { at: 1 }));
+    assert_work(rt, alloc, &shared, &mut pass, 9, WorkEnd::Tired);
+    assert_work(
+        rt,
+        alloc,
+        &shared,
+        &mut pass,
+        1,
+        WorkEnd::Done { version: 1 },
+    );
+    close(rt, shared, Vec::new(alloc), pass, [12, 100, 1], 99)?;
+    Ok(())
+}
+
+/// The proposal of a book of other metal is foreign, and one that was answered comes too late.
+fn foreign_and_already<B: FillBook>(
+    rt: &(impl Abort + Wait),
+    alloc: Global,
+    book: B,
+    pass: PassOf<B>,
+    foreign: &Proposal,
+) -> Result<(), Fail>
+    requires ledgers { AllParts B.Calls.parts B.Placed.parts B.Withdrawn.parts }
+    requires pass { pass.parts ≡ 1024 }
+{
+    let (shared, mut pass) = shared_alone(rt, alloc, book, pass);
+    let own = proposal_from(rt, alloc, &shared, &mut pass, 0);
+    assert!(rt; shared.commit(rt, alloc, &mut pass, foreign) == Ok(Reply::Foreign));
+    assert!(rt; shared.commit(rt, alloc, &mut pass, &own) == Ok(Reply::Placed(16)));
+    assert!(rt; shared.commit(rt, alloc, &mut pass, &own) == Ok(Reply::Already));
+    close(rt, shared, Vec::new(alloc), pass, [3, 16, 0], 16)?;
     Ok(())
 }
 
@@ -402,6 +453,8 @@ fn three_events<B: FillBook + Send>(
 enum Case {
     ThreePasses,
     FillAgain,
+    AfterCalls,
+    ForeignAndAlready,
     OneEvent,
     NoTile,
     TwoWorkers,
@@ -447,6 +500,11 @@ fn play<B: FillBook + Send>(
     match case {
         Case::ThreePasses => three_passes(rt, alloc, book, pass),
         Case::FillAgain => fill_and_fill_again(rt, alloc, book, pass),
+        Case::AfterCalls => work_after_calls(rt, alloc, book, pass),
+        Case::ForeignAndAlready => {
+            let foreign = offered(rt, alloc, &[[10, 10, 21, 20]], &[])?;
+            foreign_and_already(rt, alloc, book, pass, &foreign)
+        }
         Case::OneEvent => one_event(rt, alloc, book, pass),
         Case::NoTile => no_tile(rt, alloc, book, pass),
         Case::TwoWorkers => two_workers(rt, alloc, book, pass),
@@ -505,6 +563,16 @@ fn three_callers_in_three_threads(rt: HostRuntime) -> Result<(), Fail> {
 #[test]
 fn a_worker_fills_and_fills_again(rt: HostRuntime) -> Result<(), Fail> {
     play_by(&rt, rt.alloc(), Case::FillAgain)
+}
+
+#[test]
+fn a_worker_works_after_other_calls(rt: HostRuntime) -> Result<(), Fail> {
+    play_by(&rt, rt.alloc(), Case::AfterCalls)
+}
+
+#[test]
+fn a_foreign_and_a_repeated_proposal_are_told(rt: HostRuntime) -> Result<(), Fail> {
+    play_by(&rt, rt.alloc(), Case::ForeignAndAlready)
 }
 
 #[test]

@@ -17,7 +17,7 @@ use std::test::Fail;
 use std::thread::Threads;
 
 /// The fill library without a box.
-const NO_BOX: &[u8] = &[
+pub(crate) const NO_BOX: &[u8] = &[
     0x00, 0x06, 0x00, 0x02, 0x02, 0x58, 0x00, 0x1c, 0x01, 0x02, 0x00, 0x00, 0x00, 0x00, 0x00, 0x00,
     0x00, 0x00, 0x00, 0x00, 0x00, 0x00, 0x00, 0x00, 0x00, 0x00, 0x00, 0x00, 0x00, 0x00, 0x00, 0x00,
     0x00, 0x00, 0x00, 0x08, 0x02, 0x06, 0x46, 0x49, 0x4c, 0x4c, 0x00, 0x14, 0x03, 0x05, 0x41, 0x10,
@@ -70,7 +70,7 @@ fill_top,FILLTOP
 ";
 
 /// The lines of all windows but the first, where every place is filled: 20 by 20 squares of boxes in each.
-const FILLED_LINES: &str = "1,0,25,0,75,50,0,400,400,160000,LOW
+pub(crate) const FILLED_LINES: &str = "1,0,25,0,75,50,0,400,400,160000,LOW
 2,0,50,0,100,50,0,400,400,160000,LOW
 0,1,0,25,50,75,0,400,400,160000,LOW
 1,1,25,25,75,75,0,400,400,160000,LOW
@@ -81,7 +81,7 @@ const FILLED_LINES: &str = "1,0,25,0,75,50,0,400,400,160000,LOW
 ";
 
 /// The fill of three inputs.
-fn fill_of<R: Read + Drop, D: Read + Drop, S: Read + Drop>(
+pub(crate) fn fill_of<R: Read + Drop, D: Read + Drop, S: Read + Drop>(
     rt: &(impl Threads + Wait + Sync),
     alloc: Global,
     rules: R,
@@ -131,26 +131,109 @@ fn is_filled(
     done.is_ok() && written.len() == length && reported.as_slice() == report
 }
 
-/// A hundred boxes, in ten arrays.
+/// A hundred boxes, in one array.
 #[test]
 fn an_empty_design_is_filled_whole(rt: HostRuntime) -> Result<(), Fail> {
     let alloc = rt.alloc();
     let report = format!(in alloc; "0,0,0,0,50,50,0,400,400,160000,LOW\n{FILLED_LINES}")?;
-    assert!(rt; is_filled(&rt, alloc, EMPTY, b"", 1, 734, report.as_bytes()));
+    assert!(rt; is_filled(&rt, alloc, EMPTY, b"", 1, 266, report.as_bytes()));
     Ok(())
 }
 
-/// The wire is too near to two boxes, so two rows are a box and an array of eight. Elements that are no metal of the layer, and
+/// The wire is too near to two boxes, so two rows are a stack of a box and one of eight. Elements that are no metal of the layer, and
 /// cells that the top doesn't reach, change nothing.
 #[test]
 fn a_wire_keeps_its_spacing(rt: HostRuntime) -> Result<(), Fail> {
     let alloc = rt.alloc();
     let report = format!(in alloc; "0,0,0,0,50,50,220,368,588,235200,LOW\n{FILLED_LINES}")?;
     for design in [WIRE, OTHERS, CYCLE_APART] {
-        assert!(rt; is_filled(&rt, alloc, design, b"", 1, 790, report.as_bytes()));
+        assert!(rt; is_filled(&rt, alloc, design, b"", 1, 370, report.as_bytes()));
     }
-    assert!(rt; is_filled(&rt, alloc, WIRE, b"", 2, 790, report.as_bytes()));
-    assert!(rt; is_filled(&rt, alloc, WIRE, b"", 8, 790, report.as_bytes()));
+    assert!(rt; is_filled(&rt, alloc, WIRE, b"", 2, 370, report.as_bytes()));
+    assert!(rt; is_filled(&rt, alloc, WIRE, b"", 8, 370, report.as_bytes()));
+    Ok(())
+}
+
+/// The stacks of the fill beside the wire: AREF, SNAME, COLROW, XY, ENDEL of one column and eight columns of two rows, and of ten columns
+/// of the eight rows above.
+const STACKS: &[u8] = &[
+    0x00, 0x04, 0x0b, 0x00, 0x00, 0x08, 0x12, 0x06, 0x42, 0x4f, 0x58, 0x34, 0x00, 0x08, 0x13, 0x02,
+    0, 1, 0, 2, 0x00, 0x1c, 0x10, 0x03, 0, 0, 0, 3, 0, 0, 0, 3, 0, 0, 0, 13, 0, 0, 0, 3, 0, 0, 0,
+    3, 0, 0, 0, 23, 0x00, 0x04, 0x11, 0x00, 0x00, 0x04, 0x0b, 0x00, 0x00, 0x08, 0x12, 0x06, 0x42,
+    0x4f, 0x58, 0x34, 0x00, 0x08, 0x13, 0x02, 0, 8, 0, 2, 0x00, 0x1c, 0x10, 0x03, 0, 0, 0, 23, 0,
+    0, 0, 3, 0, 0, 0, 103, 0, 0, 0, 3, 0, 0, 0, 23, 0, 0, 0, 23, 0x00, 0x04, 0x11, 0x00, 0x00,
+    0x04, 0x0b, 0x00, 0x00, 0x08, 0x12, 0x06, 0x42, 0x4f, 0x58, 0x34, 0x00, 0x08, 0x13, 0x02, 0,
+    10, 0, 8, 0x00, 0x1c, 0x10, 0x03, 0, 0, 0, 3, 0, 0, 0, 23, 0, 0, 0, 103, 0, 0, 0, 23, 0, 0, 0,
+    3, 0, 0, 0, 103, 0x00, 0x04, 0x11, 0x00,
+];
+
+/// Whatever the number of workers, the library of the wire's fill has these bytes.
+#[test]
+fn each_number_of_workers_writes_the_same(rt: HostRuntime) -> Result<(), Fail> {
+    let alloc = rt.alloc();
+    let (front, ends) = NO_BOX.split_at(NO_BOX.len().saturating_sub(8));
+    let mut want = Vec::from_slice(alloc, front)?;
+    want.extend_from_slice(STACKS)?;
+    want.extend_from_slice(ends)?;
+    for workers in [1, 2, 8] {
+        let filled = fill_of(&rt, alloc, RULES, WIRE, b"".as_slice(), workers, None)?;
+        assert!(rt; filled.library == want);
+    }
+    Ok(())
+}
+
+/// The rules with another line for one of their keys, or for some.
+fn rules_but(alloc: Global, lines: &[&str]) -> Result<Vec<u8>, Fail> {
+    let mut rules = Vec::new(alloc);
+    for line in RULES.split(|byte| *byte == b'\n') {
+        let key = line.split(|byte| *byte == b',').next().unwrap_or(line);
+        if !lines.iter().any(|other| other.as_bytes().starts_with(key)) {
+            rules.extend_from_slice(line)?;
+            rules.push(b'\n')?;
+        }
+    }
+    for line in lines {
+        rules.extend_from_slice(line.as_bytes())?;
+        rules.push(b'\n')?;
+    }
+    Ok(rules)
+}
+
+/// A window that was low is OK once it has its share, or high.
+#[test]
+fn states_are_those_of_metal_and_fill(rt: HostRuntime) -> Result<(), Fail> {
+    let alloc = rt.alloc();
+    let wide = [
+        "win_w,100",
+        "win_h,100",
+        "win_step_x,100",
+        "win_step_y,100",
+        "win_nx,1",
+        "win_ny,1",
+        "min,50000",
+    ];
+    let touching = [
+        "step_x,4",
+        "step_y,4",
+        "origin_x,0",
+        "origin_y,0",
+        "spacing,0",
+        "fill_spacing,0",
+    ];
+    for (lines, windows, end) in [
+        (["min,160000"].as_slice(), 9, "400,400,160000,OK"),
+        (wide.as_slice(), 1, "0,1600,1600,160000,OK"),
+        (touching.as_slice(), 9, "0,2500,2500,1000000,HIGH"),
+    ] {
+        let rules = rules_but(alloc, lines)?;
+        let filled = fill_of(&rt, alloc, rules.as_slice(), EMPTY, b"".as_slice(), 1, None)?;
+        let ended = filled
+            .report
+            .split(|byte| *byte == b'\n')
+            .filter(|line| line.ends_with(end.as_bytes()))
+            .count();
+        assert_eq!(rt; ended, windows);
+    }
     Ok(())
 }
 
@@ -160,7 +243,7 @@ fn edits_are_made_in_their_order(rt: HostRuntime) -> Result<(), Fail> {
     let alloc = rt.alloc();
     let script = b"add,0,0,100,100\ncut,0,0,100,100\nadd,10,10,21,20\n";
     let report = format!(in alloc; "0,0,0,0,50,50,110,384,494,197600,LOW\n{FILLED_LINES}")?;
-    assert!(rt; is_filled(&rt, alloc, EMPTY, script, 1, 762, report.as_bytes()));
+    assert!(rt; is_filled(&rt, alloc, EMPTY, script, 1, 398, report.as_bytes()));
     Ok(())
 }
 
@@ -248,8 +331,8 @@ fn short_fill(alloc: Global) -> Result<Filled, Fail> {
 #[test]
 fn no_report_follows_a_library_that_breaks_off(rt: HostRuntime) -> Result<(), Fail> {
     let alloc = rt.alloc();
-    let filled = short_fill(alloc)?;
-    for room in [0, 1, 100, 213] {
+    let filled = fill_of(&rt, alloc, RULES, WIRE, b"".as_slice(), 1, None)?;
+    for room in [0, 1, 100, 369] {
         let mut short = Short {
             taken: Vec::new(alloc),
             room,
@@ -261,7 +344,8 @@ fn no_report_follows_a_library_that_breaks_off(rt: HostRuntime) -> Result<(), Fa
             &mut Tap::new(&mut reported),
         );
         assert_eq!(rt; done, Err(Refusal::Out));
-        assert!(rt; NO_BOX.starts_with(short.taken.as_slice()) && short.taken.len() == room);
+        let library = filled.library.as_slice();
+        assert!(rt; library.starts_with(short.taken.as_slice()) && short.taken.len() == room);
         assert!(rt; reported.is_empty());
     }
     Ok(())

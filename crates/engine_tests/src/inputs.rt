@@ -292,7 +292,7 @@ fn a_writer_that_fails_keeps_a_prefix(rt: HostRuntime) -> Result<(), Fail> {
 }
 
 /// The refusal of a design.
-fn of_design(error: DesignError) -> Refusal {
+pub(crate) fn of_design(error: DesignError) -> Refusal {
     Refusal::Design(InputFault::Refused(error))
 }
 

@@ -1,5 +1,4 @@
-//! Tests of devices, and of what stands on all other crates: the library of the fill, and the
-//! subcommands on whole inputs. They stand here so that a crate isn't proved a second time for the sake of its tests.
+//! Tests of devices, of reports and the command line, and of the subcommands on whole inputs. They stand here so that a crate isn't proved a second time for the sake of its tests.
 #![tactic(auto)]
 
 #[cfg(test)]
@@ -9,7 +8,7 @@ mod fills;
 #[cfg(test)]
 mod inputs;
 #[cfg(test)]
-mod library;
+mod keepouts;
 #[cfg(test)]
 mod line;
 #[cfg(test)]

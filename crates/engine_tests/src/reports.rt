@@ -114,7 +114,15 @@ fn open_and_report<C: Ledger + Send + Sync, P: Ledger + Send + Sync, W: Ledger +
     requires all { AllParts C.parts P.parts W.parts }
 {
     let (mut book, mut pass) = PlainBook::<C, P, W>::open(
-        rt, alloc, calls, placed, withdrawn, metal, rules, 100,
+        rt,
+        alloc,
+        calls,
+        placed,
+        withdrawn,
+        metal,
+        Region::empty(alloc),
+        rules,
+        100,
     )?;
     report_twice(rt, alloc, &mut book, &mut pass)
 }

@@ -9,10 +9,11 @@ use Rattle.std.proofs.Math.Seq.{take-append_seam}
 use Rattle.fill_spans.specs.EvenColumns.{AreSums}
 use Rattle.fill_area.specs.steps.Parts.{PartAdded}
 use Rattle.fill_area.proofs.Cutting.{cut_first, cut_last, cut_low, cut_high, cut_rises, strip_more}
-use Rattle.fill_area.proofs.Measuring.{area_at, longer}
+use Rattle.fill_area.proofs.Measuring.{longer}
 use Rattle.fill_area.proofs.Rows.{lines_small}
 use Rattle.fill_area.proofs.Walking.{same_le}
 use Rattle.fill_area.specs.Grid.{Grid, IsGrid, window_bottom, window_top}
+use Rattle.fill_area.specs.steps.Whole.{whole_at}
 use Rattle.fill_area.specs.steps.Strips.{strip_begin, strip_area, AreStripAt, AreStrips}
 use Rattle.fill_area.specs.steps.Lines.{lines_area}
 
@@ -172,7 +173,7 @@ gathered_more p g strips s count old new grid count_is some below are part = rec
         le_self n = omega arith
 
 -- all strips together are the windows
-pub gathered_all : (p : ℤ → ℤ → Bool) (g : Grid) (strips s : ℕ) (sums : List ℤ) → IsGrid g → 1 ≤ strips → s ≡ strips → AreGathered p g strips s sums → (k : ℕ) (d : ℤ) → k < g.across.count * g.up.count → get_or sums k d ≡ area_at p g k
+pub gathered_all : (p : ℤ → ℤ → Bool) (g : Grid) (strips s : ℕ) (sums : List ℤ) → IsGrid g → 1 ≤ strips → s ≡ strips → AreGathered p g strips s sums → (k : ℕ) (d : ℤ) → k < g.across.count * g.up.count → get_or sums k d ≡ whole_at p g k
 gathered_all p g strips s sums grid some all are k d lt =
     let b = k / g.across.count in
     are.first k d lt
@@ -184,8 +185,8 @@ pub part_within : (g : Grid) (strips s count : ℕ) (sums : List ℤ) → count 
 part_within g strips s count sums count_is lt len = let fits : s * count + count ≤ strips * (g.across.count * g.up.count) = row_fits s count strips (g.across.count * g.up.count) lt (omega (arith, count_is)) in omega (arith, fits, len)
 
 -- the front of the list, which is kept
-pub front : (p : ℤ → ℤ → Bool) (g : Grid) (count n : ℕ) (sums rest : List ℤ) → count ≡ g.across.count * g.up.count → n ≡ length sums → ((k : ℕ) (d : ℤ) → k < g.across.count * g.up.count → get_or sums k d ≡ area_at p g k)
-    → (k : ℕ) (d : ℤ) → k < g.across.count * g.up.count → get_or (take count (take n (sums ++ rest))) k d ≡ area_at p g k
+pub front : (p : ℤ → ℤ → Bool) (g : Grid) (count n : ℕ) (sums rest : List ℤ) → count ≡ g.across.count * g.up.count → n ≡ length sums → ((k : ℕ) (d : ℤ) → k < g.across.count * g.up.count → get_or sums k d ≡ whole_at p g k)
+    → (k : ℕ) (d : ℤ) → k < g.across.count * g.up.count → get_or (take count (take n (sums ++ rest))) k d ≡ whole_at p g k
 front p g count n sums rest count_is n_is each k d lt =
     get_or-take count (take n (sums ++ rest)) k d (rw count_is lt)
     ∙ (ap (λ m. get_or (take m (sums ++ rest)) k d) n_is ∙ (ap (λ xs. get_or xs k d) (take-append_seam sums rest) ∙ each k d lt))

@@ -6,15 +6,15 @@ use Rattle.std.specs.Prelude.{int_le, IsTrue}
 use Rattle.std.proofs.lemmas.Int.{ints}
 use Rattle.fill_base.specs.Coordinates.{highest, IsCoordinate}
 use Rattle.fill_base.proofs.Signed.{read, read_is}
-use Rattle.fill_area.specs.Grid.{Grid, IsGrid}
+use Rattle.fill_area.specs.Grid.{Grid, IsClip, IsGrid, all_coordinates}
 use Rattle.fill_base.specs.Limits.{IsLength}
 use Rattle.fill_area.specs.Axes.{IsCount, IsAxis}
 use Rattle.fill_area.proofs.Axes.{axis_of, end_fits}
 
 pub grid_test : (g : Grid) (a b c : Bool) → (IsTrue a ↔ IsAxis g.across) → (IsTrue b ↔ IsAxis g.up)
-    → (IsTrue c ↔ (g.across.count * g.up.count ≤ 1048576)) → IsTrue ((a && b) && c) ↔ IsGrid g
-grid_test g a b c across up few = (
-  (λ h. record { across = across.0 (first_so a b (first_so (a && b) c h)); up = up.0 (second_so a b (first_so (a && b) c h)); few = few.0 (second_so (a && b) c h) }),
+    → (IsTrue c ↔ (g.across.count * g.up.count ≤ 1048576)) → IsClip g.clip → IsTrue ((a && b) && c) ↔ IsGrid g
+grid_test g a b c across up few clip = (
+  (λ h. record { across = across.0 (first_so a b (first_so (a && b) c h)); up = up.0 (second_so a b (first_so (a && b) c h)); few = few.0 (second_so (a && b) c h); clip = clip }),
   (λ is. and_from (a && b) c (and_from a b (across.1 is.across) (up.1 is.up)) (few.1 is.few)),
 )
 
@@ -49,3 +49,6 @@ axis_test first length step count r l r_is =
       (λ h. record { length_is = l.length_is; step_is = l.step_is; count_is = l.count_is; first_is = l.first_is; last = le_true _ highest (rw end_is at h) }),
       (λ axis. rw end_is (true_le _ highest axis.last)),
     )
+
+pub all_clip : IsClip all_coordinates
+all_clip = record { left = omega (arith, ints); across = omega (arith, ints); right = omega (arith, ints); bottom = omega (arith, ints); up = omega (arith, ints); top = omega (arith, ints) }

@@ -10,3 +10,4 @@ pub mod RowByRow
 pub mod Shares
 pub mod Measuring
 pub mod Cutting
+pub mod Clipping

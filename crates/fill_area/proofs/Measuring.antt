@@ -1,13 +1,14 @@
 -- The list of all windows' areas.
-use Rattle.std.proofs.Common.{◌≡◌, ◌+ℤ◌, ◌≤ℤ◌, ◌≤◌, ◌^◌, ℕ, ◌+◌, ◌*◌, ◌/◌, ◌%◌, ◌<◌, ℤ, pos, Bool, false, List, length, get_or, refl, arith, ap, ◌∙◌}
+use Rattle.std.proofs.Common.{◌≡◌, ◌+ℤ◌, ◌≤ℤ◌, ◌<ℤ◌, ◌≤◌, ◌^◌, ℕ, ◌+◌, ◌*◌, ◌/◌, ◌%◌, ◌<◌, ℤ, pos, Bool, false, List, length, get_or, refl, arith, ap, ◌∙◌}
 use Rattle.std.proofs.lemmas.Nat.{mul-add-lt, div-mul-add, mod-mul-add}
 use Rattle.std.specs.List.{All}
-use Rattle.std.proofs.lemmas.Int.{ints}
+use Rattle.std.proofs.lemmas.Int.{ints, clamps}
 use Rattle.std.proofs.Math.Nat.{mul-le-mul}
 use Rattle.fill_base.specs.Counts.{span_len, count_between}
 use Rattle.fill_base.proofs.Counting.{sum_between_le, sum_between_same, sum_between_const, count_between_le, count_between_same, count_between_const}
 use Rattle.fill_base.specs.Squares.{area_between}
-use Rattle.fill_area.specs.Grid.{Grid, IsGrid, window_left, window_right, window_bottom, window_top}
+use Rattle.fill_area.specs.Grid.{Grid, IsGrid, parts_across, parts_up, window_left, window_bottom}
+use Rattle.fill_area.specs.Parts.{kept_within, part_begin, part_end}
 use Rattle.fill_base.specs.Limits.{IsLength}
 use Rattle.fill_area.specs.Density.{AreMeasured, IsArea, window_area}
 
@@ -26,19 +27,20 @@ measured p g totals grid count each = record {
       ∙ ap (λ k. pos (window_area p g a k)) (div-mul-add b g.across.count a a_in));
 }
 
--- a window has at most 2^40 squares
+-- a window counts at most 2^40 squares
 window_small : (p : ℤ → ℤ → Bool) (g : Grid) (a b : ℕ) → IsGrid g → window_area p g a b ≤ 2 ^ 40
 window_small p g a b grid =
-    let wide : span_len (window_left g a) (window_right g a) ≤ 1048576 = short (window_left g a) g.across.length grid.across.length_is in
-    let tall : span_len (window_bottom g b) (window_top g b) ≤ 1048576 = short (window_bottom g b) g.up.length grid.up.length_is in
-    let lines : window_area p g a b ≤ span_len (window_bottom g b) (window_top g b) * span_len (window_left g a) (window_right g a) =
-    sum_between_le (λ y. count_between (λ x. p x y) (window_left g a) (window_right g a)) (window_bottom g b) (window_top g b) (span_len (window_left g a) (window_right g a))
-    (λ y. count_between_le (λ x. p x y) (window_left g a) (window_right g a)) in
-    let product : span_len (window_bottom g b) (window_top g b) * span_len (window_left g a) (window_right g a) ≤ 1048576 * 1048576 = mul-le-mul tall wide in
+    let x = parts_across g in let y = parts_up g in
+    let wide : span_len (part_begin x a) (part_end x a) ≤ 1048576 = short (window_left g a) g.across.length x.low x.high grid.across.length_is grid.clip.across in
+    let tall : span_len (part_begin y b) (part_end y b) ≤ 1048576 = short (window_bottom g b) g.up.length y.low y.high grid.up.length_is grid.clip.up in
+    let lines : window_area p g a b ≤ span_len (part_begin y b) (part_end y b) * span_len (part_begin x a) (part_end x a) =
+    sum_between_le (λ y. count_between (λ x. p x y) (part_begin x a) (part_end x a)) (part_begin y b) (part_end y b) (span_len (part_begin x a) (part_end x a))
+    (λ y. count_between_le (λ x. p x y) (part_begin x a) (part_end x a)) in
+    let product : span_len (part_begin y b) (part_end y b) * span_len (part_begin x a) (part_end x a) ≤ 1048576 * 1048576 = mul-le-mul tall wide in
     omega (arith, lines, product)
   where
-    short : (lo length : ℤ) → IsLength length → span_len lo (lo +ℤ length) ≤ 1048576
-    short lo length is = let least : pos 1 ≤ℤ length = is.least in let most : length ≤ℤ pos 1048576 = is.most in omega (arith, ints)
+    short : (lo length low high : ℤ) → IsLength length → low <ℤ high → span_len (kept_within low high lo) (kept_within low high (lo +ℤ length)) ≤ 1048576
+    short lo length low high is some = let least : pos 1 ≤ℤ length = is.least in let most : length ≤ℤ pos 1048576 = is.most in omega (arith, ints, clamps)
 
 pub bounded : (p : ℤ → ℤ → Bool) (g : Grid) (totals : List ℤ) → IsGrid g → length totals ≡ g.across.count * g.up.count → ((k : ℕ) (d : ℤ) → k < g.across.count * g.up.count → get_or totals k d ≡ area_at p g k) → All IsArea totals
 bounded p g totals grid count each k d lt = rw (each k d (rw count at lt)) (area_of_count (window_area p g (k % g.across.count) (k / g.across.count)) (window_small p g (k % g.across.count) (k / g.across.count) grid))

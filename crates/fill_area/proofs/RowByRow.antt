@@ -6,21 +6,21 @@ use Rattle.std.proofs.Math.Nat.{mul-le-mul, mul-mod_left}
 use Rattle.fill_area.proofs.Begun.{by_lt}
 use Rattle.fill_area.proofs.Cutting.{cut_first, cut_last}
 use Rattle.fill_area.proofs.Gathering.{row_ordered, strip_number}
-use Rattle.fill_area.proofs.Measuring.{area_at}
 use Rattle.fill_area.specs.Grid.{Grid, IsGrid, window_bottom, window_top}
 use Rattle.fill_area.specs.steps.Lines.{lines_area}
+use Rattle.fill_area.specs.steps.Whole.{whole_at}
 use Rattle.fill_area.specs.steps.Strips.{cut_at, strip_area, AreStripAt}
 
 -- the numbers of the windows in the first `b` rows
 pub record AreFirst (p : ℤ → ℤ → Bool) (g : Grid) (b : ℕ) (areas : List ℤ) : Type 0 where
   pub count : length areas ≡ b * g.across.count
-  pub each : (k : ℕ) (d : ℤ) → k < b * g.across.count → get_or areas k d ≡ area_at p g k
+  pub each : (k : ℕ) (d : ℤ) → k < b * g.across.count → get_or areas k d ≡ whole_at p g k
 
 pub none_yet : (p : ℤ → ℤ → Bool) (g : Grid) → AreFirst p g 0 []
 none_yet p g = record { count = omega arith; each = λ k d lt. absurd (omega (arith, lt)) }
 
 -- a strip that is a whole row of windows
-pub strip_whole : (p : ℤ → ℤ → Bool) (g : Grid) (k : ℕ) → IsGrid g → pos (strip_area p g 1 0 k) ≡ area_at p g k
+pub strip_whole : (p : ℤ → ℤ → Bool) (g : Grid) (k : ℕ) → IsGrid g → pos (strip_area p g 1 0 k) ≡ whole_at p g k
 strip_whole p g k grid =
     let b = k / g.across.count in
     ap (λ y. pos (lines_area p g y (strip_end b) (k % g.across.count))) (cut_first (window_bottom g b) (window_top g b) 1 (row_ordered g b grid))
@@ -48,7 +48,7 @@ row_more p g b columns areas row grid is lt wide first strip = record {
   each = λ k d k_in. by_lt k (b * g.across.count) (earlier k d) (here k d k_in);
 }
   where
-    earlier : (k : ℕ) (d : ℤ) → k < b * g.across.count → get_or (areas ++ row) k d ≡ area_at p g k
+    earlier : (k : ℕ) (d : ℤ) → k < b * g.across.count → get_or (areas ++ row) k d ≡ whole_at p g k
     earlier k d low = get_or_append_left areas row d k (omega (arith, low, first.count)) ∙ first.each k d low
 
     below : (k : ℕ) → k < (b + 1) * g.across.count → k < g.across.count * g.up.count
@@ -60,7 +60,7 @@ row_more p g b columns areas row grid is lt wide first strip = record {
         same : (n : ℕ) → n ≤ n
         same n = omega arith
 
-    here : (k : ℕ) (d : ℤ) → k < (b + 1) * g.across.count → b * g.across.count ≤ k → get_or (areas ++ row) k d ≡ area_at p g k
+    here : (k : ℕ) (d : ℤ) → k < (b + 1) * g.across.count → b * g.across.count ≤ k → get_or (areas ++ row) k d ≡ whole_at p g k
     here k d k_in high =
         get_or-append_right areas row k d (omega (arith, high, first.count))
         ∙ (ap (λ n. get_or row (k - n) d) first.count
@@ -79,7 +79,7 @@ turn p g b columns n areas row rest read more grid is lt n_is first strip read_i
 
 -- all rows
 pub all_rows : (p : ℤ → ℤ → Bool) (g : Grid) (b : ℕ) (areas : List ℤ) → b ≡ g.up.count → AreFirst p g b areas
-    → (length areas ≡ g.across.count * g.up.count) × ((k : ℕ) (d : ℤ) → k < g.across.count * g.up.count → get_or areas k d ≡ area_at p g k)
+    → (length areas ≡ g.across.count * g.up.count) × ((k : ℕ) (d : ℤ) → k < g.across.count * g.up.count → get_or areas k d ≡ whole_at p g k)
 all_rows p g b areas all first = (first.count ∙ turned, λ k d lt. first.each k d (rw turned lt))
   where
     turned : b * g.across.count ≡ g.across.count * g.up.count

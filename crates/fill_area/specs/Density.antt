@@ -1,11 +1,18 @@
 -- The area that a set of squares has in a window, and when that is too little or too much.
-use Rattle.std.specs.Prelude.{◌≡◌, ℕ, ◌+◌, ◌*◌, ◌<◌, ◌^◌, ℤ, pos, ◌*ℤ◌, ◌<ℤ◌, ◌≤ℤ◌, Bool, List, length, get_or}
-use Rattle.fill_base.specs.Squares.{area_between}
-use Rattle.fill_area.specs.Grid.{Grid, IsGrid, window_left, window_right, window_bottom, window_top}
+use Rattle.std.specs.Prelude.{◌≡◌, ℕ, ◌+◌, ◌*◌, ◌<◌, ◌^◌, ℤ, pos, ◌*ℤ◌, ◌<ℤ◌, ◌≤ℤ◌, Bool, List, Option, Some, None, length, get_or}
+use Rattle.fill_base.specs.Squares.{area_between, area_of}
+use Rattle.fill_base.specs.declared.rect.Rect.{Rect}
+use Rattle.fill_area.specs.Parts.{part_begin, part_end}
+use Rattle.fill_area.specs.Grid.{Grid, IsGrid, parts_across, parts_up}
 
--- how many squares of the window in column `a` and row `b` are in the set
+-- how many squares that count of the window in column `a` and row `b` are in the set
 abbrev pub window_area : (ℤ → ℤ → Bool) → Grid → ℕ → ℕ → ℕ
-window_area p g a b = area_between p (window_left g a) (window_bottom g b) (window_right g a) (window_top g b)
+window_area p g a b = area_between p (part_begin (parts_across g) a) (part_begin (parts_up g) b) (part_end (parts_across g) a) (part_end (parts_up g) b)
+
+-- that of a rectangle, if there is one
+abbrev pub option_area : (ℤ → ℤ → Bool) → Option Rect → ℕ
+option_area p (Some r) = area_of p r
+option_area p None = 0
 
 -- a list of the areas of all windows of a grid, row by row
 pub record AreMeasured (p : ℤ → ℤ → Bool) (g : Grid) (totals : List ℤ) : Type 0 where

@@ -1,4 +1,5 @@
 pub mod Axes
+pub mod Parts
 pub mod Grid
 pub mod Sharing
 pub mod Density

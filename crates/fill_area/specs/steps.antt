@@ -3,3 +3,4 @@ pub mod Begun
 pub mod Lines
 pub mod Parts
 pub mod Strips
+pub mod Whole

@@ -5,10 +5,12 @@
 mod area;
 mod axis;
 mod measure;
+mod parts;
 mod strips;
 mod windows;
 
 pub use area::{area_in, is_high, is_low};
 pub use axis::Axis;
 pub use measure::{areas_in, measure_all};
+pub use parts::Parts;
 pub use windows::{BadWindows, Windows};

@@ -1,7 +1,8 @@
 //! All windows of a grid, measured in parallel.
 ghost use Rattle.std.specs.Prelude.{◌≡◌, ◌/◌, ◌%◌, ◌*◌, ◌+◌, ◌<◌, ◌≤◌, IfOk, All, pos, length, get_or, ℕ, ℤ};
 ghost use Rattle.fill_region.specs.Bands.{holds};
-ghost use Rattle.fill_area.specs.Density.{AreMeasured, IsArea, window_area};
+ghost use Rattle.fill_area.specs.Density.{AreMeasured, IsArea};
+ghost use Rattle.fill_area.specs.steps.Whole.{AreWhole, whole_at};
 ghost use Rattle.fill_area.specs.Grid.{IsGrid};
 ghost use Rattle.fill_area.specs.steps.Strips.{AreStripAt, AreStrips};
 ghost use Rattle.fill_area.specs.steps.Parts.{PartAdded};
@@ -24,7 +25,7 @@ const MOST_SUMS: usize = 131_072;
 /// Fewer rows than this are cut into about so many strips in all, however many windows a row has.
 const FEWEST_STRIPS: usize = 8;
 
-/// How many squares of each window are in the region: row by row, the window in column `a` and row
+/// How many squares that count of each window are in the region: row by row, the window in column `a` and row
 /// `b` at `b * columns + a`. Each row of windows is cut into strips of lines, and all strips are
 /// measured in parallel. The list is the same for any number of threads.
 pub fn measure_all(
@@ -36,6 +37,21 @@ pub fn measure_all(
     ensures areas { IfOk result (λ v. AreMeasured (holds region.now) windows.now v.items) }
     ensures bounded { IfOk result (λ v. All IsArea v.items) }
 {
+    match windows.clip() {
+        Some(clip) => measure_whole(rt, alloc, &region.clip(alloc, &clip)?, windows),
+        None => measure_whole(rt, alloc, region, windows),
+    }
+}
+
+/// The same of whole windows.
+fn measure_whole(
+    rt: &(impl Threads + Sync),
+    alloc: Global,
+    region: &Region,
+    windows: &Windows,
+) -> Result<Vec<i64>, AllocError>
+    ensures { IfOk result (λ v. AreWhole (holds region.now) windows.now v.items) }
+{
     let count = windows.len();
     let rows = windows.rows() as usize;
     let strips = (MOST_SUMS / count).max(FEWEST_STRIPS / rows);
@@ -46,7 +62,7 @@ pub fn measure_all(
     Ok(sums)
 }
 
-/// How many squares of each window are in the region, as `measure_all` lists them, on the calling thread alone: one walk of
+/// How many squares that count of each window are in the region, as `measure_all` lists them, on the calling thread alone: one walk of
 /// the region's rows for each row of windows.
 ///
 /// # Errors
@@ -54,6 +70,16 @@ pub fn measure_all(
 pub fn areas_in(alloc: Global, region: &Region, windows: &Windows) -> Result<Vec<i64>, AllocError>
     ensures areas { IfOk result (λ v. AreMeasured (holds region.now) windows.now v.items) }
     ensures bounded { IfOk result (λ v. All IsArea v.items) }
+{
+    match windows.clip() {
+        Some(clip) => whole_areas(alloc, &region.clip(alloc, &clip)?, windows),
+        None => whole_areas(alloc, region, windows),
+    }
+}
+
+/// The same of whole windows.
+fn whole_areas(alloc: Global, region: &Region, windows: &Windows) -> Result<Vec<i64>, AllocError>
+    ensures { IfOk result (λ v. AreWhole (holds region.now) windows.now v.items) }
 {
     let columns = windows.columns() as usize;
     let mut row = Vec::from_elem(alloc, 0, columns)?;
@@ -77,7 +103,7 @@ fn measure_into(
     requires few { strips ≤ 64 }
     requires count { length sums.old ≡ strips * (windows.now.across.count * windows.now.up.count) }
     ensures len { length sums.new ≡ length sums.old }
-    ensures areas { (k : ℕ) (d : ℤ) → k < windows.now.across.count * windows.now.up.count → get_or sums.new k d ≡ pos (window_area (holds region.now) windows.now (k % windows.now.across.count) (k / windows.now.across.count)) }
+    ensures areas { (k : ℕ) (d : ℤ) → k < windows.now.across.count * windows.now.up.count → get_or sums.new k d ≡ whole_at (holds region.now) windows.now k }
 {
     let count = windows.len();
     measure_strips(rt, region, windows, strips, sums);

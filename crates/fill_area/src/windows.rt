@@ -1,14 +1,18 @@
 //! The density windows of a layer.
-ghost use Rattle.std.specs.Prelude.{◌≡◌, ◌↔◌, ℕ, ◌<◌, ◌*◌, ◌/◌, ◌%◌, ◌≤◌, pos, ◌*ℤ◌, ◌≤ℤ◌, IsTrue, IsOk, IfOk, length};
+ghost use Rattle.std.specs.Prelude.{◌≡◌, ◌↔◌, ℕ, ℤ, Bool, None, IfSome, ◌<◌, ◌*◌, ◌/◌, ◌%◌, ◌≤◌, pos, ◌*ℤ◌, ◌≤ℤ◌, IsTrue, IsOk, IfOk, length};
 ghost use Rattle.fill_base.specs.Squares.{squares};
 ghost use Rattle.fill_spans.specs.EvenColumns.{AreSums};
 ghost use Rattle.fill_area.specs.Axes.{IsAxis, IsIndex, IsTouching, IsContaining, IsRangeOf};
-ghost use Rattle.fill_area.specs.Grid.{Grid, IsGrid, grid_of, window_left, window_right, window_bottom, window_top};
-ghost use Rattle.fill_area.specs.Sharing.{IsWindow, ShareASquare, Holds, window_squares};
-ghost use Rattle.fill_area.specs.Density.{IsArea};
+ghost use Rattle.fill_base.specs.Sides.{sides_of};
+ghost use Rattle.fill_area.specs.Grid.{Grid, IsGrid, all_coordinates, clipped_to, counted_size, grid_of, parts_across, parts_up, whole, window_left, window_right, window_bottom, window_top};
+ghost use Rattle.fill_area.specs.Parts.{AreParts};
+ghost use Rattle.fill_area.specs.Sharing.{IsWindow, ShareASquare, Holds, in_clip, option_squares, part_squares, window_squares};
+ghost use Rattle.fill_area.specs.Density.{IsArea, option_area, window_area};
 ghost use Rattle.fill_area.specs.steps.Lines.{RowAdded};
 
 use crate::axis::Axis;
+use crate::parts::{Clip, Parts};
+use fill_base::rect::{HIGHEST, LOWEST};
 use fill_base::{Point, Rect};
 use fill_spans::Spans;
 use std::marker::Model;
@@ -20,26 +24,36 @@ use thiserror::Error;
 #[error("a window's size, step, count or place is out of its limits")]
 pub struct BadWindows;
 
+/// Windows within these edges count whole.
+const ALL_COORDINATES: Clip = Clip {
+    left: LOWEST,
+    bottom: LOWEST,
+    right: HIGHEST,
+    top: HIGHEST,
+};
+
 /// The largest number of windows of a grid.
 const MOST_WINDOWS: u64 = 1_048_576;
 
 /// A grid of equal density windows: they may overlap, touch or leave gaps. The window in column `a` and
 /// row `b` lies where the span at index `a` across and the one at index `b` upwards cross. (KLayout's
-/// `with_density` with a tile size, step, origin and count.)
+/// `with_density` with a tile size, step, origin and count.) What counts of each window is what lies within one rectangle, the same for
+/// all: a whole window, unless the windows were clipped.
 #[derive(Clone, Copy, Debug, PartialEq, Eq)]
 pub struct Windows {
     across: Axis,
     up: Axis,
+    clip: Clip,
 }
 
 impl Model for Windows {
     ghost Value = { Grid };
 
-    ghost view = { λ w. record { across = w.across; up = w.up } };
+    ghost view = { λ w. record { across = w.across; up = w.up; clip = w.clip } };
 
-    ghost invariant = { λ w. IsGrid (record { across = w.across; up = w.up }) };
+    ghost invariant = { λ w. IsGrid (record { across = w.across; up = w.up; clip = w.clip }) };
 
-    ghost inverse = { λ g. record { across = g.across; up = g.up } };
+    ghost inverse = { λ g. record { across = g.across; up = g.up; clip = g.clip } };
 }
 
 /// Whether there are at most 2^20 windows.
@@ -78,7 +92,11 @@ impl Windows {
             count: count.1,
         };
         if across.is_within() & up.is_within() & are_few(across.count, up.count) {
-            Ok(Windows { across, up })
+            Ok(Windows {
+                across,
+                up,
+                clip: ALL_COORDINATES,
+            })
         } else {
             Err(BadWindows)
         }
@@ -112,6 +130,96 @@ impl Windows {
         ensures { result ≡ self.now.up.count }
     {
         self.up.count
+    }
+
+    /// The same windows, of which only what lies within the rectangle counts.
+    pub fn clipped_to(&self, rect: &Rect) -> Windows
+        ensures { result ≡ clipped_to self.now (sides_of rect.now) }
+    {
+        Windows {
+            clip: Clip {
+                left: rect.x1(),
+                bottom: rect.y1(),
+                right: rect.x2(),
+                top: rect.y2(),
+            },
+            ..*self
+        }
+    }
+
+    /// What counts of the windows of a row, from left to right.
+    pub fn parts_across(&self) -> Parts
+        ensures value { result ≡ parts_across self.now }
+        ensures parts { AreParts result }
+    {
+        Parts {
+            axis: self.across,
+            low: self.clip.left,
+            high: self.clip.right,
+        }
+    }
+
+    /// What counts of the windows of a column, upwards.
+    pub fn parts_up(&self) -> Parts
+        ensures value { result ≡ parts_up self.now }
+        ensures parts { AreParts result }
+    {
+        Parts {
+            axis: self.up,
+            low: self.clip.bottom,
+            high: self.clip.top,
+        }
+    }
+
+    /// What counts of the window in column `a` and row `b`, if something does.
+    pub fn part(&self, a: u32, b: u32) -> Option<Rect>
+        requires column { a < self.now.across.count }
+        requires row { b < self.now.up.count }
+        ensures squares { (x y : ℤ) → part_squares self.now a b x y ≡ option_squares result x y }
+        ensures area { (p : ℤ → ℤ → Bool) → window_area p self.now a b ≡ option_area p result }
+    {
+        let (x1, x2) = self.parts_across().extent(a);
+        let (y1, y2) = self.parts_up().extent(b);
+        if x1 < x2 && y1 < y2 {
+            Some(Rect::from_edges(x1, y1, x2, y2))
+        } else {
+            None
+        }
+    }
+
+    /// How many squares count of the window in column `a` and row `b`.
+    pub fn counted_size(&self, a: u32, b: u32) -> i64
+        requires column { a < self.now.across.count }
+        requires row { b < self.now.up.count }
+        ensures size { result ≡ counted_size self.now a b }
+        ensures area { IsArea result }
+    {
+        let (x1, x2) = self.parts_across().extent(a);
+        let (y1, y2) = self.parts_up().extent(b);
+        (x2 - x1) * (y2 - y1)
+    }
+
+    /// The same windows, of which all counts.
+    pub fn whole(&self) -> Windows
+        ensures { result ≡ whole self.now }
+    {
+        Windows {
+            clip: ALL_COORDINATES,
+            ..*self
+        }
+    }
+
+    /// The rectangle within which windows count, unless they count whole.
+    pub fn clip(&self) -> Option<Rect>
+        ensures some { IfSome result (λ r. (x y : ℤ) → squares r x y ≡ in_clip self.now x y) }
+        ensures none { (result ≡ None) → self.now.clip ≡ all_coordinates }
+        ensures grid { IsGrid self.now }
+    {
+        if self.clip == ALL_COORDINATES {
+            return None;
+        }
+        let clip = self.clip;
+        Some(Rect::from_edges(clip.left, clip.bottom, clip.right, clip.top))
     }
 
     /// How many squares a window holds.

@@ -1,35 +1,36 @@
 -- What a book's type says of its account: what is read of it, and that each event keeps it.
-use Rattle.std.proofs.Common.{◌≡◌, refl, ap, sym, subst, ◌∙◌, ℕ, ◌+◌, ◌≤◌, ◌<◌, ◌^◌, ℤ, arith, inl, inr, List, [], length, Bool, true, false, ◌↔◌, cond, Option, None, Some, IfSome}
+use Rattle.std.proofs.Common.{◌≡◌, refl, ap, sym, subst, ◌∙◌, ℕ, ◌+◌, ◌≤◌, ◌<◌, ◌^◌, ℤ, pos, arith, inl, inr, List, [], length, Bool, true, false, ◌||◌, ◌↔◌, cond, Option, None, Some, IfSome}
 use Rattle.std.specs.Prelude.{IsTrue, ◌==◌}
 use Rattle.std.proofs.lemmas.Bool.{and_parts, cases_Bool}
-use Rattle.fill_base.specs.Squares.{area_of}
-use Rattle.fill_base.specs.declared.rect.Rect.{Rect}
 use Rattle.fill_region.specs.Bands.{Band, holds}
 use Rattle.fill_area.specs.Density.{window_area}
-use Rattle.fill_raster.specs.Lattice.{in_tile}
+use Rattle.fill_raster.specs.Lattice.{Lattice, in_tile}
 use Rattle.fill_raster.specs.Marks.{Marked, is_marked}
 use Rattle.fill_text.specs.Rules.{Values}
 use Rattle.fill_text.specs.declared.script.Edit.{Edit}
-use Rattle.fill_job.specs.Basis.{windows_in}
-use Rattle.fill_job.specs.Plans.{Plan, IsPlan, PointSet, plan_of}
+use Rattle.fill_job.specs.Basis.{layers_in, windows_in}
+use Rattle.fill_job.specs.Plans.{Layers, Plan, IsPlan, PointSet, plan_of}
 use Rattle.fill_job.specs.ReadSets.{ReadSet, read_set, wanted_of}
 use Rattle.fill_core.specs.Accounts.{Account, IsKeeping, IsSame, state_of, with_entry}
 use Rattle.fill_core.specs.Boxes.{no_places, total_in, with_boxes}
 use Rattle.fill_core.specs.Histories.{placed_by, withdrawn_by}
-use Rattle.fill_core.specs.Machine.{State, commit_reply, fill_after, metal_after, opening, replay_from, replies_from, reply_of, step}
+use Rattle.fill_core.specs.Machine.{State, commit_reply, fill_after, keep_after, metal_after, opening, replay_from, replies_from, reply_of, step}
 use Rattle.fill_core.specs.Shares.{Held, Totals, counted, moved_by, totals_of}
 use Rattle.fill_core.specs.declared.event.Event.{Event}
 use Rattle.fill_core.specs.declared.event.Event.TheVariants as event
 use Rattle.fill_core.specs.declared.event.Reply.{Reply}
 use Rattle.fill_core.specs.declared.event.Reply.TheVariants.{Placed, Withdrawn}
 use Rattle.fill_core.proofs.Written.{keeping_of}
-use Rattle.fill_book.specs.Filling.{KeepsClear, in_places, is_filled, left_by, metal_or_box}
+use Rattle.fill_book.specs.Filling.{KeepsClear, is_filled, left_by, metal_or_box}
 use Rattle.fill_book.specs.Keeping.{Fits, Keeps, state_by}
-use Rattle.fill_book.specs.declared.places.Places.{Places}
+use Rattle.fill_book.specs.Pieces.{ArePieces}
+use Rattle.fill_book.specs.Standing.{squares_in}
 use Rattle.fill_book.specs.declared.stored.Change.{Change}
 use Rattle.fill_book.specs.declared.stored.Stored.{Stored}
+use Rattle.fill_book.proofs.BoxParts.{same_squares}
 use Rattle.fill_book.proofs.Kept.{IsChanged, IsOf, IsTakenIn, answered, committed, edited, keeps_next, none_placed, withdrawn_is}
-use Rattle.fill_book.proofs.Measured.{IsWindowOf, all_left, area_in_window, clear_after, clear_now, clear_same}
+use Rattle.fill_book.proofs.Measured.{clear_after, clear_commit, clear_now, clear_same, same_set}
+use Rattle.fill_core.proofs.Replays.{no_boxes}
 
 -- ---- what is read
 
@@ -39,29 +40,25 @@ at_view {a} {b} {t} {s} keeps same = subst (λ (k : Account). Keeps k t s) same 
 pub keeping : {a : Account} {t : Totals} {s : Stored} → Keeps a t s → IsKeeping a
 keeping {a} {t} {s} keeps = keeping_of a keeps.plan keeps.legal keeps.room keeps.most
 
-pub clear_but_none : {a : Account} {t : Totals} {s : Stored} → Keeps a t s → (p : Places) → ((i j : ℤ) → in_places p i j ≡ false) → KeepsClear s.filled.raster (left_by s.filled p) (holds s.metal)
-clear_but_none {a} {t} {s} keeps p none =
-    clear_same (plan_of a.rules).raster s.filled.raster (is_filled s.filled) (left_by s.filled p) (holds s.metal) (holds s.metal)
-    keeps.fits.raster (λ i j. ap (λ (f : PointSet). f i j) (all_left s.filled p none)) (λ x y. refl) (clear_now a s (state_of a).base keeps.plan keeps.state)
+pub clear_stored : {a : Account} {t : Totals} {s : Stored} → Keeps a t s → KeepsClear s.filled.raster (is_filled s.filled) (holds s.metal)
+clear_stored {a} {t} {s} keeps =
+    clear_same (plan_of a.rules).raster s.filled.raster (is_filled s.filled) (is_filled s.filled) (holds s.metal) (holds s.metal)
+    keeps.fits.raster (λ i j. refl) (λ x y. refl) (clear_now a s (state_of a).base keeps.plan keeps.state)
+
+-- the areas of what is stored
+pub total_is : {a : Account} {t : Totals} {s : Stored} → Keeps a t s → (m n : ℕ) → window_area (squares_in s) (plan_of a.rules).windows m n ≡ total_in (plan_of a.rules) (state_of a).layers.metal (state_of a).fill m n
+total_is {a} {t} {s} keeps m n =
+    let plan = plan_of a.rules in
+    let metal : (state_of a).layers.metal ≡ holds s.metal = ap (λ (q : State). q.layers.metal) keeps.state in
+    let fill : (state_of a).fill ≡ is_filled s.filled = ap (λ (q : State). q.fill) keeps.state in
+    ap (λ r. window_area (metal_or_box r (is_filled s.filled) (holds s.metal)) plan.windows m n) keeps.fits.raster
+    ∙ (ap (λ (f : PointSet). total_in plan (holds s.metal) f m n) (sym fill) ∙ ap (λ (f : PointSet). total_in plan f (state_of a).fill m n) (sym metal))
+
+pub drawn_is : {a : Account} {t : Totals} {s : Stored} → Keeps a t s → (m n : ℕ) → window_area (holds s.metal) (plan_of a.rules).windows m n ≡ window_area (state_of a).layers.metal (plan_of a.rules).windows m n
+drawn_is {a} {t} {s} keeps m n = ap (λ (f : PointSet). window_area f (plan_of a.rules).windows m n) (sym (ap (λ (q : State). q.layers.metal) keeps.state))
 
 pub clear_by_edit : {a : Account} {t : Totals} {s : Stored} → Keeps a t s → (edit : Edit) → KeepsClear (plan_of a.rules).raster (fill_after (plan_of a.rules) edit (is_filled s.filled)) (metal_after edit (holds s.metal))
 clear_by_edit {a} {t} {s} keeps edit = clear_after a s (state_of a).base edit keeps.plan keeps.state
-
-pub total_now : {a : Account} {t : Totals} {s : Stored} → Keeps a t s → (p : Places) (w : Rect) (m n : ℕ) → ((i j : ℤ) → in_places p i j ≡ false) → IsWindowOf (plan_of a.rules).windows m n w
-    → area_of (metal_or_box s.filled.raster (left_by s.filled p) (holds s.metal)) w ≡ total_in (plan_of a.rules) (state_of a).metal (state_of a).fill m n
-total_now {a} {t} {s} keeps p w m n none window =
-    let plan = plan_of a.rules in
-    let metal : (state_of a).metal ≡ holds s.metal = ap (λ (q : State). q.metal) keeps.state in
-    let fill : (state_of a).fill ≡ is_filled s.filled = ap (λ (q : State). q.fill) keeps.state in
-    ap (λ (f : PointSet). area_of (metal_or_box s.filled.raster f (holds s.metal)) w) (all_left s.filled p none)
-    ∙ (ap (λ r. area_of (metal_or_box r (is_filled s.filled) (holds s.metal)) w) keeps.fits.raster
-    ∙ (area_in_window (with_boxes plan (holds s.metal) (is_filled s.filled)) plan.windows m n w window
-    ∙ (ap (λ (f : PointSet). total_in plan (holds s.metal) f m n) (sym fill) ∙ ap (λ (f : PointSet). total_in plan f (state_of a).fill m n) (sym metal))))
-
-pub drawn_now : {a : Account} {t : Totals} {s : Stored} → Keeps a t s → (w : Rect) (m n : ℕ) → IsWindowOf (plan_of a.rules).windows m n w → area_of (holds s.metal) w ≡ window_area (state_of a).metal (plan_of a.rules).windows m n
-drawn_now {a} {t} {s} keeps w m n window =
-    let metal : (state_of a).metal ≡ holds s.metal = ap (λ (q : State). q.metal) keeps.state in
-    area_in_window (holds s.metal) (plan_of a.rules).windows m n w window ∙ ap (λ (f : PointSet). window_area f (plan_of a.rules).windows m n) (sym metal)
 
 -- ---- the ledgers have room
 
@@ -92,6 +89,11 @@ stored_next plan e s q b n same next =
     let at_q : step plan q e ≡ state_by (step plan q e).base n = sym next ∙ ap (λ (c : PointSet). state_by c n) (ap (λ (r : State). r.base) next) in
     subst (λ (r : State). step plan r e ≡ state_by (step plan r e).base n) (sym same) at_q
 
+-- the pieces that are stored are those that were found, of the metal that is stored
+pieces_kept : (r : Lattice) (d : ℤ) (p : PointSet) (bands : List Band) (pieces : List (List Band)) (m : List Band) (v : List (List Band)) → bands ≡ m → pieces ≡ v → ((x y : ℤ) → holds m x y ≡ p x y) → ArePieces r d p v → ArePieces r d (holds bands) pieces
+pieces_kept r d p bands pieces m v metal same is are =
+    subst (λ (b : List Band). ArePieces r d (holds b) pieces) (sym metal) (subst (λ (l : List (List Band)). ArePieces r d (holds m) l) (sym same) (subst (λ (q : PointSet). ArePieces r d q v) (sym (same_set (holds m) p is)) are))
+
 pub edit_answer : {a : Account} {t : Totals} {s : Stored} → Keeps a t s → (n : Stored) (edit : Edit) (c : Change) (withdrawn : ℕ) → IsOf (plan_of a.rules) s edit c → IsChanged s n c withdrawn
     → Withdrawn withdrawn ≡ reply_of (plan_of a.rules) (state_of a) (event.Edit edit)
 edit_answer {a} {t} {s} keeps n edit c withdrawn of is =
@@ -106,6 +108,8 @@ keeps_edit {a} {t} {s} keeps u n edit c withdrawn room of is noted =
       state = stored_next plan (event.Edit edit) (state_of a) (state_by base s) (fill_after plan edit (is_filled s.filled)) n keeps.state (edited plan base s n edit c withdrawn of is);
       raster = is.raster;
       bits = is.bits;
+      pieces = pieces_kept plan.raster plan.spacing (metal_after edit (holds s.metal)) n.metal n.pieces.items c.metal c.pieces.items is.metal (ap (λ v. v.items) is.pieces) of.metal of.pieces;
+      keep_pieces = pieces_kept plan.raster (pos 0) (keep_after edit (holds s.keep)) n.keep n.keep_pieces.items c.keep c.keep_pieces.items is.keep (ap (λ v. v.items) is.keep_pieces) of.keep of.keep_pieces;
       version = one_more n.version s.version is.version;
       answer = edit_answer keeps n edit c withdrawn of is;
       totals = noted;
@@ -124,7 +128,7 @@ pub marks_in_tile : (rules : Values) (s : Stored) (version tile : ℕ) (read : R
     → same ≡ true → (i j : ℤ) → is_marked m i j ≡ true → in_tile s.filled.raster tile i j ≡ true
 marks_in_tile rules s version tile read same m fits is all i j h =
     let t = is.is_same.0 all in
-    let wanted : wanted_of (read_set rules (holds s.metal) (windows_in s.low) tile) tile i j ≡ true = ap (λ (r : ReadSet). wanted_of r tile i j) (sym t.2) ∙ (sym (is.marked i j) ∙ h) in
+    let wanted : wanted_of (read_set rules (layers_in s.metal s.keep) (windows_in s.low) tile) tile i j ≡ true = ap (λ (r : ReadSet). wanted_of r tile i j) (sym t.2) ∙ (sym (is.marked i j) ∙ h) in
     rw fits.raster (and_parts (in_tile (plan_of rules).raster tile i j) _ wanted).0
 
 pub commit_answer : {a : Account} {t : Totals} {s : Stored} → Keeps a t s → (n : Stored) (version tile : ℕ) (read : ReadSet) (same : Bool) (m : Marked) (placed : ℕ) (refusal : Reply) → IsBrought a.rules s version tile read same m → IsTakenIn s n same tile m placed
@@ -143,6 +147,8 @@ keeps_commit {a} {t} {s} keeps u n version tile read same m placed reply room is
       state = stored_next plan (event.Commit version tile same) (state_of a) (state_by base s) base n keeps.state (committed a.rules base s n version tile read same m placed keeps.plan is.is_same is.marked taken);
       raster = taken.raster;
       bits = taken.bits;
+      pieces = pieces_kept plan.raster plan.spacing (holds s.metal) n.metal n.pieces.items s.metal s.pieces.items taken.metal (ap (λ v. v.items) taken.pieces) (λ x y. refl) keeps.fits.pieces;
+      keep_pieces = pieces_kept plan.raster (pos 0) (holds s.keep) n.keep n.keep_pieces.items s.keep s.keep_pieces.items taken.keep (ap (λ v. v.items) taken.keep_pieces) (λ x y. refl) keeps.fits.keep_pieces;
       version = same_version n.version s.version taken.version;
       answer = answer;
       totals = noted;
@@ -197,10 +203,10 @@ same_now {a} {b} {t} {s} keeps at version tile read same is =
     subst (λ (k : Account). IsSame k.rules (state_of k) version tile read same) at (subst (λ (q : State). IsSame a.rules q version tile read same) (sym keeps.state) is)
 
 -- the book opens
-pub keeps_opening : (rules : Values) (opening_bands : List Band) (most : ℕ) (t : Totals) (s : Stored) → IsPlan (plan_of rules) → Fits (plan_of rules) s → state_by no_places s ≡ opening (plan_of rules) (holds opening_bands) → most ≤ 2 ^ 32
-    → t ≡ record { calls = 0; placed = 0; withdrawn = 0 } → Keeps (record { rules = rules; opening = opening_bands; history = []; most = most }) t s
+pub keeps_opening : (rules : Values) (opening_bands keep : List Band) (most : ℕ) (t : Totals) (s : Stored) → IsPlan (plan_of rules) → Fits (plan_of rules) s → state_by no_places s ≡ opening (plan_of rules) (layers_in opening_bands keep) → most ≤ 2 ^ 32
+    → t ≡ record { calls = 0; placed = 0; withdrawn = 0 } → Keeps (record { rules = rules; opening = opening_bands; keep = keep; history = []; most = most }) t s
 unfolding replay_from replies_from
-keeps_opening rules opening_bands most t s plan fits state bound none =
+keeps_opening rules opening_bands keep most t s plan fits state bound none =
     record {
       plan = plan;
       fits = fits;
@@ -221,3 +227,31 @@ keeps_opening rules opening_bands most t s plan fits state bound none =
 pub if_some : {X : Type 0} {P : X → Type 0} (o : Option X) → ((x : X) → o ≡ Some x → P x) → IfSome o P
 if_some None h = tt
 if_some (Some x) h = h x refl
+
+-- what was brought keeps clear of the metal
+pub clear_by_commit : {a : Account} {t : Totals} {s : Stored} → Keeps a t s → (version tile : ℕ) (read : ReadSet) (same : Bool) (m : Marked) → IsBrought a.rules s version tile read same m → same ≡ true
+    → KeepsClear s.filled.raster (λ i j. is_filled s.filled i j || is_marked m i j) (holds s.metal)
+clear_by_commit {a} {t} {s} keeps version tile read same m is all =
+    let marks = (λ (i j : ℤ). is_filled s.filled i j || is_marked m i j) in
+    clear_same (plan_of a.rules).raster s.filled.raster marks marks (holds s.metal) (holds s.metal) keeps.fits.raster (λ i j. refl) (λ x y. refl)
+    (clear_commit a s (state_of a).base version tile read m keeps.plan keeps.state (subst (λ (b : Bool). IsSame a.rules (state_by no_places s) version tile read b) all is.is_same) is.marked)
+
+-- the first squares are those of the metal
+pub opening_squares : (rules : Values) (s : Stored) (layers : Layers) → Fits (plan_of rules) s → state_by no_places s ≡ opening (plan_of rules) layers → (holds s.metal ≡ layers.metal) × (squares_in s ≡ layers.metal)
+opening_squares rules s layers fits state =
+    let plan = plan_of rules in
+    let drawn : holds s.metal ≡ layers.metal = ap (λ (q : State). q.layers.metal) state in
+    let fill : is_filled s.filled ≡ no_places = ap (λ (q : State). q.fill) state in
+    (drawn, ap (λ r. metal_or_box r (is_filled s.filled) (holds s.metal)) fits.raster ∙ (ap (λ (f : PointSet). with_boxes plan (holds s.metal) f) fill ∙ (ap (λ (f : PointSet). with_boxes plan f no_places) drawn ∙ no_boxes plan layers.metal)))
+
+-- what tells the areas of a change tells those of what is stored after it
+pub changed_stands : (P : PointSet → PointSet → Type 0) (s n : Stored) (c : Change) (withdrawn : ℕ) → IsChanged s n c withdrawn → P (holds c.metal) (metal_or_box s.filled.raster (left_by s.filled c.out) (holds c.metal)) → P (holds n.metal) (squares_in n)
+changed_stands P s n c withdrawn is stands =
+    let same : metal_or_box s.filled.raster (left_by s.filled c.out) (holds n.metal) ≡ squares_in n = same_squares s.filled.raster n.filled.raster (left_by s.filled c.out) (is_filled n.filled) (holds n.metal) is.raster is.filled in
+    subst (λ (p : PointSet). P (holds n.metal) p) same (subst (λ (b : List Band). P (holds b) (metal_or_box s.filled.raster (left_by s.filled c.out) (holds b))) (sym is.metal) stands)
+
+-- what is stored is what there is to read
+pub read_now : {a b : Account} {t : Totals} {s : Stored} → Keeps a t s → a ≡ b → (rules : Values) (tile : ℕ) → rules ≡ a.rules → read_set rules (layers_in s.metal s.keep) (windows_in s.low) tile ≡ read_set b.rules (state_of b).layers (state_of b).low tile
+read_now {a} {b} {t} {s} keeps at rules tile same =
+    subst (λ (k : Account). read_set rules (layers_in s.metal s.keep) (windows_in s.low) tile ≡ read_set k.rules (state_of k).layers (state_of k).low tile) at
+    (ap (λ (v : Values). read_set v (layers_in s.metal s.keep) (windows_in s.low) tile) same ∙ ap (λ (q : State). read_set a.rules q.layers q.low tile) (sym keeps.state))

@@ -8,7 +8,7 @@ use Rattle.fill_core.specs.Machine.{State, commit_reply}
 use Rattle.fill_core.specs.declared.event.Reply.TheVariants.{Already, Foreign, Stale}
 
 pub same_reads : (rules : Values) (s : State) (version mine tile : ℕ) (read here : ReadSet) (same : Bool) → mine ≡ version → mine ≡ s.version → s.tiles_in tile ≡ false
-    → here ≡ read_set rules s.metal s.low tile → (same ≡ true) ↔ (read ≡ here) → IsSame rules s version tile read same
+    → here ≡ read_set rules s.layers s.low tile → (same ≡ true) ↔ (read ≡ here) → IsSame rules s version tile read same
 same_reads rules s version mine tile read here same is now out read_now matches = (
   (λ h. (rw is at now, out, matches.0 h ∙ read_now)),
   (λ h. matches.1 (h.2 ∙ sym read_now)),

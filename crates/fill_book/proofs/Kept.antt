@@ -1,5 +1,5 @@
 -- What a book stores after an event, and that it keeps its account then.
-use Rattle.std.proofs.Common.{◌≡◌, refl, ap, sym, subst, ◌∙◌, ℕ, ◌+◌, ◌≤◌, ℤ, arith, [], ◌∷◌, ◌++◌, length, Bool, true, false, cond, ◌&&◌, ◌||◌, not}
+use Rattle.std.proofs.Common.{◌≡◌, refl, ap, sym, subst, ◌∙◌, ℕ, ◌+◌, ◌≤◌, ℤ, pos, arith, [], ◌∷◌, ◌++◌, length, Bool, true, false, cond, ◌&&◌, ◌||◌, not}
 use Rattle.std.specs.Prelude.{◌==◌}
 use Rattle.std.proofs.Math.Path.{fun_ext}
 use Rattle.std.proofs.lemmas.List.{length_push, map-append}
@@ -10,14 +10,14 @@ use Rattle.fill_raster.specs.Marks.{Marked, is_marked}
 use Rattle.fill_raster.proofs.Points.{or_no}
 use Rattle.fill_text.specs.Rules.{Values}
 use Rattle.fill_text.specs.declared.script.Edit.{Edit}
-use Rattle.fill_job.specs.Basis.{windows_in}
+use Rattle.fill_job.specs.Basis.{layers_in, windows_in}
 use Rattle.fill_job.specs.Plans.{Plan, IsPlan, PointSet, low_windows, plan_of, wanted}
 use Rattle.fill_job.specs.ReadSets.{ReadSet, wanted_of}
 use Rattle.fill_job.proofs.ReadSets.{same_wanted}
 use Rattle.fill_core.specs.Accounts.{Account, IsSame, state_of, with_entry}
 use Rattle.fill_core.specs.Boxes.{count_places, with_boxes}
 use Rattle.fill_core.specs.Histories.{placed_by, placed_in, replies_in, withdrawn_by, withdrawn_in}
-use Rattle.fill_core.specs.Machine.{State, commit_reply, commit_step, edit_reply, edit_step, fill_after, is_accepted, metal_after, newly_placed, reply_of, step, withdrawn_places}
+use Rattle.fill_core.specs.Machine.{State, commit_reply, commit_step, edit_reply, edit_step, fill_after, is_accepted, keep_after, metal_after, newly_placed, reply_of, step, withdrawn_places}
 use Rattle.fill_core.specs.Shares.{Totals, counted, totals_of}
 use Rattle.fill_core.specs.declared.event.Entry.{Entry}
 use Rattle.fill_core.specs.declared.event.Event.{Event}
@@ -29,6 +29,7 @@ use Rattle.fill_core.proofs.Replays.{same_state}
 use Rattle.fill_core.proofs.Written.{state_with, legal_with}
 use Rattle.fill_book.specs.Filling.{is_filled, left_by}
 use Rattle.fill_book.specs.Keeping.{Keeps, state_by}
+use Rattle.fill_book.specs.Pieces.{ArePieces}
 use Rattle.fill_book.specs.Tiles.{is_in}
 use Rattle.fill_book.specs.declared.stored.Change.{Change}
 use Rattle.fill_book.specs.declared.stored.Stored.{Stored}
@@ -38,6 +39,9 @@ use Rattle.fill_book.specs.declared.stored.Stored.{Stored}
 -- where `same` holds the marked places are filled and the tile is in; all else is as before
 pub record IsTakenIn (s n : Stored) (same : Bool) (tile : ℕ) (m : Marked) (placed : ℕ) : Type 0 where
   pub metal : n.metal ≡ s.metal
+  pub keep : n.keep ≡ s.keep
+  pub pieces : n.pieces ≡ s.pieces
+  pub keep_pieces : n.keep_pieces ≡ s.keep_pieces
   pub low : n.low ≡ s.low
   pub version : n.version ≡ s.version
   pub raster : n.filled.raster ≡ s.filled.raster
@@ -50,7 +54,7 @@ nat_same : (m n : ℕ) → m ≡ n → (m == n) ≡ true
 nat_same m n e = grind (arith, e)
 
 -- what is the same is accepted, and nothing else
-accepted : (rules : Values) (base : PointSet) (s : Stored) (version tile : ℕ) (read : ReadSet) (same : Bool) → IsSame rules (state_by base s) version tile read same → is_accepted (state_by base s) version tile same ≡ same
+pub accepted : (rules : Values) (base : PointSet) (s : Stored) (version tile : ℕ) (read : ReadSet) (same : Bool) → IsSame rules (state_by base s) version tile read same → is_accepted (state_by base s) version tile same ≡ same
 accepted rules base s version tile read true is = let h = is.0 refl in rw (nat_same version s.version h.0, h.1) refl
 accepted rules base s version tile read false is = none (version == s.version) (not (is_in s.tiles tile))
   where
@@ -60,22 +64,22 @@ accepted rules base s version tile read false is = none (version == s.version) (
     none false b = refl
 
 -- the marks of a proposal that is the same are wanted
-wanted_marks : (rules : Values) (base : PointSet) (s : Stored) (version tile : ℕ) (read : ReadSet) (m : Marked) → IsPlan (plan_of rules) → IsSame rules (state_by base s) version tile read true
-    → ((i j : ℤ) → is_marked m i j ≡ wanted_of read tile i j) → (i j : ℤ) → is_marked m i j ≡ wanted (plan_of rules) (holds s.metal) (windows_in s.low) tile i j
+pub wanted_marks : (rules : Values) (base : PointSet) (s : Stored) (version tile : ℕ) (read : ReadSet) (m : Marked) → IsPlan (plan_of rules) → IsSame rules (state_by base s) version tile read true
+    → ((i j : ℤ) → is_marked m i j ≡ wanted_of read tile i j) → (i j : ℤ) → is_marked m i j ≡ wanted (plan_of rules) (layers_in s.metal s.keep) (windows_in s.low) tile i j
 wanted_marks rules base s version tile read m plan is marked i j =
     let h = is.0 refl in
-    marked i j ∙ (ap (λ (r : ReadSet). wanted_of r tile i j) h.2 ∙ ap (λ (p : PointSet). p i j) (same_wanted rules (holds s.metal) (windows_in s.low) tile plan))
+    marked i j ∙ (ap (λ (r : ReadSet). wanted_of r tile i j) h.2 ∙ ap (λ (p : PointSet). p i j) (same_wanted rules (layers_in s.metal s.keep) (windows_in s.low) tile plan))
 
 pub committed : (rules : Values) (base : PointSet) (s n : Stored) (version tile : ℕ) (read : ReadSet) (same : Bool) (m : Marked) (placed : ℕ) → IsPlan (plan_of rules) → IsSame rules (state_by base s) version tile read same
     → ((i j : ℤ) → is_marked m i j ≡ wanted_of read tile i j) → IsTakenIn s n same tile m placed → state_by base n ≡ commit_step (plan_of rules) (state_by base s) version tile same
 committed rules base s n version tile read true m placed plan is marked taken =
     rw (accepted rules base s version tile read true is)
-    (same_state (state_by base n) _ (λ x y. ap (λ b. holds b x y) taken.metal)
+    (same_state (state_by base n) _ (λ x y. ap (λ b. holds b x y) taken.metal) (λ x y. ap (λ b. holds b x y) taken.keep)
     (λ i j. taken.filled i j ∙ ap (λ b. is_filled s.filled i j || b) (wanted_marks rules base s version tile read m plan is marked i j))
     taken.version (λ a b. ap (λ l. windows_in l a b) taken.low) taken.tiles (λ i j. refl))
 committed rules base s n version tile read false m placed plan is marked taken =
     rw (accepted rules base s version tile read false is)
-    (same_state (state_by base n) (state_by base s) (λ x y. ap (λ b. holds b x y) taken.metal)
+    (same_state (state_by base n) (state_by base s) (λ x y. ap (λ b. holds b x y) taken.metal) (λ x y. ap (λ b. holds b x y) taken.keep)
     (λ i j. taken.filled i j ∙ or_no (is_filled s.filled i j))
     taken.version (λ a b. ap (λ l. windows_in l a b) taken.low) (λ t. taken.tiles t ∙ or_no (is_in s.tiles t)) (λ i j. refl))
 
@@ -113,6 +117,9 @@ answered rules base s n version tile read true m placed refusal plan raster is m
 -- the metal and the low windows are those of the change, its places are emptied, and the next version has no tile
 pub record IsChanged (s n : Stored) (c : Change) (withdrawn : ℕ) : Type 0 where
   pub metal : n.metal ≡ c.metal
+  pub keep : n.keep ≡ c.keep
+  pub pieces : n.pieces ≡ c.pieces
+  pub keep_pieces : n.keep_pieces ≡ c.keep_pieces
   pub low : n.low ≡ c.low
   pub version : n.version ≡ s.version + 1
   pub raster : n.filled.raster ≡ s.filled.raster
@@ -124,6 +131,9 @@ pub record IsChanged (s n : Stored) (c : Change) (withdrawn : ℕ) : Type 0 wher
 -- the change is that of the edit
 pub record IsOf (plan : Plan) (s : Stored) (edit : Edit) (c : Change) : Type 0 where
   pub metal : (x y : ℤ) → holds c.metal x y ≡ metal_after edit (holds s.metal) x y
+  pub keep : (x y : ℤ) → holds c.keep x y ≡ keep_after edit (holds s.keep) x y
+  pub pieces : ArePieces plan.raster plan.spacing (metal_after edit (holds s.metal)) c.pieces.items
+  pub keep_pieces : ArePieces plan.raster (pos 0) (keep_after edit (holds s.keep)) c.keep_pieces.items
   pub filled : (i j : ℤ) → left_by s.filled c.out i j ≡ fill_after plan edit (is_filled s.filled) i j
   pub low : (a b : ℕ) → windows_in c.low a b ≡ low_windows plan (with_boxes plan (metal_after edit (holds s.metal)) (fill_after plan edit (is_filled s.filled))) a b
 
@@ -131,7 +141,7 @@ pub edited : (plan : Plan) (base : PointSet) (s n : Stored) (edit : Edit) (c : C
     → state_by (fill_after plan edit (is_filled s.filled)) n ≡ edit_step plan (state_by base s) edit
 edited plan base s n edit c withdrawn of is =
     same_state (state_by (fill_after plan edit (is_filled s.filled)) n) (edit_step plan (state_by base s) edit)
-    (λ x y. ap (λ b. holds b x y) is.metal ∙ of.metal x y) (λ i j. is.filled i j ∙ of.filled i j) is.version
+    (λ x y. ap (λ b. holds b x y) is.metal ∙ of.metal x y) (λ x y. ap (λ b. holds b x y) is.keep ∙ of.keep x y) (λ i j. is.filled i j ∙ of.filled i j) is.version
     (λ a b. ap (λ l. windows_in l a b) is.low ∙ of.low a b) is.tiles (λ i j. refl)
 
 pub withdrawn_is : (plan : Plan) (base : PointSet) (s n : Stored) (edit : Edit) (c : Change) (withdrawn : ℕ) → s.filled.raster ≡ plan.raster → IsOf plan s edit c → IsChanged s n c withdrawn
@@ -164,6 +174,8 @@ pub record IsNext (a : Account) (t u : Totals) (s n : Stored) (e : Event) (reply
   pub state : step (plan_of a.rules) (state_of a) e ≡ state_by (step (plan_of a.rules) (state_of a) e).base n
   pub raster : n.filled.raster ≡ s.filled.raster
   pub bits : length n.tiles ≡ length s.tiles
+  pub pieces : ArePieces (plan_of a.rules).raster (plan_of a.rules).spacing (holds n.metal) n.pieces.items
+  pub keep_pieces : ArePieces (plan_of a.rules).raster (pos 0) (holds n.keep) n.keep_pieces.items
   pub version : n.version ≤ s.version + 1
   pub answer : reply ≡ reply_of (plan_of a.rules) (state_of a) e
   pub totals : u ≡ counted t (placed_by reply) (withdrawn_by reply)
@@ -174,7 +186,7 @@ keeps_next a t u s n e reply keeps room next =
     let calls : length (with_entry a e reply).history ≡ length a.history + 1 = length_push a.history (record { event = e; reply = reply }) in
     record {
       plan = keeps.plan;
-      fits = record { raster = next.raster ∙ keeps.fits.raster; tiles = next.bits ∙ keeps.fits.tiles };
+      fits = record { raster = next.raster ∙ keeps.fits.raster; tiles = next.bits ∙ keeps.fits.tiles; pieces = next.pieces; keep_pieces = next.keep_pieces };
       state = after ∙ (next.state ∙ ap (λ (b : State). state_by b.base n) (sym after));
       legal = legal_with a e reply keeps.legal next.answer;
       version = rw calls (one_on n.version s.version (length a.history) next.version keeps.version);

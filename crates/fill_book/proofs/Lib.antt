@@ -18,3 +18,7 @@ pub mod Accounted
 pub mod Answering
 pub mod TileWords
 pub mod LastTile
+pub mod SumsMoved
+pub mod BoxParts
+pub mod MetalParts
+pub mod HaloMetal

@@ -1,5 +1,5 @@
 -- The unit squares of the low windows, one after another.
-use Rattle.std.proofs.Common.{◌≡◌, refl, sym, ap, ◌∙◌, ℕ, zero, suc, ◌+◌, ◌*◌, ◌/◌, ◌%◌, ◌<◌, ℤ, pos, ◌*ℤ◌, ◌<ℤ◌, arith, inl, inr, List, [], ◌∷◌, ◌++◌, length, get_or, Bool, true, false, ◌&&◌, ◌||◌, ◌↔◌}
+use Rattle.std.proofs.Common.{◌≡◌, refl, sym, subst, ap, ◌∙◌, ℕ, zero, suc, ◌+◌, ◌*◌, ◌/◌, ◌%◌, ◌<◌, ℤ, pos, ◌<ℤ◌, arith, inl, inr, List, [], ◌∷◌, ◌++◌, length, get_or, Bool, true, false, ◌&&◌, ◌||◌, ◌↔◌}
 use Rattle.std.specs.Prelude.{int_lt, nat_lt, IsTrue}
 use Rattle.std.specs.Ordering.{int_eq}
 use Rattle.std.proofs.lemmas.Bool.{and_parts, cases_Bool}
@@ -11,7 +11,7 @@ use Rattle.std.proofs.Math.Nat.{div-add-mod, div-lt_iff_lt-mul}
 use Rattle.fill_base.specs.Squares.{squares}
 use Rattle.fill_base.specs.declared.rect.Rect.{Rect}
 use Rattle.fill_area.specs.Density.{IsBelow}
-use Rattle.fill_area.specs.Grid.{Grid}
+use Rattle.fill_area.specs.Grid.{Grid, counted_size}
 use Rattle.fill_raster.proofs.Points.{int_eq_yes}
 use Rattle.fill_region.specs.Squares.{covered}
 use Rattle.fill_book.specs.Low.{low_by}
@@ -50,7 +50,7 @@ lt_test : (a b : ℤ) (r : Bool) → (IsTrue r ↔ a <ℤ b) → int_lt a b ≡ 
 lt_test a b true h = let lt : a <ℤ b = h.0 refl in grind (arith, ints)
 lt_test a b false h = by_lt_z a b (λ lt. let both : false ≡ true = h.1 lt in cc) (λ le. grind (arith, ints))
 
-pub low_at : (g : Grid) (least : ℤ) (totals : List ℤ) (k : ℕ) (size : ℤ) (test : Bool) → length totals ≡ g.across.count * g.up.count → k < length totals → size ≡ g.across.length *ℤ g.up.length
+pub low_at : (g : Grid) (least : ℤ) (totals : List ℤ) (k : ℕ) (size : ℤ) (test : Bool) → length totals ≡ g.across.count * g.up.count → k < length totals → size ≡ counted_size g (k % g.across.count) (k / g.across.count)
     → (IsTrue test ↔ IsBelow (get_or totals k (pos 0)) least size) → low_by g least totals (k % g.across.count) (k / g.across.count) ≡ test
 low_at g least totals k size test count lt size_is is =
     let below : k < g.across.count * g.up.count = rw (← count) lt in
@@ -58,9 +58,8 @@ low_at g least totals k size test count lt size_is is =
       lt_yes _ _ (in_columns k g.across.count g.up.count below),
       lt_yes _ _ (in_rows k g.across.count g.up.count below),
       index_is g.across.count (k % g.across.count) (k / g.across.count) k refl refl,
-      ← size_is,
     )
-    (lt_test _ _ test is)
+    (lt_test _ _ test (subst (λ (n : ℤ). IsTrue test ↔ IsBelow (get_or totals k (pos 0)) least n) size_is is))
 
 -- ---- the windows so far
 

@@ -1,26 +1,26 @@
 -- What is measured: windows that are low, the total of a window, and that boxes of a sound fill share no square with the metal.
-use Rattle.std.proofs.Common.{◌≡◌, refl, ap, sym, subst, ◌∙◌, ℕ, ◌<◌, ℤ, pos, ◌+ℤ◌, ◌-ℤ◌, ◌≤ℤ◌, arith, inl, inr, List, [], ◌∷◌, ◌++◌, Bool, true, false, ◌&&◌, not}
+use Rattle.std.proofs.Common.{◌≡◌, refl, ap, sym, subst, ◌∙◌, ℕ, ◌<◌, ℤ, pos, ◌+ℤ◌, ◌-ℤ◌, ◌≤ℤ◌, arith, inl, inr, List, [], ◌∷◌, ◌++◌, Bool, true, false, ◌&&◌, ◌||◌, not}
 use Rattle.std.specs.Prelude.{nat_lt}
 use Rattle.std.proofs.Math.Path.{fun_ext}
 use Rattle.std.proofs.lemmas.Bool.{and_parts, cases_Bool}
 use Rattle.std.proofs.lemmas.Bool.Decides.{nat_tests}
 use Rattle.std.proofs.lemmas.Int.{ints}
-use Rattle.fill_base.specs.Squares.{area_of}
-use Rattle.fill_base.specs.declared.rect.Rect.{Rect}
 use Rattle.fill_region.specs.Bands.{Band, holds}
-use Rattle.fill_area.specs.Density.{AreMeasured, window_area}
-use Rattle.fill_area.specs.Grid.{Grid, window_left, window_right, window_bottom, window_top}
+use Rattle.fill_area.specs.Density.{AreMeasured}
+use Rattle.fill_area.specs.Grid.{Grid}
 use Rattle.fill_raster.specs.Axes.{first, past}
 use Rattle.fill_raster.specs.Lattice.{Lattice, box_squares, in_raster, KeepsPitch}
 use Rattle.fill_raster.proofs.Ranges.{first_past}
 use Rattle.fill_text.specs.declared.script.Edit.{Edit}
-use Rattle.fill_job.specs.Basis.{windows_in}
-use Rattle.fill_job.specs.Plans.{Plan, IsPlan, PointSet, low_windows, plan_of}
+use Rattle.fill_job.specs.Basis.{layers_in, windows_in}
+use Rattle.fill_job.specs.Plans.{Layers, Plan, IsPlan, PointSet, low_windows, plan_of}
 use Rattle.fill_job.proofs.Conflicts.{some_within_decides}
-use Rattle.fill_core.specs.Accounts.{Account, state_of}
+use Rattle.fill_raster.specs.Marks.{Marked, is_marked}
+use Rattle.fill_job.specs.ReadSets.{ReadSet, wanted_of}
+use Rattle.fill_core.specs.Accounts.{Account, IsSame, opening_of, state_of}
 use Rattle.fill_core.specs.Boxes.{no_places, total_in, with_boxes}
 use Rattle.fill_core.specs.Histories.{events_in}
-use Rattle.fill_core.specs.Machine.{State, fill_after, metal_after, opening, replay, step}
+use Rattle.fill_core.specs.Machine.{State, fill_after, layers_after, metal_after, opening, replay, step, with_tile}
 use Rattle.fill_core.specs.Soundness.{IsSound}
 use Rattle.fill_core.specs.declared.event.Event.TheVariants as event
 use Rattle.fill_core.proofs.Replays.{no_boxes, replay_push, same_state}
@@ -29,6 +29,7 @@ use Rattle.fill_book.specs.Filling.{Filling, KeepsClear, in_places, is_filled, l
 use Rattle.fill_book.specs.Keeping.{state_by}
 use Rattle.fill_book.specs.Low.{low_by}
 use Rattle.fill_book.specs.Tiles.{is_in}
+use Rattle.fill_book.proofs.Kept.{accepted, wanted_marks}
 use Rattle.fill_book.proofs.Nearby.{filled_on}
 use Rattle.fill_book.specs.declared.places.Places.{Places}
 use Rattle.fill_book.specs.declared.stored.Stored.{Stored}
@@ -48,11 +49,11 @@ low_measured plan p totals a b are = elim (cases_Bool (nat_lt a plan.windows.acr
     below : (m n : ℕ) → nat_lt m n ≡ true → m < n
     below m n h = grind (arith, nat_tests)
 
-pub opened : (plan : Plan) (s : Stored) (metal : List Band) (totals : List ℤ) → s.metal ≡ metal → s.version ≡ 0 → AreMeasured (holds metal) plan.windows totals
+pub opened : (plan : Plan) (s : Stored) (metal keep : List Band) (totals : List ℤ) → s.metal ≡ metal → s.keep ≡ keep → s.version ≡ 0 → AreMeasured (holds metal) plan.windows totals
     → ((a b : ℕ) → windows_in s.low a b ≡ low_by plan.windows plan.least totals a b) → ((i j : ℤ) → is_filled s.filled i j ≡ false) → ((t : ℕ) → is_in s.tiles t ≡ false)
-    → state_by no_places s ≡ opening plan (holds metal)
-opened plan s metal totals same version are low none out =
-    same_state (state_by no_places s) (opening plan (holds metal)) (λ x y. ap (λ b. holds b x y) same) none version
+    → state_by no_places s ≡ opening plan (layers_in metal keep)
+opened plan s metal keep totals same same_keep version are low none out =
+    same_state (state_by no_places s) (opening plan (layers_in metal keep)) (λ x y. ap (λ b. holds b x y) same) (λ x y. ap (λ b. holds b x y) same_keep) none version
     (λ a b. low a b ∙ (low_measured plan (holds metal) totals a b are ∙ ap (λ (p : PointSet). low_windows plan p a b) (sym (no_boxes plan (holds metal))))) out (λ i j. refl)
 
 pub pitch_kept : (plan : Plan) → IsPlan plan → KeepsPitch plan.raster (pos 0)
@@ -64,8 +65,8 @@ pitch_kept plan is = (least plan.raster.across.length plan.fill_spacing plan.ras
 -- ---- boxes and metal
 
 -- a box that keeps the spacing shares no square with the metal
-pub keeps_clear : (plan : Plan) (metal fill : PointSet) (totals : ℕ → ℕ → ℕ) → IsPlan plan → IsSound plan metal fill totals → KeepsClear plan.raster fill metal
-keeps_clear plan metal fill totals is sound x y drawn box =
+pub keeps_clear : (plan : Plan) (layers : Layers) (fill : PointSet) (totals : ℕ → ℕ → ℕ) → IsPlan plan → IsSound plan layers fill totals → KeepsClear plan.raster fill layers.metal
+keeps_clear plan layers fill totals is sound x y drawn box =
     let r = plan.raster in
     let found = some_within_decides (λ i j. fill i j && box_squares r i j x y) (first r.across) (first r.up) (past r.across) (past r.up) (first_past r.across) (first_past r.up) in
     let f = found.0 box in
@@ -80,21 +81,41 @@ keeps_clear plan metal fill totals is sound x y drawn box =
     near : (x s : ℤ) → pos 0 ≤ℤ s → (x -ℤ x) ≤ℤ s
     near x s h = omega (arith, ints)
 
-sound_at : (plan : Plan) (s t : State) → s ≡ t → IsSound plan s.metal s.fill (total_in plan s.metal s.fill) → IsSound plan t.metal t.fill (total_in plan t.metal t.fill)
-sound_at plan s t e sound = subst (λ (q : State). IsSound plan q.metal q.fill (total_in plan q.metal q.fill)) e sound
+sound_at : (plan : Plan) (s t : State) → s ≡ t → IsSound plan s.layers s.fill (total_in plan s.layers.metal s.fill) → IsSound plan t.layers t.fill (total_in plan t.layers.metal t.fill)
+sound_at plan s t e sound = subst (λ (q : State). IsSound plan q.layers q.fill (total_in plan q.layers.metal q.fill)) e sound
 
 -- so it is in a book, and in the book after an edit
 pub clear_now : (a : Account) (s : Stored) (base : PointSet) → IsPlan (plan_of a.rules) → state_of a ≡ state_by base s → KeepsClear (plan_of a.rules).raster (is_filled s.filled) (holds s.metal)
 clear_now a s base is state =
     let plan = plan_of a.rules in
-    keeps_clear plan (holds s.metal) (is_filled s.filled) _ is (sound_at plan (state_of a) (state_by base s) state (replay_sound plan (holds a.opening) (events_in a.history) is))
+    keeps_clear plan (layers_in s.metal s.keep) (is_filled s.filled) _ is (sound_at plan (state_of a) (state_by base s) state (replay_sound plan (opening_of a) (events_in a.history) is))
 
 pub clear_after : (a : Account) (s : Stored) (base : PointSet) (edit : Edit) → IsPlan (plan_of a.rules) → state_of a ≡ state_by base s
     → KeepsClear (plan_of a.rules).raster (fill_after (plan_of a.rules) edit (is_filled s.filled)) (metal_after edit (holds s.metal))
 clear_after a s base edit is state =
     let plan = plan_of a.rules in let events = events_in a.history in
-    let next : replay plan (holds a.opening) (events ++ event.Edit edit ∷ []) ≡ step plan (state_by base s) (event.Edit edit) = replay_push plan (holds a.opening) events (event.Edit edit) ∙ ap (λ (q : State). step plan q (event.Edit edit)) state in
-    keeps_clear plan (metal_after edit (holds s.metal)) (fill_after plan edit (is_filled s.filled)) _ is (sound_at plan _ (step plan (state_by base s) (event.Edit edit)) next (replay_sound plan (holds a.opening) (events ++ event.Edit edit ∷ []) is))
+    let next : replay plan (opening_of a) (events ++ event.Edit edit ∷ []) ≡ step plan (state_by base s) (event.Edit edit) = replay_push plan (opening_of a) events (event.Edit edit) ∙ ap (λ (q : State). step plan q (event.Edit edit)) state in
+    keeps_clear plan (layers_after edit (layers_in s.metal s.keep)) (fill_after plan edit (is_filled s.filled)) _ is (sound_at plan _ (step plan (state_by base s) (event.Edit edit)) next (replay_sound plan (opening_of a) (events ++ event.Edit edit ∷ []) is))
+
+-- the same sets, told otherwise
+pub same_set : (p q : PointSet) → ((x y : ℤ) → p x y ≡ q x y) → p ≡ q
+same_set p q each = fun_ext (λ x. fun_ext (λ y. each x y))
+
+pub clear_same : (r q : Lattice) (f g m n : PointSet) → q ≡ r → ((i j : ℤ) → g i j ≡ f i j) → ((x y : ℤ) → n x y ≡ m x y) → KeepsClear r f m → KeepsClear q g n
+clear_same r q f g m n raster fill metal clear = rw (raster, same_set g f fill, same_set n m metal) clear
+
+-- and in the book after a commit that is accepted
+pub clear_commit : (a : Account) (s : Stored) (base : PointSet) (version tile : ℕ) (read : ReadSet) (m : Marked) → IsPlan (plan_of a.rules) → state_of a ≡ state_by base s → IsSame a.rules (state_by base s) version tile read true
+    → ((i j : ℤ) → is_marked m i j ≡ wanted_of read tile i j) → KeepsClear (plan_of a.rules).raster (λ i j. is_filled s.filled i j || is_marked m i j) (holds s.metal)
+clear_commit a s base version tile read m is state same marked =
+    let plan = plan_of a.rules in let events = events_in a.history in
+    let after = with_tile plan (state_by base s) tile in
+    let step_is : step plan (state_by base s) (event.Commit version tile true) ≡ after = rw (accepted a.rules base s version tile read true same) refl in
+    let next : replay plan (opening_of a) (events ++ event.Commit version tile true ∷ []) ≡ after =
+    replay_push plan (opening_of a) events (event.Commit version tile true) ∙ (ap (λ (q : State). step plan q (event.Commit version tile true)) state ∙ step_is) in
+    let wanted_clear = keeps_clear plan (layers_in s.metal s.keep) after.fill _ is (sound_at plan _ after next (replay_sound plan (opening_of a) (events ++ event.Commit version tile true ∷ []) is)) in
+    clear_same plan.raster plan.raster after.fill (λ i j. is_filled s.filled i j || is_marked m i j) (holds s.metal) (holds s.metal) refl
+    (λ i j. ap (λ b. is_filled s.filled i j || b) (wanted_marks a.rules base s version tile read m is same marked i j)) (λ x y. refl) wanted_clear
 
 -- ---- the total of a window
 
@@ -106,23 +127,7 @@ all_left f p none = fun_ext (λ i. fun_ext (λ j. ap (λ b. is_filled f i j && n
     and_yes true = refl
     and_yes false = refl
 
--- the rectangle is that of the window
-pub record IsWindowOf (g : Grid) (a b : ℕ) (w : Rect) : Type 0 where
-  pub left : w.x1 ≡ window_left g a
-  pub bottom : w.y1 ≡ window_bottom g b
-  pub right : w.x2 ≡ window_right g a
-  pub top : w.y2 ≡ window_top g b
-
-pub area_in_window : (p : PointSet) (g : Grid) (a b : ℕ) (w : Rect) → IsWindowOf g a b w → area_of p w ≡ window_area p g a b
-area_in_window p g a b w is = rw (is.left, is.bottom, is.right, is.top) refl
-
 -- ---- the same sets, told otherwise
-
-same_set : (p q : PointSet) → ((x y : ℤ) → p x y ≡ q x y) → p ≡ q
-same_set p q each = fun_ext (λ x. fun_ext (λ y. each x y))
-
-pub clear_same : (r q : Lattice) (f g m n : PointSet) → q ≡ r → ((i j : ℤ) → g i j ≡ f i j) → ((x y : ℤ) → n x y ≡ m x y) → KeepsClear r f m → KeepsClear q g n
-clear_same r q f g m n raster fill metal clear = rw (raster, same_set g f fill, same_set n m metal) clear
 
 pub measured_same : (plan : Plan) (r : Lattice) (w : Grid) (f g m n : PointSet) (totals : List ℤ) → r ≡ plan.raster → w ≡ plan.windows → ((i j : ℤ) → f i j ≡ g i j) → ((x y : ℤ) → m x y ≡ n x y)
     → AreMeasured (metal_or_box r f m) w totals → AreMeasured (with_boxes plan n g) plan.windows totals

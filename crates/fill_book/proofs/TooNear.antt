@@ -1,4 +1,4 @@
--- The places near a rectangle are those that are in conflict with it.
+-- The places near a rectangle are those whose box, grown by the distance, meets it.
 use Rattle.std.proofs.Common.{◌≡◌, refl, ℤ, pos, ◌+ℤ◌, ◌-ℤ◌, ◌≤ℤ◌, ◌<ℤ◌, arith, inl, inr, ◌⊎◌, true, ◌&&◌, not}
 use Rattle.std.specs.Prelude.{int_lt}
 use Rattle.std.proofs.lemmas.Bool.{and_from, and_parts, cases_Bool}
@@ -9,10 +9,10 @@ use Rattle.fill_base.specs.Squares.{squares}
 use Rattle.fill_base.specs.declared.rect.Rect.{Rect}
 use Rattle.fill_base.proofs.Between.{is_between_true, is_between_bounds}
 use Rattle.fill_raster.specs.Axes.{box_begin, box_end, is_on, is_on_within}
-use Rattle.fill_raster.specs.Lattice.{in_raster, is_near}
+use Rattle.fill_raster.specs.Lattice.{Lattice, IsLattice, in_raster, is_near}
 use Rattle.fill_raster.specs.declared.axis.Axis.{Axis}
 use Rattle.fill_raster.proofs.Ranges.{both}
-use Rattle.fill_job.specs.Plans.{Plan, IsPlan, PointSet, conflicts}
+use Rattle.fill_job.specs.Plans.{PointSet, meets_box}
 use Rattle.fill_job.proofs.Conflicts.{grown_le, some_within_decides}
 
 -- a range and a grown one share a number
@@ -66,19 +66,19 @@ box_some a i is = some (box_begin a i) a.length is.least
     some : (b n : ℤ) → pos 1 ≤ℤ n → b <ℤ (b +ℤ n)
     some b n h = omega (arith, ints)
 
-pub near_conflicts : (plan : Plan) (r : Rect) (i j : ℤ) → IsPlan plan → in_raster plan.raster i j ≡ true → is_near plan.raster r plan.spacing i j ≡ conflicts plan (squares r) i j
-unfolding conflicts
-near_conflicts plan r i j is on =
-    let across = plan.raster.across in let up = plan.raster.up in let s = plan.spacing in
+pub near_meets : (raster : Lattice) (s : ℤ) (r : Rect) (i j : ℤ) → IsLattice raster → pos 0 ≤ℤ s → in_raster raster i j ≡ true → is_near raster r s i j ≡ meets_box raster s (squares r) i j
+unfolding meets_box
+near_meets raster s r i j is spaced on =
+    let across = raster.across in let up = raster.up in
     let on_axes = and_parts (is_on across i) (is_on up j) on in
-    let wide = box_some across i is.raster.across.length_is in
-    let tall = box_some up j is.raster.up.length_is in
-    let decides = some_within_decides (squares r) (box_begin across i -ℤ s) (box_begin up j -ℤ s) (box_end across i +ℤ s) (box_end up j +ℤ s) (grown_le _ _ _ wide is.spacing.least) (grown_le _ _ _ tall is.spacing.least) in
-    both (is_near plan.raster r s i j) _
+    let wide = box_some across i is.across.length_is in
+    let tall = box_some up j is.up.length_is in
+    let decides = some_within_decides (squares r) (box_begin across i -ℤ s) (box_begin up j -ℤ s) (box_end across i +ℤ s) (box_end up j +ℤ s) (grown_le _ _ _ wide spaced) (grown_le _ _ _ tall spaced) in
+    both (is_near raster r s i j) _
     (λ h.
     let near = and_parts (is_on_within across (r.x1 -ℤ s) (r.x2 +ℤ s) i) (is_on_within up (r.y1 -ℤ s) (r.y2 +ℤ s) j) h in
-    let x = shared_if r.x1 r.x2 (box_begin across i) (box_end across i) s r.wide wide is.spacing.least (and_parts (is_on across i) _ near.0).1 in
-    let y = shared_if r.y1 r.y2 (box_begin up j) (box_end up j) s r.tall tall is.spacing.least (and_parts (is_on up j) _ near.1).1 in
+    let x = shared_if r.x1 r.x2 (box_begin across i) (box_end across i) s r.wide wide spaced (and_parts (is_on across i) _ near.0).1 in
+    let y = shared_if r.y1 r.y2 (box_begin up j) (box_end up j) s r.tall tall spaced (and_parts (is_on up j) _ near.1).1 in
     decides.1 (record {
       x = x.at;
       y = y.at;
@@ -96,10 +96,10 @@ near_conflicts plan r i j is on =
     (and_from _ _ on_axes.0 (if_shared r.x1 r.x2 (box_begin across i) (box_end across i) s (record { at = f.x; from = x.0; to = x.1; from_grown = f.from_left; to_grown = f.to_right })))
     (and_from _ _ on_axes.1 (if_shared r.y1 r.y2 (box_begin up j) (box_end up j) s (record { at = f.y; from = y.0; to = y.1; from_grown = f.from_bottom; to_grown = f.to_top }))))
 
--- where each filled place is on the raster, those left by an addition are those that are not near
-pub left_if_far : (plan : Plan) (r : Rect) (fill near : PointSet) (i j : ℤ) → IsPlan plan → (fill i j ≡ true → in_raster plan.raster i j ≡ true) → near i j ≡ is_near plan.raster r plan.spacing i j
-    → fill i j && not (conflicts plan (squares r) i j) ≡ fill i j && not (near i j)
-left_if_far plan r fill near i j is on at = elim (cases_Bool (fill i j)) [
-  | inl filled ↦ rw (at, near_conflicts plan r i j is (on filled)) refl
+-- where each filled place is on the raster, those left by an edit are those that are not near
+pub left_if_far : (raster : Lattice) (s : ℤ) (r : Rect) (fill near : PointSet) (i j : ℤ) → IsLattice raster → pos 0 ≤ℤ s → (fill i j ≡ true → in_raster raster i j ≡ true) → near i j ≡ is_near raster r s i j
+    → fill i j && not (meets_box raster s (squares r) i j) ≡ fill i j && not (near i j)
+left_if_far raster s r fill near i j is spaced on at = elim (cases_Bool (fill i j)) [
+  | inl filled ↦ rw (at, near_meets raster s r i j is spaced (on filled)) refl
   | inr out ↦ rw out refl
 ]

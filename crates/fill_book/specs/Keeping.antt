@@ -1,20 +1,21 @@
 -- What a book stores, and how that stands to its account.
-use Rattle.std.specs.Prelude.{◌≡◌, ◌≤◌, ◌^◌, length}
+use Rattle.std.specs.Prelude.{◌≡◌, ◌≤◌, ◌^◌, pos, length}
 use Rattle.fill_region.specs.Bands.{holds}
 use Rattle.fill_raster.specs.Lattice.{tiles}
-use Rattle.fill_job.specs.Basis.{windows_in}
+use Rattle.fill_job.specs.Basis.{layers_in, windows_in}
 use Rattle.fill_job.specs.Plans.{Plan, IsPlan, PointSet, plan_of}
 use Rattle.fill_core.specs.Accounts.{Account, IsLegal, state_of}
 use Rattle.fill_core.specs.Machine.{State}
 use Rattle.fill_core.specs.Shares.{Totals, totals_of}
 use Rattle.fill_book.specs.Filling.{is_filled}
+use Rattle.fill_book.specs.Pieces.{ArePieces}
 use Rattle.fill_book.specs.Tiles.{is_in}
 use Rattle.fill_book.specs.declared.stored.Stored.{Stored}
 
 -- what is stored, as a state; the places that were filled when the version opened are not stored
 abbrev pub state_by : PointSet → Stored → State
 state_by base s = record {
-  metal = holds s.metal;
+  layers = layers_in s.metal s.keep;
   fill = is_filled s.filled;
   version = s.version;
   low = windows_in s.low;
@@ -22,10 +23,12 @@ state_by base s = record {
   base = base;
 }
 
--- the raster is the plan's, and there is a bit for each of its tiles
+-- the raster is the plan's, and there is a bit for each of its tiles, and a piece of the metal and one of the keep-outs
 pub record Fits (plan : Plan) (s : Stored) : Type 0 where
   pub raster : s.filled.raster ≡ plan.raster
   pub tiles : length s.tiles ≡ tiles plan.raster
+  pub pieces : ArePieces plan.raster plan.spacing (holds s.metal) s.pieces.items
+  pub keep_pieces : ArePieces plan.raster (pos 0) (holds s.keep) s.keep_pieces.items
 
 -- the state that is stored is the account's, its replies are those of the replay, its history has no more events than it may
 -- have, and the numbers of the ledgers are those of the history

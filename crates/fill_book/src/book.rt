@@ -1,48 +1,61 @@
-//! The book that measures each window anew.
+//! The books.
 ghost use Rattle.std.specs.Prelude.{◌≡◌, ◌↔◌, ◌<◌, ◌≤◌, ◌^◌, [], IfOk, IsTrue, length};
+ghost use Rattle.fill_region.specs.Bands.{holds};
+ghost use Rattle.fill_text.specs.Rules.{windows_of};
 ghost use Rattle.fill_text.specs.ValuesOfRules.{values_of};
 ghost use Rattle.fill_core.specs.Accounts.{Account};
 ghost use Rattle.fill_core.specs.Histories.{entries_of};
 ghost use Rattle.fill_core.specs.Shares.{AllParts, nothing_with};
 ghost use Rattle.fill_book.specs.Keeping.{Keeps};
+ghost use Rattle.fill_book.specs.Standing.{squares_in};
 
-use crate::places::Places;
+use crate::anew::Measured;
+use crate::areas::Totals;
 use crate::stored::{Stored, answer};
-use fill_area::area_in;
 use fill_base::Place;
 use fill_core::{BookError, Books, Entry, Event, FillBook, History, Pass, Reply};
 use fill_job::laws::rules_make_a_plan;
-use fill_job::{Job, Proposal};
+use fill_job::{Job, Piece, Proposal, SharedRules};
+use fill_measure::measure_region;
 use fill_raster::Marks;
 use fill_region::Region;
+use fill_sums::Sums;
 use fill_text::{Edit, Rules};
 use std::alloc::{AllocError, Global};
 use std::marker::Model;
 use std::sync::ledger::{Blank, Ledger};
 use std::thread::Threads;
 
-/// The book of a fill that keeps no areas: it measures a window whenever its total is asked for, and all of them at each edit.
-/// What it is to its callers is said by `FillBook`.
+/// The book that keeps no areas: it measures a window whenever its total is asked for, and all of them at each edit.
+pub type PlainBook<C, P, W> = BookOf<Measured, C, P, W>;
+
+/// The book that keeps the areas as running sums: its commits and edits measure no window.
+pub type Book<C, P, W> = BookOf<Sums, C, P, W>;
+
+/// The book of a fill, whose areas are told by `T`. What it is to its callers is said by `FillBook`.
 #[derive(Drop)]
-pub struct PlainBook<C: Ledger, P: Ledger, W: Ledger> {
+pub struct BookOf<T: Totals, C: Ledger, P: Ledger, W: Ledger> {
     books: Books<C, P, W>,
     rules: Rules,
-    opening: Region,
+    shared: SharedRules,
+    opening: Piece,
+    opening_keep: Piece,
     stored: Stored,
+    totals: T,
     history: History,
     most: u64,
 }
 
-impl<C: Ledger, P: Ledger, W: Ledger> Model for PlainBook<C, P, W> {
+impl<T: Totals, C: Ledger, P: Ledger, W: Ledger> Model for BookOf<T, C, P, W> {
     ghost Value = { Account };
 
-    ghost view = { λ b. record { rules = values_of b.rules; opening = b.opening; history = entries_of b.history; most = b.most } };
+    ghost view = { λ b. record { rules = values_of b.rules; opening = b.opening; keep = b.opening_keep; history = entries_of b.history; most = b.most } };
 
-    ghost invariant = { λ b. Keeps (record { rules = values_of b.rules; opening = b.opening; history = entries_of b.history; most = b.most }) b.books b.stored };
+    ghost invariant = { λ b. (Keeps (record { rules = values_of b.rules; opening = b.opening; keep = b.opening_keep; history = entries_of b.history; most = b.most }) b.books b.stored) × T.stand_for b.totals (windows_of (values_of b.rules)) (holds b.stored.metal) (squares_in b.stored) × (b.shared ≡ values_of b.rules) };
 }
 
-impl<C: Ledger, P: Ledger, W: Ledger> PlainBook<C, P, W> {
-    /// Opens a book on the drawn metal, at version 0: no place is filled and no tile is in. Its history will have at most
+impl<T: Totals, C: Ledger, P: Ledger, W: Ledger> BookOf<T, C, P, W> {
+    /// Opens a book on the drawn metal and the keep-outs, at version 0: no place is filled and no tile is in. Its history will have at most
     /// `max_events` events. The pass holds all parts of the three ledgers.
     ///
     /// # Errors
@@ -54,25 +67,34 @@ impl<C: Ledger, P: Ledger, W: Ledger> PlainBook<C, P, W> {
         placed: Blank,
         withdrawn: Blank,
         metal: Region,
+        keep: Region,
         rules: Rules,
         max_events: u64,
-    ) -> Result<(PlainBook<C, P, W>, Pass<C, P, W>), AllocError>
+    ) -> Result<(BookOf<T, C, P, W>, Pass<C, P, W>), AllocError>
         requires names { (calls.name ≡ C.name) × (placed.name ≡ P.name) × (withdrawn.name ≡ W.name) }
         requires parts { (calls.parts ≡ C.parts) × (placed.parts ≡ P.parts) × (withdrawn.parts ≡ W.parts) }
         requires all { AllParts C.parts P.parts W.parts }
         requires most { max_events ≤ 2 ^ 32 }
-        ensures book { IfOk result (λ r. r.0 ≡ record { rules = values_of rules; opening = metal; history = []; most = max_events }) }
+        ensures book { IfOk result (λ r. r.0 ≡ record { rules = values_of rules; opening = metal; keep = keep; history = []; most = max_events }) }
         ensures pass { IfOk result (λ r. r.1 ≡ nothing_with 1024) }
     {
         rules_make_a_plan(&rules);
-        let opening = metal.copy(alloc)?;
-        let stored = Stored::open(rt, alloc, metal, &rules)?;
+        let windows = rules.windows();
+        let opening = Piece::new(alloc, metal.copy(alloc)?)?;
+        let opening_keep = Piece::new(alloc, keep.copy(alloc)?)?;
+        let shared = SharedRules::new(alloc, rules.copy(alloc)?)?;
+        let areas = measure_region(rt, alloc, &metal, &windows)?;
+        let stored = Stored::open(alloc, metal, keep, &rules, &areas)?;
+        let totals = T::of(alloc, &stored.metal, &windows, areas)?;
         let (books, pass) = Books::open(calls, placed, withdrawn);
-        let book = PlainBook {
+        let book = BookOf {
             books,
             rules,
+            shared,
             opening,
+            opening_keep,
             stored,
+            totals,
             history: History::new(alloc),
             most: max_events,
         };
@@ -87,8 +109,8 @@ impl<C: Ledger, P: Ledger, W: Ledger> PlainBook<C, P, W> {
     }
 }
 
-impl<C: Ledger + Send + Sync, P: Ledger + Send + Sync, W: Ledger + Send + Sync> FillBook
-    for PlainBook<C, P, W> {
+impl<T: Totals, C: Ledger + Send + Sync, P: Ledger + Send + Sync, W: Ledger + Send + Sync> FillBook
+    for BookOf<T, C, P, W> {
     type Calls = C;
 
     type Placed = P;
@@ -103,19 +125,15 @@ impl<C: Ledger + Send + Sync, P: Ledger + Send + Sync, W: Ledger + Send + Sync> 
 
     fn job(&self, alloc: Global, tile: u32) -> Result<Job, AllocError> {
         let stored = &self.stored;
-        Job::new(
-            alloc,
-            stored.version,
-            tile,
-            &self.rules,
-            &stored.metal,
-            &stored.low,
-        )
+        let rules = self.shared.share()?;
+        let metal = stored.pieces[tile as usize].share()?;
+        let keep = stored.keep_pieces[tile as usize].share()?;
+        Job::new(alloc, stored.version, tile, rules, metal, keep, &stored.low)
     }
 
     fn commit(
         &mut self,
-        alloc: Global,
+        _alloc: Global,
         pass: &mut Pass<C, P, W>,
         proposal: &Proposal,
     ) -> Result<Reply, BookError> {
@@ -123,10 +141,14 @@ impl<C: Ledger + Send + Sync, P: Ledger + Send + Sync, W: Ledger + Send + Sync> 
         if self.is_full() {
             return Err(BookError::HistoryFull);
         }
-        let same = self.stored.is_same(alloc, &self.rules, proposal)?;
+        let same = self.stored.is_same(&self.rules, proposal);
         let refusal = self.stored.refusal(version, tile);
         self.history.reserve()?;
-        let placed = self.stored.take_in(same, tile, proposal.marks());
+        let windows = self.rules.windows();
+        let marks = proposal.marks();
+        let placed = self
+            .stored
+            .take_in(&mut self.totals, &windows, same, tile, marks);
         let reply = answer(same, placed, refusal);
         self.books.note(pass, u64::from(placed), 0);
         let event = Event::Commit {
@@ -147,9 +169,12 @@ impl<C: Ledger + Send + Sync, P: Ledger + Send + Sync, W: Ledger + Send + Sync> 
         if self.is_full() {
             return Err(BookError::HistoryFull);
         }
-        let change = self.stored.change_by(alloc, &self.rules, edit)?;
+        let (change, totals) = self
+            .stored
+            .change_by(alloc, &self.rules, &self.totals, edit)?;
         self.history.reserve()?;
         let withdrawn = self.stored.change(change);
+        self.totals = totals;
         let reply = Reply::Withdrawn(withdrawn);
         self.books.note(pass, 0, u64::from(withdrawn));
         let event = Event::Edit(edit);
@@ -158,15 +183,11 @@ impl<C: Ledger + Send + Sync, P: Ledger + Send + Sync, W: Ledger + Send + Sync> 
     }
 
     fn total(&self, a: u32, b: u32) -> i64 {
-        let window = self.rules.windows().rect(a, b);
-        let stored = &self.stored;
-        stored
-            .filled
-            .total_in(&stored.metal, &Places::none(), &window)
+        self.totals.total(&self.stored, &self.rules.windows(), a, b)
     }
 
     fn drawn(&self, a: u32, b: u32) -> i64 {
-        area_in(&self.stored.metal, &self.rules.windows().rect(a, b))
+        self.totals.drawn(&self.stored, &self.rules.windows(), a, b)
     }
 
     fn version(&self) -> u64 {
@@ -198,7 +219,21 @@ impl<C: Ledger + Send + Sync, P: Ledger + Send + Sync, W: Ledger + Send + Sync> 
     }
 
     fn opening(&self) -> &Region {
-        &self.opening
+        self.opening.metal()
+    }
+
+    fn opening_keep(&self) -> &Region {
+        self.opening_keep.metal()
+    }
+
+    fn share_rules(&self) -> Result<SharedRules, AllocError> {
+        self.shared.share()
+    }
+
+    fn share_opening(&self) -> Result<(Piece, Piece), AllocError> {
+        let metal = self.opening.share()?;
+        let keep = self.opening_keep.share()?;
+        Ok((metal, keep))
     }
 
     fn audit(&mut self, pass: &mut Pass<C, P, W>) {

@@ -1,14 +1,15 @@
 //! The filled places of a raster, tile by tile, and what their boxes take of a window.
-ghost use Rattle.std.specs.Prelude.{◌≡◌, ◌&&◌, ◌||◌, not, ◌<◌, ◌≤ℤ◌, ℤ, pos, true, false, All, IfOk};
+ghost use Rattle.std.specs.Prelude.{◌≡◌, ◌&&◌, ◌||◌, not, ◌<◌, ◌≤◌, ◌^◌, ◌≤ℤ◌, ℤ, pos, true, false, All, IfOk};
 ghost use Rattle.std.specs.Ordering.{int_eq};
 ghost use Rattle.fill_base.specs.Counts.{is_between};
 ghost use Rattle.fill_base.specs.Squares.{area_of};
-ghost use Rattle.fill_area.specs.Density.{AreMeasured, IsArea};
+ghost use Rattle.fill_area.specs.Density.{AreMeasured, IsArea, window_area};
 ghost use Rattle.fill_raster.specs.Lattice.{KeepsPitch, in_raster, in_tile, tile_of, tiles};
 ghost use Rattle.fill_raster.specs.Marks.{in_block, is_marked};
 ghost use Rattle.fill_region.specs.Bands.{holds};
+ghost use Rattle.fill_job.specs.Plans.{PointSet};
 ghost use Rattle.fill_core.specs.Boxes.{count_places};
-ghost use Rattle.fill_book.specs.Filling.{Filling, IsCounted, KeepsClear, boxes_of, in_places, is_filled, left_by, metal_or_box};
+ghost use Rattle.fill_book.specs.Filling.{Filling, IsCounted, IsFilling, KeepsClear, boxes_of, in_places, is_filled, left_by, metal_or_box};
 ghost use Rattle.fill_book.specs.steps.Taken.{AreApart, taken_in, taken_by_row, taken_by_rows};
 
 use crate::places::Places;
@@ -62,6 +63,13 @@ impl Filled {
         ensures { result ≡ self.now.raster }
     {
         self.raster
+    }
+
+    /// Tells what the type keeps: the boxes of two places share no square. Does nothing at run time.
+    pub(crate) fn keeps_apart(&self)
+        ensures { IsFilling self.now }
+    {
+        let _raster = self.raster;
     }
 
     /// The filled places of a tile.
@@ -298,6 +306,19 @@ impl Filled {
         area_in(metal, window) + self.boxes_in(out, window)
     }
 
+    /// How many squares that count of the window in a column and a row the boxes of the filled places hold, but for some places.
+    fn boxes_counted(&self, out: &Places, windows: &Windows, column: u32, row: u32) -> i64
+        requires column { column < windows.now.across.count }
+        requires row { row < windows.now.up.count }
+        ensures area { result ≡ pos (window_area (boxes_of self.now.raster (left_by self.now out.now)) windows.now column row) }
+        ensures few { (p : PointSet) → window_area p windows.now column row ≤ 2 ^ 62 }
+    {
+        match windows.part(column, row) {
+            Some(window) => self.boxes_in(out, &window),
+            None => 0,
+        }
+    }
+
     /// How many squares of each window are metal or in a box of a filled place but for some: row by row, the window in column
     /// `a` and row `b` at `b * columns + a`.
     ///
@@ -317,7 +338,8 @@ impl Filled {
         let areas = areas_in(alloc, metal, windows)?;
         let mut totals = Vec::with_capacity(alloc, areas.len())?;
         for k in 0..windows.len() {
-            totals.push(areas[k] + self.boxes_in(out, &windows.nth(k)))?;
+            let (column, row) = windows.column_and_row(k);
+            totals.push(areas[k] + self.boxes_counted(out, windows, column, row))?;
         }
         Ok(totals)
     }

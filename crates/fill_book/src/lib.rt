@@ -2,11 +2,15 @@
 //! above rely on a book being the machine of `fill_core`, by the clauses of its trait `FillBook`.
 #![tactic(auto)]
 
+mod anew;
+mod areas;
 mod book;
 mod filled;
 mod low;
+mod pieces;
 mod places;
+mod running;
 mod stored;
 mod tiles;
 
-pub use book::PlainBook;
+pub use book::{Book, BookOf, PlainBook};

@@ -37,11 +37,10 @@ fn low_squares(
     requires least { IsShare least }
     ensures { IfOk result (λ v. (a b : ℕ) → covered v.items (pos a) (pos b) ≡ low_by windows.now least totals.now a b) }
 {
-    let size = windows.window_size();
     let mut low = Vec::new(alloc);
     for k in 0..windows.len() {
-        if is_low(totals[k], least, size) {
-            let (column, row) = windows.column_and_row(k);
+        let (column, row) = windows.column_and_row(k);
+        if is_low(totals[k], least, windows.counted_size(column, row)) {
             low.push(unit_square(column, row))?;
         }
     }

@@ -1,5 +1,5 @@
 //! Places in a range of columns and a range of rows.
-ghost use Rattle.std.specs.Prelude.{◌≡◌, ℤ, false};
+ghost use Rattle.std.specs.Prelude.{◌≡◌, ◌≤ℤ◌, ℤ, false};
 ghost use Rattle.fill_book.specs.Filling.{in_places};
 
 use fill_base::Place;
@@ -7,7 +7,7 @@ use std::ops::Range;
 
 /// Some columns and rows of places.
 #[derive(Drop)]
-pub(crate) struct Places {
+pub struct Places {
     pub(crate) columns: Range<i64>,
     pub(crate) rows: Range<i64>,
 }
@@ -15,7 +15,8 @@ pub(crate) struct Places {
 impl Places {
     /// No place.
     pub(crate) fn none() -> Places
-        ensures { (i j : ℤ) → in_places result i j ≡ false }
+        ensures none { (i j : ℤ) → in_places result i j ≡ false }
+        ensures ordered { (result.columns.start ≤ℤ result.columns.end) × (result.rows.start ≤ℤ result.rows.end) }
     {
         Places {
             columns: 0..0,

@@ -1,50 +1,61 @@
 //! What a book stores of its state, and what each event makes of it.
-ghost use Rattle.std.specs.Prelude.{◌≡◌, cond, not, ◌+◌, ◌<◌, ◌==◌, ◌&&◌, ◌||◌, ◌^◌, ℤ, ℕ, true, false, IfOk, length};
+ghost use Rattle.std.specs.Prelude.{◌≡◌, cond, not, ◌+◌, ◌<◌, ◌==◌, ◌&&◌, ◌||◌, ◌^◌, ◌≤ℤ◌, ℤ, ℕ, pos, true, false, All, IfOk, length};
 ghost use Rattle.fill_region.specs.Bands.{holds};
+ghost use Rattle.fill_area.specs.Density.{AreMeasured, IsArea};
 ghost use Rattle.fill_raster.specs.Lattice.{in_raster, in_tile, tiles};
 ghost use Rattle.fill_raster.specs.Marks.{is_marked};
 ghost use Rattle.fill_text.specs.ValuesOfRules.{values_of};
-ghost use Rattle.fill_job.specs.Basis.{read_by, windows_in};
+ghost use Rattle.fill_job.specs.Basis.{layers_in, read_by, windows_in};
 ghost use Rattle.fill_job.specs.Plans.{Plan, PointSet, low_windows, plan_of};
 ghost use Rattle.fill_core.specs.Accounts.{IsSame};
 ghost use Rattle.fill_core.specs.Boxes.{count_places, no_places, with_boxes};
-ghost use Rattle.fill_core.specs.Machine.{commit_reply, fill_after, metal_after, opening};
+ghost use Rattle.fill_core.specs.Machine.{commit_reply, fill_after, keep_after, metal_after, opening};
 ghost use Rattle.fill_core.specs.declared.event.Reply.TheVariants.{Placed};
-ghost use Rattle.fill_book.specs.Filling.{KeepsClear, in_places, is_filled, left_by};
+ghost use Rattle.fill_book.specs.Filling.{KeepsClear, in_places, is_filled, left_by, metal_or_box};
 ghost use Rattle.fill_book.specs.Keeping.{Fits, state_by};
+ghost use Rattle.fill_book.specs.Pieces.{ArePieces};
+ghost use Rattle.fill_book.specs.Standing.{squares_in};
 ghost use Rattle.fill_book.specs.Tiles.{is_in};
 
+use crate::areas::Totals;
 use crate::filled::Filled;
 use crate::low::low_windows;
+use crate::pieces::{keep_pieces, keep_pieces_after, metal_pieces, metal_pieces_after};
 use crate::places::Places;
 use crate::tiles::TileSet;
+use fill_area::Windows;
 use fill_core::Reply;
 use fill_job::laws::rules_make_a_plan;
-use fill_job::{Job, Proposal};
-use fill_measure::measure_region;
+use fill_job::{Piece, Proposal};
 use fill_raster::{Marks, Raster};
 use fill_region::Region;
 use fill_text::{Edit, Rules};
 use std::alloc::{AllocError, Global};
-use std::thread::Threads;
 
-/// The metal, the filled places, the version with its low windows, and the tiles that are in.
+/// The metal and the keep-outs, and what of them each tile depends on, the filled places, the version with its low windows, and the
+/// tiles that are in.
 #[derive(Drop)]
-pub(crate) struct Stored {
+pub struct Stored {
     pub(crate) metal: Region,
+    pub(crate) keep: Region,
     pub(crate) filled: Filled,
     pub(crate) low: Region,
     pub(crate) tiles: TileSet,
     pub(crate) version: u64,
+    pub(crate) pieces: Vec<Piece>,
+    pub(crate) keep_pieces: Vec<Piece>,
 }
 
-/// What an edit makes of a state, with all the memory that it takes: the metal and the low windows after it, and the places whose
+/// What an edit makes of a state, with all the memory that it takes: the metal, the keep-outs and the low windows after it, and the places whose
 /// boxes it takes out.
 #[derive(Drop)]
 pub(crate) struct Change {
     pub(crate) metal: Region,
+    pub(crate) keep: Region,
     pub(crate) low: Region,
     pub(crate) out: Places,
+    pub(crate) pieces: Vec<Piece>,
+    pub(crate) keep_pieces: Vec<Piece>,
 }
 
 /// The metal after an edit.
@@ -52,13 +63,25 @@ fn edited(alloc: Global, metal: &Region, edit: Edit) -> Result<Region, AllocErro
     ensures { IfOk result (λ r. (x y : ℤ) → holds r x y ≡ metal_after edit (holds metal.now) x y) }
 {
     match edit {
-        Edit::Add(rect) => metal.union(alloc, &Region::one(alloc, &rect)?),
-        Edit::Cut(rect) => metal.minus(alloc, &Region::one(alloc, &rect)?),
+        Edit::Add(rect) => metal.with_rect(alloc, &rect),
+        Edit::Cut(rect) => metal.without_rect(alloc, &rect),
+        Edit::Keep(_) => metal.copy(alloc),
     }
 }
 
-/// The places whose boxes come too near to the metal by an edit.
+/// The keep-outs after an edit.
+fn kept_out(alloc: Global, keep: &Region, edit: Edit) -> Result<Region, AllocError>
+    ensures { IfOk result (λ r. (x y : ℤ) → holds r x y ≡ keep_after edit (holds keep.now) x y) }
+{
+    match edit {
+        Edit::Add(_) | Edit::Cut(_) => keep.copy(alloc),
+        Edit::Keep(rect) => keep.with_rect(alloc, &rect),
+    }
+}
+
+/// The places whose boxes come too near to the metal by an edit, or share a square with a keep-out by it.
 fn too_near(rules: &Rules, edit: Edit) -> Places
+    ensures ordered { (result.columns.start ≤ℤ result.columns.end) × (result.rows.start ≤ℤ result.rows.end) }
     ensures on { (i j : ℤ) → in_places result i j ≡ true → in_raster (plan_of (values_of rules.now)).raster i j ≡ true }
     ensures near { (fill : PointSet) → ((i j : ℤ) → fill i j ≡ true → in_raster (plan_of (values_of rules.now)).raster i j ≡ true) → (i j : ℤ) → fill_after (plan_of (values_of rules.now)) edit fill i j ≡ fill i j && not (in_places result i j) }
 {
@@ -69,6 +92,10 @@ fn too_near(rules: &Rules, edit: Edit) -> Places
             Places { columns, rows }
         }
         Edit::Cut(_) => Places::none(),
+        Edit::Keep(rect) => {
+            let (columns, rows) = rules.raster().near(&rect, 0);
+            Places { columns, rows }
+        }
     }
 }
 
@@ -80,52 +107,53 @@ pub(crate) fn answer(same: bool, placed: u32, refusal: Reply) -> Reply
 }
 
 impl Stored {
-    /// Version 0 on the metal alone: no place is filled, and no tile is in.
+    /// Version 0 on metal and keep-outs alone, of which the metal's area in each window was measured: no place is filled, and no tile is
+    /// in.
     ///
     /// # Errors
     /// `AllocError` where memory is refused.
     pub(crate) fn open(
-        rt: &(impl Threads + Sync),
         alloc: Global,
         metal: Region,
+        keep: Region,
         rules: &Rules,
+        areas: &[i64],
     ) -> Result<Stored, AllocError>
-        ensures state { IfOk result (λ s. state_by no_places s ≡ opening (plan_of (values_of rules.now)) (holds metal)) }
+        requires measured { AreMeasured (holds metal) (plan_of (values_of rules.now)).windows areas.now }
+        requires bounded { All IsArea areas.now }
+        ensures state { IfOk result (λ s. state_by no_places s ≡ opening (plan_of (values_of rules.now)) (layers_in metal keep)) }
         ensures fits { IfOk result (λ s. Fits (plan_of (values_of rules.now)) s) }
     {
         rules_make_a_plan(rules);
         let (raster, windows) = (rules.raster(), rules.windows());
-        let totals = measure_region(rt, alloc, &metal, &windows)?;
         Ok(Stored {
-            low: low_windows(alloc, &windows, rules.min(), &totals)?,
+            pieces: metal_pieces(alloc, rules, &metal)?,
+            keep_pieces: keep_pieces(alloc, rules, &keep)?,
+            low: low_windows(alloc, &windows, rules.min(), areas)?,
             filled: Filled::none(alloc, raster)?,
             tiles: TileSet::none(alloc, raster.tiles())?,
             metal,
+            keep,
             version: 0,
         })
     }
 
-    /// Whether a proposal is of this version, its tile isn't in, and what was read for it is what there is to read now.
-    ///
-    /// # Errors
-    /// `AllocError` where memory is refused.
-    pub(crate) fn is_same(
-        &self,
-        alloc: Global,
-        rules: &Rules,
-        proposal: &Proposal,
-    ) -> Result<bool, AllocError>
-        ensures { let p = proposal.now in IfOk result (λ same. IsSame (values_of rules.now) (state_by no_places self.now) p.version p.tile (read_by p.basis) same) }
+    /// Whether a proposal is of this version, its tile isn't in, and what was read for it is what there is to read now. Takes no
+    /// memory.
+    pub(crate) fn is_same(&self, rules: &Rules, proposal: &Proposal) -> bool
+        requires { Fits (plan_of (values_of rules.now)) self.now }
+        ensures { let p = proposal.now in IsSame (values_of rules.now) (state_by no_places self.now) p.version p.tile (read_by p.basis) result }
     {
         if proposal.version() != self.version {
-            return Ok(false);
+            return false;
         }
         let tile = proposal.tile();
         if tile >= rules.raster().tiles() || self.tiles.has(tile) {
-            return Ok(false);
+            return false;
         }
-        let job = Job::new(alloc, self.version, tile, rules, &self.metal, &self.low)?;
-        Ok(proposal.matches(&job))
+        let metal = self.pieces[tile as usize].metal();
+        let keep = self.keep_pieces[tile as usize].metal();
+        proposal.matches(rules, metal, keep, &self.low)
     }
 
     /// The answer to a commit that isn't the same.
@@ -141,12 +169,26 @@ impl Stored {
         }
     }
 
-    /// Where `same` holds, fills the marked places of a tile and takes the tile in. Tells how many places are newly filled.
-    pub(crate) fn take_in(&mut self, same: bool, tile: u32, marks: &Marks) -> u32
+    /// Where `same` holds, fills the marked places of a tile and takes the tile in, and what tells the areas takes in their boxes.
+    /// Tells how many places are newly filled.
+    pub(crate) fn take_in<T: Totals>(
+        &mut self,
+        totals: &mut T,
+        windows: &Windows,
+        same: bool,
+        tile: u32,
+        marks: &Marks,
+    ) -> u32
+        requires stands { T.stand_for totals.old windows.now (holds self.old.metal) (squares_in self.old) }
+        requires clear { same ≡ true → KeepsClear self.old.filled.raster (λ i j. is_filled self.old.filled i j || is_marked marks.now i j) (holds self.old.metal) }
         requires tile { same ≡ true → tile < tiles self.old.filled.raster }
         requires bits { length self.old.tiles ≡ tiles self.old.filled.raster }
         requires marked { same ≡ true → (i j : ℤ) → is_marked marks.now i j ≡ true → in_tile self.old.filled.raster tile i j ≡ true }
+        ensures stands { T.stand_for totals.new windows.now (holds self.new.metal) (squares_in self.new) }
         ensures metal { self.new.metal ≡ self.old.metal }
+        ensures keep { self.new.keep ≡ self.old.keep }
+        ensures pieces { self.new.pieces ≡ self.old.pieces }
+        ensures keep_pieces { self.new.keep_pieces ≡ self.old.keep_pieces }
         ensures low { self.new.low ≡ self.old.low }
         ensures version { self.new.version ≡ self.old.version }
         ensures raster { self.new.filled.raster ≡ self.old.filled.raster }
@@ -158,35 +200,55 @@ impl Stored {
         if !same {
             return 0;
         }
+        totals.take_in(self, windows, tile, marks);
         let before = self.filled.count();
         self.filled.take_in(tile, marks);
         self.tiles.put(tile);
         self.filled.count() - before
     }
 
-    /// What an edit makes of the state. Takes all the memory that the edit needs, and changes nothing yet.
+    /// What an edit makes of the state, and of what tells its areas. Takes all the memory that the edit needs, and changes nothing
+    /// yet.
     ///
     /// # Errors
     /// `AllocError` where memory is refused.
-    pub(crate) fn change_by(
+    pub(crate) fn change_by<T: Totals>(
         &self,
         alloc: Global,
         rules: &Rules,
+        totals: &T,
         edit: Edit,
-    ) -> Result<Change, AllocError>
-        requires raster { self.now.filled.raster ≡ (plan_of (values_of rules.now)).raster }
+    ) -> Result<(Change, T), AllocError>
+        requires fits { Fits (plan_of (values_of rules.now)) self.now }
+        requires stands { T.stand_for totals.now (plan_of (values_of rules.now)).windows (holds self.now.metal) (squares_in self.now) }
+        requires clear_now { KeepsClear self.now.filled.raster (is_filled self.now.filled) (holds self.now.metal) }
         requires clear { KeepsClear (plan_of (values_of rules.now)).raster (fill_after (plan_of (values_of rules.now)) edit (is_filled self.now.filled)) (metal_after edit (holds self.now.metal)) }
-        ensures metal { IfOk result (λ c. (x y : ℤ) → holds c.metal x y ≡ metal_after edit (holds self.now.metal) x y) }
-        ensures on { IfOk result (λ c. (i j : ℤ) → in_places c.out i j ≡ true → in_raster self.now.filled.raster i j ≡ true) }
-        ensures left { IfOk result (λ c. (i j : ℤ) → left_by self.now.filled c.out i j ≡ fill_after (plan_of (values_of rules.now)) edit (is_filled self.now.filled) i j) }
-        ensures low { let plan = plan_of (values_of rules.now) in IfOk result (λ c. (a b : ℕ) → windows_in c.low a b ≡ low_windows plan (with_boxes plan (metal_after edit (holds self.now.metal)) (fill_after plan edit (is_filled self.now.filled))) a b) }
+        ensures metal { IfOk result (λ c. (x y : ℤ) → holds c.0.metal x y ≡ metal_after edit (holds self.now.metal) x y) }
+        ensures keep { IfOk result (λ c. (x y : ℤ) → holds c.0.keep x y ≡ keep_after edit (holds self.now.keep) x y) }
+        ensures on { IfOk result (λ c. (i j : ℤ) → in_places c.0.out i j ≡ true → in_raster self.now.filled.raster i j ≡ true) }
+        ensures left { IfOk result (λ c. (i j : ℤ) → left_by self.now.filled c.0.out i j ≡ fill_after (plan_of (values_of rules.now)) edit (is_filled self.now.filled) i j) }
+        ensures low { let plan = plan_of (values_of rules.now) in IfOk result (λ c. (a b : ℕ) → windows_in c.0.low a b ≡ low_windows plan (with_boxes plan (metal_after edit (holds self.now.metal)) (fill_after plan edit (is_filled self.now.filled))) a b) }
+        ensures pieces { let plan = plan_of (values_of rules.now) in IfOk result (λ c. ArePieces plan.raster plan.spacing (metal_after edit (holds self.now.metal)) c.0.pieces.items) }
+        ensures keep_pieces { let plan = plan_of (values_of rules.now) in IfOk result (λ c. ArePieces plan.raster (pos 0) (keep_after edit (holds self.now.keep)) c.0.keep_pieces.items) }
+        ensures stands { let plan = plan_of (values_of rules.now) in IfOk result (λ c. T.stand_for c.1 plan.windows (holds c.0.metal) (metal_or_box self.now.filled.raster (left_by self.now.filled c.0.out) (holds c.0.metal))) }
     {
         let metal = edited(alloc, &self.metal, edit)?;
+        let keep = kept_out(alloc, &self.keep, edit)?;
         let out = too_near(rules, edit);
         let windows = rules.windows();
-        let totals = self.filled.totals(alloc, &metal, &out, &windows)?;
-        let low = low_windows(alloc, &windows, rules.min(), &totals)?;
-        Ok(Change { metal, low, out })
+        let (after, areas) = totals.after(alloc, self, &windows, edit, &metal, &out)?;
+        let low = low_windows(alloc, &windows, rules.min(), &areas)?;
+        let pieces = metal_pieces_after(alloc, rules, &self.metal, &self.pieces, edit)?;
+        let keep_pieces = keep_pieces_after(alloc, rules, &self.keep, &self.keep_pieces, edit)?;
+        let change = Change {
+            metal,
+            keep,
+            low,
+            out,
+            pieces,
+            keep_pieces,
+        };
+        Ok((change, after))
     }
 
     /// Makes a change, which opens the next version. Tells how many boxes are taken out. Takes no memory.
@@ -194,6 +256,9 @@ impl Stored {
         requires on { (i j : ℤ) → in_places change.out i j ≡ true → in_raster self.old.filled.raster i j ≡ true }
         requires version { self.old.version + 1 < 2 ^ 64 }
         ensures metal { self.new.metal ≡ change.metal }
+        ensures keep { self.new.keep ≡ change.keep }
+        ensures pieces { self.new.pieces ≡ change.pieces }
+        ensures keep_pieces { self.new.keep_pieces ≡ change.keep_pieces }
         ensures low { self.new.low ≡ change.low }
         ensures version { self.new.version ≡ self.old.version + 1 }
         ensures raster { self.new.filled.raster ≡ self.old.filled.raster }
@@ -206,6 +271,9 @@ impl Stored {
         self.filled.clear_places(&change.out);
         self.tiles.clear_all();
         self.metal = change.metal;
+        self.keep = change.keep;
+        self.pieces = change.pieces;
+        self.keep_pieces = change.keep_pieces;
         self.low = change.low;
         self.version += 1;
         before - self.filled.count()

@@ -8,7 +8,7 @@ use Rattle.std.proofs.lemmas.List.Elements.{All-append, All-cons, All-contains, 
 use Rattle.std.proofs.lemmas.List.{drop_at, take_at}
 use Rattle.fill_text.specs.Rules.{Values}
 use Rattle.fill_text.specs.declared.script.Edit.{Edit}
-use Rattle.fill_job.specs.Plans.{Plan, PointSet, plan_of}
+use Rattle.fill_job.specs.Plans.{Layers, Plan, plan_of}
 use Rattle.fill_job.specs.ReadSets.{ReadSet, read_set, wanted_of}
 use Rattle.fill_job.proofs.ReadSets.{same_wanted}
 use Rattle.fill_core.specs.Boxes.{total_in}
@@ -46,12 +46,12 @@ run_from rules w v (x ∷ xs) r =
     run_from rules r.0 v xs r.2 ∙ (ap (λ s. replay_from plan s (events_of xs)) (state_after rules w r.0 x r.1) ∙ sym (replay_from_append plan w.state (events_by x) (events_of xs)))
 
 pub run_replay : RunIsAReplay
-run_replay rules metal steps w r = run_from rules (start rules metal) w steps r
+run_replay rules layers steps w r = run_from rules (start rules layers) w steps r
 
 pub run_sound : RunIsSound
-run_sound rules metal steps w is r =
+run_sound rules layers steps w is r =
     let plan = plan_of rules in
-    subst (λ (s : State). IsSound plan s.metal s.fill (total_in plan s.metal s.fill)) (sym (run_replay rules metal steps w r)) (replay_sound plan metal (events_of steps) is)
+    subst (λ (s : State). IsSound plan s.layers s.fill (total_in plan s.layers.metal s.fill)) (sym (run_replay rules layers steps w r)) (replay_sound plan layers (events_of steps) is)
 
 -- ---- refused commits
 
@@ -80,7 +80,7 @@ stale_nothing rules w v p same m other =
 -- no job is of a later version, and one of the book's version has the book's read set
 record IsHeld (rules : Values) (s : State) (job : Job) : Type 0 where
   pub sooner : job.own ≡ true → job.version ≤ s.version
-  pub current : job.own ≡ true → job.version ≡ s.version → job.read ≡ read_set rules s.metal s.low job.tile
+  pub current : job.own ≡ true → job.version ≡ s.version → job.read ≡ read_set rules s.layers s.low job.tile
 
 record AreHeld (rules : Values) (w : World) : Type 0 where
   pub jobs : All (IsHeld rules w.state) w.jobs
@@ -89,14 +89,14 @@ record AreHeld (rules : Values) (w : World) : Type 0 where
 
 -- a commit changes neither metal nor low windows nor version
 record IsNext (s t : State) : Type 0 where
-  pub metal : t.metal ≡ s.metal
+  pub layers : t.layers ≡ s.layers
   pub low : t.low ≡ s.low
   pub version : t.version ≡ s.version
 
 committed : (plan : Plan) (s : State) (version tile : ℕ) (same : Bool) → IsNext s (step plan s (event.Commit version tile same))
 committed plan s version tile same = elim (cases_Bool (is_accepted s version tile same)) [
-  | inl h ↦ rw h (record { metal = refl; low = refl; version = refl })
-  | inr h ↦ rw h (record { metal = refl; low = refl; version = refl })
+  | inl h ↦ rw h (record { layers = refl; low = refl; version = refl })
+  | inr h ↦ rw h (record { layers = refl; low = refl; version = refl })
 ]
 
 held_committed : (rules : Values) (s : State) (version tile : ℕ) (same : Bool) (job : Job) → IsHeld rules s job → IsHeld rules (step (plan_of rules) s (event.Commit version tile same)) job
@@ -104,7 +104,7 @@ held_committed rules s version tile same job h =
     let n = committed (plan_of rules) s version tile same in
     record {
       sooner = λ own. rw (n.version) (h.sooner own);
-      current = λ own at. rw (n.metal, n.low) (h.current own (at ∙ n.version));
+      current = λ own at. rw (n.layers, n.low) (h.current own (at ∙ n.version));
     }
 
 later : (a b : ℕ) → a ≤ b → a ≤ b + 1
@@ -189,22 +189,22 @@ unfolding Runs
 held_from rules w v [] h r = subst (AreHeld rules) r h
 held_from rules w v (x ∷ xs) h r = held_from rules r.0 v xs (held_by_move rules w x r.0 h r.1) r.2
 
-held_in_run : (rules : Values) (metal : PointSet) (steps : List Step) (w : World) → Runs rules (start rules metal) steps w → AreHeld rules w
-held_in_run rules metal steps w r = held_from rules (start rules metal) w steps (record { jobs = none_held (IsHeld rules (opening (plan_of rules) metal)); proposals = none_held (λ (p : Proposal). IsHeld rules (opening (plan_of rules) metal) p.job); marks = none_held IsMarked }) r
+held_in_run : (rules : Values) (layers : Layers) (steps : List Step) (w : World) → Runs rules (start rules layers) steps w → AreHeld rules w
+held_in_run rules layers steps w r = held_from rules (start rules layers) w steps (record { jobs = none_held (IsHeld rules (opening (plan_of rules) layers)); proposals = none_held (λ (p : Proposal). IsHeld rules (opening (plan_of rules) layers) p.job); marks = none_held IsMarked }) r
 
 -- ---- commits that are accepted
 
 pub own_placed : OwnProposalIsPlaced
-own_placed rules metal steps w v p same r m own at out =
-    let all = held_in_run rules metal steps w r in
+own_placed rules layers steps w v p same r m own at out =
+    let all = held_in_run rules layers steps w r in
     let held : IsHeld rules w.state p.job = All-contains (λ (q : Proposal). IsHeld rules w.state q.job) w.proposals p all.proposals m.0 in
     let equal : same ≡ true = m.1.1 (at, out, held.current own at) in
     let here = nat_eq_from p.job.version w.state.version at in
     (rw (here, out, equal) refl, ap (λ (u : World). u.state) m.2 ∙ rw (here, out, equal) refl)
 
 pub accepted_wanted : AcceptedMarksAreWanted
-accepted_wanted rules metal steps w v p is r m =
-    let all = held_in_run rules metal steps w r in
+accepted_wanted rules layers steps w v p is r m =
+    let all = held_in_run rules layers steps w r in
     let marked : IsMarked p = All-contains IsMarked w.proposals p all.marks m.0 in
-    let equal : p.job.read ≡ read_set rules w.state.metal w.state.low p.job.tile = (m.1.0 refl).2 in
-    marked ∙ (ap (λ (read : ReadSet). wanted_of read p.job.tile) equal ∙ same_wanted rules w.state.metal w.state.low p.job.tile is)
+    let equal : p.job.read ≡ read_set rules w.state.layers w.state.low p.job.tile = (m.1.0 refl).2 in
+    marked ∙ (ap (λ (read : ReadSet). wanted_of read p.job.tile) equal ∙ same_wanted rules w.state.layers w.state.low p.job.tile is)

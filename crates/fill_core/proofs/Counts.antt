@@ -15,8 +15,8 @@ use Rattle.fill_raster.specs.Lattice.{Lattice}
 use Rattle.fill_raster.proofs.Points.{area_few, area_none}
 use Rattle.fill_raster.proofs.Ranges.{first_past}
 use Rattle.fill_text.specs.declared.script.Edit.{Edit}
-use Rattle.fill_text.specs.declared.script.Edit.TheVariants.{Add, Cut}
-use Rattle.fill_job.specs.Plans.{Plan, IsPlan, PointSet, conflicts, wanted}
+use Rattle.fill_text.specs.declared.script.Edit.TheVariants.{Add, Cut, Keep}
+use Rattle.fill_job.specs.Plans.{Plan, IsPlan, PointSet, blocked, conflicts, wanted}
 use Rattle.fill_core.specs.Boxes.{no_places, count_places}
 use Rattle.fill_core.specs.Histories.{edits_by, edits_in, placed_by, placed_in, withdrawn_by, withdrawn_in}
 use Rattle.fill_core.specs.Laws.{CountIsPlacedLessWithdrawn, CountedInAPart, SumsAreBounded, VersionCountsEdits}
@@ -65,14 +65,15 @@ balanced_commit plan s version tile same = elim (cases_Bool (version == s.versio
     | inl already ↦ rw (at, already) refl
     | inr out ↦ elim (cases_Bool same) [
       | inr foreign ↦ rw (at, out, foreign) refl
-      | inl equal ↦ rw (at, out, equal) (plus_nothing _ _ _ (count_parts plan.raster s.fill (λ i j. wanted plan s.metal s.low tile i j && not (s.fill i j)) (λ i j. s.fill i j || wanted plan s.metal s.low tile i j)
-          (λ i j. one_more (s.fill i j) (wanted plan s.metal s.low tile i j))))
+      | inl equal ↦ rw (at, out, equal) (plus_nothing _ _ _ (count_parts plan.raster s.fill (λ i j. wanted plan s.layers s.low tile i j && not (s.fill i j)) (λ i j. s.fill i j || wanted plan s.layers s.low tile i j)
+          (λ i j. one_more (s.fill i j) (wanted plan s.layers s.low tile i j))))
     ]
   ]
 ]
 
 balanced_edit : (plan : Plan) (s : State) (edit : Edit) → count_places plan.raster (fill_after plan edit s.fill) + withdrawn_places plan s edit ≡ count_places plan.raster s.fill + 0
 balanced_edit plan s (Add r) = taken_out _ _ _ (count_parts plan.raster (fill_after plan (Add r) s.fill) (λ i j. s.fill i j && not (fill_after plan (Add r) s.fill i j)) s.fill (λ i j. one_less (s.fill i j) (not (conflicts plan (squares r) i j))))
+balanced_edit plan s (Keep r) = taken_out _ _ _ (count_parts plan.raster (fill_after plan (Keep r) s.fill) (λ i j. s.fill i j && not (fill_after plan (Keep r) s.fill i j)) s.fill (λ i j. one_less (s.fill i j) (not (blocked plan (squares r) i j))))
 balanced_edit plan s (Cut r) = taken_out _ _ _ (count_parts plan.raster (fill_after plan (Cut r) s.fill) (λ i j. s.fill i j && not (fill_after plan (Cut r) s.fill i j)) s.fill (λ i j. none_less (s.fill i j)))
 
 pub balanced : (plan : Plan) (s : State) (e : Event) → count_places plan.raster (step plan s e).fill + withdrawn_by (reply_of plan s e) ≡ count_places plan.raster s.fill + placed_by (reply_of plan s e)
@@ -98,7 +99,7 @@ none_counted : (r : Lattice) → count_places r no_places ≡ 0
 none_counted r = area_none no_places (first r.across) (first r.up) (past r.across) (past r.up) (first_past r.across) (first_past r.up) (λ i j. refl)
 
 pub count_placed : CountIsPlacedLessWithdrawn
-count_placed plan metal events = only_placed _ _ _ (counted_from plan (opening plan metal) events) (none_counted plan.raster)
+count_placed plan layers events = only_placed _ _ _ (counted_from plan (opening plan layers) events) (none_counted plan.raster)
   where
     only_placed : (m n k : ℕ) → m ≡ n + k → n ≡ 0 → m ≡ k
     only_placed m n k e z = omega (arith, e, z)
@@ -124,7 +125,7 @@ one_placed plan s (event.Commit version tile same) is = elim (cases_Bool (versio
     | inl already ↦ rw (at, already) none_few
     | inr out ↦ elim (cases_Bool same) [
       | inr foreign ↦ rw (at, out, foreign) none_few
-      | inl equal ↦ rw (at, out, equal) (places_few plan (λ i j. wanted plan s.metal s.low tile i j && not (s.fill i j)) is)
+      | inl equal ↦ rw (at, out, equal) (places_few plan (λ i j. wanted plan s.layers s.low tile i j && not (s.fill i j)) is)
     ]
   ]
 ]
@@ -158,7 +159,7 @@ bounded_from plan s (e ∷ es) is =
     )
 
 pub sums_bounded : SumsAreBounded
-sums_bounded plan metal events is = bounded_from plan (opening plan metal) events is
+sums_bounded plan layers events is = bounded_from plan (opening plan layers) events is
 
 -- ---- the version
 
@@ -178,7 +179,7 @@ version_from plan s (e ∷ es) = version_from plan (step plan s e) es ∙ moved 
     moved plan s e es = let one = next_version plan s e in let both = Rattle.std.proofs.lemmas.List.length-append (edits_by e) (edits_in es) in omega (arith, one, both)
 
 pub version_counts : VersionCountsEdits
-version_counts plan metal events = version_from plan (opening plan metal) events ∙ (let z : 0 + length (edits_in events) ≡ length (edits_in events) = omega arith in z)
+version_counts plan layers events = version_from plan (opening plan layers) events ∙ (let z : 0 + length (edits_in events) ≡ length (edits_in events) = omega arith in z)
 
 -- ---- a part of a rectangle
 

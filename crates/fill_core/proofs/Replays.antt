@@ -7,7 +7,7 @@ use Rattle.std.proofs.lemmas.Bool.Decides.{nat_tests}
 use Rattle.fill_raster.specs.Lattice.{in_raster, tile_of}
 use Rattle.fill_raster.proofs.Points.{and_no, or_no}
 use Rattle.fill_raster.proofs.RasterLaws.{place_has_a_tile}
-use Rattle.fill_job.specs.Plans.{Plan, IsPlan, PointSet, allowed, conflicts, in_window_of, low_windows, wanted}
+use Rattle.fill_job.specs.Plans.{Plan, IsPlan, Layers, PointSet, allowed, is_taken, in_window_of, low_windows, wanted}
 use Rattle.fill_core.specs.Boxes.{no_places, with_boxes}
 use Rattle.fill_core.specs.Machine.{State, IsComplete, step, reply_of, replay_from, replies_from, replay, replies, opening}
 use Rattle.fill_core.specs.declared.event.Event.{Event}
@@ -30,17 +30,17 @@ replies_from_push plan s [] e = refl
 replies_from_push plan s (x ∷ xs) e = ap (λ rs. reply_of plan s x ∷ rs) (replies_from_push plan (step plan s x) xs e)
 
 -- the state after one event more
-pub replay_push : (plan : Plan) (metal : PointSet) (events : List Event) (e : Event) → replay plan metal (events ++ e ∷ []) ≡ step plan (replay plan metal events) e
-replay_push plan metal events e = replay_from_push plan (opening plan metal) events e
+pub replay_push : (plan : Plan) (layers : Layers) (events : List Event) (e : Event) → replay plan layers (events ++ e ∷ []) ≡ step plan (replay plan layers events) e
+replay_push plan layers events e = replay_from_push plan (opening plan layers) events e
 
-pub replies_push : (plan : Plan) (metal : PointSet) (events : List Event) (e : Event) → replies plan metal (events ++ e ∷ []) ≡ replies plan metal events ++ reply_of plan (replay plan metal events) e ∷ []
-replies_push plan metal events e = replies_from_push plan (opening plan metal) events e
+pub replies_push : (plan : Plan) (layers : Layers) (events : List Event) (e : Event) → replies plan layers (events ++ e ∷ []) ≡ replies plan layers events ++ reply_of plan (replay plan layers events) e ∷ []
+replies_push plan layers events e = replies_from_push plan (opening plan layers) events e
 
 -- states with the same points are one state
-pub same_state : (s t : State) → ((x y : ℤ) → s.metal x y ≡ t.metal x y) → ((i j : ℤ) → s.fill i j ≡ t.fill i j) → s.version ≡ t.version
+pub same_state : (s t : State) → ((x y : ℤ) → s.layers.metal x y ≡ t.layers.metal x y) → ((x y : ℤ) → s.layers.keep x y ≡ t.layers.keep x y) → ((i j : ℤ) → s.fill i j ≡ t.fill i j) → s.version ≡ t.version
     → ((a b : ℕ) → s.low a b ≡ t.low a b) → ((n : ℕ) → s.tiles_in n ≡ t.tiles_in n) → ((i j : ℤ) → s.base i j ≡ t.base i j) → s ≡ t
-same_state s t metal fill version low tiles_in base = λ k. record {
-  metal = λ x y. metal x y k;
+same_state s t metal keep fill version low tiles_in base = λ k. record {
+  layers = record { metal = λ x y. metal x y k; keep = λ x y. keep x y k };
   fill = λ i j. fill i j k;
   version = version k;
   low = λ a b. low a b k;
@@ -51,8 +51,8 @@ same_state s t metal fill version low tiles_in base = λ k. record {
 -- ---- the laws
 
 pub filled_allowed : FilledPlacesAreAllowed
-filled_allowed plan metal events i j h =
-    let k = kept_replay plan metal events in
+filled_allowed plan layers events i j h =
+    let k = kept_replay plan layers events in
     let free = k.all_allowed i j h in
     ((and_parts _ _ free).0, free)
 
@@ -99,46 +99,46 @@ or_right : (a b : Bool) → b ≡ true → a || b ≡ true
 or_right true b h = refl
 or_right false b h = h
 
-fill_from : (plan : Plan) (s : State) → IsKept plan s → (i j : ℤ) → s.fill i j ≡ true → (s.base i j ≡ true) ⊎ ((t : ℕ) × (s.tiles_in t ≡ true) × (wanted plan s.metal s.low t i j ≡ true))
+fill_from : (plan : Plan) (s : State) → IsKept plan s → (i j : ℤ) → s.fill i j ≡ true → (s.base i j ≡ true) ⊎ ((t : ℕ) × (s.tiles_in t ≡ true) × (wanted plan s.layers s.low t i j ≡ true))
 fill_from plan s k i j h =
     let t = tile_of plan.raster i j in
-    elim (or_cases (s.base i j) (s.tiles_in t && (allowed plan s.metal i j && in_window_of plan s.low i j)) (sym (k.fill_is i j) ∙ h)) [
+    elim (or_cases (s.base i j) (s.tiles_in t && (allowed plan s.layers i j && in_window_of plan s.low i j)) (sym (k.fill_is i j) ∙ h)) [
       | inl filled ↦ inl filled
-      | inr now ↦ let parts = and_parts (s.tiles_in t) (allowed plan s.metal i j && in_window_of plan s.low i j) now in
-          inr (t, parts.0, wanted_from (in_raster plan.raster i j) (t == t) (conflicts plan s.metal i j) (in_window_of plan s.low i j) (nat_eq_same t) parts.1)
+      | inr now ↦ let parts = and_parts (s.tiles_in t) (allowed plan s.layers i j && in_window_of plan s.low i j) now in
+          inr (t, parts.0, wanted_from (in_raster plan.raster i j) (t == t) (is_taken plan s.layers i j) (in_window_of plan s.low i j) (nat_eq_same t) parts.1)
     ]
 
-fill_with : (plan : Plan) (s : State) → IsKept plan s → (i j : ℤ) → (s.base i j ≡ true) ⊎ ((t : ℕ) × (s.tiles_in t ≡ true) × (wanted plan s.metal s.low t i j ≡ true)) → s.fill i j ≡ true
+fill_with : (plan : Plan) (s : State) → IsKept plan s → (i j : ℤ) → (s.base i j ≡ true) ⊎ ((t : ℕ) × (s.tiles_in t ≡ true) × (wanted plan s.layers s.low t i j ≡ true)) → s.fill i j ≡ true
 fill_with plan s k i j (inl filled) = k.fill_is i j ∙ or_left _ _ filled
 fill_with plan s k i j (inr now) =
     let t = tile_of plan.raster i j in
-    let parts = wanted_into (in_raster plan.raster i j) (t == now.0) (conflicts plan s.metal i j) (in_window_of plan s.low i j) now.2 in
+    let parts = wanted_into (in_raster plan.raster i j) (t == now.0) (is_taken plan s.layers i j) (in_window_of plan s.low i j) now.2 in
     let own : t ≡ now.0 = nat_eq_is t now.0 parts.0 in
     k.fill_is i j ∙ or_right (s.base i j) _ (and_from _ _ (rw own now.1) parts.1)
 
 pub fill_of_tiles : FillIsThatOfItsTiles
-fill_of_tiles plan metal events i j = let k = kept_replay plan metal events in (fill_from plan (replay plan metal events) k i j, fill_with plan (replay plan metal events) k i j)
+fill_of_tiles plan layers events i j = let k = kept_replay plan layers events in (fill_from plan (replay plan layers events) k i j, fill_with plan (replay plan layers events) k i j)
 
 pub low_of_opening : LowIsThatOfTheOpening
-low_of_opening plan metal events = (kept_replay plan metal events).low_is
+low_of_opening plan layers events = (kept_replay plan layers events).low_is
 
 -- no place has no box
 pub no_boxes : (plan : Plan) (metal : PointSet) → with_boxes plan metal no_places ≡ metal
 no_boxes plan metal = fun_ext (λ x. fun_ext (λ y. rw (none_passes _ _ _ _ _ (λ i j. refl)) (or_no (metal x y))))
 
 pub opening_low : OpeningIsLowOfTheMetal
-opening_low plan metal = ap (low_windows plan) (no_boxes plan metal)
+opening_low plan layers = ap (low_windows plan) (no_boxes plan layers.metal)
 
 -- n: the tile of the place is in, as it is where the place is on the raster
 all_in : (b n r c w : Bool) → (r ≡ true → n ≡ true) → b || (n && ((r && c) && w)) ≡ b || ((r && c) && w)
 all_in b n true c w h = rw (h refl) refl
 all_in b n false c w h = rw (and_no n) refl
 
-pub complete_of : (plan : Plan) (s : State) → IsKept plan s → IsPlan plan → IsComplete plan s → s.fill ≡ (λ i j. s.base i j || (allowed plan s.metal i j && in_window_of plan s.low i j))
+pub complete_of : (plan : Plan) (s : State) → IsKept plan s → IsPlan plan → IsComplete plan s → s.fill ≡ (λ i j. s.base i j || (allowed plan s.layers i j && in_window_of plan s.low i j))
 complete_of plan s k is all = fun_ext (λ i. fun_ext (λ j.
     k.fill_is i j
-    ∙ all_in (s.base i j) (s.tiles_in (tile_of plan.raster i j)) (in_raster plan.raster i j) (not (conflicts plan s.metal i j)) (in_window_of plan s.low i j)
+    ∙ all_in (s.base i j) (s.tiles_in (tile_of plan.raster i j)) (in_raster plan.raster i j) (not (is_taken plan s.layers i j)) (in_window_of plan s.low i j)
     (λ on. all (tile_of plan.raster i j) (place_has_a_tile plan.raster is.raster i j on))))
 
 pub complete_fill : CompleteFill
-complete_fill plan metal events is all = complete_of plan (replay plan metal events) (kept_replay plan metal events) is all
+complete_fill plan layers events is all = complete_of plan (replay plan layers events) (kept_replay plan layers events) is all

@@ -11,9 +11,9 @@ use Rattle.fill_raster.specs.declared.axis.Axis.{Axis}
 use Rattle.fill_raster.proofs.RasterLaws.{places_range, spacing_kept}
 use Rattle.fill_raster.proofs.Ranges.{first_past}
 use Rattle.fill_size.specs.Distance.{IsNear}
-use Rattle.fill_job.specs.Plans.{conflicts}
+use Rattle.fill_job.specs.Plans.{blocked, conflicts, is_taken}
 use Rattle.fill_job.specs.Searches.{some_within}
-use Rattle.fill_job.proofs.Conflicts.{conflict_of_squares, some_within_decides}
+use Rattle.fill_job.proofs.Conflicts.{blocked_sharing, conflict_of_squares, some_within_decides}
 use Rattle.fill_core.specs.Laws.{BoxesKeepTheFillSpacing, BoxesAreOfPlaces, ReplayIsSound}
 use Rattle.fill_core.specs.Machine.{replay}
 use Rattle.fill_core.proofs.Keeping.{kept_replay}
@@ -48,13 +48,19 @@ not_yes : (b : Bool) → not b ≡ true → b ≡ true → ⊥
 not_yes true h yes_b = let e : false ≡ true = h in cc
 not_yes false h yes_b = let e : false ≡ true = yes_b in cc
 
+neither : (a b : Bool) → not (a || b) ≡ true → (not a ≡ true) × (not b ≡ true)
+neither true b h = absurd (let e : false ≡ true = h in cc)
+neither false b h = (refl, h)
+
 pub replay_sound : ReplayIsSound
-replay_sound plan metal events is =
-    let s = replay plan metal events in
-    let k = kept_replay plan metal events in
+replay_sound plan layers events is =
+    let s = replay plan layers events in
+    let k = kept_replay plan layers events in
+    let untaken = λ (i j : ℤ) (h : s.fill i j ≡ true). neither (conflicts plan s.layers.metal i j) (blocked plan s.layers.keep i j) (and_parts (in_raster plan.raster i j) (not (is_taken plan s.layers i j)) (k.all_allowed i j h)).1 in
     record {
-      on_raster = λ i j h. (and_parts (in_raster plan.raster i j) (not (conflicts plan s.metal i j)) (k.all_allowed i j h)).0;
-      clear = λ i j h c. not_yes (conflicts plan s.metal i j) (and_parts (in_raster plan.raster i j) (not (conflicts plan s.metal i j)) (k.all_allowed i j h)).1 ((conflict_of_squares plan s.metal i j is).1 c);
+      on_raster = λ i j h. (and_parts (in_raster plan.raster i j) (not (is_taken plan s.layers i j)) (k.all_allowed i j h)).0;
+      clear = λ i j h c. not_yes (conflicts plan s.layers.metal i j) (untaken i j h).0 ((conflict_of_squares plan s.layers.metal i j is).1 c);
+      free = λ i j h c. not_yes (blocked plan s.layers.keep i j) (untaken i j h).1 ((blocked_sharing plan s.layers.keep i j is).1 c);
       apart = λ i j k l h g other. boxes_apart plan is i j k l other;
       exact = λ a b column row. refl;
     }

@@ -13,24 +13,24 @@ use Rattle.fill_core.proofs.Replays.{complete_fill, opening_low}
 
 -- two states of one version
 pub record AreOfOneVersion (s t : State) : Type 0 where
-  pub metal : t.metal ≡ s.metal
+  pub layers : t.layers ≡ s.layers
   pub low : t.low ≡ s.low
   pub base : t.base ≡ s.base
   pub version : t.version ≡ s.version
 
 pub committed_stays : (plan : Plan) (s : State) (version tile : ℕ) (same : Bool) → AreOfOneVersion s (step plan s (event.Commit version tile same))
 committed_stays plan s version tile same = elim (cases_Bool (is_accepted s version tile same)) [
-  | inl h ↦ rw h (record { metal = refl; low = refl; base = refl; version = refl })
-  | inr h ↦ rw h (record { metal = refl; low = refl; base = refl; version = refl })
+  | inl h ↦ rw h (record { layers = refl; low = refl; base = refl; version = refl })
+  | inr h ↦ rw h (record { layers = refl; low = refl; base = refl; version = refl })
 ]
 
 stays_from : (plan : Plan) (s : State) (events : List Event) → edits_in events ≡ [] → AreOfOneVersion s (replay_from plan s events)
 unfolding replay_from
-stays_from plan s [] e = record { metal = refl; low = refl; base = refl; version = refl }
+stays_from plan s [] e = record { layers = refl; low = refl; base = refl; version = refl }
 stays_from plan s (event.Commit version tile same ∷ es) e =
     let one = committed_stays plan s version tile same in
     let rest = stays_from plan (step plan s (event.Commit version tile same)) es e in
-    record { metal = rest.metal ∙ one.metal; low = rest.low ∙ one.low; base = rest.base ∙ one.base; version = rest.version ∙ one.version }
+    record { layers = rest.layers ∙ one.layers; low = rest.low ∙ one.low; base = rest.base ∙ one.base; version = rest.version ∙ one.version }
 stays_from plan s (event.Edit edit ∷ es) e = absurd (let f : false ≡ true = ap is_empty e in cc)
   where
     is_empty : List Edit → Bool
@@ -38,8 +38,8 @@ stays_from plan s (event.Edit edit ∷ es) e = absurd (let f : false ≡ true = 
     is_empty (x ∷ xs) = false
 
 pub complete_unedited : CompleteFillWithoutEdits
-complete_unedited plan metal events is e all =
-    let stays = stays_from plan (opening plan metal) events e in
-    let s = replay plan metal events in
-    complete_fill plan metal events is all
-    ∙ fun_ext (λ i. fun_ext (λ j. rw (stays.metal, stays.base, stays.low, opening_low plan metal) refl))
+complete_unedited plan layers events is e all =
+    let stays = stays_from plan (opening plan layers) events e in
+    let s = replay plan layers events in
+    complete_fill plan layers events is all
+    ∙ fun_ext (λ i. fun_ext (λ j. rw (stays.layers, stays.base, stays.low, opening_low plan layers) refl))

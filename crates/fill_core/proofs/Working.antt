@@ -4,7 +4,7 @@ use Rattle.fill_base.specs.Counts.{sum_from}
 use Rattle.fill_base.specs.Sides.{Sides}
 use Rattle.fill_base.specs.declared.rect.Rect.{Rect}
 use Rattle.fill_raster.specs.Axes.{first, past}
-use Rattle.fill_job.specs.Plans.{conflicts, in_window_of}
+use Rattle.fill_job.specs.Plans.{meets_box, in_window_of}
 use Rattle.fill_job.specs.Searches.{some_below, some_pair, some_within}
 use Rattle.fill_core.specs.Machine.{replay_from, replies_from}
 use Rattle.fill_core.specs.steps.Worked.{IsBeside, RepliesAreWorked, StateIsWorked}
@@ -22,9 +22,9 @@ top : (r : Rect) → IsBeside r → r.y2 ≡ pos 1
 top r e = ap (λ (s : Sides). s.top) e
 
 pub replies_worked : RepliesAreWorked
-unfolding replies_from conflicts in_window_of some_within some_pair some_below sum_from first past
+unfolding replies_from meets_box in_window_of some_within some_pair some_below sum_from first past
 replies_worked r e = rw (left r e, bottom r e, right r e, top r e) refl
 
 pub state_worked : StateIsWorked
-unfolding replay_from conflicts in_window_of some_within some_pair some_below sum_from first past
+unfolding replay_from meets_box in_window_of some_within some_pair some_below sum_from first past
 state_worked r e = rw (left r e, bottom r e, right r e, top r e) (refl, refl, refl, refl, refl, refl, refl, refl)

@@ -1,9 +1,10 @@
--- What a book is to its callers: rules, the metal that it opened on, its history, and how much history it may have.
+-- What a book is to its callers: rules, the metal and the keep-outs that it opened on, its history, and how much history it may have.
 use Rattle.std.specs.Prelude.{◌≡◌, ◌↔◌, ℕ, ◌+◌, ◌≤◌, ◌^◌, Bool, true, false, List, [], ◌∷◌, ◌++◌, length}
-use Rattle.fill_region.specs.Bands.{Band, holds}
+use Rattle.fill_region.specs.Bands.{Band}
 use Rattle.fill_text.specs.Rules.{Values}
 use Rattle.fill_text.specs.declared.script.Edit.{Edit}
-use Rattle.fill_job.specs.Plans.{IsPlan, plan_of}
+use Rattle.fill_job.specs.Basis.{layers_in}
+use Rattle.fill_job.specs.Plans.{IsPlan, Layers, plan_of}
 use Rattle.fill_job.specs.ReadSets.{ReadSet, read_set}
 use Rattle.fill_core.specs.Boxes.{count_places, total_in}
 use Rattle.fill_core.specs.Histories.{events_in, replies_in}
@@ -18,23 +19,28 @@ use Rattle.fill_core.specs.declared.event.Reply.{Reply}
 pub record Account : Type 0 where
   pub rules : Values
   pub opening : List Band
+  pub keep : List Band
   pub history : List Entry
   pub most : ℕ
 
+-- the metal and the keep-outs that the book opened on
+abbrev pub opening_of : Account → Layers
+opening_of a = layers_in a.opening a.keep
+
 -- the state is the replay of the history on the opening
 abbrev pub state_of : Account → State
-state_of a = replay (plan_of a.rules) (holds a.opening) (events_in a.history)
+state_of a = replay (plan_of a.rules) (opening_of a) (events_in a.history)
 
 -- the replies are those of the replay
 abbrev pub IsLegal : Account → Type 0
-IsLegal a = replies_in a.history ≡ replies (plan_of a.rules) (holds a.opening) (events_in a.history)
+IsLegal a = replies_in a.history ≡ replies (plan_of a.rules) (opening_of a) (events_in a.history)
 
 abbrev pub with_entry : Account → Event → Reply → Account
 with_entry a e reply = record a { history = a.history ++ record { event = e; reply = reply } ∷ [] }
 
 -- whether a proposal passes the tests of version and tile, and read what there is to read now
 abbrev pub IsSame : Values → State → ℕ → ℕ → ReadSet → Bool → Type 0
-IsSame rules s version tile read same = (same ≡ true) ↔ ((version ≡ s.version) × (s.tiles_in tile ≡ false) × (read ≡ read_set rules s.metal s.low tile))
+IsSame rules s version tile read same = (same ≡ true) ↔ ((version ≡ s.version) × (s.tiles_in tile ≡ false) × (read ≡ read_set rules s.layers s.low tile))
 
 -- an event is answered and written, and moves the caller's shares
 pub record Writes (old new : Account) (held after : Held) (e : Event) (reply : Reply) : Type 0 where
@@ -53,7 +59,7 @@ IsEdited old new held after edit reply = Writes old new held after (event.Edit e
 -- what every book keeps
 pub record IsKeeping (a : Account) : Type 0 where
   pub plan : IsPlan (plan_of a.rules)
-  pub sound : IsSound (plan_of a.rules) (state_of a).metal (state_of a).fill (total_in (plan_of a.rules) (state_of a).metal (state_of a).fill)
+  pub sound : IsSound (plan_of a.rules) (state_of a).layers (state_of a).fill (total_in (plan_of a.rules) (state_of a).layers.metal (state_of a).fill)
   pub legal : IsLegal a
   pub count : count_places (plan_of a.rules).raster (state_of a).fill + (totals_of a.history).withdrawn ≡ (totals_of a.history).placed
   pub room : length a.history ≤ a.most

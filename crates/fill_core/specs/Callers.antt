@@ -4,7 +4,7 @@ use Rattle.std.specs.Prelude.{◌≡◌, ℕ, ◌<◌, Bool, true, false, List, 
 use Rattle.fill_raster.specs.Lattice.{tiles}
 use Rattle.fill_text.specs.Rules.{Values}
 use Rattle.fill_text.specs.declared.script.Edit.{Edit}
-use Rattle.fill_job.specs.Plans.{PointSet, plan_of}
+use Rattle.fill_job.specs.Plans.{Layers, PointSet, plan_of}
 use Rattle.fill_job.specs.ReadSets.{ReadSet, read_set, wanted_of}
 use Rattle.fill_core.specs.Accounts.{IsSame}
 use Rattle.fill_core.specs.Machine.{State, opening, step}
@@ -44,7 +44,7 @@ abbrev pub IsMarked : Proposal → Type 0
 IsMarked p = p.marks ≡ wanted_of p.job.read p.job.tile
 
 abbrev pub job_on : Values → State → ℕ → ℕ → Job
-job_on rules s caller tile = record { caller = caller; own = true; version = s.version; tile = tile; read = read_set rules s.metal s.low tile }
+job_on rules s caller tile = record { caller = caller; own = true; version = s.version; tile = tile; read = read_set rules s.layers s.low tile }
 
 abbrev pub proposal_of : Job → Proposal
 proposal_of job = record { job = job; marks = wanted_of job.read job.tile }
@@ -67,8 +67,8 @@ Runs rules w [] v = w ≡ v
 Runs rules w (x ∷ xs) v = (u : World) × Moves rules w x u × Runs rules u xs v
 
 -- the book opens, and nobody holds anything
-abbrev pub start : Values → PointSet → World
-start rules metal = record { state = opening (plan_of rules) metal; jobs = []; proposals = [] }
+abbrev pub start : Values → Layers → World
+start rules layers = record { state = opening (plan_of rules) layers; jobs = []; proposals = [] }
 
 -- the events among the steps
 abbrev pub events_by : Step → List Event

@@ -6,7 +6,7 @@ use Rattle.fill_raster.specs.Lattice.{Lattice, IsLattice, in_raster, in_tile, bo
 use Rattle.fill_raster.specs.Marks.{IsBlock, in_block}
 use Rattle.fill_raster.specs.declared.block.Block.{Block}
 use Rattle.fill_size.specs.Distance.{InConflict}
-use Rattle.fill_job.specs.Plans.{Plan, IsPlan, PointSet, allowed, in_window_of, low_windows, plan_of, wanted}
+use Rattle.fill_job.specs.Plans.{Plan, IsPlan, Layers, PointSet, allowed, in_window_of, low_windows, plan_of, wanted}
 use Rattle.fill_core.specs.Accounts.{Account, IsKeeping, IsLegal, state_of, with_entry}
 use Rattle.fill_core.specs.Boxes.{count_places, total_in, with_boxes}
 use Rattle.fill_core.specs.Histories.{edits_in, placed_in, withdrawn_in}
@@ -19,8 +19,8 @@ use Rattle.fill_core.specs.declared.event.Reply.TheVariants.{Placed, Stale, Alre
 
 -- every filled place may be filled
 abbrev pub FilledPlacesAreAllowed : Type 0
-FilledPlacesAreAllowed = (plan : Plan) (metal : PointSet) (events : List Event) (i j : ℤ) → let s = replay plan metal events in
-    s.fill i j ≡ true → (in_raster plan.raster i j ≡ true) × (allowed plan s.metal i j ≡ true)
+FilledPlacesAreAllowed = (plan : Plan) (layers : Layers) (events : List Event) (i j : ℤ) → let s = replay plan layers events in
+    s.fill i j ≡ true → (in_raster plan.raster i j ≡ true) × (allowed plan s.layers i j ≡ true)
 
 -- the boxes of two different places keep the fill spacing
 abbrev pub BoxesKeepTheFillSpacing : Type 0
@@ -28,7 +28,7 @@ BoxesKeepTheFillSpacing = (plan : Plan) → IsPlan plan → (i j k l : ℤ) → 
 
 -- after any events the fill is sound
 abbrev pub ReplayIsSound : Type 0
-ReplayIsSound = (plan : Plan) (metal : PointSet) (events : List Event) → IsPlan plan → let s = replay plan metal events in IsSound plan s.metal s.fill (total_in plan s.metal s.fill)
+ReplayIsSound = (plan : Plan) (layers : Layers) (events : List Event) → IsPlan plan → let s = replay plan layers events in IsSound plan s.layers s.fill (total_in plan s.layers.metal s.fill)
 
 -- the replies that refuse
 abbrev pub IsRefusal : Reply → Type 0
@@ -44,40 +44,40 @@ RefusedChangesNothing = (plan : Plan) (s : State) (e : Event) → IsRefusal (rep
 
 -- the filled places are those of the version's opening and the wanted ones of the tiles that are in
 abbrev pub FillIsThatOfItsTiles : Type 0
-FillIsThatOfItsTiles = (plan : Plan) (metal : PointSet) (events : List Event) (i j : ℤ) → let s = replay plan metal events in
-    (s.fill i j ≡ true) ↔ ((s.base i j ≡ true) ⊎ ((t : ℕ) × (s.tiles_in t ≡ true) × (wanted plan s.metal s.low t i j ≡ true)))
+FillIsThatOfItsTiles = (plan : Plan) (layers : Layers) (events : List Event) (i j : ℤ) → let s = replay plan layers events in
+    (s.fill i j ≡ true) ↔ ((s.base i j ≡ true) ⊎ ((t : ℕ) × (s.tiles_in t ≡ true) × (wanted plan s.layers s.low t i j ≡ true)))
 
 -- the low windows are those of the version's opening, whatever has risen since
 abbrev pub LowIsThatOfTheOpening : Type 0
-LowIsThatOfTheOpening = (plan : Plan) (metal : PointSet) (events : List Event) → let s = replay plan metal events in s.low ≡ low_windows plan (with_boxes plan s.metal s.base)
+LowIsThatOfTheOpening = (plan : Plan) (layers : Layers) (events : List Event) → let s = replay plan layers events in s.low ≡ low_windows plan (with_boxes plan s.layers.metal s.base)
 
 -- the first version's are those of the metal
 abbrev pub OpeningIsLowOfTheMetal : Type 0
-OpeningIsLowOfTheMetal = (plan : Plan) (metal : PointSet) → (opening plan metal).low ≡ low_windows plan metal
+OpeningIsLowOfTheMetal = (plan : Plan) (layers : Layers) → (opening plan layers).low ≡ low_windows plan layers.metal
 
 -- once every tile is in, the fill is that of the version's opening and all allowed places wholly in a window that was low then
 abbrev pub CompleteFill : Type 0
-CompleteFill = (plan : Plan) (metal : PointSet) (events : List Event) → IsPlan plan → let s = replay plan metal events in
-    IsComplete plan s → s.fill ≡ (λ i j. s.base i j || (allowed plan s.metal i j && in_window_of plan s.low i j))
+CompleteFill = (plan : Plan) (layers : Layers) (events : List Event) → IsPlan plan → let s = replay plan layers events in
+    IsComplete plan s → s.fill ≡ (λ i j. s.base i j || (allowed plan s.layers i j && in_window_of plan s.low i j))
 
 -- without edits, that is what may be filled in windows that are low in the metal alone: the same in whatever order the tiles came
 abbrev pub CompleteFillWithoutEdits : Type 0
-CompleteFillWithoutEdits = (plan : Plan) (metal : PointSet) (events : List Event) → IsPlan plan → edits_in events ≡ [] → let s = replay plan metal events in
-    IsComplete plan s → s.fill ≡ (λ i j. allowed plan metal i j && in_window_of plan (low_windows plan metal) i j)
+CompleteFillWithoutEdits = (plan : Plan) (layers : Layers) (events : List Event) → IsPlan plan → edits_in events ≡ [] → let s = replay plan layers events in
+    IsComplete plan s → s.fill ≡ (λ i j. allowed plan layers i j && in_window_of plan (low_windows plan layers.metal) i j)
 
 -- the filled places are as many as were placed, less those taken out
 abbrev pub CountIsPlacedLessWithdrawn : Type 0
-CountIsPlacedLessWithdrawn = (plan : Plan) (metal : PointSet) (events : List Event) → let rs = replies plan metal events in
-    count_places plan.raster (replay plan metal events).fill + withdrawn_in rs ≡ placed_in rs
+CountIsPlacedLessWithdrawn = (plan : Plan) (layers : Layers) (events : List Event) → let rs = replies plan layers events in
+    count_places plan.raster (replay plan layers events).fill + withdrawn_in rs ≡ placed_in rs
 
 -- no event places or takes out more places than a raster may have
 abbrev pub SumsAreBounded : Type 0
-SumsAreBounded = (plan : Plan) (metal : PointSet) (events : List Event) → IsPlan plan → let rs = replies plan metal events in
+SumsAreBounded = (plan : Plan) (layers : Layers) (events : List Event) → IsPlan plan → let rs = replies plan layers events in
     (placed_in rs ≤ 16777216 * length events) × (withdrawn_in rs ≤ 16777216 * length events)
 
 -- the version is the number of edits
 abbrev pub VersionCountsEdits : Type 0
-VersionCountsEdits = (plan : Plan) (metal : PointSet) (events : List Event) → (replay plan metal events).version ≡ length (edits_in events)
+VersionCountsEdits = (plan : Plan) (layers : Layers) (events : List Event) → (replay plan layers events).version ≡ length (edits_in events)
 
 -- metal with boxes is the metal and the squares of the boxes of filled places
 abbrev pub BoxesAreOfPlaces : Type 0

@@ -1,7 +1,7 @@
 -- What holds in every interleaving of callers' steps.
 use Rattle.std.specs.Prelude.{◌≡◌, Bool, true, false, List}
 use Rattle.fill_text.specs.Rules.{Values}
-use Rattle.fill_job.specs.Plans.{IsPlan, PointSet, plan_of, wanted}
+use Rattle.fill_job.specs.Plans.{IsPlan, Layers, plan_of, wanted}
 use Rattle.fill_core.specs.Boxes.{total_in}
 use Rattle.fill_core.specs.Callers.{Proposal, Step, World, Moves, Runs, start, commit_of, events_of}
 use Rattle.fill_core.specs.Callers.Step.{Commit}
@@ -12,11 +12,11 @@ use Rattle.fill_core.specs.declared.event.Reply.TheVariants.{Placed, Stale}
 
 -- the state is the replay of the commits and edits, so all that holds of every replay holds here
 abbrev pub RunIsAReplay : Type 0
-RunIsAReplay = (rules : Values) (metal : PointSet) (steps : List Step) (w : World) → Runs rules (start rules metal) steps w → w.state ≡ replay (plan_of rules) metal (events_of steps)
+RunIsAReplay = (rules : Values) (layers : Layers) (steps : List Step) (w : World) → Runs rules (start rules layers) steps w → w.state ≡ replay (plan_of rules) layers (events_of steps)
 
 abbrev pub RunIsSound : Type 0
-RunIsSound = (rules : Values) (metal : PointSet) (steps : List Step) (w : World) → IsPlan (plan_of rules) → Runs rules (start rules metal) steps w
-    → IsSound (plan_of rules) w.state.metal w.state.fill (total_in (plan_of rules) w.state.metal w.state.fill)
+RunIsSound = (rules : Values) (layers : Layers) (steps : List Step) (w : World) → IsPlan (plan_of rules) → Runs rules (start rules layers) steps w
+    → IsSound (plan_of rules) w.state.layers w.state.fill (total_in (plan_of rules) w.state.layers.metal w.state.fill)
 
 -- a proposal of another version is stale and changes nothing, whatever the callers hold
 abbrev pub StaleChangesNothing : Type 0
@@ -30,11 +30,11 @@ RefusedCommitChangesNothing = (rules : Values) (w v : World) (p : Proposal) (sam
 
 -- a proposal that was looked up on this book, committed at its version while its tile isn't in, is placed and never foreign
 abbrev pub OwnProposalIsPlaced : Type 0
-OwnProposalIsPlaced = (rules : Values) (metal : PointSet) (steps : List Step) (w v : World) (p : Proposal) (same : Bool) → Runs rules (start rules metal) steps w → Moves rules w (Commit p same) v
+OwnProposalIsPlaced = (rules : Values) (layers : Layers) (steps : List Step) (w v : World) (p : Proposal) (same : Bool) → Runs rules (start rules layers) steps w → Moves rules w (Commit p same) v
     → p.job.own ≡ true → p.job.version ≡ w.state.version → w.state.tiles_in p.job.tile ≡ false
     → (reply_of (plan_of rules) w.state (commit_of p.job same) ≡ Placed (newly_placed (plan_of rules) w.state p.job.tile)) × (v.state ≡ with_tile (plan_of rules) w.state p.job.tile)
 
 -- the marks of a proposal that is the same as the book's, of this book or of another, are the places wanted now
 abbrev pub AcceptedMarksAreWanted : Type 0
-AcceptedMarksAreWanted = (rules : Values) (metal : PointSet) (steps : List Step) (w v : World) (p : Proposal) → IsPlan (plan_of rules) → Runs rules (start rules metal) steps w → Moves rules w (Commit p true) v
-    → p.marks ≡ wanted (plan_of rules) w.state.metal w.state.low p.job.tile
+AcceptedMarksAreWanted = (rules : Values) (layers : Layers) (steps : List Step) (w v : World) (p : Proposal) → IsPlan (plan_of rules) → Runs rules (start rules layers) steps w → Moves rules w (Commit p true) v
+    → p.marks ≡ wanted (plan_of rules) w.state.layers w.state.low p.job.tile

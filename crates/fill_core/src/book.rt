@@ -19,7 +19,7 @@ use crate::event::Reply;
 use crate::history::History;
 use crate::pass::Pass;
 use fill_base::Place;
-use fill_job::{Job, Proposal};
+use fill_job::{Job, Piece, Proposal, SharedRules};
 use fill_raster::Marks;
 use fill_region::Region;
 use fill_text::{Edit, Rules};
@@ -75,7 +75,7 @@ pub trait FillBook: Drop {
         requires { tile < tiles (plan_of (account self.now).rules).raster }
         ensures version { IfOk result (λ j. j.version ≡ (state_of (account self.now)).version) }
         ensures tile { IfOk result (λ j. j.tile ≡ tile) }
-        ensures read { let a = account self.now in let s = state_of a in IfOk result (λ j. read_by j.basis ≡ read_set a.rules s.metal s.low tile) };
+        ensures read { let a = account self.now in let s = state_of a in IfOk result (λ j. read_by j.basis ≡ read_set a.rules s.layers s.low tile) };
 
     /// Brings the marked places of a tile. The answer is written in the history and counted in the pass: `Stale` where the
     /// proposal is of another version, else `Already` where its tile is in, else `Foreign` where its rules or what it read
@@ -115,13 +115,13 @@ pub trait FillBook: Drop {
     fn total(&self, a: u32, b: u32) -> i64
         requires column { a < (plan_of (account self.now).rules).windows.across.count }
         requires row { b < (plan_of (account self.now).rules).windows.up.count }
-        ensures { let k = account self.now in let s = state_of k in result ≡ pos (total_in (plan_of k.rules) s.metal s.fill a b) };
+        ensures { let k = account self.now in let s = state_of k in result ≡ pos (total_in (plan_of k.rules) s.layers.metal s.fill a b) };
 
     /// The area of the metal alone in the window of column `a` and row `b`.
     fn drawn(&self, a: u32, b: u32) -> i64
         requires column { a < (plan_of (account self.now).rules).windows.across.count }
         requires row { b < (plan_of (account self.now).rules).windows.up.count }
-        ensures { let k = account self.now in result ≡ pos (window_area (state_of k).metal (plan_of k.rules).windows a b) };
+        ensures { let k = account self.now in result ≡ pos (window_area (state_of k).layers.metal (plan_of k.rules).windows a b) };
 
     /// The version: how many edits there were.
     fn version(&self) -> u64
@@ -131,8 +131,8 @@ pub trait FillBook: Drop {
     /// box lies wholly in a window that was low at the opening, and no other place.
     fn is_complete(&self) -> bool
         ensures complete { let a = account self.now in IsTrue result ↔ IsComplete (plan_of a.rules) (state_of a) }
-        ensures filled { let plan = plan_of (account self.now).rules in let s = state_of (account self.now) in IsTrue result → (s.fill ≡ (λ i j. s.base i j || (allowed plan s.metal i j && in_window_of plan s.low i j))) }
-        ensures low { let plan = plan_of (account self.now).rules in let s = state_of (account self.now) in s.low ≡ low_windows plan (with_boxes plan s.metal s.base) };
+        ensures filled { let plan = plan_of (account self.now).rules in let s = state_of (account self.now) in IsTrue result → (s.fill ≡ (λ i j. s.base i j || (allowed plan s.layers i j && in_window_of plan s.low i j))) }
+        ensures low { let plan = plan_of (account self.now).rules in let s = state_of (account self.now) in s.low ≡ low_windows plan (with_boxes plan s.layers.metal s.base) };
 
     /// Whether a place is filled.
     fn has(&self, place: Place) -> bool
@@ -159,6 +159,25 @@ pub trait FillBook: Drop {
     /// The metal that the book opened on.
     fn opening(&self) -> &Region
         ensures { result.now ≡ (account self.now).opening };
+
+    /// The keep-outs that the book opened on.
+    fn opening_keep(&self) -> &Region
+        ensures { result.now ≡ (account self.now).keep };
+
+    /// The rules of the fill, held together with the book.
+    ///
+    /// # Errors
+    /// `AllocError` where the count of their holders is at its end.
+    fn share_rules(&self) -> Result<SharedRules, AllocError>
+        ensures { IfOk result (λ r. r ≡ (account self.now).rules) };
+
+    /// The metal and the keep-outs that the book opened on, held together with the book.
+    ///
+    /// # Errors
+    /// `AllocError` where the count of their holders is at its end.
+    fn share_opening(&self) -> Result<(Piece, Piece), AllocError>
+        ensures metal { IfOk result (λ p. p.0 ≡ (account self.now).opening) }
+        ensures keep { IfOk result (λ p. p.1 ≡ (account self.now).keep) };
 
     /// Tells what every book keeps, and how the numbers of a pass stand to those of the history. Does nothing at run time.
     fn audit(&mut self, pass: &mut Pass<Self::Calls, Self::Placed, Self::Withdrawn>)

@@ -6,8 +6,8 @@ use Rattle.fill_text.specs.declared.rule_error.RuleError.{RuleError}
 use Rattle.fill_text.specs.declared.rule_error.RuleError.TheVariants as rule
 use Rattle.fill_text.specs.declared.script.ScriptError.{ScriptError}
 use Rattle.fill_text.specs.declared.script.ScriptError.TheVariants as script
-use Rattle.fill_job.specs.Plans.{PointSet}
-use Rattle.fill_engine.specs.Designs.{IsDesign, IsDesignFault, IsDrawn}
+use Rattle.fill_job.specs.Plans.{Layers}
+use Rattle.fill_engine.specs.Designs.{AreDrawn, IsDesign, IsDesignFault}
 use Rattle.fill_engine.specs.Fills.{Inputs, IsFilled, IsFillOf, IsFillReason}
 use Rattle.fill_engine.specs.Inputs.{IsFaultOf, rules_answer, script_answer}
 use Rattle.fill_engine.specs.Runs.{IsTooShort}
@@ -38,26 +38,26 @@ module _ (rules design edits : Option (List ℕ)) (workers : ℕ) (limit : Optio
         → IfSome rules (λ r. IfSome design (λ d. IfSome edits (λ s. IsFillReason r d s workers limit (Design f))))
     design_refused f why = if_all rules design edits (λ r d s at_r at_d at_s. (values, of _ rules r at_r read, of _ design d at_d why))
 
-    module _ (metal : PointSet) (units dates : List ℕ) (drawn : IfSome design (λ bytes. IsDesign bytes values metal units dates)) where
-      pub both_read : IfSome rules (λ r. IfSome design (λ d. (values : Values) × (rules_answer r ≡ Ok values) × ((metal : PointSet) × IsDrawn d values metal)))
+    module _ (layers : Layers) (units dates : List ℕ) (drawn : IfSome design (λ bytes. IsDesign bytes values layers units dates)) where
+      pub both_read : IfSome rules (λ r. IfSome design (λ d. (values : Values) × (rules_answer r ≡ Ok values) × ((layers : Layers) × AreDrawn d values layers)))
       both_read = both rules design read drawn
         where
-          both : (rules design : Option (List ℕ)) → IfSome rules (λ text. rules_answer text ≡ Ok values) → IfSome design (λ bytes. IsDesign bytes values metal units dates)
-              → IfSome rules (λ r. IfSome design (λ d. (values : Values) × (rules_answer r ≡ Ok values) × ((metal : PointSet) × IsDrawn d values metal)))
+          both : (rules design : Option (List ℕ)) → IfSome rules (λ text. rules_answer text ≡ Ok values) → IfSome design (λ bytes. IsDesign bytes values layers units dates)
+              → IfSome rules (λ r. IfSome design (λ d. (values : Values) × (rules_answer r ≡ Ok values) × ((layers : Layers) × AreDrawn d values layers)))
           both None design read drawn = tt
           both (Some r) None read drawn = tt
-          both (Some r) (Some d) read drawn = (values, read, (metal, drawn.drawn))
+          both (Some r) (Some d) read drawn = (values, read, (layers, drawn.drawn))
 
       pub script_refused : (f : InputFault ScriptError) → IfSome edits (λ text. IsFaultOf script.Memory (script_answer text) f)
           → IfSome rules (λ r. IfSome design (λ d. IfSome edits (λ s. IsFillReason r d s workers limit (Script f))))
-      script_refused f why = if_all rules design edits (λ r d s at_r at_d at_s. (values, of _ rules r at_r read, (metal, (of _ design d at_d drawn).drawn, of _ edits s at_s why)))
+      script_refused f why = if_all rules design edits (λ r d s at_r at_d at_s. (values, of _ rules r at_r read, (layers, (of _ design d at_d drawn).drawn, of _ edits s at_s why)))
 
       module _ (changes : List Change) (changed : IfSome edits (λ text. script_answer text ≡ Ok changes)) where
         inputs : (r d s : List ℕ) → rules ≡ Some r → design ≡ Some d → edits ≡ Some s → Inputs r d s
         inputs r d s at_r at_d at_s = record {
           values = values;
           accepted = of _ rules r at_r read;
-          metal = metal;
+          layers = layers;
           units = units;
           dates = dates;
           drawn = of _ design d at_d drawn;
@@ -65,7 +65,7 @@ module _ (rules design edits : Option (List ℕ)) (workers : ℕ) (limit : Optio
           edits = of _ edits s at_s changed;
         }
 
-        pub filled : (library report : List ℕ) → IsFillOf values metal units dates changes workers limit library report
+        pub filled : (library report : List ℕ) → IsFillOf values layers units dates changes workers limit library report
             → IfSome rules (λ r. IfSome design (λ d. IfSome edits (λ s. IsFilled r d s workers limit library report)))
         unfolding inputs
         filled library report fill = if_all rules design edits (λ r d s at_r at_d at_s. record { inputs = inputs r d s at_r at_d at_s; fill = fill })

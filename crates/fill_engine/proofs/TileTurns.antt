@@ -35,7 +35,7 @@ edits_pushed h e reply =
     ∙ (flat_map-append edits_by (events_in h) (e ∷ []) ∙ ap (λ l. edits_in (events_in h) ++ l) (append-nil (edits_by e)))
 
 pub no_run : (a : Account) → IsRun a a [] 0
-no_run a = record { rules = refl; opening = refl; most = refl; edited = sym (append-nil (edits_in (events_in a.history))); brief = omega arith }
+no_run a = record { rules = refl; opening = refl; keep = refl; most = refl; edited = sym (append-nil (edits_in (events_in a.history))); brief = omega arith }
 
 pub one_edit : (a b c : Account) (edits : List Edit) (k : ℕ) (e : Edit) (reply : Reply) → IsRun a b (take k edits) 0 → c ≡ with_entry b (event.Edit e) reply
     → k < length edits → e ≡ get_or edits k e → IsRun a c (take (k + 1) edits) 0
@@ -45,6 +45,7 @@ one_edit a b c edits k e reply run is lt item =
     subst (λ (x : Account). IsRun a x (take (k + 1) edits) 0) (sym is) record {
       rules = run.rules;
       opening = run.opening;
+      keep = run.keep;
       most = run.most;
       edited = edits_pushed b.history (event.Edit e) reply ∙ (ap (λ l. l ++ e ∷ []) run.edited
           ∙ (append_assoc before (take k edits) (e ∷ []) ∙ ap (λ l. before ++ l) (sym taken)));
@@ -59,6 +60,7 @@ pub one_more : (a b c : Account) (k : ℕ) → IsRun a b [] k → IsRun b c [] 1
 one_more a b c k first next = record {
   rules = next.rules ∙ first.rules;
   opening = next.opening ∙ first.opening;
+  keep = next.keep ∙ first.keep;
   most = next.most ∙ first.most;
   edited = next.edited ∙ (append-nil (edits_in (events_in b.history)) ∙ first.edited);
   brief = longer _ _ _ k first.brief next.brief;
@@ -81,12 +83,12 @@ accepted version at taken e out = rw (e, out, same at) refl
 
 -- a proposal of the version, of what there is to read, brings its tile in
 pub brings : (a c : Account) (held after : Held) (version tile t : ℕ) (read : ReadSet) (reply : Reply) → IsCommitted a c held after version tile read reply
-    → version ≡ (state_of a).version → tile ≡ t → (state_of a).tiles_in t ≡ false → read ≡ read_set a.rules (state_of a).metal (state_of a).low t
+    → version ≡ (state_of a).version → tile ≡ t → (state_of a).tiles_in t ≡ false → read ≡ read_set a.rules (state_of a).layers (state_of a).low t
     → state_of c ≡ with_tile (plan_of a.rules) (state_of a) t
 brings a c held after version tile t read reply done at is out what =
     let s = state_of a in
     let out_it : s.tiles_in tile ≡ false = ap s.tiles_in is ∙ out in
-    let same : done.same ≡ true = done.is_same.1 (at, out_it, what ∙ ap (read_set a.rules s.metal s.low) (sym is)) in
+    let same : done.same ≡ true = done.is_same.1 (at, out_it, what ∙ ap (read_set a.rules s.layers s.low) (sym is)) in
     ap state_of done.writes.written ∙ (state_with a (event.Commit version tile done.same) reply
     ∙ (ap (λ b. step (plan_of a.rules) s (event.Commit version tile b)) same
     ∙ (ap (λ b. if b then with_tile (plan_of a.rules) s tile else s) (accepted version s.version (s.tiles_in tile) at out_it)

@@ -3,7 +3,7 @@ use Rattle.std.specs.Prelude.{◌≡◌, ℕ, ℤ, Bool, List, Ok}
 use Rattle.fill_text.specs.Rules.{Values}
 use Rattle.fill_text.specs.declared.rule_error.RuleError.TheVariants as rule
 use Rattle.fill_report.specs.RulesReport.{metal_report}
-use Rattle.fill_engine.specs.Designs.{IsDrawn, IsDesignFault}
+use Rattle.fill_engine.specs.Designs.{IsDrawn, IsMetalFault}
 use Rattle.fill_engine.specs.Inputs.{rules_answer, IsFaultOf}
 use Rattle.fill_engine.specs.declared.refusal.RunFault.TheVariants as run
 use Rattle.fill_engine.specs.declared.refusal.Refusal.{Refusal}
@@ -20,7 +20,7 @@ pub record IsChecked (rules design text : List ℕ) : Type 0 where
 -- why there is no report of a rule file and a design of these bytes
 abbrev pub IsCheckReason : List ℕ → List ℕ → Refusal → Type 0
 IsCheckReason rules design (Rules fault) = IsFaultOf rule.Memory (rules_answer rules) fault
-IsCheckReason rules design (Design fault) = (values : Values) × (rules_answer rules ≡ Ok values) × IsDesignFault design values fault
+IsCheckReason rules design (Design fault) = (values : Values) × (rules_answer rules ≡ Ok values) × IsMetalFault design values fault
 IsCheckReason rules design (Script fault) = ⊥
 IsCheckReason rules design (Run run.Memory) = (text : List ℕ) × IsChecked rules design text
 IsCheckReason rules design (Run run.Unfinished) = ⊥

@@ -29,6 +29,7 @@ IsFresh s = (tile : ℕ) → s.tiles_in tile ≡ false
 pub record IsRun (old new : Account) (edits : List Edit) (turns : ℕ) : Type 0 where
   pub rules : new.rules ≡ old.rules
   pub opening : new.opening ≡ old.opening
+  pub keep : new.keep ≡ old.keep
   pub most : new.most ≡ old.most
   pub edited : edits_in (events_in new.history) ≡ edits_in (events_in old.history) ++ edits
   pub brief : length new.history ≤ length old.history + (length edits + turns)

@@ -2,13 +2,13 @@
 ghost use Rattle.std.specs.Prelude.{◌≡◌, ◌↔◌, ◌⊎◌, ◌+◌, ◌^◌, ◌<◌, ◌≤◌, ℕ, true, false, length, map, take, Ok, IfErr, IfOk, IfSome, IsOk, OnOk};
 ghost use Rattle.std.specs.Io.KnownBytes.{Appends};
 ghost use Rattle.fill_device.specs.Taps.{has_failed, under};
-ghost use Rattle.fill_region.specs.Bands.{holds};
 ghost use Rattle.fill_text.specs.Rules.{Values};
 ghost use Rattle.fill_text.specs.Script.{change_of};
 ghost use Rattle.fill_text.specs.ValuesOfRules.{values_of};
 ghost use Rattle.fill_core.specs.Shares.{AllParts};
-ghost use Rattle.fill_job.specs.Plans.{PointSet};
-ghost use Rattle.fill_engine.specs.Designs.{IsDrawn};
+ghost use Rattle.fill_job.specs.Basis.{layers_in};
+ghost use Rattle.fill_job.specs.Plans.{Layers};
+ghost use Rattle.fill_engine.specs.Designs.{AreDrawn};
 ghost use Rattle.fill_engine.specs.Inputs.{is_before_script, is_of_rules, rules_answer};
 ghost use Rattle.fill_engine.specs.Fills.{IsFilled, IsFillOf, IsFillReason};
 ghost use Rattle.fill_engine.specs.Runs.{IsTooShort};
@@ -18,7 +18,7 @@ use crate::refusal::{InputFault, Refusal, RunFault};
 use crate::texts::{Filled, texts_of};
 use crate::together::fill_together;
 use crate::turns::{edit_all, fill_tiles};
-use fill_book::PlainBook;
+use fill_book::Book;
 use fill_device::{InputError, Tap, write_text};
 use fill_job::laws::rules_make_a_plan;
 use fill_text::{Edit, Rules};
@@ -49,23 +49,25 @@ fn fill_design<C: Ledger + Send + Sync, P: Ledger + Send + Sync, W: Ledger + Sen
     requires parts { (calls.parts ≡ C.parts) × (placed.parts ≡ P.parts) × (withdrawn.parts ≡ W.parts) }
     requires all { AllParts C.parts P.parts W.parts }
     requires workers { (0 < workers) × (workers ≤ 64) }
-    ensures filled { IfOk result (λ f. IsFillOf (values_of rules) (holds design.metal) design.units design.dates (map change_of edits.now) workers limit f.library.items f.report.items) }
+    ensures filled { IfOk result (λ f. IsFillOf (values_of rules) (layers_in design.metal design.keep) design.units design.dates (map change_of edits.now) workers limit f.library.items f.report.items) }
     ensures unfinished { result ≡ Err RunFault.Unfinished → workers ≡ 1 → IsTooShort (values_of rules) limit (length (map change_of edits.now)) (2 ^ 32) }
     ensures mixed { result ≡ Err RunFault.Mixed → workers ≡ 1 → ⊥ }
 {
     rules_make_a_plan(&rules);
     let Design {
         metal,
+        keep,
         units,
         dates,
     } = design;
-    let (mut book, mut pass) = PlainBook::<C, P, W>::open(
+    let (mut book, mut pass) = Book::<C, P, W>::open(
         rt,
         alloc,
         calls,
         placed,
         withdrawn,
         metal,
+        keep,
         rules,
         MOST_EVENTS,
     )?;
@@ -78,7 +80,7 @@ fn fill_design<C: Ledger + Send + Sync, P: Ledger + Send + Sync, W: Ledger + Sen
     texts_of(alloc, &book, &units, &dates)
 }
 
-/// Fills a design: opens a book on the metal that it draws on the rules' layer, and makes the script's edits in their order. One
+/// Fills a design: opens a book on the metal and the keep-outs that it draws on the rules' layers, and makes the script's edits in their order. One
 /// worker brings tile after tile once they are made. Two to 64 workers bring tiles while they are made, and begin once more where a
 /// tile is left then. In each of these two rounds a worker takes at most `limit` turns, without a limit one for each tile and one
 /// more; so one worker has both at once. Each input is read to its end and interpreted before the next one is touched, and the design is flattened
@@ -130,7 +132,7 @@ pub fn prepare<
     ensures in_turn { IfErr result (λ e. is_of_rules e ≡ false → IfSome (R.remaining (under rules.old)) (λ r. IsOk (rules_answer r))) }
     ensures unread { IfErr result (λ e. is_of_rules e ≡ true → design.new ≡ design.old) }
     ensures script_in_turn { IfErr result (λ e. is_before_script e ≡ false → IfSome (R.remaining (under rules.old)) (λ r. IfSome (D.remaining (under design.old)) (λ d.
-        (values : Values) × (rules_answer r ≡ Ok values) × ((metal : PointSet) × IsDrawn d values metal)))) }
+        (values : Values) × (rules_answer r ≡ Ok values) × ((layers : Layers) × AreDrawn d values layers)))) }
     ensures script_unread { IfErr result (λ e. is_before_script e ≡ true → script.new ≡ script.old) }
 {
     let values = take_rules(alloc, rules)?;

@@ -64,10 +64,14 @@ fn patch_of_one(alloc: Global, edit: Edit) -> Result<Patch, AllocError>
             metal: Region::empty(alloc),
             cut: Region::one(alloc, &rect)?,
         }),
+        Edit::Keep(_) => Ok(Patch {
+            metal: Region::empty(alloc),
+            cut: Region::empty(alloc),
+        }),
     }
 }
 
-/// The rectangles of a run of edits that only adds, and `None` for one that cuts.
+/// The rectangles that a run of edits adds, where it cuts nothing; keep-outs touch no metal.
 fn rects_added(alloc: Global, edits: &[Edit]) -> Result<Option<Vec<Rect>>, AllocError>
     ensures { IfOk result (λ r. IfSome r (λ v. AreAdded (map change_of edits.now) v.items)) }
 {
@@ -76,6 +80,7 @@ fn rects_added(alloc: Global, edits: &[Edit]) -> Result<Option<Vec<Rect>>, Alloc
         match edit {
             Edit::Add(rect) => rects.push(*rect)?,
             Edit::Cut(_) => return Ok(None),
+            Edit::Keep(_) => {}
         }
     }
     Ok(Some(rects))

@@ -11,56 +11,20 @@ ghost use Rattle.fill_engine.specs.Inputs.{is_of_rules, rules_answer};
 ghost use Rattle.fill_engine.specs.Rects.{report_answer, IsReason};
 ghost use Rattle.fill_engine.specs.Checks.{IsChecked, IsCheckReason};
 
-use crate::inputs::{take_drawing, take_edits, take_rules};
+use crate::inputs::{take_edits, take_metal, take_rules};
 use crate::metal::{Metal, metal_after, report_of_metal};
 use crate::refusal::{InputFault, Refusal, RunFault};
 use fill_device::{InputError, Tap, write_texts};
-use fill_report::OutOfMemory;
 use fill_text::Rules;
-use gds_grammar::Library;
 use std::alloc::Global;
 use std::io::{Read, Write};
-use std::thread::{Threads, join};
+use std::thread::Threads;
 
-/// A library is large that has so many elements or more in one cell.
-const MANY: usize = 65_536;
-
-/// Whether a cell of the library has many elements: to give them back takes long.
-fn is_large(library: &Library) -> bool {
-    library
-        .cells
-        .values()
-        .any(|elements| elements.len() >= MANY)
-}
-
-/// The report of the metal in parts. What the metal was drawn from is let go of, by another thread where it is large.
-fn report_beside(
-    rt: &(impl Threads + Sync),
-    alloc: Global,
-    metal: Metal,
-    source: Option<Library>,
-    rules: &Rules,
-) -> Result<Vec<Vec<u8>>, OutOfMemory>
-    ensures { IfOk result (λ v. flat_map vec_items v.items ≡ metal_report (metal_of metal) (values_of rules.now)) }
-{
-    if !source.as_ref().is_some_and(is_large) {
-        drop(source);
-        return report_of_metal(rt, alloc, metal, rules);
-    }
-    let report = move || -> Result<Vec<Vec<u8>>, OutOfMemory>
-        ensures { IfOk result (λ v. flat_map vec_items v.items ≡ metal_report (metal_of metal) (values_of rules.entry.now)) }
-    { report_of_metal(rt, alloc, metal, rules) };
-    let ((), parts) = join(rt, move || drop(source), report);
-    parts
-}
-
-/// Writes the report of the metal, whole, part by part. The metal is taken, and let go of before a byte is written, as is what it was
-/// drawn from.
+/// Writes the report of the metal, whole, part by part. The metal is taken, and let go of before a byte is written.
 fn write_report<W: Write>(
     rt: &(impl Threads + Sync),
     alloc: Global,
     metal: Metal,
-    source: Option<Library>,
     rules: &Rules,
     out: &mut Tap<W>,
 ) -> Result<(), Refusal>
@@ -73,7 +37,7 @@ fn write_report<W: Write>(
     ensures refused { IfErr result (λ e. (e ≡ Refusal.Report) ⊎ (e ≡ Refusal.Run RunFault.Memory)) }
     ensures silent { OnErr result ((has_failed out.new ≡ true) ⊎ (out.new ≡ out.old)) }
 {
-    let parts = report_beside(rt, alloc, metal, source, rules)?;
+    let parts = report_of_metal(rt, alloc, metal, rules)?;
     write_texts(out, &parts)?;
     Ok(())
 }
@@ -118,7 +82,7 @@ pub fn rects<R: Read, S: Read, W: Write>(
     let values = take_rules(alloc, rules)?;
     let edits = take_edits(alloc, script)?;
     let metal = metal_after(alloc, &edits)?;
-    write_report(rt, alloc, metal, None, &values, out)?;
+    write_report(rt, alloc, metal, &values, out)?;
     Ok(())
 }
 
@@ -160,14 +124,7 @@ pub fn check<R: Read, D: Read, W: Write>(
     ensures silent { OnErr result ((has_failed out.new ≡ true) ⊎ (out.new ≡ out.old)) }
 {
     let values = take_rules(alloc, rules)?;
-    let drawn = take_drawing(rt, alloc, design, &values)?;
-    write_report(
-        rt,
-        alloc,
-        Metal::Drawn(drawn.lists),
-        Some(drawn.library),
-        &values,
-        out,
-    )?;
+    let lists = take_metal(rt, alloc, design, &values)?;
+    write_report(rt, alloc, Metal::Drawn(lists), &values, out)?;
     Ok(())
 }

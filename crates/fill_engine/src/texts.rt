@@ -42,7 +42,7 @@ pub fn texts_of<B: FillBook>(
     dates: &[u8; 24],
 ) -> Result<Filled, RunFault>
     ensures library { let a = B.account book.now in IfOk result (λ f. f.library.items ≡ fill_text units.now dates.now a.rules (state_of a).fill) }
-    ensures report { let a = B.account book.now in let s = state_of a in IfOk result (λ f. f.report.items ≡ fill_report a.rules s.metal s.fill) }
+    ensures report { let a = B.account book.now in let s = state_of a in IfOk result (λ f. f.report.items ≡ fill_report a.rules s.layers.metal s.fill) }
     ensures refused { IfErr result (λ e. e ≡ RunFault.Memory) }
 {
     let marks = marks_of(alloc, book)?;

@@ -1,7 +1,7 @@
 //! What many workers do with a book beside the editor of a script.
 ghost use Rattle.std.specs.Prelude.{◌≡◌, ◌+◌, ◌*◌, ◌<◌, ◌≤◌, length, IfOk};
 ghost use Rattle.fill_core.specs.Shares.{AllParts, Held};
-ghost use Rattle.fill_shared.specs.Runs.{IsFinished};
+ghost use Rattle.fill_shared.specs.Runs.{IsFinished, opening_in};
 ghost use Rattle.fill_engine.specs.Runs as spec;
 
 use crate::refusal::RunFault;
@@ -31,7 +31,7 @@ pub fn fill_together<B: FillBook + Send, R: Threads + Wait + Sync>(
     requires ledgers { AllParts B.Calls.parts B.Placed.parts B.Withdrawn.parts }
     requires pass { pass.parts ≡ 1024 }
     requires workers { (0 < workers) × (workers ≤ 64) }
-    ensures finished { let a = B.account book in IfOk result (λ b. (after : Held) × IsFinished a.rules a.opening edits.now (B.account b) after
+    ensures finished { let a = B.account book in IfOk result (λ b. (after : Held) × IsFinished a.rules (opening_in a) edits.now (B.account b) after
         × (after.calls ≤ pass.calls + (length edits.now + 2 * (workers * spec.most_turns a.rules limit)))) }
 {
     let turns = most_turns(&book, limit);

@@ -1,18 +1,19 @@
 -- Conflicts, by squares.
-use Rattle.std.proofs.Common.{◌≡◌, ℕ, ◌<◌, ℤ, pos, ◌+ℤ◌, ◌-ℤ◌, ◌≤ℤ◌, ◌<ℤ◌, arith, Bool, true, ◌↔◌}
+use Rattle.std.proofs.Common.{◌≡◌, sym, ℕ, ◌<◌, ℤ, pos, ◌+ℤ◌, ◌-ℤ◌, ◌≤ℤ◌, ◌<ℤ◌, arith, Bool, true, ◌↔◌}
 use Rattle.std.specs.Prelude.{IsTrue}
 use Rattle.std.proofs.lemmas.Bool.{and_from, and_parts}
 use Rattle.std.proofs.lemmas.Int.{ints}
 use Rattle.fill_base.specs.Counts.{span_len}
-use Rattle.fill_base.specs.Limits.{IsLength}
+use Rattle.fill_base.specs.Limits.{IsLength, IsSpacing}
 use Rattle.fill_base.proofs.Between.{is_between_true, is_between_bounds}
 use Rattle.fill_raster.specs.Axes.{box_begin, box_end}
-use Rattle.fill_raster.specs.Lattice.{box_squares}
+use Rattle.fill_raster.specs.Lattice.{Lattice, IsLattice, box_squares}
+use Rattle.fill_area.specs.Sharing.{ShareASquare}
 use Rattle.fill_size.specs.Distance.{InConflict, IsNear, HasSquare}
 use Rattle.fill_size.proofs.Ranges.{nearest}
 use Rattle.fill_job.specs.Searches.{some_below, some_pair, some_within}
-use Rattle.fill_job.specs.Plans.{Plan, IsPlan, PointSet, conflicts}
-use Rattle.fill_job.specs.Laws.{ConflictsAreOfSquares}
+use Rattle.fill_job.specs.Plans.{PointSet, meets_box}
+use Rattle.fill_job.specs.Laws.{BlockedIsSharing, ConflictsAreOfSquares}
 use Rattle.fill_job.proofs.Searching.{some_below_finds, some_below_has}
 
 step_from : (lo hi x : ℤ) → lo ≤ℤ x → x <ℤ hi → (span_len lo x < span_len lo hi) × (lo +ℤ pos (span_len lo x) ≡ x)
@@ -52,16 +53,15 @@ high_end : (x u hi s : ℤ) → x <ℤ hi → (u -ℤ x) ≤ℤ s → u <ℤ (hi
 high_end x u hi s a b = omega (arith, ints)
 
 -- a set has a square in a grown box where it is in conflict with the box
-pub near_box : (plan : Plan) (p : PointSet) (i j : ℤ) → IsPlan plan
-    → HasSquare p (box_begin plan.raster.across i -ℤ plan.spacing) (box_begin plan.raster.up j -ℤ plan.spacing) (box_end plan.raster.across i +ℤ plan.spacing) (box_end plan.raster.up j +ℤ plan.spacing)
-    ↔ InConflict p (box_squares plan.raster i j) plan.spacing
-near_box plan p i j is =
-    let r = plan.raster in let s = plan.spacing in
-    let wide = some_wide (box_begin r.across i) r.across.length is.raster.across.length_is in
-    let tall = some_wide (box_begin r.up j) r.up.length is.raster.up.length_is in (
+pub near_box : (r : Lattice) (s : ℤ) (p : PointSet) (i j : ℤ) → IsLattice r → IsSpacing s
+    → HasSquare p (box_begin r.across i -ℤ s) (box_begin r.up j -ℤ s) (box_end r.across i +ℤ s) (box_end r.up j +ℤ s)
+    ↔ InConflict p (box_squares r i j) s
+near_box r s p i j is spacing =
+    let wide = some_wide (box_begin r.across i) r.across.length is.across.length_is in
+    let tall = some_wide (box_begin r.up j) r.up.length is.up.length_is in (
       (λ h.
-          let across = nearest h.x (box_begin r.across i) (box_end r.across i) s wide is.spacing.least h.from_left h.to_right in
-          let up = nearest h.y (box_begin r.up j) (box_end r.up j) s tall is.spacing.least h.from_bottom h.to_top in
+          let across = nearest h.x (box_begin r.across i) (box_end r.across i) s wide spacing.least h.from_left h.to_right in
+          let up = nearest h.y (box_begin r.up j) (box_end r.up j) s tall spacing.least h.from_bottom h.to_top in
           record {
             x = across.x;
             y = up.x;
@@ -84,12 +84,44 @@ near_box plan p i j is =
           }),
     )
 
-pub conflict_of_squares : ConflictsAreOfSquares
-unfolding conflicts
-conflict_of_squares plan p i j is =
-    let r = plan.raster in let s = plan.spacing in
-    let wide = grown_le (box_begin r.across i) (box_end r.across i) s (some_wide (box_begin r.across i) r.across.length is.raster.across.length_is) is.spacing.least in
-    let tall = grown_le (box_begin r.up j) (box_end r.up j) s (some_wide (box_begin r.up j) r.up.length is.raster.up.length_is) is.spacing.least in
+-- a search in a grown box finds a square where the set is in conflict with the box
+pub met_of_squares : (r : Lattice) (s : ℤ) (p : PointSet) (i j : ℤ) → IsLattice r → IsSpacing s → IsTrue (meets_box r s p i j) ↔ InConflict p (box_squares r i j) s
+unfolding meets_box
+met_of_squares r s p i j is spacing =
+    let wide = grown_le (box_begin r.across i) (box_end r.across i) s (some_wide (box_begin r.across i) r.across.length is.across.length_is) spacing.least in
+    let tall = grown_le (box_begin r.up j) (box_end r.up j) s (some_wide (box_begin r.up j) r.up.length is.up.length_is) spacing.least in
     let found = some_within_decides p (box_begin r.across i -ℤ s) (box_begin r.up j -ℤ s) (box_end r.across i +ℤ s) (box_end r.up j +ℤ s) wide tall in
-    let near = near_box plan p i j is in
+    let near = near_box r s p i j is spacing in
     ((λ h. near.0 (found.0 h)), (λ c. found.1 (near.1 c)))
+
+pub conflict_of_squares : ConflictsAreOfSquares
+conflict_of_squares plan p i j is = met_of_squares plan.raster plan.spacing p i j is.raster is.spacing
+
+-- ---- no distance at all
+
+pub no_spacing : IsSpacing (pos 0)
+no_spacing = record { least = omega (arith, ints); most = omega (arith, ints) }
+
+same_number : (x u : ℤ) → IsNear (pos 0) x u → u ≡ x
+same_number x u n = let a : (x -ℤ u) ≤ℤ pos 0 = n.above in let b : (u -ℤ x) ≤ℤ pos 0 = n.below in omega (arith, ints)
+
+no_further : (x : ℤ) → IsNear (pos 0) x x
+no_further x = record { above = omega (arith, ints); below = omega (arith, ints) }
+
+-- sets are in conflict at no distance where they share a square
+pub shared : (p q : PointSet) → InConflict p q (pos 0) ↔ ShareASquare p q
+shared p q = (
+  (λ c. record {
+    x = c.x;
+    y = c.y;
+    first = rw (sym (same_number c.x c.reached.u c.reached.across), sym (same_number c.y c.reached.v c.reached.up)) c.reached.square;
+    second = c.square;
+  }),
+  (λ s. record { x = s.x; y = s.y; square = s.second; reached = record { u = s.x; v = s.y; square = s.first; across = no_further s.x; up = no_further s.y } }),
+)
+
+pub blocked_sharing : BlockedIsSharing
+blocked_sharing plan p i j is =
+    let met = met_of_squares plan.raster (pos 0) p i j is.raster no_spacing in
+    let both = shared p (box_squares plan.raster i j) in
+    ((λ h. both.0 (met.0 h)), (λ c. met.1 (both.1 c)))

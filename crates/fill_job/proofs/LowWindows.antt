@@ -1,5 +1,5 @@
 -- Low windows kept as squares, and the windows that hold a box.
-use Rattle.std.proofs.Common.{◌≡◌, refl, ap, sym, ◌∙◌, ℕ, ◌≤◌, ◌<◌, ℤ, pos, negsuc, ◌+ℤ◌, ◌-ℤ◌, ◌≤ℤ◌, ◌<ℤ◌, arith, inl, inr, ◌⊎◌, List, Bool, true, false, ◌&&◌, not, ◌↔◌}
+use Rattle.std.proofs.Common.{◌≡◌, refl, ap, sym, ◌∙◌, ℕ, ◌≤◌, ◌<◌, ℤ, pos, ◌+ℤ◌, ◌-ℤ◌, ◌≤ℤ◌, ◌<ℤ◌, arith, inl, inr, ◌⊎◌, List, Bool, true, false, ◌&&◌, not, ◌↔◌}
 use Rattle.std.specs.Prelude.{IsTrue, int_le, unsigned_abs}
 use Rattle.std.proofs.lemmas.Bool.{and_from, and_parts, cases_Bool}
 use Rattle.std.proofs.lemmas.Int.{ints}
@@ -13,12 +13,13 @@ use Rattle.fill_region.specs.Bands.{Band, holds}
 use Rattle.fill_raster.specs.Axes.{box_begin, box_end}
 use Rattle.fill_size.specs.Distance.{InConflict, IsNear}
 use Rattle.fill_size.proofs.Ranges.{grown_conflict, squares_inside, squares_true}
-use Rattle.fill_text.specs.ValuesOfRules.{values_of}
+use Rattle.fill_raster.specs.Lattice.{in_halo}
+use Rattle.fill_text.specs.Rules.{Values}
 use Rattle.fill_job.specs.Basis.{windows_in, read_by}
-use Rattle.fill_job.specs.ReadSets.{ReadSet}
+use Rattle.fill_job.specs.ReadSets.{ReadSet, read_set, touches}
 use Rattle.fill_job.specs.declared.basis.Basis.{Basis}
 use Rattle.fill_job.specs.Searches.{some_below, some_pair, some_within}
-use Rattle.fill_job.specs.Plans.{Plan, PointSet, conflicts, holds_box, in_window_of, is_suitable}
+use Rattle.fill_job.specs.Plans.{Layers, Plan, PointSet, plan_of, holds_box, in_window_of, is_suitable, is_taken}
 use Rattle.fill_job.specs.steps.Windows.{HoldsIn}
 use Rattle.fill_job.proofs.Conflicts.{some_within_decides, grown_le}
 use Rattle.fill_job.proofs.Searching.{some_below_finds, some_below_has}
@@ -110,42 +111,36 @@ in_low_is plan low i j r e1 e2 e3 e4 =
 
 -- ---- suitable places
 
--- a place that no metal is near to is suitable where its box lies in a low window
-pub free_is : (plan : Plan) (metal low : List Band) (i j : ℤ) (r : Rect) (near b : Bool)
+-- a place that nothing takes is suitable where its box lies in a low window
+pub free_is : (plan : Plan) (layers : Layers) (low : List Band) (i j : ℤ) (r : Rect) (taken b : Bool)
     → r.x1 ≡ box_begin plan.raster.across i → r.y1 ≡ box_begin plan.raster.up j → r.x2 ≡ box_end plan.raster.across i → r.y2 ≡ box_end plan.raster.up j
-    → near ≡ conflicts plan (holds metal) i j → near ≡ false → (IsTrue b ↔ HoldsIn plan.windows low (sides_of r)) → b ≡ is_suitable plan (holds metal) (windows_in low) i j
-free_is plan metal low i j r near b e1 e2 e3 e4 near_is free held =
+    → taken ≡ is_taken plan layers i j → taken ≡ false → (IsTrue b ↔ HoldsIn plan.windows low (sides_of r)) → b ≡ is_suitable plan layers (windows_in low) i j
+free_is plan layers low i j r taken b e1 e2 e3 e4 taken_is free held =
     let at = in_low_is plan low i j r e1 e2 e3 e4 in
     let within = both_or_none b (in_window_of plan (windows_in low) i j) (λ h. at.1 (held.0 h)) (λ h. held.1 (at.0 h)) in
-    rw (sym near_is ∙ free, within) refl
+    rw (sym taken_is ∙ free, within) refl
 
 -- ---- equal read sets
 
-all_false : (low : List Band) (x y : ℤ) → (holds low x y ≡ true → (pos 0 ≤ℤ x) × (pos 0 ≤ℤ y)) → (x <ℤ pos 0 ⊎ y <ℤ pos 0) → holds low x y ≡ false
-all_false low x y inside out = elim (cases_Bool (holds low x y)) [
-  | inl h ↦ elim out [
-    | inl a ↦ let k = (inside h).0 in absurd (omega (arith, ints))
-    | inr b ↦ let k = (inside h).1 in absurd (omega (arith, ints))
-  ]
-  | inr h ↦ h
-]
-
--- sets of windows that are the same have the same squares
-pub same_squares : (low other : List Band) → ((x y : ℤ) → holds low x y ≡ true → (pos 0 ≤ℤ x) × (pos 0 ≤ℤ y)) → ((x y : ℤ) → holds other x y ≡ true → (pos 0 ≤ℤ x) × (pos 0 ≤ℤ y))
-    → windows_in low ≡ windows_in other → (x y : ℤ) → holds low x y ≡ holds other x y
-same_squares low other a b e (pos x) (pos y) = ap (λ (w : ℕ → ℕ → Bool). w x y) e
-same_squares low other a b e (pos x) (negsuc y) = let out : negsuc y <ℤ pos 0 = omega (arith, ints) in all_false low (pos x) (negsuc y) (a (pos x) (negsuc y)) (inr out) ∙ sym (all_false other (pos x) (negsuc y) (b (pos x) (negsuc y)) (inr out))
-same_squares low other a b e (negsuc x) y = let out : negsuc x <ℤ pos 0 = omega (arith, ints) in all_false low (negsuc x) y (a (negsuc x) y) (inl out) ∙ sym (all_false other (negsuc x) y (b (negsuc x) y) (inl out))
-
-pub same_read : (p q : Basis) (r m w : Bool) → (IsTrue r ↔ (values_of p.rules ≡ values_of q.rules)) → (IsTrue m ↔ ((x y : ℤ) → holds p.metal x y ≡ holds q.metal x y))
-    → (IsTrue w ↔ ((x y : ℤ) → holds p.low x y ≡ holds q.low x y)) → IsTrue (r && (m && w)) ↔ (read_by p ≡ read_by q)
-same_read p q r m w rules metal low = (
+-- what was read is what there is to read now
+pub read_matches : (p : Basis) (rules : Values) (layers : Layers) (metal keep low : List Band) (tile : ℕ) (r m k w : Bool) → (IsTrue r ↔ (p.rules ≡ rules)) → (IsTrue m ↔ ((x y : ℤ) → holds p.metal x y ≡ holds metal x y))
+    → (IsTrue k ↔ ((x y : ℤ) → holds p.keep x y ≡ holds keep x y))
+    → (IsTrue w ↔ ((a b : ℕ) → windows_in p.low a b ≡ (windows_in low a b && touches (plan_of p.rules) tile a b)))
+    → ((x y : ℤ) → holds metal x y ≡ (layers.metal x y && in_halo (plan_of rules).raster tile (plan_of rules).spacing x y))
+    → ((x y : ℤ) → holds keep x y ≡ (layers.keep x y && in_halo (plan_of rules).raster tile (pos 0) x y))
+    → IsTrue ((r && (m && k)) && w) ↔ (read_by p ≡ read_set rules layers (windows_in low) tile)
+read_matches p rules layers metal keep low tile r m k w same_rules same_metal same_keep same_low is out = (
   (λ h.
-      let parts = and_parts r (m && w) h in
-      let more = and_parts m w parts.1 in
-      let a = rules.0 parts.0 in let b = metal.0 more.0 in let d = low.0 more.1 in
-      λ k. record { rules = a k; metal = λ x y. b x y k; low = λ x y. d (pos x) (pos y) k }),
-  (λ e. and_from _ _ (rules.1 (ap (λ (s : ReadSet). s.rules) e)) (and_from _ _ (metal.1 (λ x y. ap (λ (s : ReadSet). s.metal x y) e)) (low.1 (same_squares p.low q.low p.windows q.windows (ap (λ (s : ReadSet). s.low) e))))),
+      let more = and_parts (r && (m && k)) w h in
+      let parts = and_parts r (m && k) more.0 in
+      let both = and_parts m k parts.1 in
+      let a = same_rules.0 parts.0 in let b = same_metal.0 both.0 in let f = same_keep.0 both.1 in let d = same_low.0 more.1 in
+      let e : (x y : ℕ) → windows_in p.low x y ≡ (windows_in low x y && touches (plan_of rules) tile x y) = λ x y. d x y ∙ ap (λ (v : Values). windows_in low x y && touches (plan_of v) tile x y) a in
+      λ i. record { rules = a i; layers = record { metal = λ x y. (b x y ∙ is x y) i; keep = λ x y. (f x y ∙ out x y) i }; low = λ x y. e x y i }),
+  (λ e.
+      let a : p.rules ≡ rules = ap (λ (s : ReadSet). s.rules) e in
+      and_from _ _ (and_from _ _ (same_rules.1 a) (and_from _ _ (same_metal.1 (λ x y. ap (λ (s : ReadSet). s.layers.metal x y) e ∙ sym (is x y))) (same_keep.1 (λ x y. ap (λ (s : ReadSet). s.layers.keep x y) e ∙ sym (out x y)))))
+      (same_low.1 (λ x y. ap (λ (s : ReadSet). s.low x y) e ∙ ap (λ (v : Values). windows_in low x y && touches (plan_of v) tile x y) (sym a)))),
 )
 
 -- ---- the test of the code

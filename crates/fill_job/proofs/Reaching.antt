@@ -1,8 +1,8 @@
 -- The places of a part of a row, and the metal near to their boxes.
-use Rattle.std.proofs.Common.{◌≡◌, refl, ap, sym, ◌∙◌, ℕ, ◌+◌, ◌^◌, ◌<◌, ℤ, pos, ◌+ℤ◌, ◌-ℤ◌, ◌*ℤ◌, ◌≤ℤ◌, ◌<ℤ◌, arith, inl, inr, ◌⊎◌, List, length, get_or, [], ◌∷◌, ◌++◌, replicate, Bool, true, false, ◌↔◌, subst, below_more, w64, Fits, FitsSigned}
+use Rattle.std.proofs.Common.{◌≡◌, refl, ap, ◌∙◌, ℕ, ◌+◌, ◌^◌, ◌<◌, ℤ, pos, ◌+ℤ◌, ◌-ℤ◌, ◌*ℤ◌, ◌≤ℤ◌, ◌<ℤ◌, arith, inl, inr, List, length, get_or, [], ◌∷◌, ◌++◌, replicate, Bool, true, false, ◌||◌, ◌↔◌, subst, below_more, w64, Fits, FitsSigned}
 use Rattle.std.specs.Int.{int_max}
 use Rattle.std.specs.Prelude.{IsTrue, int_le}
-use Rattle.std.proofs.lemmas.Bool.{and_parts}
+use Rattle.std.proofs.lemmas.Bool.{and_parts, or_cases}
 use Rattle.std.proofs.lemmas.Int.{ints, clamps}
 use Rattle.std.proofs.Math.Seq.{get_or-append_seam}
 use Rattle.std.proofs.lemmas.List.{get_or-replicate, get_or_append_left, length-append}
@@ -20,20 +20,19 @@ use Rattle.fill_raster.proofs.Floors.{product_le}
 use Rattle.fill_size.specs.Distance.{HasSquare}
 use Rattle.fill_size.specs.Ranges.{AreRising, AreMarked}
 use Rattle.fill_size.proofs.Ranges.{spacing_read}
-use Rattle.fill_job.specs.Plans.{Plan, PointSet, conflicts}
-use Rattle.fill_job.specs.steps.Reaches.{reach, AreReaches, AreNear}
+use Rattle.fill_job.specs.Plans.{Layers, Plan, PointSet, blocked, meets_box}
+use Rattle.fill_job.specs.steps.Reaches.{reach, AreMet, AreReaches, AreTaken}
 use Rattle.fill_job.proofs.Conflicts.{some_within_decides, grown_le}
 use Rattle.fill_job.proofs.LowWindows.{both_or_none}
 
 some_wide : (b n : ℤ) → IsLength n → b <ℤ (b +ℤ n)
 some_wide b n long = let l : pos 1 ≤ℤ n = long.least in omega (arith, ints)
 
--- a place is in conflict where the metal has a square in its grown box
-conflicts_found : (plan : Plan) (p : PointSet) (i j : ℤ) → IsLattice plan.raster → IsSpacing plan.spacing
-    → IsTrue (conflicts plan p i j) ↔ HasSquare p (box_begin plan.raster.across i -ℤ plan.spacing) (box_begin plan.raster.up j -ℤ plan.spacing) (box_end plan.raster.across i +ℤ plan.spacing) (box_end plan.raster.up j +ℤ plan.spacing)
-unfolding conflicts
-conflicts_found plan p i j raster spacing =
-    let r = plan.raster in let s = plan.spacing in
+-- a set meets a box where it has a square in the grown box
+met_found : (r : Lattice) (s : ℤ) (p : PointSet) (i j : ℤ) → IsLattice r → IsSpacing s
+    → IsTrue (meets_box r s p i j) ↔ HasSquare p (box_begin r.across i -ℤ s) (box_begin r.up j -ℤ s) (box_end r.across i +ℤ s) (box_end r.up j +ℤ s)
+unfolding meets_box
+met_found r s p i j raster spacing =
     some_within_decides p (box_begin r.across i -ℤ s) (box_begin r.up j -ℤ s) (box_end r.across i +ℤ s) (box_end r.up j +ℤ s)
     (grown_le (box_begin r.across i) (box_end r.across i) s (some_wide (box_begin r.across i) r.across.length raster.across.length_is) spacing.least)
     (grown_le (box_begin r.up j) (box_end r.up j) s (some_wide (box_begin r.up j) r.up.length raster.up.length_is) spacing.least)
@@ -67,10 +66,9 @@ box_rises a i k s step le = moved a.origin (i *ℤ a.step) (k *ℤ a.step) s (pr
     moved o m n s h = omega (arith, ints)
 
 -- the columns that the boxes of a part of a row reach come one after the other
-pub reaches_rising : (plan : Plan) (left right j : ℤ) (reaches : List (ℤ × ℤ)) → left <ℤ right → IsLattice plan.raster → IsSpacing plan.spacing → ((i : ℤ) → is_between left right i ≡ true → in_raster plan.raster i j ≡ true)
-    → AreReaches plan left right reaches → AreRising reaches
-reaches_rising plan left right j reaches some is spacing places are =
-    let r = plan.raster in let s = plan.spacing in
+pub reaches_rising : (r : Lattice) (s left right j : ℤ) (reaches : List (ℤ × ℤ)) → left <ℤ right → IsLattice r → IsSpacing s → ((i : ℤ) → is_between left right i ≡ true → in_raster r i j ≡ true)
+    → AreReaches r s left right reaches → AreRising reaches
+reaches_rising r s left right j reaches some is spacing places are =
     record {
       some = λ a d lt. rw (are.each a d lt) (grown_some (box_begin r.across (left +ℤ pos a)) r.across.length s is.across.length_is spacing.least);
       rising = λ a b d le lt. rw (are.each a d (omega arith), are.each b d lt) (box_rises r.across (left +ℤ pos a) (left +ℤ pos b) s is.across.step_is (omega (arith, ints)));
@@ -78,10 +76,10 @@ reaches_rising plan left right j reaches some is spacing places are =
       most = λ a d lt. rw (are.each a d lt) (grown a (rw are.count at lt)).1;
     }
   where
-    grown : (a : ℕ) → a < span_len left right → ((pos 0 -ℤ pos (2 ^ 31)) ≤ℤ (box_begin plan.raster.across (left +ℤ pos a) -ℤ plan.spacing)) × ((box_end plan.raster.across (left +ℤ pos a) +ℤ plan.spacing) ≤ℤ pos (2 ^ 31))
+    grown : (a : ℕ) → a < span_len left right → ((pos 0 -ℤ pos (2 ^ 31)) ≤ℤ (box_begin r.across (left +ℤ pos a) -ℤ s)) × ((box_end r.across (left +ℤ pos a) +ℤ s) ≤ℤ pos (2 ^ 31))
     grown a lt =
-        let w = box_within plan.raster (left +ℤ pos a) j is (places (left +ℤ pos a) (place_in left right a some lt)) in
-        grown_within _ _ plan.spacing w.0 w.1 spacing.least spacing.most
+        let w = box_within r (left +ℤ pos a) j is (places (left +ℤ pos a) (place_in left right a some lt)) in
+        grown_within _ _ s w.0 w.1 spacing.least spacing.most
 
 -- the lines that a box reaches, as the code reads them
 pub lines_read : (r : Rect) (s y1 y2 : ℤ) → IsSpacing s → y1 ≡ r.y1 → y2 ≡ r.y2 → (read (read y1 -ℤ read s) ≡ r.y1 -ℤ s) × (read (read y2 +ℤ read s) ≡ r.y2 +ℤ s)
@@ -91,28 +89,47 @@ lines_read r s y1 y2 is e1 e2 =
     let up : FitsSigned w64 (r.y2 +ℤ s) = omega (arith, ints) in
     rw (e1, e2, read_y1 r, read_y2 r, spacing_read s is) (read_is _ down, read_is _ up)
 
+pub lines_fit : (r : Rect) (s y1 : ℤ) → IsSpacing s → y1 ≡ r.y1 → FitsSigned w64 (read y1 -ℤ read s)
+lines_fit r s y1 is e1 =
+    let least = is.least in let most = is.most in let low = r.bottom in let tall = r.tall in let high = r.top in
+    let down : FitsSigned w64 (r.y1 -ℤ s) = omega (arith, ints) in
+    rw (e1, read_y1 r, spacing_read s is) down
+
 pub lines_ordered : (r : Rect) (s : ℤ) → IsSpacing s → (r.y1 -ℤ s) ≤ℤ (r.y2 +ℤ s)
 lines_ordered r s is = grown_le r.y1 r.y2 s r.tall is.least
 
 pub first_in : (left right : ℤ) → left <ℤ right → is_between left right left ≡ true
 first_in left right lt = is_between_true left right left (omega (arith, ints)) lt
 
--- where nothing was marked before, the ranges that meet the metal are those of the places that it is near to
-pub near_places : (plan : Plan) (p : PointSet) (left right j : ℤ) (reaches : List (ℤ × ℤ)) (n : ℕ) (marks : List Bool) → IsLattice plan.raster → IsSpacing plan.spacing → AreReaches plan left right reaches
-    → n ≡ span_len left right → length marks ≡ n
-    → AreMarked (λ lo hi. HasSquare p lo (box_begin plan.raster.up j -ℤ plan.spacing) hi (box_end plan.raster.up j +ℤ plan.spacing)) reaches (replicate n false) marks → AreNear plan p left j marks
-near_places plan p left right j reaches n marks is spacing are n_is count marked a m lt =
+-- the ranges that meet a set are those of the places whose boxes it meets
+pub met_places : (r : Lattice) (s : ℤ) (p : PointSet) (left right j : ℤ) (reaches : List (ℤ × ℤ)) (old new : List Bool) → IsLattice r → IsSpacing s → AreReaches r s left right reaches
+    → length old ≡ span_len left right → length new ≡ span_len left right
+    → AreMarked (λ lo hi. HasSquare p lo (box_begin r.up j -ℤ s) hi (box_end r.up j +ℤ s)) reaches old new → AreMet r s p left j old new
+met_places r s p left right j reaches old new is spacing are count same marked a m lt =
     let d : ℤ × ℤ = (pos 0, pos 0) in
-    let inner : a < length reaches = omega (arith, are.count, n_is, count, lt) in
-    let found = conflicts_found plan p (left +ℤ pos a) j is spacing in
+    let inner : a < length reaches = omega (arith, are.count, same, lt) in
+    let found = met_found r s p (left +ℤ pos a) j is spacing in
     let test = marked a d m inner in
-    both_or_none (get_or marks a m) (conflicts plan p (left +ℤ pos a) j)
-    (λ h. found.1 (rw (are.each a d inner) at (only (test.0 h))))
-    (λ h. test.1 (inr (rw (are.each a d inner) (found.0 h))))
+    both_or_none (get_or new a m) (get_or old a m || meets_box r s p (left +ℤ pos a) j)
+    (λ h. elim (test.0 h) [
+      | inl before ↦ rw before refl
+      | inr square ↦ or_right (get_or old a m) _ (found.1 (rw (are.each a d inner) at square))
+    ])
+    (λ h. test.1 (elim (or_cases (get_or old a m) (meets_box r s p (left +ℤ pos a) j) h) [
+      | inl before ↦ inl before
+      | inr met ↦ inr (rw (are.each a d inner) (found.0 met))
+    ]))
   where
-    only : {P : Type 0} → IsTrue (get_or (replicate n false) a m) ⊎ P → P
-    only (inl h) = absurd (let e : false ≡ true = sym (get_or-replicate n a false m (omega (arith, count, lt))) ∙ h in cc)
-    only (inr h) = h
+    or_right : (a b : Bool) → b ≡ true → a || b ≡ true
+    or_right true b h = refl
+    or_right false b h = h
+
+-- where nothing was marked before, those that metal is near to and then those that keep-outs share a square with are the taken ones
+pub taken_places : (plan : Plan) (layers : Layers) (left j : ℤ) (n : ℕ) (near taken : List Bool) → length near ≡ n → length taken ≡ n
+    → AreMet plan.raster plan.spacing layers.metal left j (replicate n false) near → AreMet plan.raster (pos 0) layers.keep left j near taken → AreTaken plan layers left j taken
+taken_places plan layers left j n near taken count same metal keep a m lt =
+    let none : get_or (replicate n false) a m ≡ false = get_or-replicate n a false m (omega (arith, same, lt)) in
+    keep a m lt ∙ ap (λ b. b || blocked plan layers.keep (left +ℤ pos a) j) (metal a m (omega (arith, count, same, lt)) ∙ rw none refl)
 
 -- ---- the index of a place from the first of its part of a row
 
@@ -133,8 +150,8 @@ next_index left i index is = omega (arith, ints, is)
 
 -- ---- the columns that boxes reach, one place after the other
 
-pub no_reaches : (plan : Plan) (left : ℤ) → AreReaches plan left left []
-no_reaches plan left = record { count = none left; each = λ a d lt. absurd (omega arith) }
+pub no_reaches : (r : Lattice) (s left : ℤ) → AreReaches r s left left []
+no_reaches r s left = record { count = none left; each = λ a d lt. absurd (omega arith) }
   where
     none : (left : ℤ) → 0 ≡ span_len left left
     none left = omega (arith, ints)
@@ -155,19 +172,19 @@ columns_fit r s x1 is e1 =
 abbrev pair : ℤ → ℤ → ℤ × ℤ
 pair a b = (a, b)
 
-pub reach_more : (plan : Plan) (left i : ℤ) (reaches new : List (ℤ × ℤ)) (r : Rect) (s x1 x2 : ℤ) → AreReaches plan left i reaches → left ≤ℤ i → s ≡ plan.spacing → IsSpacing plan.spacing
-    → r.x1 ≡ box_begin plan.raster.across i → r.x2 ≡ box_end plan.raster.across i → x1 ≡ r.x1 → x2 ≡ r.x2 → new ≡ reaches ++ pair (read (read x1 -ℤ read s)) (read (read x2 +ℤ read s)) ∷ [] → AreReaches plan left (i +ℤ pos 1) new
-reach_more plan left i reaches new r s x1 x2 are le s_is is left_is right_is e1 e2 new_is =
+pub reach_more : (g : Lattice) (left i : ℤ) (reaches new : List (ℤ × ℤ)) (r : Rect) (s x1 x2 : ℤ) → AreReaches g s left i reaches → left ≤ℤ i → IsSpacing s
+    → r.x1 ≡ box_begin g.across i → r.x2 ≡ box_end g.across i → x1 ≡ r.x1 → x2 ≡ r.x2 → new ≡ reaches ++ pair (read (read x1 -ℤ read s)) (read (read x2 +ℤ read s)) ∷ [] → AreReaches g s left (i +ℤ pos 1) new
+reach_more g left i reaches new r s x1 x2 are le is left_is right_is e1 e2 new_is =
     let n : i ≡ left +ℤ pos (length reaches) = place_of i (length reaches) le are.count in
-    let columns = columns_read r plan.spacing x1 x2 is e1 e2 in
-    let put : pair (read (read x1 -ℤ read s)) (read (read x2 +ℤ read s)) ≡ reach plan i = rw (s_is, columns.0, columns.1, left_is, right_is) refl in
-    let now : new ≡ reaches ++ reach plan i ∷ [] = rw put at new_is in
+    let columns = columns_read r s x1 x2 is e1 e2 in
+    let put : pair (read (read x1 -ℤ read s)) (read (read x2 +ℤ read s)) ≡ reach g s i = rw (columns.0, columns.1, left_is, right_is) refl in
+    let now : new ≡ reaches ++ reach g s i ∷ [] = rw put at new_is in
     record {
-      count = ap length now ∙ (length-append reaches (reach plan i ∷ []) ∙ longer (length reaches) le are.count);
-      each = λ a d lt. rw now (below_more (λ b. (e : ℤ × ℤ) → get_or (reaches ++ reach plan i ∷ []) b e ≡ reach plan (left +ℤ pos b)) (length reaches)
-          (λ b lower e. get_or_append_left reaches (reach plan i ∷ []) e b lower ∙ are.each b e lower)
-          (λ e. get_or-append_seam reaches (reach plan i) [] e ∙ ap (reach plan) n)
-          a (rw (ap length now ∙ length-append reaches (reach plan i ∷ [])) at lt) d);
+      count = ap length now ∙ (length-append reaches (reach g s i ∷ []) ∙ longer (length reaches) le are.count);
+      each = λ a d lt. rw now (below_more (λ b. (e : ℤ × ℤ) → get_or (reaches ++ reach g s i ∷ []) b e ≡ reach g s (left +ℤ pos b)) (length reaches)
+          (λ b lower e. get_or_append_left reaches (reach g s i ∷ []) e b lower ∙ are.each b e lower)
+          (λ e. get_or-append_seam reaches (reach g s i) [] e ∙ ap (reach g s) n)
+          a (rw (ap length now ∙ length-append reaches (reach g s i ∷ [])) at lt) d);
     }
   where
     place_of : (i : ℤ) (n : ℕ) → left ≤ℤ i → n ≡ span_len left i → i ≡ left +ℤ pos n
@@ -176,5 +193,5 @@ reach_more plan left i reaches new r s x1 x2 are le s_is is left_is right_is e1 
     longer : (n : ℕ) → left ≤ℤ i → n ≡ span_len left i → n + 1 ≡ span_len left (i +ℤ pos 1)
     longer n le count = omega (arith, ints, count)
 
-pub reaches_all : (plan : Plan) (left right i : ℤ) (reaches : List (ℤ × ℤ)) → left <ℤ right → i ≤ℤ int_max left right → right ≤ℤ i → AreReaches plan left i reaches → AreReaches plan left right reaches
-reaches_all plan left right i reaches some most past are = let is : i ≡ right = omega (arith, ints, clamps) in subst (λ x. AreReaches plan left x reaches) is are
+pub reaches_all : (r : Lattice) (s left right i : ℤ) (reaches : List (ℤ × ℤ)) → left <ℤ right → i ≤ℤ int_max left right → right ≤ℤ i → AreReaches r s left i reaches → AreReaches r s left right reaches
+reaches_all r s left right i reaches some most past are = let is : i ≡ right = omega (arith, ints, clamps) in subst (λ x. AreReaches r s left x reaches) is are

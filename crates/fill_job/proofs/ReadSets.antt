@@ -12,9 +12,10 @@ use Rattle.fill_raster.specs.Axes.{box_begin, box_end}
 use Rattle.fill_raster.specs.Lattice.{in_raster, in_tile, in_halo, tile_of, tiles, tile_left, tile_right, tile_bottom, tile_top}
 use Rattle.fill_raster.specs.Laws.{IsBounded}
 use Rattle.fill_raster.proofs.RasterLaws.{edges_bound, place_has_a_tile}
-use Rattle.fill_job.specs.Plans.{Plan, IsPlan, PointSet, WindowSet, plan_of, conflicts, holds_box, in_window_of}
-use Rattle.fill_job.specs.ReadSets.{ReadSet, touches, wanted_of}
+use Rattle.fill_job.specs.Plans.{Plan, IsPlan, Layers, PointSet, WindowSet, is_taken, meets_box, plan_of, holds_box, in_window_of}
+use Rattle.fill_job.specs.ReadSets.{ReadSet, layers_near, touches, wanted_of}
 use Rattle.fill_job.specs.Laws.{WantedIsOfTheReadSet, EqualReadSetsWantTheSame}
+use Rattle.fill_job.proofs.Conflicts.{no_spacing}
 use Rattle.fill_job.proofs.Searching.{some_pair_same, some_within_same}
 
 -- ---- tests
@@ -62,19 +63,23 @@ grown_ordered b n s long spacing = let l : pos 1 ≤ℤ n = long.least in let k 
 in_grown : (lo hi b e s x : ℤ) → lo ≤ℤ b → e ≤ℤ hi → (b -ℤ s) ≤ℤ x → x <ℤ (e +ℤ s) → ((lo -ℤ s) ≤ℤ x) × (x <ℤ (hi +ℤ s))
 in_grown lo hi b e s x low high from to = (omega (arith, ints), omega (arith, ints))
 
-pub same_conflicts : (plan : Plan) (metal : PointSet) (tile : ℕ) (i j : ℤ) → IsPlan plan → in_tile plan.raster tile i j ≡ true
-    → conflicts plan (λ x y. metal x y && in_halo plan.raster tile plan.spacing x y) i j ≡ conflicts plan metal i j
-unfolding conflicts
-same_conflicts plan metal tile i j is h =
+pub same_met : (plan : Plan) (s : ℤ) (p : PointSet) (tile : ℕ) (i j : ℤ) → IsPlan plan → IsSpacing s → in_tile plan.raster tile i j ≡ true
+    → meets_box plan.raster s (λ x y. p x y && in_halo plan.raster tile s x y) i j ≡ meets_box plan.raster s p i j
+unfolding meets_box
+same_met plan s p tile i j is spacing h =
     let b = bounded plan tile i j is h in
-    let r = plan.raster in let s = plan.spacing in
-    some_within_same (λ x y. metal x y && in_halo r tile s x y) metal (box_begin r.across i -ℤ s) (box_begin r.up j -ℤ s) (box_end r.across i +ℤ s) (box_end r.up j +ℤ s)
-    (grown_ordered (box_begin r.across i) r.across.length s is.raster.across.length_is is.spacing)
-    (grown_ordered (box_begin r.up j) r.up.length s is.raster.up.length_is is.spacing)
+    let r = plan.raster in
+    some_within_same (λ x y. p x y && in_halo r tile s x y) p (box_begin r.across i -ℤ s) (box_begin r.up j -ℤ s) (box_end r.across i +ℤ s) (box_end r.up j +ℤ s)
+    (grown_ordered (box_begin r.across i) r.across.length s is.raster.across.length_is spacing)
+    (grown_ordered (box_begin r.up j) r.up.length s is.raster.up.length_is spacing)
     (λ x y left right bottom top.
     let across = in_grown (tile_left r tile) (tile_right r tile) (box_begin r.across i) (box_end r.across i) s x b.left b.right left right in
     let up = in_grown (tile_bottom r tile) (tile_top r tile) (box_begin r.up j) (box_end r.up j) s y b.bottom b.top bottom top in
-    and_true (metal x y) (in_halo r tile s x y) (and_from _ _ (is_between_true _ _ x across.0 across.1) (is_between_true _ _ y up.0 up.1)))
+    and_true (p x y) (in_halo r tile s x y) (and_from _ _ (is_between_true _ _ x across.0 across.1) (is_between_true _ _ y up.0 up.1)))
+
+-- what of the layers is near to a tile takes the same places of it
+pub same_taken : (plan : Plan) (layers : Layers) (tile : ℕ) (i j : ℤ) → IsPlan plan → in_tile plan.raster tile i j ≡ true → is_taken plan (layers_near plan layers tile) i j ≡ is_taken plan layers i j
+same_taken plan layers tile i j is h = rw (same_met plan plan.spacing layers.metal tile i j is is.spacing h, same_met plan (pos 0) layers.keep tile i j is no_spacing h) refl
 
 -- a window that holds the box on an axis begins before the tile ends, and ends after it begins
 overlaps : (lo hi b n left right : ℤ) → IsLength n → lo ≤ℤ b → (b +ℤ n) ≤ℤ hi → int_le left b && int_le (b +ℤ n) right ≡ true → int_lt left hi && int_lt lo right ≡ true
@@ -104,13 +109,13 @@ same_windows plan low tile i j is h =
 -- ---- the laws
 
 pub same_wanted : WantedIsOfTheReadSet
-same_wanted rules metal low tile is = let plan = plan_of rules in fun_ext (λ i. fun_ext (λ j.
+same_wanted rules layers low tile is = let plan = plan_of rules in fun_ext (λ i. fun_ext (λ j.
     wanted_same (in_tile plan.raster tile i j)
-    (conflicts plan (λ x y. metal x y && in_halo plan.raster tile plan.spacing x y) i j) (in_window_of plan (λ a b. low a b && touches plan tile a b) i j)
-    (conflicts plan metal i j) (in_window_of plan low i j)
-    (same_conflicts plan metal tile i j is) (same_windows plan low tile i j is)))
+    (is_taken plan (layers_near plan layers tile) i j) (in_window_of plan (λ a b. low a b && touches plan tile a b) i j)
+    (is_taken plan layers i j) (in_window_of plan low i j)
+    (same_taken plan layers tile i j is) (same_windows plan low tile i j is)))
 
 pub equal_wanted : EqualReadSetsWantTheSame
-equal_wanted rules other metal changed low risen tile is e =
+equal_wanted rules other layers changed low risen tile is e =
     let is_other : IsPlan (plan_of other) = subst (λ (r : ReadSet). IsPlan (plan_of r.rules)) e is in
-    sym (same_wanted rules metal low tile is) ∙ (ap (λ (r : ReadSet). wanted_of r tile) e ∙ same_wanted other changed risen tile is_other)
+    sym (same_wanted rules layers low tile is) ∙ (ap (λ (r : ReadSet). wanted_of r tile) e ∙ same_wanted other changed risen tile is_other)

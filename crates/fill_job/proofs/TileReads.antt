@@ -1,13 +1,12 @@
 -- What is read for a tile is its read set.
-use Rattle.std.proofs.Common.{◌≡◌, refl, sym, ◌∙◌, ℕ, ◌<◌, ℤ, pos, ◌+ℤ◌, ◌-ℤ◌, ◌≤ℤ◌, ◌<ℤ◌, arith, List, Bool, true, false, ◌&&◌, ◌↔◌}
-use Rattle.std.specs.Prelude.{int_lt, nat_lt}
+use Rattle.std.proofs.Common.{◌≡◌, refl, ap, sym, ◌∙◌, ℕ, ◌<◌, ℤ, pos, ◌+ℤ◌, ◌-ℤ◌, ◌≤ℤ◌, ◌<ℤ◌, ◌≤◌, inl, inr, arith, List, Bool, true, false, ◌&&◌, ◌↔◌}
+use Rattle.std.specs.Prelude.{IsTrue, int_lt, nat_lt}
 use Rattle.std.specs.Int.{int_max, int_min}
-use Rattle.std.proofs.lemmas.Bool.{and_from, and_parts}
+use Rattle.std.proofs.lemmas.Bool.{and_from, and_parts, cases_Bool}
 use Rattle.std.proofs.lemmas.Bool.Decides.{nat_tests}
 use Rattle.std.proofs.lemmas.Int.{ints, clamps}
-use Rattle.fill_base.specs.Coordinates.{lowest, highest, IsInRange}
+use Rattle.fill_base.specs.Coordinates.{lowest, highest}
 use Rattle.fill_base.specs.Counts.{is_between}
-use Rattle.fill_base.specs.Squares.{squares}
 use Rattle.fill_base.specs.declared.rect.Rect.{Rect}
 use Rattle.fill_base.proofs.Between.{is_between_true, is_between_bounds}
 use Rattle.fill_area.specs.Axes.{IsAxis, IsIndex, IsTouching, IsExtent, axis_begin, axis_end}
@@ -17,8 +16,8 @@ use Rattle.fill_area.proofs.Axes as axes
 use Rattle.fill_region.specs.Bands.{Band, holds}
 use Rattle.fill_raster.specs.Lattice.{in_halo, tile_left, tile_right, tile_bottom, tile_top}
 use Rattle.fill_text.specs.Rules.{Values}
-use Rattle.fill_job.specs.Basis.{windows_in}
-use Rattle.fill_job.specs.Plans.{Plan, PointSet, WindowSet, plan_of}
+use Rattle.fill_job.specs.Basis.{layers_in, windows_in}
+use Rattle.fill_job.specs.Plans.{Layers, Plan, WindowSet, plan_of}
 use Rattle.fill_job.specs.ReadSets.{ReadSet, read_set, touches}
 use Rattle.fill_job.proofs.LowWindows.{both_or_none}
 
@@ -81,6 +80,39 @@ part_touched plan tile low part r c0 c1 r0 r1 grid e1 e2 e3 e4 across up is a b 
     let y = axis_touched plan.windows.up (tile_bottom plan.raster tile) (tile_top plan.raster tile) r.y1 r.y2 r0 r1 b grid.up e2 e4 (up b) in
     is (pos a) (pos b) ∙ rw (x, y) refl
 
+-- the windows of a set that touch the tile are those of another set, window by window
+pub part_same : (plan : Plan) (tile : ℕ) (part low : List Band) (r : Rect) (c0 c1 r0 r1 : ℕ) (s : Bool) → IsGrid plan.windows
+    → r.x1 ≡ int_max (tile_left plan.raster tile -ℤ pos 0) lowest → r.y1 ≡ int_max (tile_bottom plan.raster tile -ℤ pos 0) lowest
+    → r.x2 ≡ int_min (tile_right plan.raster tile +ℤ pos 0) highest → r.y2 ≡ int_min (tile_top plan.raster tile +ℤ pos 0) highest
+    → ((a : ℕ) → IsIndex c0 c1 a ↔ IsTouching plan.windows.across r.x1 r.x2 a) → ((b : ℕ) → IsIndex r0 r1 b ↔ IsTouching plan.windows.up r.y1 r.y2 b)
+    → ((a b : ℕ) → windows_in part a b ≡ true → touches plan tile a b ≡ true) → (IsTrue s ↔ ((a b : ℕ) → c0 ≤ a → a < c1 → r0 ≤ b → b < r1 → windows_in part a b ≡ windows_in low a b))
+    → IsTrue s ↔ ((a b : ℕ) → windows_in part a b ≡ (windows_in low a b && touches plan tile a b))
+part_same plan tile part low r c0 c1 r0 r1 s grid e1 e2 e3 e4 across up inside same = (
+  (λ h a b. elim (cases_Bool (touches plan tile a b)) [
+    | inl at ↦
+        let between = and_parts (is_between (pos c0) (pos c1) (pos a)) (is_between (pos r0) (pos r1) (pos b)) (here a b ∙ at) in
+        let x = between_index c0 c1 a between.0 in let y = between_index r0 r1 b between.1 in
+        same.0 h a b x.0 x.1 y.0 y.1 ∙ rw at (and_yes (windows_in low a b))
+    | inr off ↦ rw off (none (windows_in part a b) (windows_in low a b) (λ t. let e : true ≡ false = sym (inside a b t) ∙ off in cc))
+  ]),
+  (λ each. same.1 (λ a b x y z w. each a b ∙ rw (sym (here a b) ∙ and_from _ _ (index_between c0 c1 a (x, y)) (index_between r0 r1 b (z, w))) (sym (and_yes (windows_in low a b))))),
+)
+  where
+    here : (a b : ℕ) → is_between (pos c0) (pos c1) (pos a) && is_between (pos r0) (pos r1) (pos b) ≡ touches plan tile a b
+    here a b =
+        let x = axis_touched plan.windows.across (tile_left plan.raster tile) (tile_right plan.raster tile) r.x1 r.x2 c0 c1 a grid.across e1 e3 (across a) in
+        let y = axis_touched plan.windows.up (tile_bottom plan.raster tile) (tile_top plan.raster tile) r.y1 r.y2 r0 r1 b grid.up e2 e4 (up b) in
+        rw (x, y) refl
+
+    and_yes : (b : Bool) → b ≡ b && true
+    and_yes true = refl
+    and_yes false = refl
+
+    none : (p l : Bool) → (p ≡ true → ⊥) → p ≡ l && false
+    none true l h = absurd (h refl)
+    none false true h = refl
+    none false false h = refl
+
 pub part_inside : (low part : List Band) (c0 c1 r0 r1 : ℕ) → ((x y : ℤ) → holds part x y ≡ (holds low x y && (is_between (pos c0) (pos c1) x && is_between (pos r0) (pos r1) y)))
     → (x y : ℤ) → holds part x y ≡ true → (pos 0 ≤ℤ x) × (pos 0 ≤ℤ y)
 part_inside low part c0 c1 r0 r1 is x y h =
@@ -96,20 +128,19 @@ and_when : (a b c : Bool) → (a ≡ true → b ≡ c) → a && b ≡ a && c
 and_when true b c h = h refl
 and_when false b c h = refl
 
-abbrev pub set_of : Values → PointSet → WindowSet → ReadSet
-set_of rules metal low = record { rules = rules; metal = metal; low = low }
+abbrev pub set_of : Values → Layers → WindowSet → ReadSet
+set_of rules layers low = record { rules = rules; layers = layers; low = low }
 
--- the metal within the halo
-pub metal_near : (plan : Plan) (metal clipped : List Band) (halo : Rect) (tile : ℕ) → ((x y : ℤ) → holds metal x y ≡ true → IsInRange x y)
-    → ((x y : ℤ) → IsInRange x y → squares halo x y ≡ in_halo plan.raster tile plan.spacing x y)
-    → ((x y : ℤ) → holds clipped x y ≡ (holds metal x y && squares halo x y))
-    → (x y : ℤ) → holds clipped x y ≡ (holds metal x y && in_halo plan.raster tile plan.spacing x y)
-metal_near plan metal clipped halo tile in_range bounds clip x y =
-    clip x y ∙ and_when (holds metal x y) (squares halo x y) (in_halo plan.raster tile plan.spacing x y) (λ h. bounds x y (in_range x y h))
-
--- a copy of the rules, the metal within the halo, and the windows that touch the tile are its read set
-pub read_is_set : (rules copied : Values) (metal clipped low part : List Band) (tile : ℕ) → copied ≡ rules
-    → ((x y : ℤ) → holds clipped x y ≡ (holds metal x y && in_halo (plan_of rules).raster tile (plan_of rules).spacing x y))
+-- rules, the metal within the halo, the keep-outs between the edges, and the windows that touch the tile are a read set
+pub read_is_set : (rules held : Values) (layers : Layers) (metal piece keep between low part : List Band) (tile : ℕ) → held ≡ rules → piece ≡ metal → between ≡ keep
+    → ((x y : ℤ) → holds metal x y ≡ (layers.metal x y && in_halo (plan_of rules).raster tile (plan_of rules).spacing x y))
+    → ((x y : ℤ) → holds keep x y ≡ (layers.keep x y && in_halo (plan_of rules).raster tile (pos 0) x y))
     → ((a b : ℕ) → windows_in part a b ≡ (windows_in low a b && touches (plan_of rules) tile a b))
-    → set_of copied (holds clipped) (windows_in part) ≡ read_set rules (holds metal) (windows_in low) tile
-read_is_set rules copied metal clipped low part tile same clip touched = λ k. record { rules = same k; metal = λ x y. clip x y k; low = λ a b. touched a b k }
+    → set_of held (layers_in piece between) (windows_in part) ≡ read_set rules layers (windows_in low) tile
+read_is_set rules held layers metal piece keep between low part tile same at on clip cut touched =
+    let metal_is : (x y : ℤ) → holds piece x y ≡ (layers.metal x y && in_halo (plan_of rules).raster tile (plan_of rules).spacing x y) = λ x y. ap (λ (b : List Band). holds b x y) at ∙ clip x y in
+    let keep_is : (x y : ℤ) → holds between x y ≡ (layers.keep x y && in_halo (plan_of rules).raster tile (pos 0) x y) = λ x y. ap (λ (b : List Band). holds b x y) on ∙ cut x y in
+    λ k. record { rules = same k; layers = record { metal = λ x y. metal_is x y k; keep = λ x y. keep_is x y k }; low = λ a b. touched a b k }
+
+pub low_touches : (rules held : Values) (low part : List Band) (tile : ℕ) → held ≡ rules → ((a b : ℕ) → windows_in part a b ≡ (windows_in low a b && touches (plan_of rules) tile a b)) → (a b : ℕ) → windows_in part a b ≡ true → touches (plan_of held) tile a b ≡ true
+low_touches rules held low part tile same is a b h = rw same (and_parts (windows_in low a b) (touches (plan_of rules) tile a b) (sym (is a b) ∙ h)).1

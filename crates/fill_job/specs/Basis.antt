@@ -1,8 +1,7 @@
 -- What a job has read, as its read set.
 use Rattle.std.specs.Prelude.{pos, List}
 use Rattle.fill_region.specs.Bands.{Band, holds}
-use Rattle.fill_text.specs.ValuesOfRules.{values_of}
-use Rattle.fill_job.specs.Plans.{Plan, WindowSet, plan_of}
+use Rattle.fill_job.specs.Plans.{Layers, Plan, WindowSet, plan_of}
 use Rattle.fill_job.specs.ReadSets.{ReadSet}
 use Rattle.fill_job.specs.declared.basis.Basis.{Basis}
 
@@ -10,8 +9,12 @@ use Rattle.fill_job.specs.declared.basis.Basis.{Basis}
 abbrev pub windows_in : List Band → WindowSet
 windows_in bands a b = holds bands (pos a) (pos b)
 
+-- two regions as the sets of squares that they hold
+abbrev pub layers_in : List Band → List Band → Layers
+layers_in metal keep = record { metal = holds metal; keep = holds keep }
+
 abbrev pub read_by : Basis → ReadSet
-read_by basis = record { rules = values_of basis.rules; metal = holds basis.metal; low = windows_in basis.low }
+read_by basis = record { rules = basis.rules; layers = layers_in basis.metal basis.keep; low = windows_in basis.low }
 
 abbrev pub plan_by : Basis → Plan
-plan_by basis = plan_of (values_of basis.rules)
+plan_by basis = plan_of basis.rules

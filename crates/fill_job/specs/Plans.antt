@@ -1,8 +1,8 @@
 -- Which places of the raster may be filled, and which of them are wanted.
-use Rattle.std.specs.Prelude.{ℕ, ℤ, pos, ◌+ℤ◌, ◌-ℤ◌, ◌*ℤ◌, Bool, ◌&&◌, not, nat_lt, int_le, int_lt}
+use Rattle.std.specs.Prelude.{ℕ, ℤ, pos, ◌+ℤ◌, ◌-ℤ◌, ◌*ℤ◌, Bool, ◌&&◌, ◌||◌, not, nat_lt, int_le, int_lt}
 use Rattle.fill_base.specs.Limits.{IsSpacing}
 use Rattle.fill_area.specs.Density.{IsShare, window_area}
-use Rattle.fill_area.specs.Grid.{Grid, IsGrid, window_left, window_right, window_bottom, window_top}
+use Rattle.fill_area.specs.Grid.{Grid, IsGrid, counted_size, window_left, window_right, window_bottom, window_top}
 use Rattle.fill_raster.specs.Axes.{box_begin, box_end}
 use Rattle.fill_raster.specs.Lattice.{Lattice, IsLattice, KeepsPitch, in_raster, in_tile}
 use Rattle.fill_text.specs.Rules.{Values, value_of, raster_of, windows_of}
@@ -28,7 +28,7 @@ pub record Plan : Type 0 where
 abbrev pub plan_of : Values → Plan
 plan_of values = record {
   raster = raster_of values.numbers;
-  windows = windows_of values.numbers;
+  windows = windows_of values;
   spacing = value_of values number.Spacing;
   fill_spacing = value_of values number.FillSpacing;
   least = value_of values number.Min;
@@ -43,17 +43,32 @@ pub record IsPlan (plan : Plan) : Type 0 where
   pub pitch : KeepsPitch plan.raster plan.fill_spacing
   pub least : IsShare plan.least
 
--- some square of `p` is in the box of the place, grown by the spacing on all sides
-unfoldable pub conflicts : Plan → PointSet → ℤ → ℤ → Bool
-conflicts plan p i j = some_within p (box_begin plan.raster.across i -ℤ plan.spacing) (box_begin plan.raster.up j -ℤ plan.spacing) (box_end plan.raster.across i +ℤ plan.spacing) (box_end plan.raster.up j +ℤ plan.spacing)
+-- what is there before a fill: the squares of metal, and those of keep-outs
+pub record Layers : Type 0 where
+  pub metal : PointSet
+  pub keep : PointSet
 
--- the place may be filled: it is on the raster and keeps the spacing to the metal
-abbrev pub allowed : Plan → PointSet → ℤ → ℤ → Bool
-allowed plan metal i j = in_raster plan.raster i j && not (conflicts plan metal i j)
+-- some square of `p` is in the box of the place, grown by a distance on all sides
+unfoldable pub meets_box : Lattice → ℤ → PointSet → ℤ → ℤ → Bool
+meets_box r d p i j = some_within p (box_begin r.across i -ℤ d) (box_begin r.up j -ℤ d) (box_end r.across i +ℤ d) (box_end r.up j +ℤ d)
+
+-- metal comes nearer to the box of the place than the spacing; a keep-out shares a square with it
+abbrev pub conflicts : Plan → PointSet → ℤ → ℤ → Bool
+conflicts plan metal i j = meets_box plan.raster plan.spacing metal i j
+
+abbrev pub blocked : Plan → PointSet → ℤ → ℤ → Bool
+blocked plan keep i j = meets_box plan.raster (pos 0) keep i j
+
+abbrev pub is_taken : Plan → Layers → ℤ → ℤ → Bool
+is_taken plan layers i j = conflicts plan layers.metal i j || blocked plan layers.keep i j
+
+-- the place may be filled: it is on the raster, and neither metal nor a keep-out takes it
+abbrev pub allowed : Plan → Layers → ℤ → ℤ → Bool
+allowed plan layers i j = in_raster plan.raster i j && not (is_taken plan layers i j)
 
 -- the windows whose share of `p` is below the least
 abbrev pub low_windows : Plan → PointSet → WindowSet
-low_windows plan p a b = nat_lt a plan.windows.across.count && (nat_lt b plan.windows.up.count && int_lt (pos (window_area p plan.windows a b) *ℤ pos 1000000) (plan.least *ℤ (plan.windows.across.length *ℤ plan.windows.up.length)))
+low_windows plan p a b = nat_lt a plan.windows.across.count && (nat_lt b plan.windows.up.count && int_lt (pos (window_area p plan.windows a b) *ℤ pos 1000000) (plan.least *ℤ counted_size plan.windows a b))
 
 -- the window in column `a` and row `b` holds the whole box of the place
 abbrev pub holds_box : Plan → ℕ → ℕ → ℤ → ℤ → Bool
@@ -63,10 +78,10 @@ holds_box plan a b i j = (int_le (window_left plan.windows a) (box_begin plan.ra
 unfoldable pub in_window_of : Plan → WindowSet → ℤ → ℤ → Bool
 in_window_of plan low i j = some_pair (λ a b. low a b && holds_box plan a b i j) plan.windows.across.count plan.windows.up.count
 
--- the box of the place keeps the spacing to the metal, and lies wholly in a low window
-abbrev pub is_suitable : Plan → PointSet → WindowSet → ℤ → ℤ → Bool
-is_suitable plan metal low i j = not (conflicts plan metal i j) && in_window_of plan low i j
+-- neither metal nor a keep-out takes the place, and its box lies wholly in a low window
+abbrev pub is_suitable : Plan → Layers → WindowSet → ℤ → ℤ → Bool
+is_suitable plan layers low i j = not (is_taken plan layers i j) && in_window_of plan low i j
 
 -- the place is wanted in its tile: it may be filled, and its box lies wholly in a low window
-abbrev pub wanted : Plan → PointSet → WindowSet → ℕ → ℤ → ℤ → Bool
-wanted plan metal low tile i j = in_tile plan.raster tile i j && is_suitable plan metal low i j
+abbrev pub wanted : Plan → Layers → WindowSet → ℕ → ℤ → ℤ → Bool
+wanted plan layers low tile i j = in_tile plan.raster tile i j && is_suitable plan layers low i j

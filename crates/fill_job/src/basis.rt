@@ -2,15 +2,16 @@
 ghost use Rattle.std.specs.Prelude.{◌≡◌, ◌≤ℤ◌, ℤ, pos, true};
 ghost use Rattle.fill_region.specs.Bands.{holds};
 
+use crate::shared::{Piece, SharedRules};
 use fill_region::Region;
-use fill_text::Rules;
 
-/// The rules, metal as unit squares in database units, and low windows: the window in column `a` and row `b` is the unit
+/// The rules, metal and keep-outs as unit squares in database units, and low windows: the window in column `a` and row `b` is the unit
 /// square `(a, b)`. So whether some window of a range is low is one search, however many windows hold a box.
 #[derive(Drop)]
 pub struct Basis {
-    pub(crate) rules: Rules,
-    pub(crate) metal: Region,
+    pub(crate) rules: SharedRules,
+    pub(crate) metal: Piece,
+    pub(crate) keep: Piece,
     pub(crate) low: Region,
     pub ghost windows: { (x y : ℤ) → holds low x y ≡ true → (pos 0 ≤ℤ x) × (pos 0 ≤ℤ y) },
 }

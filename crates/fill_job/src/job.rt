@@ -1,17 +1,16 @@
 //! The work on one tile, to be done apart from the design.
-ghost use Rattle.std.specs.Prelude.{◌≡◌, ◌<◌, IfOk, IfErr};
+ghost use Rattle.std.specs.Prelude.{◌≡◌, ◌&&◌, ◌<◌, ℕ, ℤ, pos, true, IfOk, IfErr};
 ghost use Rattle.fill_region.specs.Bands.{holds};
-ghost use Rattle.fill_raster.specs.Lattice.{tiles};
-ghost use Rattle.fill_text.specs.ValuesOfRules.{values_of};
+ghost use Rattle.fill_raster.specs.Lattice.{in_halo, tiles};
 ghost use Rattle.fill_job.specs.Basis.{plan_by, read_by, windows_in};
-ghost use Rattle.fill_job.specs.Plans.{plan_of};
-ghost use Rattle.fill_job.specs.ReadSets.{read_set};
+ghost use Rattle.fill_job.specs.Plans.{Layers, plan_of};
+ghost use Rattle.fill_job.specs.ReadSets.{read_set, touches};
 
 use crate::basis::Basis;
 use crate::proposal::Proposal;
+use crate::shared::{Piece, SharedRules};
 use fill_raster::Marks;
 use fill_region::Region;
-use fill_text::Rules;
 use std::alloc::{AllocError, Global};
 
 /// A tile of a version of a design, with all that the wanted places of the tile depend on.
@@ -21,13 +20,14 @@ pub struct Job {
     pub(crate) tile: u32,
     pub(crate) basis: Basis,
     pub ghost exists: { tile < tiles (plan_by basis).raster },
+    pub ghost reads: { (a b : ℕ) → windows_in basis.low a b ≡ true → touches (plan_by basis) tile a b ≡ true },
 }
 
 impl Job {
-    /// The work on a tile of a version of a design: its rules, its metal, and its windows whose share is below the least, each
-    /// as a unit square, the window in column `a` and row `b` as the square `(a, b)`. Of metal and windows the job keeps what
-    /// the wanted places of the tile depend on: the metal in the tile's halo, and the windows that share a square with the
-    /// bounding rectangle of the tile's boxes.
+    /// The work on a tile of a version of a design: its rules, its metal in the tile's halo, its keep-outs in the bounding rectangle
+    /// of the tile's boxes, and its windows whose share is below the least, each as a unit square, the window in column `a` and row
+    /// `b` as the square `(a, b)`. Of the windows the job copies those that share a square with that rectangle; rules, metal and
+    /// keep-outs it holds together with others.
     ///
     /// # Errors
     /// `AllocError` where memory is refused.
@@ -35,16 +35,17 @@ impl Job {
         alloc: Global,
         version: u64,
         tile: u32,
-        rules: &Rules,
-        metal: &Region,
+        rules: SharedRules,
+        metal: Piece,
+        keep: Piece,
         low: &Region,
     ) -> Result<Job, AllocError>
-        requires { tile < tiles (plan_of (values_of rules.now)).raster }
+        requires tile { tile < tiles (plan_of rules).raster }
         ensures version { IfOk result (λ j. j.version ≡ version) }
         ensures tile { IfOk result (λ j. j.tile ≡ tile) }
-        ensures read { IfOk result (λ j. read_by j.basis ≡ read_set (values_of rules.now) (holds metal.now) (windows_in low.now) tile) }
+        ensures read { let plan = plan_of rules in (layers : Layers) → ((x y : ℤ) → holds metal x y ≡ (layers.metal x y && in_halo plan.raster tile plan.spacing x y)) → ((x y : ℤ) → holds keep x y ≡ (layers.keep x y && in_halo plan.raster tile (pos 0) x y)) → IfOk result (λ j. read_by j.basis ≡ read_set rules layers (windows_in low.now) tile) }
     {
-        let basis = Basis::read(alloc, rules, metal, low, tile)?;
+        let basis = Basis::read(alloc, rules, metal, keep, low, tile)?;
         Ok(Job {
             version,
             tile,

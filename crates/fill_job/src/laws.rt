@@ -1,5 +1,5 @@
 //! What holds of wanted places and read sets, whatever the code does. Each function's contract is the law.
-ghost use Rattle.fill_job.specs.Laws.{ConflictsAreOfSquares, EqualReadSetsWantTheSame, WantedIsOfTheReadSet};
+ghost use Rattle.fill_job.specs.Laws.{BlockedIsSharing, ConflictsAreOfSquares, EqualReadSetsWantTheSame, WantedIsOfTheReadSet};
 ghost use Rattle.fill_job.specs.Plans.{IsPlan, plan_of};
 ghost use Rattle.fill_text.specs.ValuesOfRules.{values_of};
 
@@ -9,6 +9,11 @@ use fill_text::Rules;
 /// and in y (KLayout's `space` in the square metric).
 pub fn conflicts_are_of_squares()
     ensures { ConflictsAreOfSquares }
+{}
+
+/// A place is blocked by a set of squares where one of them is in its box.
+pub fn blocked_is_sharing()
+    ensures { BlockedIsSharing }
 {}
 
 /// The wanted places of a tile are those of its read set.

@@ -7,7 +7,9 @@ mod job;
 pub mod laws;
 mod proposal;
 mod reading;
+mod shared;
 mod wanted;
 
 pub use job::Job;
 pub use proposal::Proposal;
+pub use shared::{Piece, SharedRules};

@@ -1,13 +1,18 @@
 //! The places of one tile that a job proposes to fill.
-ghost use Rattle.std.specs.Prelude.{◌≡◌, ◌↔◌, ◌<◌, ℤ, IsTrue};
-ghost use Rattle.fill_raster.specs.Lattice.{tiles};
+ghost use Rattle.std.specs.Prelude.{◌≡◌, ◌↔◌, ◌&&◌, ◌<◌, ℕ, ℤ, pos, true, IsTrue};
+ghost use Rattle.fill_region.specs.Bands.{holds};
+ghost use Rattle.fill_raster.specs.Lattice.{in_halo, tiles};
 ghost use Rattle.fill_raster.specs.Marks.{count_marked, is_marked};
-ghost use Rattle.fill_job.specs.Basis.{plan_by, read_by};
-ghost use Rattle.fill_job.specs.ReadSets.{wanted_of};
+ghost use Rattle.fill_job.specs.Basis.{plan_by, read_by, windows_in};
+ghost use Rattle.fill_text.specs.ValuesOfRules.{values_of};
+ghost use Rattle.fill_job.specs.Plans.{Layers, plan_of};
+ghost use Rattle.fill_job.specs.ReadSets.{read_set, touches, wanted_of};
 
 use crate::basis::Basis;
-use crate::job::Job;
+use crate::reading::same_touching;
 use fill_raster::{Marks, Place};
+use fill_region::Region;
+use fill_text::Rules;
 
 /// The wanted places of a tile, with the version and the read set of the job that they were found by. Only `Job::propose`
 /// makes one.
@@ -18,6 +23,7 @@ pub struct Proposal {
     pub(crate) basis: Basis,
     pub(crate) marks: Marks,
     pub ghost exists: { tile < tiles (plan_by basis).raster },
+    pub ghost reads: { (a b : ℕ) → windows_in basis.low a b ≡ true → touches (plan_by basis) tile a b ≡ true },
     pub ghost marked: { (i j : ℤ) → is_marked marks i j ≡ wanted_of (read_by basis) tile i j },
 }
 
@@ -50,11 +56,18 @@ impl Proposal {
         self.marks.has(place)
     }
 
-    /// Whether the rules and all that was read are those of a job; versions and tiles are not compared.
-    pub fn matches(&self, job: &Job) -> bool
-        ensures { IsTrue result ↔ (read_by self.now.basis ≡ read_by job.now.basis) }
+    /// Whether the rules and all that was read are what there is to read now: these rules, this metal in the tile's halo, these
+    /// keep-outs in the bounding rectangle of the tile's boxes, and of these low windows those that touch the tile. Versions are not
+    /// compared. Takes no memory.
+    pub fn matches(&self, rules: &Rules, metal: &Region, keep: &Region, low: &Region) -> bool
+        ensures { let plan = plan_of (values_of rules.now) in (layers : Layers) → ((x y : ℤ) → holds metal.now x y ≡ (layers.metal x y && in_halo plan.raster self.now.tile plan.spacing x y)) → ((x y : ℤ) → holds keep.now x y ≡ (layers.keep x y && in_halo plan.raster self.now.tile (pos 0) x y)) → IsTrue result ↔ (read_by self.now.basis ≡ read_set (values_of rules.now) layers (windows_in low.now) self.now.tile) }
     {
-        self.basis.same_as(&job.basis)
+        let basis = &self.basis;
+        let same_rules = basis.rules.rules().same_as(rules);
+        let same_metal = *basis.metal.metal() == *metal;
+        let same_keep = *basis.keep.metal() == *keep;
+        let same_low = same_touching(basis.rules.rules(), &basis.low, low, self.tile);
+        (same_rules & (same_metal & same_keep)) & same_low
     }
 
     /// The marks.

@@ -1,16 +1,17 @@
 //! What of a design the work on a tile depends on.
-ghost use Rattle.std.specs.Prelude.{◌≡◌, ◌&&◌, ◌<◌, ◌≤◌, ◌≤ℤ◌, ℕ, ℤ, pos, true, IfOk};
-ghost use Rattle.fill_base.specs.Coordinates.{IsInRange};
+ghost use Rattle.std.specs.Prelude.{◌≡◌, ◌↔◌, ◌&&◌, ◌<◌, ◌≤◌, ◌≤ℤ◌, ℕ, ℤ, pos, true, IsTrue, IfOk};
 ghost use Rattle.fill_base.specs.Counts.{is_between};
 ghost use Rattle.fill_region.specs.Bands.{holds};
-ghost use Rattle.fill_raster.specs.Lattice.{in_halo, tiles};
+ghost use Rattle.fill_raster.specs.Lattice.{tiles};
 ghost use Rattle.fill_text.specs.ValuesOfRules.{values_of};
-ghost use Rattle.fill_job.specs.Basis.{read_by, windows_in};
+ghost use Rattle.fill_job.specs.Basis.{windows_in};
 ghost use Rattle.fill_job.specs.Plans.{plan_of};
-ghost use Rattle.fill_job.specs.ReadSets.{read_set, touches};
+ghost use Rattle.fill_job.specs.ReadSets.{touches};
 
 use crate::basis::Basis;
+use crate::shared::{Piece, SharedRules};
 use fill_base::Rect;
+use fill_raster::Raster;
 use fill_region::Region;
 use fill_text::Rules;
 use std::alloc::{AllocError, Global};
@@ -39,23 +40,6 @@ fn within(
     low.clip(alloc, &range)
 }
 
-/// The squares of a region lie within the coordinates, which its rows tell.
-fn stay_in_range(region: &Region)
-    ensures { (x y : ℤ) → holds region.now x y ≡ true → IsInRange x y }
-{
-    let _ = region.rows(0, 0);
-}
-
-/// The metal in the halo of the tile.
-fn nearby(alloc: Global, rules: &Rules, metal: &Region, tile: u32) -> Result<Region, AllocError>
-    requires { tile < tiles (plan_of (values_of rules.now)).raster }
-    ensures { IfOk result (λ r. (x y : ℤ) → holds r x y ≡ (holds metal.now x y && in_halo (plan_of (values_of rules.now)).raster tile (plan_of (values_of rules.now)).spacing x y)) }
-{
-    let halo = rules.raster().halo(tile, rules.spacing());
-    stay_in_range(metal);
-    metal.clip(alloc, &halo)
-}
-
 /// The windows of a set, kept as unit squares, that share a square with the bounding rectangle of the tile's boxes.
 fn touching(alloc: Global, rules: &Rules, low: &Region, tile: u32) -> Result<Region, AllocError>
     requires { tile < tiles (plan_of (values_of rules.now)).raster }
@@ -68,21 +52,63 @@ fn touching(alloc: Global, rules: &Rules, low: &Region, tile: u32) -> Result<Reg
 }
 
 impl Basis {
-    /// What is read for a tile: the rules, the metal in the tile's halo, and which windows that touch the tile are low.
+    /// What is read for a tile: the rules, the metal and keep-outs as given, and which windows that touch
+    /// the tile are low.
     pub(crate) fn read(
         alloc: Global,
-        rules: &Rules,
-        metal: &Region,
+        rules: SharedRules,
+        metal: Piece,
+        keep: Piece,
         low: &Region,
         tile: u32,
     ) -> Result<Basis, AllocError>
-        requires { tile < tiles (plan_of (values_of rules.now)).raster }
-        ensures { IfOk result (λ b. read_by b ≡ read_set (values_of rules.now) (holds metal.now) (windows_in low.now) tile) }
+        requires { tile < tiles (plan_of rules).raster }
+        ensures rules { IfOk result (λ b. b.rules ≡ rules) }
+        ensures metal { IfOk result (λ b. b.metal ≡ metal) }
+        ensures keep { IfOk result (λ b. b.keep ≡ keep) }
+        ensures low { IfOk result (λ b. (a c : ℕ) → windows_in b.low a c ≡ (windows_in low.now a c && touches (plan_of rules) tile a c)) }
     {
+        let low = touching(alloc, rules.rules(), low, tile)?;
         Ok(Basis {
-            rules: rules.copy(alloc)?,
-            metal: nearby(alloc, rules, metal, tile)?,
-            low: touching(alloc, rules, low, tile)?,
+            rules,
+            metal,
+            keep,
+            low,
         })
     }
+}
+
+/// Whether two sets of windows, kept as unit squares, have the same windows of a row, from one column on and before another.
+fn same_in_row(part: &Region, low: &Region, left: u32, right: u32, b: u32) -> bool
+    ensures { IsTrue result ↔ ((a : ℕ) → left ≤ a → a < right → windows_in part.now a b ≡ windows_in low.now a b) }
+{
+    for a in left..right {
+        if part.has(i64::from(a), i64::from(b)) != low.has(i64::from(a), i64::from(b)) {
+            return false;
+        }
+    }
+    true
+}
+
+/// The same of some rows, between the same columns each.
+fn same_in_rows(part: &Region, low: &Region, left: u32, right: u32, bottom: u32, top: u32) -> bool
+    ensures { IsTrue result ↔ ((a b : ℕ) → left ≤ a → a < right → bottom ≤ b → b < top → windows_in part.now a b ≡ windows_in low.now a b) }
+{
+    for b in bottom..top {
+        if !same_in_row(part, low, left, right, b) {
+            return false;
+        }
+    }
+    true
+}
+
+/// Whether the windows of a set that touch the tile are those of another set, all of which touch it. Takes no memory.
+pub(crate) fn same_touching(rules: &Rules, part: &Region, low: &Region, tile: u32) -> bool
+    requires tile { tile < tiles (plan_of (values_of rules.now)).raster }
+    requires part { (a b : ℕ) → windows_in part.now a b ≡ true → touches (plan_of (values_of rules.now)) tile a b ≡ true }
+    ensures { IsTrue result ↔ ((a b : ℕ) → windows_in part.now a b ≡ (windows_in low.now a b && touches (plan_of (values_of rules.now)) tile a b)) }
+{
+    let bounds = rules.raster().halo(tile, 0);
+    let (columns, rows) = rules.windows().touching(&bounds);
+    same_in_rows(part, low, columns.start, columns.end, rows.start, rows.end)
 }

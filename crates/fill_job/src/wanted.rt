@@ -1,5 +1,5 @@
 //! Which places are wanted by what was read.
-ghost use Rattle.std.specs.Prelude.{◌≡◌, ◌↔◌, ◌&&◌, ◌||◌, ◌<◌, ℤ, ◌<ℤ◌, true, false, length, IsTrue, IfOk, OnOk};
+ghost use Rattle.std.specs.Prelude.{◌≡◌, ◌↔◌, ◌&&◌, ◌||◌, ◌<◌, ℤ, pos, ◌<ℤ◌, true, false, length, IsTrue, IfOk, OnOk};
 ghost use Rattle.std.specs.Ordering.{int_eq};
 ghost use Rattle.fill_base.specs.Counts.{is_between, span_len};
 ghost use Rattle.fill_base.specs.Sides.{sides_of};
@@ -7,29 +7,23 @@ ghost use Rattle.fill_region.specs.Bands.{holds};
 ghost use Rattle.fill_raster.specs.Lattice.{in_raster, in_tile, tiles};
 ghost use Rattle.fill_raster.specs.Marks.{in_block, is_marked};
 ghost use Rattle.fill_text.specs.Rules as rules;
-ghost use Rattle.fill_text.specs.ValuesOfRules.{values_of};
-ghost use Rattle.fill_job.specs.Plans.{conflicts, is_suitable, wanted};
-ghost use Rattle.fill_job.specs.Basis.{plan_by, read_by, windows_in};
-ghost use Rattle.fill_job.specs.steps.Reaches.{AreReaches, AreNear};
+ghost use Rattle.fill_base.specs.Limits.{IsSpacing};
+ghost use Rattle.fill_job.specs.Plans.{is_suitable, is_taken, wanted};
+ghost use Rattle.fill_job.specs.Basis.{layers_in, plan_by, windows_in};
+ghost use Rattle.fill_job.specs.steps.Reaches.{AreMet, AreReaches, AreTaken};
 ghost use Rattle.fill_job.specs.steps.Windows.{HoldsIn};
 
 use crate::basis::Basis;
 use fill_base::Rect;
 use fill_raster::{Marks, Place};
+use fill_region::Region;
 use fill_size::{is_clear, mark_met};
 use std::alloc::{AllocError, Global};
 
 impl Basis {
-    /// Whether both have the same rules, metal and low windows.
-    pub(crate) fn same_as(&self, other: &Basis) -> bool
-        ensures { IsTrue result ↔ (read_by self.now ≡ read_by other.now) }
-    {
-        self.rules.same_as(&other.rules) & ((self.metal == other.metal) & (self.low == other.low))
-    }
-
     /// Whether some low window holds the whole rectangle.
     fn is_in_low(&self, rect: &Rect) -> bool
-        ensures { IsTrue result ↔ HoldsIn (rules.windows_of (values_of self.now.rules).numbers) self.now.low (sides_of rect.now) }
+        ensures { IsTrue result ↔ HoldsIn (rules.windows_of self.now.rules) self.now.low (sides_of rect.now) }
     {
         let (columns, rows) = self.rules.windows().containing(rect);
         if columns.start >= columns.end || rows.start >= rows.end {
@@ -44,70 +38,110 @@ impl Basis {
         !is_clear(&self.low, &range, 0)
     }
 
-    /// Whether a place of the raster, near to metal or not, keeps the spacing to it and lies wholly in a low window.
-    fn is_suitable(&self, place: Place, near: bool) -> bool
+    /// Whether a place of the raster, taken or not, is free and lies wholly in a low window.
+    fn is_suitable(&self, place: Place, taken: bool) -> bool
         requires raster { in_raster (plan_by self.now).raster place.i place.j ≡ true }
-        requires near { near ≡ conflicts (plan_by self.now) (holds self.now.metal) place.i place.j }
-        ensures { result ≡ is_suitable (plan_by self.now) (holds self.now.metal) (windows_in self.now.low) place.i place.j }
+        requires taken { taken ≡ is_taken (plan_by self.now) (layers_in self.now.metal self.now.keep) place.i place.j }
+        ensures { result ≡ is_suitable (plan_by self.now) (layers_in self.now.metal self.now.keep) (windows_in self.now.low) place.i place.j }
     {
-        !near && self.is_in_low(&self.rules.raster().box_of(place))
+        !taken && self.is_in_low(&self.rules.raster().box_of(place))
     }
 
-    /// The columns that the boxes of a part of a row reach, each with the spacing on both sides: the same for every row.
+    /// The columns that the boxes of a part of a row reach, each with a distance on both sides: the same for every row.
     fn reaches(
         &self,
         alloc: Global,
+        distance: i64,
         left: i64,
         right: i64,
         j: i64,
     ) -> Result<Vec<(i64, i64)>, AllocError>
+        requires distance { IsSpacing distance }
         requires some { left <ℤ right }
         requires places { (i : ℤ) → is_between left right i ≡ true → in_raster (plan_by self.now).raster i j ≡ true }
-        ensures { IfOk result (λ v. AreReaches (plan_by self.now) left right v.items) }
+        ensures { IfOk result (λ v. AreReaches (plan_by self.now).raster distance left right v.items) }
     {
-        let spacing = self.rules.spacing();
         let mut reaches = Vec::new(alloc);
         for i in left..right {
             let rect = self.rules.raster().box_of(Place { i, j });
-            reaches.push((rect.x1() - spacing, rect.x2() + spacing))?;
+            reaches.push((rect.x1() - distance, rect.x2() + distance))?;
         }
         Ok(reaches)
     }
 
-    /// Marks the places of a part of a row that metal is too near to, by one walk along each row of metal around their boxes.
-    fn mark_near(&self, left: i64, right: i64, j: i64, reaches: &[(i64, i64)], near: &mut [bool])
+    /// Marks the places of a part of a row whose boxes a region meets at a distance, by one walk along each of its rows around them.
+    fn mark_near(
+        &self,
+        region: &Region,
+        distance: i64,
+        left: i64,
+        right: i64,
+        j: i64,
+        reaches: &[(i64, i64)],
+        near: &mut [bool],
+    )
+        requires distance { IsSpacing distance }
         requires some { left <ℤ right }
         requires places { (i : ℤ) → is_between left right i ≡ true → in_raster (plan_by self.now).raster i j ≡ true }
-        requires reaches { AreReaches (plan_by self.now) left right reaches.now }
+        requires reaches { AreReaches (plan_by self.now).raster distance left right reaches.now }
         requires count { length near.old ≡ span_len left right }
         ensures count { length near.new ≡ span_len left right }
-        ensures near { AreNear (plan_by self.now) (holds self.now.metal) left j near.new }
+        ensures near { AreMet (plan_by self.now).raster distance (holds region.now) left j near.old near.new }
     {
         let rect = self.rules.raster().box_of(Place { i: left, j });
-        let spacing = self.rules.spacing();
-        near.fill(false);
         mark_met(
-            &self.metal,
+            region,
             reaches,
-            rect.y1() - spacing,
-            rect.y2() + spacing,
+            rect.y1() - distance,
+            rect.y2() + distance,
             near,
         );
     }
 
+    /// Marks the places of a part of a row that metal or a keep-out takes.
+    fn mark_taken(
+        &self,
+        left: i64,
+        right: i64,
+        j: i64,
+        reaches: &[(i64, i64)],
+        boxes: &[(i64, i64)],
+        taken: &mut [bool],
+    )
+        requires some { left <ℤ right }
+        requires places { (i : ℤ) → is_between left right i ≡ true → in_raster (plan_by self.now).raster i j ≡ true }
+        requires reaches { AreReaches (plan_by self.now).raster (plan_by self.now).spacing left right reaches.now }
+        requires boxes { AreReaches (plan_by self.now).raster (pos 0) left right boxes.now }
+        requires count { length taken.old ≡ span_len left right }
+        ensures count { length taken.new ≡ span_len left right }
+        ensures taken { AreTaken (plan_by self.now) (layers_in self.now.metal self.now.keep) left j taken.new }
+    {
+        taken.fill(false);
+        self.mark_near(
+            self.metal.metal(),
+            self.rules.spacing(),
+            left,
+            right,
+            j,
+            reaches,
+            taken,
+        );
+        self.mark_near(self.keep.metal(), 0, left, right, j, boxes, taken);
+    }
+
     /// Marks the suitable places of a part of a row of the raster.
-    fn mark_row(&self, left: i64, right: i64, j: i64, near: &[bool], marks: &mut Marks)
+    fn mark_row(&self, left: i64, right: i64, j: i64, taken: &[bool], marks: &mut Marks)
         requires places { (i : ℤ) → is_between left right i ≡ true → in_raster (plan_by self.now).raster i j ≡ true }
         requires block { (i : ℤ) → is_between left right i ≡ true → in_block marks.old.block i j ≡ true }
-        requires count { length near.now ≡ span_len left right }
-        requires near { AreNear (plan_by self.now) (holds self.now.metal) left j near.now }
+        requires count { length taken.now ≡ span_len left right }
+        requires taken { AreTaken (plan_by self.now) (layers_in self.now.metal self.now.keep) left j taken.now }
         ensures block { marks.new.block ≡ marks.old.block }
-        ensures marked { (k l : ℤ) → is_marked marks.new k l ≡ (is_marked marks.old k l || (int_eq l j && (is_between left right k && is_suitable (plan_by self.now) (holds self.now.metal) (windows_in self.now.low) k l))) }
+        ensures marked { (k l : ℤ) → is_marked marks.new k l ≡ (is_marked marks.old k l || (int_eq l j && (is_between left right k && is_suitable (plan_by self.now) (layers_in self.now.metal self.now.keep) (windows_in self.now.low) k l))) }
     {
         let mut index = 0;
         for i in left..right {
             let place = Place { i, j };
-            if self.is_suitable(place, near[index]) {
+            if self.is_suitable(place, taken[index]) {
                 marks.set(place);
             }
             index += 1;
@@ -122,20 +156,22 @@ impl Basis {
         bottom: i64,
         top: i64,
         reaches: &[(i64, i64)],
-        near: &mut [bool],
+        boxes: &[(i64, i64)],
+        taken: &mut [bool],
         marks: &mut Marks,
     )
         requires some { left <ℤ right }
         requires places { (i j : ℤ) → (is_between left right i && is_between bottom top j) ≡ true → in_raster (plan_by self.now).raster i j ≡ true }
-        requires reaches { AreReaches (plan_by self.now) left right reaches.now }
-        requires count { length near.old ≡ span_len left right }
+        requires reaches { AreReaches (plan_by self.now).raster (plan_by self.now).spacing left right reaches.now }
+        requires boxes { AreReaches (plan_by self.now).raster (pos 0) left right boxes.now }
+        requires count { length taken.old ≡ span_len left right }
         requires block { (i j : ℤ) → (is_between left right i && is_between bottom top j) ≡ true → in_block marks.old.block i j ≡ true }
         requires none { (i j : ℤ) → is_marked marks.old i j ≡ false }
-        ensures { (i j : ℤ) → is_marked marks.new i j ≡ (is_between bottom top j && (is_between left right i && is_suitable (plan_by self.now) (holds self.now.metal) (windows_in self.now.low) i j)) }
+        ensures { (i j : ℤ) → is_marked marks.new i j ≡ (is_between bottom top j && (is_between left right i && is_suitable (plan_by self.now) (layers_in self.now.metal self.now.keep) (windows_in self.now.low) i j)) }
     {
         for j in bottom..top {
-            self.mark_near(left, right, j, reaches, near);
-            self.mark_row(left, right, j, near, marks);
+            self.mark_taken(left, right, j, reaches, boxes, taken);
+            self.mark_row(left, right, j, taken, marks);
         }
     }
 
@@ -152,14 +188,15 @@ impl Basis {
         requires tile { tile < tiles (plan_by self.now).raster }
         requires block { (i j : ℤ) → in_block marks.old.block i j ≡ in_tile (plan_by self.now).raster tile i j }
         requires none { (i j : ℤ) → is_marked marks.old i j ≡ false }
-        ensures { OnOk result ((i j : ℤ) → is_marked marks.new i j ≡ wanted (plan_by self.now) (holds self.now.metal) (windows_in self.now.low) tile i j) }
+        ensures { OnOk result ((i j : ℤ) → is_marked marks.new i j ≡ wanted (plan_by self.now) (layers_in self.now.metal self.now.keep) (windows_in self.now.low) tile i j) }
     {
         let (columns, rows) = self.rules.raster().places(tile);
         let (left, right) = (columns.start, columns.end);
-        let reaches = self.reaches(alloc, left, right, rows.start)?;
-        let mut near = Vec::from_elem(alloc, false, reaches.len())?;
+        let reaches = self.reaches(alloc, self.rules.spacing(), left, right, rows.start)?;
+        let boxes = self.reaches(alloc, 0, left, right, rows.start)?;
+        let mut taken = Vec::from_elem(alloc, false, reaches.len())?;
         self.mark_rows(
-            left, right, rows.start, rows.end, &reaches, &mut near, marks,
+            left, right, rows.start, rows.end, &reaches, &boxes, &mut taken, marks,
         );
         Ok(())
     }

@@ -11,7 +11,9 @@ use Rattle.fill_base.specs.Coordinates.{lowest, highest, IsCoordinate}
 use Rattle.fill_base.proofs.Signed.{read, read_is, coordinate_fits, lt_le, le_trans}
 use Rattle.fill_area.specs.Axes.{IsAxis, IsExtent, axis_begin, axis_end}
 use Rattle.fill_area.specs.Density.{AreMeasured}
-use Rattle.fill_area.specs.Grid.{Grid}
+use Rattle.fill_area.specs.Grid.{Grid, all_coordinates}
+use Rattle.fill_area.specs.declared.parts.Parts.{Parts}
+use Rattle.fill_area.proofs.Clipping.{counted_all, part_whole}
 use Rattle.fill_area.specs.declared.axis.Axis.{Axis}
 use Rattle.fill_cells.specs.Mesh.{AreLines, gaps}
 use Rattle.fill_measure.specs.declared.mesh.Mesh.{Mesh}
@@ -106,8 +108,8 @@ begin_more axis a lo hi old new even is new_is =
     even_more axis a (read lo) old new even (read_is lo (coordinate_fits lo is.low (le_trans lo hi highest (lt_le lo hi is.some) is.high)) ∙ is.begins) new_is
 
 -- the areas of windows side by side are those of the cells between their lines
-pub cells_are : (p : ℤ → ℤ → Bool) (g : Grid) (across up totals : List ℤ) → AreMeasured p g totals → g.across.length ≡ g.across.step → g.up.length ≡ g.up.step → AreEven g.across across → AreEven g.up up → AreCells p across up totals
-cells_are p g across up totals measured wide tall columns rows =
+pub cells_are : (p : ℤ → ℤ → Bool) (g : Grid) (across up totals : List ℤ) → g.clip ≡ all_coordinates → AreMeasured p g totals → g.across.length ≡ g.across.step → g.up.length ≡ g.up.step → AreEven g.across across → AreEven g.up up → AreCells p across up totals
+cells_are p g across up totals all measured wide tall columns rows =
     let w : gaps across ≡ g.across.count = omega (arith, columns.count) in
     let h : gaps up ≡ g.up.count = omega (arith, rows.count) in
     record {
@@ -121,7 +123,8 @@ cells_are p g across up totals measured wide tall columns rows =
         let x1 = columns.each i d (omega (arith, left)) in let x2 = columns.each (i + 1) d (omega (arith, left)) in
         let y1 = rows.each j d (omega (arith, below)) in let y2 = rows.each (j + 1) d (omega (arith, below)) in
         ap (λ n. get_or totals (j * n + i) d) w ∙ (get_or_default totals (j * g.across.count + i) d (pos 0) inner ∙ (measured.each i j left below
-        ∙ rw (x1, y1, x2, y2, next_begins g.across i wide, next_begins g.up j tall) refl))
+        ∙ (ap pos (sym (counted_all p g i j measured.grid all left below))
+        ∙ rw (x1, y1, x2, y2, next_begins g.across i wide, next_begins g.up j tall) refl)))
 
 far : (first step : ℤ) (a n : ℕ) → (first +ℤ (pos a *ℤ step)) +ℤ (pos n *ℤ step) ≡ first +ℤ (pos (a + n) *ℤ step)
 far first step a zero = let same : a ≡ a + 0 = omega arith in no_move (first +ℤ (pos a *ℤ step)) step ∙ ap (λ k. first +ℤ (pos k *ℤ step)) same
@@ -131,13 +134,19 @@ far first step a (suc n) =
     ap (λ k. (first +ℤ (pos a *ℤ step)) +ℤ (pos k *ℤ step)) one ∙ (sym (step_on (first +ℤ (pos a *ℤ step)) step n)
     ∙ (ap (λ z. z +ℤ step) (far first step a n) ∙ (step_on first step (a + n) ∙ ap (λ k. first +ℤ (pos k *ℤ step)) all)))
 
+abbrev pub parts_of : Axis → ℤ → ℤ → Parts
+parts_of axis low high = record { axis = axis; low = low; high = high }
+
 -- both ends of each span are among the lines of the cut ones
-pub cut_ends : (axis cut : Axis) (lines : List ℤ) → IsCut axis cut → AreEven cut lines → HoldEnds lines axis axis.count
-cut_ends axis cut lines is even = record {
-  begins = λ a lt. let few = is.some in subst (λ z. Contains lines z) (begin_of a) (held a (omega (arith, lt, few, is.count_is)));
-  ends = λ a lt. let few = is.some in subst (λ z. Contains lines z) (begin_of (a + is.parts) ∙ (sym (far axis.first axis.step a is.parts) ∙ ap (λ n. axis_begin axis a +ℤ n) (sym is.whole))) (held (a + is.parts) (omega (arith, lt, few, is.count_is)));
-}
+pub cut_ends : (parts : Parts) (cut : Axis) (lines : List ℤ) → parts ≡ record { axis = parts.axis; low = lowest; high = highest } → IsAxis parts.axis → IsCut parts.axis cut → AreEven cut lines → HoldEnds lines parts parts.axis.count
+cut_ends parts cut lines all is_axis is even = rw all (record {
+  begins = λ a lt. let few = is.some in subst (λ z. Contains lines z) (begin_of a ∙ sym (part_whole axis a is_axis lt).0) (held a (omega (arith, lt, few, is.count_is)));
+  ends = λ a lt. let few = is.some in subst (λ z. Contains lines z) ((begin_of (a + is.parts) ∙ (sym (far axis.first axis.step a is.parts) ∙ ap (λ n. axis_begin axis a +ℤ n) (sym is.whole))) ∙ sym (part_whole axis a is_axis lt).1) (held (a + is.parts) (omega (arith, lt, few, is.count_is)));
+})
   where
+    axis : Axis
+    axis = parts.axis
+
     begin_of : (a : ℕ) → axis_begin cut a ≡ axis_begin axis a
     begin_of a = rw (is.first_is, is.step_is) refl
 

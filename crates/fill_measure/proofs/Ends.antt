@@ -10,24 +10,24 @@ use Rattle.std.proofs.lemmas.List.Elements.{All-push, Contains-append_left, Cont
 use Rattle.fill_base.specs.Coordinates.{lowest, highest, IsCoordinate}
 use Rattle.fill_base.proofs.Signed.{read, read_is, coordinate_fits, lt_le, le_trans, is_lt, not_lt}
 use Rattle.fill_area.proofs.Begun.{by_lt}
-use Rattle.fill_area.specs.Axes.{IsAxis, IsExtent, axis_begin, axis_end}
-use Rattle.fill_area.specs.declared.axis.Axis.{Axis}
+use Rattle.fill_area.specs.Parts.{AreParts, IsPart, part_begin, part_end}
+use Rattle.fill_area.specs.declared.parts.Parts.{Parts}
 use Rattle.fill_cells.specs.Mesh.{AreLines}
 use Rattle.fill_measure.specs.steps.Ends.{HoldEnds}
 
 -- both ends of one span more
-pub ends_more : (axis : Axis) (a : ℕ) (lo hi : ℤ) (old mid new : List ℤ) → All IsCoordinate old × HoldEnds old axis a → IsExtent axis a lo hi
+pub ends_more : (axis : Parts) (a : ℕ) (lo hi : ℤ) (old mid new : List ℤ) → All IsCoordinate old × HoldEnds old axis a → IsPart axis a lo hi
     → mid ≡ old ++ read lo ∷ [] → new ≡ mid ++ read hi ∷ [] → All IsCoordinate new × HoldEnds new axis (a + 1)
 ends_more axis a lo hi old mid new before is mid_is new_is =
-    let low : IsCoordinate lo = record { least = is.low; most = le_trans lo hi highest (lt_le lo hi is.some) is.high } in
-    let high : IsCoordinate hi = record { least = le_trans lowest lo hi is.low (lt_le lo hi is.some); most = is.high } in
+    let low : IsCoordinate lo = record { least = is.low; most = le_trans lo hi highest is.ordered is.high } in
+    let high : IsCoordinate hi = record { least = le_trans lowest lo hi is.low is.ordered; most = is.high } in
     let mid_is' : mid ≡ old ++ lo ∷ [] = mid_is ∙ ap (λ z. old ++ z ∷ []) (read_is lo (coordinate_fits lo low.least low.most)) in
     let new_is' : new ≡ (old ++ lo ∷ []) ++ hi ∷ [] = new_is ∙ (ap (λ z. mid ++ z ∷ []) (read_is hi (coordinate_fits hi high.least high.most)) ∙ ap (λ xs. xs ++ hi ∷ []) mid_is') in
     rw new_is' (
       All-push IsCoordinate (old ++ lo ∷ []) hi (All-push IsCoordinate old lo before.0 low) high,
       record {
-        begins = below_more _ a (λ k lt. kept (axis_begin axis k) (before.1.begins k lt)) (rw (← is.begins) (Contains-append_left (old ++ lo ∷ []) (hi ∷ []) lo (Contains-push old lo)));
-        ends = below_more _ a (λ k lt. kept (axis_end axis k) (before.1.ends k lt)) (rw (← is.ends) (Contains-push (old ++ lo ∷ []) hi));
+        begins = below_more _ a (λ k lt. kept (part_begin axis k) (before.1.begins k lt)) (rw (← is.begins) (Contains-append_left (old ++ lo ∷ []) (hi ∷ []) lo (Contains-push old lo)));
+        ends = below_more _ a (λ k lt. kept (part_end axis k) (before.1.ends k lt)) (rw (← is.ends) (Contains-push (old ++ lo ∷ []) hi));
       },
     )
   where
@@ -35,15 +35,12 @@ ends_more axis a lo hi old mid new before is mid_is new_is =
     kept z h = Contains-append_left (old ++ lo ∷ []) (hi ∷ []) z (Contains-append_left old (lo ∷ []) z h)
 
 -- the lines at numbers that hold both ends of each span
-pub lines_held : (axis : Axis) (ends more lines : List ℤ) → IsAxis axis → HoldEnds ends axis axis.count → ((z : ℤ) → Contains ends z → Contains more z)
-    → ((x y : ℤ) → Contains more x → Contains more y → x <ℤ y → AreLines lines) → ((z : ℤ) → Contains more z ↔ Contains lines z) → AreLines lines × HoldEnds lines axis axis.count
-lines_held axis ends more lines is_axis hold kept lines_of same = (
-  lines_of _ _ (kept _ (hold.begins 0 is_axis.count_is.least)) (kept _ (hold.ends 0 is_axis.count_is.least)) (longer _ axis.length is_axis.length_is.least),
+pub lines_held : (axis : Parts) (x y : ℤ) (ends more lines : List ℤ) → Contains ends x → Contains ends y → x <ℤ y → HoldEnds ends axis axis.axis.count → ((z : ℤ) → Contains ends z → Contains more z)
+    → ((x y : ℤ) → Contains more x → Contains more y → x <ℤ y → AreLines lines) → ((z : ℤ) → Contains more z ↔ Contains lines z) → AreLines lines × HoldEnds lines axis axis.axis.count
+lines_held axis x y ends more lines has_x has_y some hold kept lines_of same = (
+  lines_of x y (kept x has_x) (kept y has_y) some,
   record { begins = λ a lt. (same _).0 (kept _ (hold.begins a lt)); ends = λ a lt. (same _).0 (kept _ (hold.ends a lt)) },
 )
-  where
-    longer : (z length : ℤ) → pos 1 ≤ℤ length → z <ℤ (z +ℤ length)
-    longer z length one = omega (arith, ints)
 
 -- one part further
 pub stepped_fits : (line step last m : ℤ) → IsCoordinate line → IsCoordinate last → pos 0 ≤ℤ step → step ≤ℤ pos (2 ^ 31) → m ≡ int_min (read last) (read (read line +ℤ read step)) → IsCoordinate (read m)
@@ -99,3 +96,30 @@ line_at lines line n are has point = (rw here has.1, λ d. ap (λ k. get_or line
     here = by_lt n has.0
         (λ early. absurd (above _ line _ (not_lt _ line (point.1 n line (omega arith) (omega (arith, early, has.1)))) (are.rising n has.0 line early has.1) has.2))
         (λ le. by_lt has.0 n (λ late. absurd (over _ line has.2 (is_lt _ line (point.0 has.0 line (omega arith) late)))) (λ ge. omega (arith, le, ge)))
+
+-- both ends of what counts, put to numbers
+pub record IsClipHeld (parts : Parts) (old new : List ℤ) : Type 0 where
+  pub coordinates : All IsCoordinate new
+  pub kept : (z : ℤ) → Contains old z → Contains new z
+  pub low : Contains new parts.low
+  pub high : Contains new parts.high
+
+pub clip_held : (parts : Parts) (old mid new : List ℤ) → AreParts parts → All IsCoordinate old → mid ≡ old ++ read parts.low ∷ [] → new ≡ mid ++ read parts.high ∷ [] → IsClipHeld parts old new
+clip_held parts old mid new is all mid_is new_is =
+    let low : IsCoordinate parts.low = record { least = is.least; most = le_trans _ _ _ (lt_le _ _ is.some) is.most } in
+    let high : IsCoordinate parts.high = record { least = le_trans _ _ _ is.least (lt_le _ _ is.some); most = is.most } in
+    let mid_at : mid ≡ old ++ parts.low ∷ [] = mid_is ∙ ap (λ z. old ++ z ∷ []) (read_is parts.low (coordinate_fits parts.low low.least low.most)) in
+    let new_at : new ≡ (old ++ parts.low ∷ []) ++ parts.high ∷ [] = new_is ∙ (ap (λ z. mid ++ z ∷ []) (read_is parts.high (coordinate_fits parts.high high.least high.most)) ∙ ap (λ xs. xs ++ parts.high ∷ []) mid_at) in
+    rw new_at (record {
+      coordinates = All-push IsCoordinate (old ++ parts.low ∷ []) parts.high (All-push IsCoordinate old parts.low all low) high;
+      kept = λ z has. Contains-append_left (old ++ parts.low ∷ []) (parts.high ∷ []) z (Contains-append_left old (parts.low ∷ []) z has);
+      low = Contains-append_left (old ++ parts.low ∷ []) (parts.high ∷ []) parts.low (Contains-push old parts.low);
+      high = Contains-push (old ++ parts.low ∷ []) parts.high;
+    })
+
+-- ends that are read apart
+pub apart_read : (parts : Parts) (a : ℕ) (lo hi : ℤ) → IsPart parts a lo hi → int_lt (read lo) (read hi) ≡ true → part_begin parts a <ℤ part_end parts a
+apart_read parts a lo hi is h =
+    let low = read_is lo (coordinate_fits lo is.low (le_trans _ _ _ is.ordered is.high)) in
+    let high = read_is hi (coordinate_fits hi (le_trans _ _ _ is.low is.ordered) is.high) in
+    rw (is.begins, is.ends) at (is_lt lo hi (rw (low, high) at h))

@@ -10,7 +10,7 @@ use Rattle.std.proofs.lemmas.List.FromFn.{get_or-map-range_with_len, length-map-
 use Rattle.fill_base.proofs.Signed.{read}
 use Rattle.fill_area.proofs.Measuring.{area_at, bounded, measured}
 use Rattle.fill_area.specs.Density.{window_area, AreMeasured, IsArea}
-use Rattle.fill_area.specs.Grid.{Grid, IsGrid}
+use Rattle.fill_area.specs.Grid.{Grid, IsGrid, parts_across, parts_up}
 use Rattle.fill_cells.specs.Mesh.{AreLines}
 use Rattle.fill_measure.proofs.CornerSums.{block_small, count_read, lines_difference, rows_difference}
 use Rattle.fill_measure.proofs.Joining.{map_split, ranges_joined}
@@ -21,12 +21,12 @@ use Rattle.fill_measure.specs.steps.Corners.{block_area}
 use Rattle.fill_measure.specs.steps.Sides.{IsBetween}
 
 -- the area between the sides of a window
-sides_area : (p : ℤ → ℤ → Bool) (g : Grid) (across up : List ℤ) (a b : ℕ) (s t : Sides) (d : ℤ) → IsBetween g.across across a s → IsBetween g.up up b t
+sides_area : (p : ℤ → ℤ → Bool) (g : Grid) (across up : List ℤ) (a b : ℕ) (s t : Sides) (d : ℤ) → IsBetween (parts_across g) across a s → IsBetween (parts_up g) up b t
     → block_area p across up s.begin t.begin s.end t.end d ≡ window_area p g a b
 sides_area p g across up a b s t d x_is y_is = rw (x_is.begins d, x_is.ends d, y_is.begins d, y_is.ends d) refl
 
 -- the area of a window, as the code finds it: the difference of what its sides across cut off from the lines at which it ends and begins
-pub window_of : (p : ℤ → ℤ → Bool) (g : Grid) (across up : List ℤ) (a b : ℕ) (s t : Sides) (x1 x0 y1 y0 : ℤ) → AreLines across → AreLines up → IsBetween g.across across a s → IsBetween g.up up b t
+pub window_of : (p : ℤ → ℤ → Bool) (g : Grid) (across up : List ℤ) (a b : ℕ) (s t : Sides) (x1 x0 y1 y0 : ℤ) → AreLines across → AreLines up → IsBetween (parts_across g) across a s → IsBetween (parts_up g) up b t
     → x1 ≡ pos (block_area p across up 0 0 s.end t.end (pos 0)) → x0 ≡ pos (block_area p across up 0 0 s.begin t.end (pos 0)) → y1 ≡ pos (block_area p across up 0 0 s.end t.begin (pos 0)) → y0 ≡ pos (block_area p across up 0 0 s.begin t.begin (pos 0))
     → (FitsSigned w64 (read x1 -ℤ read x0) × FitsSigned w64 (read y1 -ℤ read y0)) × (FitsSigned w64 (read (read x1 -ℤ read x0) -ℤ read (read y1 -ℤ read y0)) × (read (read (read x1 -ℤ read x0) -ℤ read (read y1 -ℤ read y0)) ≡ pos (window_area p g a b)))
 window_of p g across up a b s t x1 x0 y1 y0 x_are y_are column row x1_is x0_is y1_is y0_is =
@@ -46,9 +46,9 @@ window_of p g across up a b s t x1 x0 y1 y0 x_are y_are column row x1_is x0_is y
 
 -- the same of the sums' own lines and sides
 between : (sums : WindowSums) (a b : ℕ) (s t : Sides) → a < sums.windows.across.count → b < sums.windows.up.count → s ≡ get_or sums.columns.items a s → t ≡ get_or sums.rows.items b t
-    → IsBetween sums.windows.across sums.across.items a s × IsBetween sums.windows.up sums.up.items b t
+    → IsBetween (parts_across sums.windows) sums.across.items a s × IsBetween (parts_up sums.windows) sums.up.items b t
 between sums a b s t a_in b_in s_is t_is =
-    (subst (IsBetween sums.windows.across sums.across.items a) (sym s_is) (sums.columns_are.each a s a_in), subst (IsBetween sums.windows.up sums.up.items b) (sym t_is) (sums.rows_are.each b t b_in))
+    (subst (IsBetween (parts_across sums.windows) sums.across.items a) (sym s_is) (sums.columns_are.each a s a_in), subst (IsBetween (parts_up sums.windows) sums.up.items b) (sym t_is) (sums.rows_are.each b t b_in))
 
 pub window_at : (p : ℤ → ℤ → Bool) (sums : WindowSums) (a b : ℕ) (s t : Sides) (x1 x0 y1 y0 : ℤ) → a < sums.windows.across.count → b < sums.windows.up.count → s ≡ get_or sums.columns.items a s → t ≡ get_or sums.rows.items b t
     → x1 ≡ pos (block_area p sums.across.items sums.up.items 0 0 s.end t.end (pos 0)) → x0 ≡ pos (block_area p sums.across.items sums.up.items 0 0 s.begin t.end (pos 0))

@@ -1,6 +1,7 @@
 //! Windows cut into cells by their steps.
-ghost use Rattle.std.specs.Prelude.{IfSome};
+ghost use Rattle.std.specs.Prelude.{◌≡◌, IfSome};
 ghost use Rattle.fill_area.specs.Axes.{IsAxis};
+ghost use Rattle.fill_area.specs.Grid.{all_coordinates};
 ghost use Rattle.fill_measure.specs.steps.Cuts.{IsCut};
 
 use fill_area::{Axis, Windows};
@@ -11,6 +12,7 @@ use fill_base::Point;
 pub(crate) fn cut_windows(windows: &Windows) -> Option<Windows>
     ensures across { IfSome result (λ w. IsCut windows.now.across w.across) }
     ensures up { IfSome result (λ w. IsCut windows.now.up w.up) }
+    ensures whole { IfSome result (λ w. w.clip ≡ all_coordinates) }
 {
     let across = cut_axis(windows.across())?;
     let up = cut_axis(windows.up())?;

@@ -2,12 +2,13 @@
 ghost use Rattle.std.specs.Prelude.{◌≡◌, ◌^◌, ℤ, pos, ◌≤ℤ◌, ◌<◌, IfOk, OnOk, All, length, get_or};
 ghost use Rattle.std.specs.List.{Contains};
 ghost use Rattle.fill_area.specs.Axes.{IsAxis};
+ghost use Rattle.fill_area.specs.Parts.{AreParts};
 ghost use Rattle.fill_base.specs.Coordinates.{IsCoordinate};
 ghost use Rattle.fill_cells.specs.Mesh.{AreLines};
 ghost use Rattle.fill_measure.specs.steps.Cuts.{AreEven};
 ghost use Rattle.fill_measure.specs.steps.Ends.{HoldEnds};
 
-use fill_area::Axis;
+use fill_area::{Axis, Parts};
 use fill_cells::lines_at;
 use std::alloc::{AllocError, Global};
 
@@ -16,28 +17,47 @@ const MOST_PARTS: u64 = 4096;
 
 /// The lines at which a span of the axis begins or ends, each once, from the lowest on, and further lines between them where they are
 /// further apart than the pitch.
-pub(crate) fn lines_of(alloc: Global, axis: Axis, pitch: u64) -> Result<Vec<i64>, AllocError>
-    requires { IsAxis axis }
+pub(crate) fn lines_of(alloc: Global, parts: Parts, pitch: u64) -> Result<Vec<i64>, AllocError>
+    requires { AreParts parts }
     ensures lines { IfOk result (λ v. AreLines v.items) }
-    ensures ends { IfOk result (λ v. HoldEnds v.items axis axis.count) }
+    ensures ends { IfOk result (λ v. HoldEnds v.items parts parts.axis.count) }
 {
-    let lines = end_lines(alloc, axis)?;
-    let parts = gap_parts(&lines, pitch);
-    if parts == 1 {
+    let lines = end_lines(alloc, parts)?;
+    let pieces = gap_parts(&lines, pitch);
+    if pieces == 1 {
         return Ok(lines);
     }
-    let numbers = cut_gaps(alloc, &lines, parts)?;
+    let numbers = cut_gaps(alloc, &lines, pieces)?;
     Ok(lines_at(numbers))
 }
 
-/// The lines at which a span of the axis begins or ends, each once, from the lowest on.
-fn end_lines(alloc: Global, axis: Axis) -> Result<Vec<i64>, AllocError>
-    requires { IsAxis axis }
+/// The lines at which what counts of a span begins or ends, each once, from the lowest on: two of them at least.
+fn end_lines(alloc: Global, parts: Parts) -> Result<Vec<i64>, AllocError>
+    requires { AreParts parts }
     ensures lines { IfOk result (λ v. AreLines v.items) }
-    ensures ends { IfOk result (λ v. HoldEnds v.items axis axis.count) }
+    ensures ends { IfOk result (λ v. HoldEnds v.items parts parts.axis.count) }
 {
-    let ends = ends_of(alloc, axis)?;
+    let ends = ends_of(alloc, parts)?;
+    let (begin, end) = parts.extent(0);
+    if begin < end {
+        return Ok(lines_at(ends));
+    }
+    let ends = with_clip(ends, parts)?;
     Ok(lines_at(ends))
+}
+
+/// The numbers, and those between which spans count.
+fn with_clip(mut numbers: Vec<i64>, parts: Parts) -> Result<Vec<i64>, AllocError>
+    requires parts { AreParts parts }
+    requires coordinates { All IsCoordinate numbers.items }
+    ensures coordinates { IfOk result (λ v. All IsCoordinate v.items) }
+    ensures kept { IfOk result (λ v. (z : ℤ) → Contains numbers.items z → Contains v.items z) }
+    ensures low { IfOk result (λ v. Contains v.items parts.low) }
+    ensures high { IfOk result (λ v. Contains v.items parts.high) }
+{
+    numbers.push(parts.low)?;
+    numbers.push(parts.high)?;
+    Ok(numbers)
 }
 
 /// Into how many parts each gap between the lines is cut: so many that those of a mean gap are about as long as the pitch. It is the
@@ -110,14 +130,14 @@ fn stepped(line: i64, step: i64, last: i64) -> i64
 }
 
 /// Both ends of each span, in the order of the spans.
-fn ends_of(alloc: Global, axis: Axis) -> Result<Vec<i64>, AllocError>
-    requires { IsAxis axis }
+fn ends_of(alloc: Global, parts: Parts) -> Result<Vec<i64>, AllocError>
+    requires { AreParts parts }
     ensures coordinates { IfOk result (λ v. All IsCoordinate v.items) }
-    ensures ends { IfOk result (λ v. HoldEnds v.items axis axis.count) }
+    ensures ends { IfOk result (λ v. HoldEnds v.items parts parts.axis.count) }
 {
-    let mut ends = Vec::with_capacity(alloc, 2 * axis.count as usize)?;
-    for a in 0..axis.count {
-        let (begin, end) = axis.extent(a);
+    let mut ends = Vec::with_capacity(alloc, 2 * parts.axis.count as usize)?;
+    for a in 0..parts.axis.count {
+        let (begin, end) = parts.extent(a);
         ends.push(begin)?;
         ends.push(end)?;
     }

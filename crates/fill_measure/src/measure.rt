@@ -3,6 +3,7 @@ ghost use Rattle.std.specs.Prelude.{◌≡◌, IfOk, All};
 ghost use Rattle.std.specs.List.{flat_map};
 ghost use Rattle.std.specs.Vec.{vec_items};
 ghost use Rattle.fill_area.specs.Density.{AreMeasured, IsArea};
+ghost use Rattle.fill_area.specs.Grid.{all_coordinates};
 ghost use Rattle.fill_region.specs.Bands.{holds};
 ghost use Rattle.fill_region.specs.Squares.{covered};
 ghost use Rattle.fill_measure.specs.Sums.{AreSumsOf};
@@ -56,8 +57,8 @@ pub fn sum_rects(
     ensures sums { IfOk result (AreSumsOf (covered (flat_map vec_items lists.now))) }
 {
     let pitch = pitch_of(lists, windows);
-    let across = lines_of(alloc, windows.across(), pitch.across)?;
-    let up = lines_of(alloc, windows.up(), pitch.up)?;
+    let across = lines_of(alloc, windows.parts_across(), pitch.across)?;
+    let up = lines_of(alloc, windows.parts_up(), pitch.up)?;
     let mesh = Mesh {
         shapes: Shapes::Rects(lists),
         across: &across,
@@ -82,6 +83,23 @@ pub fn measure_region(
     ensures areas { IfOk result (λ v. AreMeasured (holds region.now) windows.now v.items) }
     ensures bounded { IfOk result (λ v. All IsArea v.items) }
 {
+    match windows.clip() {
+        Some(clip) => measure_whole(rt, alloc, &region.clip(alloc, &clip)?, &windows.whole()),
+        None => measure_whole(rt, alloc, region, windows),
+    }
+}
+
+/// The same of windows that count whole.
+fn measure_whole(
+    rt: &(impl Threads + Sync),
+    alloc: Global,
+    region: &Region,
+    windows: &Windows,
+) -> Result<Vec<i64>, AllocError>
+    requires { windows.now.clip ≡ all_coordinates }
+    ensures areas { IfOk result (λ v. AreMeasured (holds region.now) windows.now v.items) }
+    ensures bounded { IfOk result (λ v. All IsArea v.items) }
+{
     match cut_windows(windows) {
         Some(cut) => measure_cut(rt, alloc, region, windows, &cut),
         None => measure_all(rt, alloc, region, windows),
@@ -96,11 +114,14 @@ fn measure_cut(
     windows: &Windows,
     cut: &Windows,
 ) -> Result<Vec<i64>, AllocError>
+    requires whole { windows.now.clip ≡ all_coordinates }
+    requires cut_whole { cut.now.clip ≡ all_coordinates }
     requires across { IsCut windows.now.across cut.now.across }
     requires up { IsCut windows.now.up cut.now.up }
     ensures areas { IfOk result (λ v. AreMeasured (holds region.now) windows.now v.items) }
     ensures bounded { IfOk result (λ v. All IsArea v.items) }
 {
+    let _ = windows.len();
     let across = side_by_side(alloc, cut.across())?;
     let up = side_by_side(alloc, cut.up())?;
     let cells = measure_all(rt, alloc, region, cut)?;

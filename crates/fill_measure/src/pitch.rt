@@ -1,10 +1,10 @@
 //! How far apart the lines of a mesh are to be, so that its cells are neither too large nor too small for the rectangles. Areas are
 //! right at any pitch: it bears on time and memory alone.
 ghost use Rattle.std.specs.Prelude.{◌<◌};
-ghost use Rattle.fill_area.specs.Axes.{IsAxis};
+ghost use Rattle.fill_area.specs.Parts.{AreParts};
 
 use crate::lists::count_of;
-use fill_area::{Axis, Windows};
+use fill_area::{Axis, Parts, Windows};
 use fill_base::Rect;
 
 /// About so many rectangles are looked at, at even distances in their lists: enough to know them all by, and soon done.
@@ -63,7 +63,7 @@ struct Looks {
 
 /// The pitch at which a cell has few of the rectangles where they lie apart, and else many.
 pub(crate) fn pitch_of(lists: &[Vec<Rect>], windows: &Windows) -> Pitch {
-    let (across, up) = (ends(windows.across()), ends(windows.up()));
+    let (across, up) = (ends(windows.parts_across()), ends(windows.parts_up()));
     let count = count_of(lists);
     let looks = looks_of(lists, count / SAMPLES + 1, across, up);
     let within = (count as u64).saturating_mul(looks.met) / looks.looked.max(1);
@@ -88,12 +88,12 @@ pub(crate) fn pitch_of(lists: &[Vec<Rect>], windows: &Windows) -> Pitch {
     }
 }
 
-/// Where the first span of the axis begins, and where the last one ends.
-fn ends(axis: Axis) -> (i64, i64)
-    requires { IsAxis axis }
+/// Where what counts of the first span begins, and where that of the last one ends.
+fn ends(parts: Parts) -> (i64, i64)
+    requires { AreParts parts }
 {
-    let (begin, _) = axis.extent(0);
-    let (_, end) = axis.extent(axis.count - 1);
+    let (begin, _) = parts.extent(0);
+    let (_, end) = parts.extent(parts.axis.count - 1);
     (begin, end)
 }
 

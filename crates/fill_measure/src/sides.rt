@@ -1,12 +1,12 @@
 //! Where the sides of the windows along an axis stand among its lines.
 ghost use Rattle.std.specs.Prelude.{IfOk};
-ghost use Rattle.fill_area.specs.Axes.{IsAxis};
+ghost use Rattle.fill_area.specs.Parts.{AreParts};
 ghost use Rattle.fill_cells.specs.Mesh.{AreLines};
 ghost use Rattle.fill_measure.specs.steps.Ends.{HoldEnds};
 ghost use Rattle.fill_measure.specs.steps.Sides.{AreSides};
 
 use crate::lines::index_of;
-use fill_area::Axis;
+use fill_area::Parts;
 use std::alloc::{AllocError, Global};
 
 /// The indices of the lines at which a window begins and ends.
@@ -18,16 +18,16 @@ pub(crate) struct Sides {
     pub(crate) end: usize,
 }
 
-/// The sides of each span of the axis, whose ends are lines.
-pub(crate) fn sides_of(alloc: Global, axis: Axis, lines: &[i64]) -> Result<Vec<Sides>, AllocError>
-    requires axis { IsAxis axis }
+/// The sides of what counts of each span, whose ends are lines.
+pub(crate) fn sides_of(alloc: Global, parts: Parts, lines: &[i64]) -> Result<Vec<Sides>, AllocError>
+    requires parts { AreParts parts }
     requires lines { AreLines lines.now }
-    requires ends { HoldEnds lines.now axis axis.count }
-    ensures { IfOk result (λ v. AreSides axis lines.now axis.count v.items) }
+    requires ends { HoldEnds lines.now parts parts.axis.count }
+    ensures { IfOk result (λ v. AreSides parts lines.now parts.axis.count v.items) }
 {
-    let mut sides = Vec::with_capacity(alloc, axis.count as usize)?;
-    for a in 0..axis.count {
-        let (begin, end) = axis.extent(a);
+    let mut sides = Vec::with_capacity(alloc, parts.axis.count as usize)?;
+    for a in 0..parts.axis.count {
+        let (begin, end) = parts.extent(a);
         sides.push(Sides {
             begin: index_of(lines, begin),
             end: index_of(lines, end),

@@ -1,5 +1,6 @@
 //! Windows over lines, and what the area of each is a difference of.
 ghost use Rattle.std.specs.Prelude.{ℤ, Bool};
+ghost use Rattle.fill_area.specs.Grid.{parts_across, parts_up};
 ghost use Rattle.fill_cells.specs.Mesh.{AreLines};
 ghost use Rattle.fill_measure.specs.steps.Meshes.{AreAllCorners};
 ghost use Rattle.fill_measure.specs.steps.Sides.{AreSides};
@@ -26,7 +27,7 @@ pub struct WindowSums {
     pub(crate) rows: Vec<Sides>,
     ghost across_lines: { AreLines across.items },
     ghost up_lines: { AreLines up.items },
-    ghost columns_are: { AreSides windows.across across.items windows.across.count columns.items },
-    ghost rows_are: { AreSides windows.up up.items windows.up.count rows.items },
+    ghost columns_are: { AreSides (parts_across windows) across.items windows.across.count columns.items },
+    ghost rows_are: { AreSides (parts_up windows) up.items windows.up.count rows.items },
     ghost measured: { ∥ ((p : ℤ → ℤ → Bool) × AreAllCorners p across.items up.items corners) ∥₁ },
 }

@@ -1,7 +1,7 @@
 //! The areas of windows whose sides are lines, by sums: each is a difference of four.
 ghost use Rattle.std.specs.Prelude.{◌≡◌, ℤ, pos, Bool, ◌+◌, ◌*◌, ◌<◌, ◌≤◌, IfOk, All, length};
 ghost use Rattle.fill_area.specs.Density.{AreMeasured, IsArea, window_area};
-ghost use Rattle.fill_area.specs.Grid.{IsGrid};
+ghost use Rattle.fill_area.specs.Grid.{IsGrid, parts_across, parts_up};
 ghost use Rattle.fill_cells.specs.Mesh.{AreLines};
 ghost use Rattle.fill_measure.specs.Sums.{AreSumsOf, areas_from};
 ghost use Rattle.fill_measure.specs.steps.Corners.{block_area};
@@ -34,14 +34,14 @@ impl WindowSums {
     ) -> Result<WindowSums, AllocError>
         requires across_lines { AreLines across.items }
         requires up_lines { AreLines up.items }
-        requires across { HoldEnds across.items windows.now.across windows.now.across.count }
-        requires up { HoldEnds up.items windows.now.up windows.now.up.count }
+        requires across { HoldEnds across.items (parts_across windows.now) windows.now.across.count }
+        requires up { HoldEnds up.items (parts_up windows.now) windows.now.up.count }
         requires measured { ∥ ((p : ℤ → ℤ → Bool) × AreAllCorners p across.items up.items corners) ∥₁ }
         ensures windows { IfOk result (λ s. s.windows ≡ windows.now) }
         ensures sums { IfOk result (λ s. (p : ℤ → ℤ → Bool) → AreAllCorners p across.items up.items corners → AreSumsOf p s) }
     {
-        let columns = sides_of(alloc, windows.across(), &across)?;
-        let rows = sides_of(alloc, windows.up(), &up)?;
+        let columns = sides_of(alloc, windows.parts_across(), &across)?;
+        let rows = sides_of(alloc, windows.parts_up(), &up)?;
         Ok(WindowSums {
             windows: *windows,
             across,

@@ -1,6 +1,7 @@
 pub mod Floors
 pub mod Ranges
 pub mod Groups
+pub mod Reaching
 pub mod Reading
 pub mod Tiling
 pub mod Halos

@@ -12,7 +12,7 @@ use std::ops::Range;
 
 impl Axis {
     /// The place past all whose box begins at `z` or before.
-    fn begun(self, z: i64) -> i64
+    pub(crate) fn begun(self, z: i64) -> i64
         requires axis { IsAxis self }
         requires least { negsuc 2147483647 ≤ℤ z }
         requires most { z ≤ℤ pos 2147483648 }

@@ -1,16 +1,18 @@
 -- One turn of the sweep over bands, as the code's calls describe it.
-use Rattle.std.proofs.Common.{◌≡◌, ℕ, ◌+◌, ◌-◌, ◌≤◌, ◌<◌, ℤ, ◌≤ℤ◌, ◌<ℤ◌, List, length, take, refl, arith, ◌⊎◌, inl, inr, w32, FitsSigned, []}
+use Rattle.std.proofs.Common.{◌≡◌, ℕ, ◌+◌, ◌-◌, ◌≤◌, ◌<◌, ℤ, pos, ◌+ℤ◌, ◌≤ℤ◌, ◌<ℤ◌, Bool, false, List, length, take, refl, ap, sym, ◌∙◌, arith, ◌⊎◌, inl, inr, w32, FitsSigned, [], ◌∷◌, ◌++◌}
 use Rattle.std.specs.Int.{int_min}
-use Rattle.std.proofs.lemmas.Int.{ints, clamps}
+use Rattle.std.proofs.lemmas.Int.{ints, clamps, by_lt_z}
 use Rattle.fill_base.proofs.Signed.{read32, read32_is}
 use Rattle.fill_spans.specs.declared.operation.Operation.{Operation}
-use Rattle.fill_spans.specs.Spans.{floor, ceiling}
+use Rattle.fill_spans.specs.Spans.{inside, floor, ceiling, IsCanonical}
+use Rattle.fill_spans.specs.Operations.{applied}
+use Rattle.fill_spans.proofs.Canonical.{equal_sets}
 use Rattle.fill_spans.specs.Sweep.{Passed}
 use Rattle.fill_spans.proofs.SweepTurns.{edge_fits, passes_one}
 use Rattle.fill_region.specs.Bands.{Band, last_row, next_bottom, IsRegion}
-use Rattle.fill_region.specs.steps.Merging.{IsRowOf, RowPut}
-use Rattle.fill_region.proofs.Stack.{bottom_range, bottom_within}
-use Rattle.fill_region.proofs.Sweeping.{Merged, merged_step, front, passed_in}
+use Rattle.fill_region.specs.steps.Merging.{IsBeside, IsRowOf, IsTurn, RowPut}
+use Rattle.fill_region.proofs.Stack.{bottom_range, bottom_within, last_canonical, row_past}
+use Rattle.fill_region.proofs.Sweeping.{Merged, band_differs, bottom_inside, merged_step, front, nothing_canonical, passed_in}
 
 pub bottom_read : (bs : List Band) (k : ℕ) → IsRegion bs → read32 (next_bottom bs k) ≡ next_bottom bs k
 bottom_read bs k region = let in_range = bottom_range floor ceiling [] bs k region.bands in read32_is _ (edge_fits (next_bottom bs k) in_range.0 in_range.1)
@@ -71,3 +73,60 @@ pub turn_smaller : (op : Operation) (a b : List Band) (i j after_i after_j : ℕ
 turn_smaller op a b i j after_i after_j out next_a next_b at m s pa pb =
     let in_both = turn_within op a b i j after_i after_j out next_a next_b at m s pa pb in
     passes_one (length a) (length b) i j after_i after_j (next_bottom a i) (next_bottom b j) in_both.0 in_both.1 (rw (s.a_is, s.at_is) at pa) (rw (s.b_is, s.at_is) at pb)
+
+-- ---- beside all rows of the second list
+
+-- what is written so far ends with the first list's row, where the second has none
+pub last_kept : (op : Operation) (a b : List Band) (i j : ℕ) (out : List Band) → Merged op a b i j out → last_row [] (take j b) ≡ [] → ((x : Bool) → applied op x false ≡ x) → last_row [] out ≡ last_row [] (take i a)
+last_kept op a b i j out m nothing keeps =
+    let at = front a b i j in
+    let beyond : at ≤ℤ (at +ℤ pos 1) = up at in
+    equal_sets (last_row [] out) (last_row [] (take i a)) (last_canonical floor at [] out nothing_canonical m.out_below) (last_canonical floor at [] (take i a) nothing_canonical m.a_below) (λ x.
+    ap (λ r. inside r x) (sym (row_past floor at at [] out m.out_below beyond))
+    ∙ (m.same x at
+    ∙ (rw (row_past floor at at [] (take i a) m.a_below beyond, row_past floor at at [] (take j b) m.b_below beyond, nothing) (keeps (inside (last_row [] (take i a)) x)))))
+  where
+    up : (z : ℤ) → z ≤ℤ (z +ℤ pos 1)
+    up z = omega (arith, ints)
+
+pub beside_all : (op : Operation) (a b : List Band) (i j after_i after_j : ℕ) (out : List Band) (next_a next_b at : ℤ) → IsRegion a → Merged op a b i j out → Stands a b i j next_a next_b at
+    → Passed i (read32 next_a) (read32 at) after_i → Passed j (read32 next_b) (read32 at) after_j → after_j ≡ j → last_row [] (take after_j b) ≡ [] → ((x : Bool) → applied op x false ≡ x) → IsBeside op a after_i b after_j out
+beside_all op a b i j after_i after_j out next_a next_b at ra m s pa pb still none keeps =
+    let nothing : last_row [] (take j b) ≡ [] = rw still at none in
+    let p = front a b i j in
+    let off : next_bottom b j ≡ p → ⊥ = elim (rw (s.b_is, s.at_is) at pb) [ inl h ↦ absurd (one_more after_j j still h.1) | inr h ↦ h.0 ] in
+    let on : next_bottom a i ≡ p = the_other (next_bottom a i) (next_bottom b j) off in
+    let next : after_i ≡ i + 1 = elim (rw (s.a_is, s.at_is) at pa) [ inl h ↦ h.1 | inr h ↦ absurd (h.0 on) ] in
+    let inner : i < length a = bottom_inside a i p s.below on in
+    let last = band_differs a i ra inner in
+    rw (next, still) (record {
+      some = up i;
+      canonical = last.0;
+      nothing = nothing;
+      keeps = keeps;
+      other = λ e. last.1 (sym (last_kept op a b i j out m nothing keeps) ∙ e);
+    })
+  where
+    the_other : (p q : ℤ) → (q ≡ int_min p q → ⊥) → p ≡ int_min p q
+    the_other p q h = by_lt_z p q (λ lt. left p q lt) (λ ge. absurd (h (right p q ge)))
+      where
+        left : (p q : ℤ) → p <ℤ q → p ≡ int_min p q
+        left p q lt = omega (arith, ints, clamps)
+
+        right : (p q : ℤ) → q ≤ℤ p → q ≡ int_min p q
+        right p q le = omega (arith, ints, clamps)
+
+    up : (n : ℕ) → 0 < n + 1
+    up n = omega arith
+
+    one_more : (k j : ℕ) → k ≡ j → k ≡ j + 1 → ⊥
+    one_more k j e h = omega (arith, e, h)
+
+-- ---- one turn, as it is written
+
+pub beside_turn : (op : Operation) (a : List Band) (i : ℕ) (b : List Band) (j : ℕ) (out new : List Band) (at : ℤ) (row : List ℤ) → IsBeside op a i b j out → row ≡ last_row [] (take i a) → new ≡ out ++ (at, row) ∷ [] → IsTurn op (last_row [] (take i a)) (last_row [] (take j b)) at out new
+beside_turn op a i b j out new at row is same pushed = record {
+  row = row;
+  made = rw (same, is.nothing) (record { canonical = is.canonical; members = λ x. sym (is.keeps (inside (last_row [] (take i a)) x)) });
+  put = inr (rw same is.other, pushed);
+}

@@ -90,6 +90,16 @@ grows_read bs k after p region within below high (inl h) =
     last_of lo hi p d row (b ∷ bs) h = last_of b.0 hi p b.1 row bs h.1.1.1
 grows_read bs k after p region within below high (inr h) = rw h.1 (grows_same p (take k bs) below)
 
+-- the row of a band is canonical, and not that of the band before
+pub band_differs : (bs : List Band) (k : ℕ) → IsRegion bs → k < length bs → IsCanonical (last_row [] (take (k + 1) bs)) × (last_row [] (take k bs) ≡ last_row [] (take (k + 1) bs) → ⊥)
+band_differs bs k region inner =
+    let whole : AreBands floor [] (take (k + 1) bs) (next_bottom bs (k + 1)) = bands_take floor ceiling [] bs (k + 1) region.bands in
+    last_of floor (next_bottom bs (k + 1)) (next_bottom bs k) [] (last_row [] (take (k + 1) bs)) (take k bs) (rw (band_at bs k (floor, []) inner) at whole)
+  where
+    last_of : (lo hi p : ℤ) (d row : List ℤ) (bs : List Band) → AreBands lo d (bs ++ (p, row) ∷ []) hi → IsCanonical row × (last_row d bs ≡ row → ⊥)
+    last_of lo hi p d row [] h = (h.1.0, λ e. h.1.1.0 (sym e))
+    last_of lo hi p d row (b ∷ bs) h = last_of b.0 hi p b.1 row bs h.1.1.1
+
 -- the next bottom of a list that the sweep has passed is further on
 pub further : (bs : List Band) (k after : ℕ) (p : ℤ) → IsRegion bs → p ≤ℤ next_bottom bs k → p <ℤ ceiling
     → Passed k (next_bottom bs k) p after → p <ℤ next_bottom bs after

@@ -1,10 +1,11 @@
 //! Lists of bands: looking up a line, putting a row on top, and merging two lists.
-ghost use Rattle.std.specs.Prelude.{◌≡◌, ◌↔◌, ◌≤◌, length, take, [], ◌∷◌, ℤ, IsTrue, IfOk, OnOk};
+ghost use Rattle.std.specs.Prelude.{◌≡◌, ◌↔◌, ◌≤◌, length, take, [], ◌∷◌, ℤ, Bool, true, false, IsTrue, IfOk, OnOk};
 ghost use Rattle.fill_spans.specs.Operations.{applied};
 ghost use Rattle.fill_region.specs.Bands.{holds, last_row, next_bottom, IsRegion};
 ghost use Rattle.fill_region.specs.steps.FirstAbove.{IsFirstAbove};
-ghost use Rattle.fill_region.specs.steps.Merging.{IsRowOf, RowPut};
+ghost use Rattle.fill_region.specs.steps.Merging.{IsBeside, IsRowOf, IsTurn, RowPut};
 
+use crate::shared::SharedRow;
 use fill_spans::sweep::{CEILING, passed};
 use fill_spans::{Operation, Spans};
 use std::alloc::{AllocError, Global};
@@ -15,17 +16,17 @@ pub(crate) fn pair(
     bottom: i32,
     row: Spans,
     top: i32,
-) -> Result<Vec<(i32, Spans)>, AllocError>
+) -> Result<Vec<(i32, SharedRow)>, AllocError>
     ensures { IfOk result (λ v. v.items ≡ (bottom, row) ∷ (top, []) ∷ []) }
 {
     let mut bands = Vec::with_capacity(alloc, 2)?;
-    bands.push((bottom, row))?;
-    bands.push((top, Spans::empty(alloc)))?;
+    bands.push((bottom, SharedRow::new(alloc, row)?))?;
+    bands.push((top, SharedRow::new(alloc, Spans::empty(alloc))?))?;
     Ok(bands)
 }
 
 /// The place of the first band above the line `y`.
-pub(crate) fn first_above(bands: &[(i32, Spans)], y: i64) -> usize
+pub(crate) fn first_above(bands: &[(i32, SharedRow)], y: i64) -> usize
     requires { IsRegion bands.now }
     ensures { IsFirstAbove bands.now y result }
 {
@@ -33,7 +34,7 @@ pub(crate) fn first_above(bands: &[(i32, Spans)], y: i64) -> usize
 }
 
 /// The bottom of the band at `k`, or the ceiling past the last one.
-pub(crate) fn bottom_at(bands: &[(i32, Spans)], k: usize) -> i32
+pub(crate) fn bottom_at(bands: &[(i32, SharedRow)], k: usize) -> i32
     requires { IsRegion bands.now }
     ensures { result ≡ next_bottom bands.now k }
 {
@@ -41,16 +42,20 @@ pub(crate) fn bottom_at(bands: &[(i32, Spans)], k: usize) -> i32
 }
 
 /// The row of the band before `k`, or `nothing` under the first one.
-fn row_before<'a>(bands: &'a [(i32, Spans)], k: usize, nothing: &'a Spans) -> &'a Spans
+fn row_before<'a>(bands: &'a [(i32, SharedRow)], k: usize, nothing: &'a Spans) -> &'a Spans
     requires within { k ≤ length bands.now }
     requires nothing { nothing.now ≡ [] }
     ensures { result.now ≡ last_row [] (take k bands.now) }
 {
-    if k > 0 { &bands[k - 1].1 } else { nothing }
+    if k > 0 {
+        bands[k - 1].1.spans()
+    } else {
+        nothing
+    }
 }
 
 /// Whether the last band has this row.
-fn is_top(alloc: Global, bands: &[(i32, Spans)], row: &Spans) -> bool
+fn is_top(alloc: Global, bands: &[(i32, SharedRow)], row: &Spans) -> bool
     ensures { IsTrue result ↔ (last_row [] bands.now ≡ row.now) }
 {
     let nothing = Spans::empty(alloc);
@@ -60,14 +65,14 @@ fn is_top(alloc: Global, bands: &[(i32, Spans)], row: &Spans) -> bool
 /// Appends a band at `at` with this row, unless the last band has it already.
 pub(crate) fn put_row(
     alloc: Global,
-    out: &mut Vec<(i32, Spans)>,
+    out: &mut Vec<(i32, SharedRow)>,
     at: i32,
     row: Spans,
 ) -> Result<(), AllocError>
     ensures { OnOk result (RowPut at row out.old.items out.new.items) }
 {
     if !is_top(alloc, out, &row) {
-        out.push((at, row))?;
+        out.push((at, SharedRow::new(alloc, row)?))?;
     }
     Ok(())
 }
@@ -76,9 +81,9 @@ pub(crate) fn put_row(
 fn combined_row(
     alloc: Global,
     operation: Operation,
-    a: &[(i32, Spans)],
+    a: &[(i32, SharedRow)],
     i: usize,
-    b: &[(i32, Spans)],
+    b: &[(i32, SharedRow)],
     j: usize,
 ) -> Result<Spans, AllocError>
     requires first { i ≤ length a.now }
@@ -89,13 +94,60 @@ fn combined_row(
     row_before(a, i, &nothing).combined(alloc, operation, row_before(b, j, &nothing))
 }
 
+/// Whether the operation keeps the first set as it is where the second has nothing.
+fn keeps_first(operation: Operation) -> bool
+    ensures { result ≡ true → (b : Bool) → applied operation b false ≡ b }
+{
+    match operation {
+        Operation::Union | Operation::Minus => true,
+        Operation::Meet => false,
+    }
+}
+
+/// Whether the row of the band before `k` has no member, or there is no such band.
+fn has_no_row(alloc: Global, bands: &[(i32, SharedRow)], k: usize) -> bool
+    requires { k ≤ length bands.now }
+    ensures { IsTrue result ↔ (last_row [] (take k bands.now) ≡ []) }
+{
+    let nothing = Spans::empty(alloc);
+    row_before(bands, k, &nothing).is_empty()
+}
+
+/// Appends what a turn of the sweep makes of the row before `i` in `a` and the one before `j` in `b`. Beside all rows of `b` that
+/// is the row of `a`, which both then hold together.
+fn put_turn(
+    alloc: Global,
+    operation: Operation,
+    a: &[(i32, SharedRow)],
+    i: usize,
+    b: &[(i32, SharedRow)],
+    j: usize,
+    beside: bool,
+    out: &mut Vec<(i32, SharedRow)>,
+    at: i32,
+) -> Result<(), AllocError>
+    requires first { i ≤ length a.now }
+    requires second { j ≤ length b.now }
+    requires beside { beside ≡ true → IsBeside operation a.now i b.now j out.old.items }
+    ensures { OnOk result (IsTurn operation (last_row [] (take i a.now)) (last_row [] (take j b.now)) at out.old.items out.new.items) }
+{
+    if beside {
+        let row = a[i - 1].1.share()?;
+        out.push((at, row))?;
+    } else {
+        let row = combined_row(alloc, operation, a, i, b, j)?;
+        put_row(alloc, out, at, row)?;
+    }
+    Ok(())
+}
+
 /// The bands of the result of an operation on two regions: one sweep over both lists.
 pub(crate) fn merged(
     alloc: Global,
     operation: Operation,
-    a: &[(i32, Spans)],
-    b: &[(i32, Spans)],
-) -> Result<Vec<(i32, Spans)>, AllocError>
+    a: &[(i32, SharedRow)],
+    b: &[(i32, SharedRow)],
+) -> Result<Vec<(i32, SharedRow)>, AllocError>
     requires first { IsRegion a.now }
     requires second { IsRegion b.now }
     ensures region { IfOk result (λ v. IsRegion v.items) }
@@ -108,10 +160,11 @@ pub(crate) fn merged(
         let next_a = bottom_at(a, i);
         let next_b = bottom_at(b, j);
         let at = next_a.min(next_b);
+        let before = j;
         i = passed(i, next_a, at);
         j = passed(j, next_b, at);
-        let row = combined_row(alloc, operation, a, i, b, j)?;
-        put_row(alloc, &mut out, at, row)?;
+        let beside = (j == before) & keeps_first(operation) & has_no_row(alloc, b, j);
+        put_turn(alloc, operation, a, i, b, j, beside, &mut out, at)?;
     }
     out.shrink_to_fit();
     Ok(out)

@@ -9,6 +9,7 @@ mod lines;
 mod pieces;
 mod region;
 mod rows;
+mod shared;
 
 pub use region::Region;
 pub use rows::{Row, Rows};

@@ -8,6 +8,7 @@ ghost use Rattle.fill_region.specs.Squares.{covered};
 ghost use Rattle.fill_region.specs.steps.Lines.{IsNextLine, IsCrossed};
 
 use crate::bands::{merged, put_row};
+use crate::shared::SharedRow;
 use fill_base::Rect;
 use fill_spans::sweep::CEILING;
 use fill_spans::{Operation, Spans};
@@ -21,7 +22,7 @@ const WORTH: usize = 16;
 
 /// The bands of the squares that some rectangle holds. A pile, whose rectangles lie all over one another,
 /// is swept in halves, which are united: what they leave is little.
-pub(crate) fn bands_of(alloc: Global, rects: &[Rect]) -> Result<Vec<(i32, Spans)>, AllocError>
+pub(crate) fn bands_of(alloc: Global, rects: &[Rect]) -> Result<Vec<(i32, SharedRow)>, AllocError>
     ensures region { IfOk result (λ v. IsRegion v.items) }
     ensures squares { IfOk result (λ v. (x y : ℤ) → holds v.items x y ≡ covered rects.now x y) }
 {
@@ -38,7 +39,7 @@ pub(crate) fn bands_of(alloc: Global, rects: &[Rect]) -> Result<Vec<(i32, Spans)
 
 /// The same by one sweep. At each line at which a rectangle begins or ends, the rectangles that cross it
 /// make one row. `None` where they are a pile: far more than the edges of the rows.
-fn swept(alloc: Global, rects: &[Rect]) -> Result<Option<Vec<(i32, Spans)>>, AllocError>
+fn swept(alloc: Global, rects: &[Rect]) -> Result<Option<Vec<(i32, SharedRow)>>, AllocError>
     ensures region { IfOk result (λ o. IfSome o (λ v. IsRegion v.items)) }
     ensures squares { IfOk result (λ o. IfSome o (λ v. (x y : ℤ) → holds v.items x y ≡ covered rects.now x y)) }
     ensures many { IfOk result (λ o. IfNone o (2 ≤ length rects.now)) }

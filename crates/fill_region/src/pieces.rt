@@ -6,13 +6,14 @@ ghost use Rattle.fill_region.specs.Bands.{IsRegion};
 ghost use Rattle.fill_region.specs.Pieces.{sides, sides_of, band_pieces, row_pieces};
 
 use crate::bands::bottom_at;
+use crate::shared::SharedRow;
 use fill_base::Rect;
 use fill_spans::Spans;
 use fill_spans::sweep::edge_at;
 use std::alloc::{AllocError, Global};
 
 /// The rectangles of the bands, each up to the next one's bottom.
-pub(crate) fn pieces_of(alloc: Global, bands: &[(i32, Spans)]) -> Result<Vec<Rect>, AllocError>
+pub(crate) fn pieces_of(alloc: Global, bands: &[(i32, SharedRow)]) -> Result<Vec<Rect>, AllocError>
     requires { IsRegion bands.now }
     ensures { IfOk result (λ v. map sides_of v.items ≡ band_pieces bands.now) }
 {
@@ -20,7 +21,7 @@ pub(crate) fn pieces_of(alloc: Global, bands: &[(i32, Spans)]) -> Result<Vec<Rec
     for k in 1..bands.len() {
         put_row_pieces(
             &mut pieces,
-            &bands[k - 1].1,
+            bands[k - 1].1.spans(),
             bottom_at(bands, k - 1),
             bottom_at(bands, k),
         )?;

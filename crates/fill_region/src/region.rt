@@ -12,6 +12,7 @@ ghost use Rattle.fill_region.specs.Pieces.{sides_of, band_pieces, AreInOrder};
 use crate::bands::{first_above, merged, pair, put_row};
 use crate::lines::bands_of;
 use crate::pieces::pieces_of;
+use crate::shared::SharedRow;
 use fill_base::Rect;
 use fill_spans::{Operation, Spans};
 use std::alloc::{AllocError, Global};
@@ -21,7 +22,7 @@ use std::marker::Model;
 /// bottom and its row of intervals.
 #[derive(Drop)]
 pub struct Region {
-    bands: Vec<(i32, Spans)>,
+    bands: Vec<(i32, SharedRow)>,
 }
 
 impl Model for Region {
@@ -112,6 +113,26 @@ impl Region {
         self.combined(alloc, Operation::Meet, other)
     }
 
+    /// The squares of the region, and those of a rectangle. Bands beside the rectangle keep their rows.
+    ///
+    /// # Errors
+    /// `AllocError` where there is no memory for the bands.
+    pub fn with_rect(&self, alloc: Global, rect: &Rect) -> Result<Region, AllocError>
+        ensures squares { IfOk result (λ r. (x y : ℤ) → holds r x y ≡ holds self.now x y || squares rect.now x y) }
+    {
+        self.union(alloc, &Region::one(alloc, rect)?)
+    }
+
+    /// The squares of the region that aren't those of a rectangle. Bands beside the rectangle keep their rows.
+    ///
+    /// # Errors
+    /// `AllocError` where there is no memory for the bands.
+    pub fn without_rect(&self, alloc: Global, rect: &Rect) -> Result<Region, AllocError>
+        ensures squares { IfOk result (λ r. (x y : ℤ) → holds r x y ≡ holds self.now x y && not (squares rect.now x y)) }
+    {
+        self.minus(alloc, &Region::one(alloc, rect)?)
+    }
+
     /// The squares of the region within the rectangle. A search by halving finds its lowest band, and in
     /// each row its edges, so what lies around the rectangle costs little.
     ///
@@ -131,13 +152,13 @@ impl Region {
         Ok(Region { bands })
     }
 
-    /// The same region once more.
+    /// The same region once more. Both hold each row together.
     pub fn copy(&self, alloc: Global) -> Result<Region, AllocError>
         ensures { IfOk result (λ r. r ≡ self.now) }
     {
         let mut bands = Vec::with_capacity(alloc, self.bands.len())?;
         for (bottom, row) in &self.bands {
-            let row = row.copy(alloc)?;
+            let row = row.share()?;
             bands.push((*bottom, row))?;
         }
         Ok(Region { bands })
@@ -166,14 +187,14 @@ impl Region {
     {
         let k = first_above(&self.bands, y);
         if k > 0 {
-            self.bands[k - 1].1.has(x)
+            self.bands[k - 1].1.spans().has(x)
         } else {
             false
         }
     }
 
     /// The bands from the lowest to the highest, each with its bottom and its row.
-    pub(crate) fn bands(&self) -> &[(i32, Spans)]
+    pub(crate) fn bands(&self) -> &[(i32, SharedRow)]
         ensures bands { result.now ≡ self.now }
         ensures region { IsRegion result.now }
     {

@@ -8,6 +8,7 @@ ghost use Rattle.fill_region.specs.Rows.{Upwards, GivesRow};
 
 use crate::Region;
 use crate::bands::{bottom_at, first_above};
+use crate::shared::SharedRow;
 use fill_spans::Spans;
 use std::marker::Model;
 
@@ -27,7 +28,7 @@ pub struct Row<'a> {
 /// square.
 #[derive(Drop)]
 pub struct Rows<'a> {
-    bands: &'a [(i32, Spans)],
+    bands: &'a [(i32, SharedRow)],
     /// The index of the band above the line `from`: its row is that of the band before.
     next: usize,
     from: i64,
@@ -81,7 +82,7 @@ impl<'a> Iterator for Rows<'a> {
         if self.from >= self.top || self.next >= self.bands.len() {
             return None;
         }
-        let (_, spans) = &self.bands[self.next - 1];
+        let spans = self.bands[self.next - 1].1.spans();
         let bottom = self.from;
         let top = self.top.min(i64::from(bottom_at(self.bands, self.next)));
         self.from = top;

@@ -1,23 +1,23 @@
 -- What metal and boxes of a sound fill take of a window.
-use Rattle.std.proofs.Common.{◌≡◌, refl, sym, ap, ◌∙◌, ℕ, ◌+◌, ◌*◌, ◌^◌, ◌≤◌, ℤ, pos, ◌+ℤ◌, ◌-ℤ◌, ◌≤ℤ◌, arith, inl, inr, Bool, true, false, cond, ◌||◌, w64, FitsSigned}
+use Rattle.std.proofs.Common.{◌≡◌, refl, sym, ap, ◌∙◌, ℕ, ◌+◌, ◌*◌, ◌^◌, ◌≤◌, ℤ, pos, ◌-ℤ◌, ◌≤ℤ◌, arith, inl, inr, Bool, true, false, cond, ◌||◌, w64, FitsSigned}
 use Rattle.std.proofs.lemmas.Int.{ints}
 use Rattle.std.proofs.Math.Nat.{mul-le-mul}
 use Rattle.fill_base.specs.Counts.{count_between, span_len}
-use Rattle.fill_base.specs.Limits.{IsLength}
 use Rattle.fill_base.specs.Squares.{area_between}
 use Rattle.fill_base.proofs.Counting.{sum_between_add}
 use Rattle.fill_base.proofs.Signed.{read, read_is, pos_fits}
 use Rattle.fill_area.specs.Density.{IsArea, window_area}
-use Rattle.fill_area.specs.Grid.{Grid, IsGrid, window_left, window_right, window_bottom, window_top}
+use Rattle.fill_area.specs.Grid.{Grid, IsGrid, parts_across, parts_up}
+use Rattle.fill_area.specs.Parts.{part_begin, part_end}
+use Rattle.fill_report.proofs.Lines.{part_as_long}
 use Rattle.fill_raster.proofs.Points.{area_few}
 use Rattle.fill_size.specs.Distance.{IsNear}
-use Rattle.fill_job.specs.Plans.{IsPlan, Plan, PointSet, plan_of}
-use Rattle.fill_core.specs.Accounts.{Account, state_of}
+use Rattle.fill_job.specs.Plans.{IsPlan, Layers, Plan, PointSet, plan_of}
+use Rattle.fill_core.specs.Accounts.{Account, opening_of, state_of}
 use Rattle.fill_core.specs.Boxes.{total_in, with_boxes}
 use Rattle.fill_core.specs.Histories.{events_in}
 use Rattle.fill_core.specs.Soundness.{IsSound}
 use Rattle.fill_core.proofs.Sound.{boxes_of_places, replay_sound}
-use Rattle.fill_region.specs.Bands.{holds}
 use Rattle.fill_report.specs.BookReport.{boxes_of}
 use Rattle.fill_report.specs.Report.{measures_of, nothing}
 use Rattle.fill_report.specs.declared.line.Measures.{Measures}
@@ -42,9 +42,9 @@ near_itself : (d x : ℤ) → pos 0 ≤ℤ d → IsNear d x x
 near_itself d x some = record { above = omega (arith, ints, some); below = omega (arith, ints, some) }
 
 -- no square of a sound fill's boxes is metal
-no_shared : (plan : Plan) (metal fill : PointSet) (totals : ℕ → ℕ → ℕ) → IsPlan plan → IsSound plan metal fill totals
-    → (x y : ℤ) → metal x y ≡ true → boxes_of plan fill x y ≡ true → ⊥
-no_shared plan metal fill totals is sound x y drawn boxed =
+no_shared : (plan : Plan) (layers : Layers) (fill : PointSet) (totals : ℕ → ℕ → ℕ) → IsPlan plan → IsSound plan layers fill totals
+    → (x y : ℤ) → layers.metal x y ≡ true → boxes_of plan fill x y ≡ true → ⊥
+no_shared plan layers fill totals is sound x y drawn boxed =
     elim ((boxes_of_places plan nothing fill is sound.on_raster x y).0 boxed) [
       | inl none ↦ let e : false ≡ true = none in cc
       | inr box ↦ sound.clear box.0 box.1 box.2 (record {
@@ -57,27 +57,24 @@ no_shared plan metal fill totals is sound x y drawn boxed =
 
 -- metal and boxes together have the area of the one and of the other
 total_adds : (a : Account) (column row : ℕ) → IsPlan (plan_of a.rules) → let plan = plan_of a.rules in let s = state_of a in
-    total_in plan s.metal s.fill column row ≡ window_area s.metal plan.windows column row + window_area (boxes_of plan s.fill) plan.windows column row
+    total_in plan s.layers.metal s.fill column row ≡ window_area s.layers.metal plan.windows column row + window_area (boxes_of plan s.fill) plan.windows column row
 total_adds a column row is =
     let plan = plan_of a.rules in
     let s = state_of a in
     let g = plan.windows in
-    area_either s.metal (boxes_of plan s.fill) (window_left g column) (window_bottom g row) (window_right g column) (window_top g row)
-    (no_shared plan s.metal s.fill (total_in plan s.metal s.fill) is (replay_sound plan (holds a.opening) (events_in a.history) is))
+    area_either s.layers.metal (boxes_of plan s.fill) (part_begin (parts_across g) column) (part_begin (parts_up g) row) (part_end (parts_across g) column) (part_end (parts_up g) row)
+    (no_shared plan s.layers s.fill (total_in plan s.layers.metal s.fill) is (replay_sound plan (opening_of a) (events_in a.history) is))
 
 -- ---- the numbers of a line
 
 -- a window has at most 2^40 squares of a set
 area_small : (p : PointSet) (g : Grid) (column row : ℕ) → IsGrid g → window_area p g column row ≤ 2 ^ 40
 area_small p g column row grid =
-    let wide = short (window_left g column) g.across.length grid.across.length_is in
-    let tall = short (window_bottom g row) g.up.length grid.up.length_is in
-    few (window_area p g column row) (span_len (window_bottom g row) (window_top g row) * span_len (window_left g column) (window_right g column))
-    (area_few p (window_left g column) (window_bottom g row) (window_right g column) (window_top g row)) (mul-le-mul tall wide)
+    let wide = part_as_long (parts_across g) column grid.clip.across grid.across.length_is in
+    let tall = part_as_long (parts_up g) row grid.clip.up grid.up.length_is in
+    few (window_area p g column row) (span_len (part_begin (parts_up g) row) (part_end (parts_up g) row) * span_len (part_begin (parts_across g) column) (part_end (parts_across g) column))
+    (area_few p (part_begin (parts_across g) column) (part_begin (parts_up g) row) (part_end (parts_across g) column) (part_end (parts_up g) row)) (mul-le-mul tall wide)
   where
-    short : (lo length : ℤ) → IsLength length → span_len lo (lo +ℤ length) ≤ 1048576
-    short lo length is = let least : pos 1 ≤ℤ length = is.least in let most : length ≤ℤ pos 1048576 = is.most in omega (arith, ints)
-
     few : (n m : ℕ) → n ≤ m → m ≤ 1048576 * 1048576 → n ≤ 2 ^ 40
     few n m h k = omega (arith, h, k)
 
@@ -103,22 +100,22 @@ parts_are d f t adds small =
 -- a window's numbers, as a book gives them
 pub record AreGiven (a : Account) (column row : ℕ) (drawn total : ℤ) : Type 0 where
   pub plan : IsPlan (plan_of a.rules)
-  pub drawn_is : drawn ≡ pos (window_area (state_of a).metal (plan_of a.rules).windows column row)
-  pub total_is : total ≡ pos (total_in (plan_of a.rules) (state_of a).metal (state_of a).fill column row)
+  pub drawn_is : drawn ≡ pos (window_area (state_of a).layers.metal (plan_of a.rules).windows column row)
+  pub total_is : total ≡ pos (total_in (plan_of a.rules) (state_of a).layers.metal (state_of a).fill column row)
 
 pub total_is_area : (a : Account) (column row : ℕ) (drawn total : ℤ) → AreGiven a column row drawn total → IsArea (read total)
 total_is_area a column row drawn total given =
-    rw (given.total_is) (area (total_in (plan_of a.rules) (state_of a).metal (state_of a).fill column row) (area_small (with_boxes (plan_of a.rules) (state_of a).metal (state_of a).fill) (plan_of a.rules).windows column row given.plan.windows))
+    rw (given.total_is) (area (total_in (plan_of a.rules) (state_of a).layers.metal (state_of a).fill column row) (area_small (with_boxes (plan_of a.rules) (state_of a).layers.metal (state_of a).fill) (plan_of a.rules).windows column row given.plan.windows))
   where
     area : (n : ℕ) → n ≤ 2 ^ 40 → IsArea (read (pos n))
     area n small = rw (read_is (pos n) (small_fits n small)) (record { least = omega (arith, ints); most = omega (arith, ints, small) })
 
 pub measures_are : (a : Account) (g : Grid) (column row : ℕ) (drawn total : ℤ) → g ≡ (plan_of a.rules).windows → AreGiven a column row drawn total
-    → let m : Measures = record { drawn = read drawn; fill = read (read total -ℤ read drawn); total = read total } in m ≡ measures_of (state_of a).metal (boxes_of (plan_of a.rules) (state_of a).fill) g column row
+    → let m : Measures = record { drawn = read drawn; fill = read (read total -ℤ read drawn); total = read total } in m ≡ measures_of (state_of a).layers.metal (boxes_of (plan_of a.rules) (state_of a).fill) g column row
 measures_are a g column row drawn total windows given =
-    let metal = window_area (state_of a).metal (plan_of a.rules).windows column row in
+    let metal = window_area (state_of a).layers.metal (plan_of a.rules).windows column row in
     let boxes = window_area (boxes_of (plan_of a.rules) (state_of a).fill) (plan_of a.rules).windows column row in
-    let both = total_in (plan_of a.rules) (state_of a).metal (state_of a).fill column row in
+    let both = total_in (plan_of a.rules) (state_of a).layers.metal (state_of a).fill column row in
     let adds = total_adds a column row given.plan in
-    let small = area_small (with_boxes (plan_of a.rules) (state_of a).metal (state_of a).fill) (plan_of a.rules).windows column row given.plan.windows in
-    rw (given.drawn_is, given.total_is) (parts_are metal boxes both adds small) ∙ ap (λ h. measures_of (state_of a).metal (boxes_of (plan_of a.rules) (state_of a).fill) h column row) (sym windows)
+    let small = area_small (with_boxes (plan_of a.rules) (state_of a).layers.metal (state_of a).fill) (plan_of a.rules).windows column row given.plan.windows in
+    rw (given.drawn_is, given.total_is) (parts_are metal boxes both adds small) ∙ ap (λ h. measures_of (state_of a).layers.metal (boxes_of (plan_of a.rules) (state_of a).fill) h column row) (sym windows)

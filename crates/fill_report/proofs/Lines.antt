@@ -1,5 +1,5 @@
 -- The lines of a report, one after another.
-use Rattle.std.proofs.Common.{◌≡◌, ℕ, zero, suc, ◌+◌, ◌-◌, ◌*◌, ◌/◌, ◌%◌, ◌≤◌, ◌<◌, min, map, take, drop, Result, Ok, IfOk, ℤ, pos, List, ◌++◌, get_or, length, refl, arith, ap, ◌∙◌, sym, w64, FitsSigned, Some, Bool, false, true, ◌||◌}
+use Rattle.std.proofs.Common.{◌≡◌, ℕ, zero, suc, ◌+◌, ◌-◌, ◌*◌, ◌/◌, ◌%◌, ◌≤◌, ◌<◌, min, map, take, drop, Result, Ok, IfOk, ℤ, pos, ◌+ℤ◌, ◌≤ℤ◌, ◌<ℤ◌, List, ◌++◌, get_or, length, refl, arith, ap, ◌∙◌, sym, w64, FitsSigned, Some, Bool, false, true, ◌||◌}
 use Rattle.std.specs.Global.{Vec}
 use Rattle.std.specs.List.{flat_map, range_with_len, All}
 use Rattle.std.specs.Vec.{vec_items}
@@ -7,9 +7,16 @@ use Rattle.std.proofs.lemmas.List.{append-nil, append_assoc, get_or_default, get
 use Rattle.std.proofs.lemmas.List.FromFn.{get_or-map-range_with_len, length-map-range_with_len}
 use Rattle.std.proofs.Math.Nat.{div-add-mod, div-lt_iff_lt-mul}
 use Rattle.fill_base.proofs.Signed.{read, read_is}
-use Rattle.fill_area.specs.Grid.{Grid, IsGrid, window_left, window_right, window_bottom, window_top}
+use Rattle.std.specs.Int.{int_max, int_min}
+use Rattle.std.proofs.lemmas.Int.{ints}
+use Rattle.fill_base.specs.Counts.{span_len}
+use Rattle.fill_base.specs.Limits.{IsLength}
+use Rattle.fill_area.specs.Axes.{axis_begin}
+use Rattle.fill_area.specs.Grid.{Grid, IsGrid, parts_across, parts_up}
+use Rattle.fill_area.specs.Parts.{part_begin, part_end}
+use Rattle.fill_area.specs.declared.parts.Parts.{Parts}
 use Rattle.fill_area.specs.Density.{IsArea, AreMeasured, window_area}
-use Rattle.fill_area.proofs.Measuring.{area_at, same_area, no_area, longer}
+use Rattle.fill_area.proofs.Measuring.{area_at, same_area, no_area}
 use Rattle.fill_report.specs.declared.line.Measures.{Measures}
 use Rattle.fill_report.specs.declared.error.OutOfMemory.{OutOfMemory}
 use Rattle.fill_report.specs.Report.{AreDrawn, first_lines, lines_from, line_at, metal_alone, window_line, windows_text, report_text, measures_of, drawn_only, nothing}
@@ -78,18 +85,31 @@ same_lines f h a zero each = refl
 same_lines f h a (suc n) each = ap (λ t. t ++ flat_map f (range_with_len (a + 1) n)) (each a (omega arith) (omega arith))
     ∙ ap (λ t. h a ++ t) (same_lines f h (a + 1) n (λ k low high. each k (omega arith) (omega arith)))
 
+-- both ends of what counts of a span are in order, and no further apart than the span's
+kept_in_order : (low high x n : ℤ) → pos 1 ≤ℤ n → int_min (int_max x low) high ≤ℤ int_min (int_max (x +ℤ n) low) high
+kept_in_order low high x n some = grind (arith, ints)
+
+kept_as_long : (low high x n : ℤ) → low <ℤ high → pos 1 ≤ℤ n → n ≤ℤ pos 1048576 → span_len (int_min (int_max x low) high) (int_min (int_max (x +ℤ n) low) high) ≤ 1048576
+kept_as_long low high x n room some few = grind (arith, ints)
+
+pub part_in_order : (p : Parts) (a : ℕ) → IsLength p.axis.length → part_begin p a ≤ℤ part_end p a
+part_in_order p a is = kept_in_order p.low p.high (axis_begin p.axis a) p.axis.length is.least
+
+pub part_as_long : (p : Parts) (a : ℕ) → p.low <ℤ p.high → IsLength p.axis.length → span_len (part_begin p a) (part_end p a) ≤ 1048576
+part_as_long p a room is = kept_as_long p.low p.high (axis_begin p.axis a) p.axis.length room is.least is.most
+
 -- a set with no square more has the same area, and no set none
 area_or_nothing : (p : ℤ → ℤ → Bool) (g : Grid) (a b : ℕ) → IsGrid g → window_area (λ x y. p x y || nothing x y) g a b ≡ window_area p g a b
-area_or_nothing p g a b grid = same_area (λ x y. p x y || nothing x y) p (window_left g a) (window_bottom g b) (window_right g a) (window_top g b)
-    (longer (window_left g a) g.across.length grid.across.length_is) (longer (window_bottom g b) g.up.length grid.up.length_is) (λ x y. or_false (p x y))
+area_or_nothing p g a b grid = same_area (λ x y. p x y || nothing x y) p (part_begin (parts_across g) a) (part_begin (parts_up g) b) (part_end (parts_across g) a) (part_end (parts_up g) b)
+    (part_in_order (parts_across g) a grid.across.length_is) (part_in_order (parts_up g) b grid.up.length_is) (λ x y. or_false (p x y))
   where
     or_false : (t : Bool) → t || false ≡ t
     or_false true = refl
     or_false false = refl
 
 area_of_nothing : (g : Grid) (a b : ℕ) → IsGrid g → window_area nothing g a b ≡ 0
-area_of_nothing g a b grid = no_area (window_left g a) (window_bottom g b) (window_right g a) (window_top g b)
-    (longer (window_left g a) g.across.length grid.across.length_is) (longer (window_bottom g b) g.up.length grid.up.length_is)
+area_of_nothing g a b grid = no_area (part_begin (parts_across g) a) (part_begin (parts_up g) b) (part_end (parts_across g) a) (part_end (parts_up g) b)
+    (part_in_order (parts_across g) a grid.across.length_is) (part_in_order (parts_up g) b grid.up.length_is)
 
 same_measures : (p : ℤ → ℤ → Bool) (g : Grid) (totals : List ℤ) (a b : ℕ) → IsGrid g → get_or totals (b * g.across.count + a) (pos 0) ≡ pos (window_area p g a b)
     → drawn_only g totals a b ≡ measures_of p nothing g a b

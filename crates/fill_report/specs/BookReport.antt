@@ -13,4 +13,4 @@ boxes_of plan fill = with_boxes plan nothing fill
 -- the report of a set of metal and of the boxes of the filled places, over the rules' windows and with their least and greatest
 -- density
 abbrev pub fill_report : Values → PointSet → PointSet → List ℕ
-fill_report values metal fill = report_text metal (boxes_of (plan_of values) fill) (windows_of values.numbers) (value_of values Min) (value_of values Max)
+fill_report values metal fill = report_text metal (boxes_of (plan_of values) fill) (windows_of values) (value_of values Min) (value_of values Max)

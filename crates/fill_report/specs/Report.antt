@@ -1,20 +1,16 @@
 -- The density report: one line a window, row by row from the lowest, in a row from the left.
-use Rattle.std.specs.Prelude.{◌≡◌, ℕ, ◌+◌, ◌*◌, ◌/◌, ◌%◌, ◌<◌, length, ℤ, pos, ◌*ℤ◌, Bool, false, ◌||◌, cond, List, [], ◌∷◌, ◌++◌, map, codes, get_or, int_lt, unsigned_abs}
+use Rattle.std.specs.Prelude.{◌≡◌, ℕ, ◌+◌, ◌*◌, ◌/◌, ◌%◌, ◌<◌, length, ℤ, pos, ◌*ℤ◌, Bool, false, ◌||◌, cond, List, [], ◌∷◌, ◌++◌, map, codes, get_or, int_lt, unsigned_abs, if◌then◌else◌}
 use Rattle.std.specs.List.{flat_map, range_with_len, join_with_byte}
 use Rattle.std.specs.Fmt.{signed_decimal}
-use Rattle.fill_area.specs.Grid.{Grid, window_left, window_right, window_bottom, window_top}
+use Rattle.fill_area.specs.Grid.{Grid, counted_size, window_left, window_right, window_bottom, window_top}
 use Rattle.fill_area.specs.Density.{window_area}
 use Rattle.fill_report.specs.declared.line.Measures.{Measures}
 use Rattle.fill_report.specs.declared.line.Density.{Density}
 use Rattle.fill_report.specs.declared.line.Density.TheVariants.{Low, High, Within}
 
--- how many squares a window holds
-abbrev pub window_size : Grid → ℤ
-window_size g = g.across.length *ℤ g.up.length
-
--- a share in parts of a million, rounded down
+-- a share in parts of a million, rounded down; none where nothing counts
 abbrev pub share_of : ℤ → ℤ → ℤ
-share_of total size = pos (unsigned_abs total * 1000000 / unsigned_abs size)
+share_of total size = if int_lt (pos 0) size then pos (unsigned_abs total * 1000000 / unsigned_abs size) else pos 0
 
 -- below the minimum, above the maximum, or neither
 abbrev pub density_of : ℤ → ℤ → ℤ → ℤ → Density
@@ -31,7 +27,7 @@ density_word Within = codes "OK"
 abbrev pub line_numbers : Grid → ℕ → ℕ → Measures → List ℤ
 line_numbers g a b m =
     pos a ∷ pos b ∷ window_left g a ∷ window_bottom g b ∷ window_right g a ∷ window_top g b
-    ∷ m.drawn ∷ m.fill ∷ m.total ∷ share_of m.total (window_size g) ∷ []
+    ∷ m.drawn ∷ m.fill ∷ m.total ∷ share_of m.total (counted_size g a b) ∷ []
 
 -- numbers and a word, with commas between, ended by a line feed
 abbrev pub line_text : List ℤ → Density → List ℕ
@@ -46,7 +42,7 @@ measures_of drawn fill g a b = record {
 }
 
 abbrev pub window_line : Grid → ℤ → ℤ → Measures → ℕ → ℕ → List ℕ
-window_line g least most measures a b = line_text (line_numbers g a b measures) (density_of measures.total least most (window_size g))
+window_line g least most measures a b = line_text (line_numbers g a b measures) (density_of measures.total least most (counted_size g a b))
 
 -- the line at place `k` of the report
 abbrev pub line_at : Grid → ℤ → ℤ → (ℕ → ℕ → Measures) → ℕ → List ℕ

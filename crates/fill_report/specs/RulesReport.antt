@@ -6,4 +6,4 @@ use Rattle.fill_report.specs.Report.{report_text, nothing}
 
 -- the report of a set of metal without fill, over the rules' windows and with their least and greatest density
 abbrev pub metal_report : (ℤ → ℤ → Bool) → Values → List ℕ
-metal_report metal values = report_text metal nothing (windows_of values.numbers) (value_of values Min) (value_of values Max)
+metal_report metal values = report_text metal nothing (windows_of values) (value_of values Min) (value_of values Max)

@@ -22,7 +22,7 @@ use std::alloc::Global;
 /// # Errors
 /// `OutOfMemory` where memory runs out.
 pub fn report<B: FillBook>(alloc: Global, book: &B) -> Result<Vec<u8>, OutOfMemory>
-    ensures { let a = B.account book.now in let s = state_of a in IfOk result (λ v. v.items ≡ fill_report a.rules s.metal s.fill) }
+    ensures { let a = B.account book.now in let s = state_of a in IfOk result (λ v. v.items ≡ fill_report a.rules s.layers.metal s.fill) }
 {
     let rules = book.rules();
     // A law: the rules make a plan, and under a plan no box of a fill has a square of the metal.
@@ -45,7 +45,7 @@ fn book_lines<B: FillBook>(
     requires windows { windows.now ≡ (plan_of (B.account book.now).rules).windows }
     requires least { IsShare least }
     requires most { IsShare most }
-    ensures { let a = B.account book.now in let s = state_of a in IfOk result (λ v. v.items ≡ report_text s.metal (boxes_of (plan_of a.rules) s.fill) windows.now least most) }
+    ensures { let a = B.account book.now in let s = state_of a in IfOk result (λ v. v.items ≡ report_text s.layers.metal (boxes_of (plan_of a.rules) s.fill) windows.now least most) }
 {
     let mut writer = Writer::from_writer(Vec::new(alloc));
     let mut row = ByteRecord::new(alloc);
@@ -62,7 +62,7 @@ fn measures_in<B: FillBook>(book: &B, windows: &Windows, k: usize) -> Measures
     requires plan { IsPlan (plan_of (B.account book.now).rules) }
     requires windows { windows.now ≡ (plan_of (B.account book.now).rules).windows }
     requires within { k < windows.now.across.count * windows.now.up.count }
-    ensures measures { let a = B.account book.now in let s = state_of a in result ≡ measures_of s.metal (boxes_of (plan_of a.rules) s.fill) windows.now (k % windows.now.across.count) (k / windows.now.across.count) }
+    ensures measures { let a = B.account book.now in let s = state_of a in result ≡ measures_of s.layers.metal (boxes_of (plan_of a.rules) s.fill) windows.now (k % windows.now.across.count) (k / windows.now.across.count) }
     ensures total { IsArea result.total }
 {
     let (a, b) = windows.column_and_row(k);

@@ -1,5 +1,5 @@
 //! The line of one window: where it lies, its areas, its share and its word.
-ghost use Rattle.std.specs.Prelude.{◌≡◌, ◌++◌, ◌*◌, ◌/◌, ◌%◌, ◌<◌, ℕ, List, pos, ◌≤ℤ◌, Some, OnOk};
+ghost use Rattle.std.specs.Prelude.{◌≡◌, ◌++◌, ◌*◌, ◌/◌, ◌%◌, ◌<◌, ℕ, List, pos, Some, OnOk};
 ghost use Rattle.fill_area.specs.Density.{IsArea, IsShare};
 ghost use Rattle.fill_report.specs.Report.{density_of, share_of, window_line};
 ghost use Rattle.fill_report.specs.Writing.{IsReady, written};
@@ -30,7 +30,7 @@ pub(crate) fn put_window(
 {
     let (a, b) = windows.column_and_row(k);
     let window = windows.rect(a, b);
-    let size = windows.window_size();
+    let size = windows.counted_size(a, b);
     let numbers = [
         i64::from(a),
         i64::from(b),
@@ -51,13 +51,17 @@ pub(crate) fn put_window(
     )
 }
 
-/// A total in parts of a million of a window's size, rounded down.
+/// A total in parts of a million of a window's size, rounded down; none where nothing counts.
 fn share(total: i64, size: i64) -> i64
     requires total { IsArea total }
-    requires some { pos 1 ≤ℤ size }
+    requires size { IsArea size }
     ensures { result ≡ share_of total size }
 {
-    total * 1_000_000 / size
+    if 0 < size {
+        total * 1_000_000 / size
+    } else {
+        0
+    }
 }
 
 /// Whether a total is below the minimum of a window's size, above the maximum, or neither.

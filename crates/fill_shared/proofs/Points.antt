@@ -1,21 +1,22 @@
 -- What a call tells of the book under the lock, of which the caller's pass is one.
-use Rattle.std.proofs.Common.{◌≡◌, ◌∙◌, sym, ap, subst, arith, ℕ, ◌+◌, ◌^◌, ◌<◌, ◌≤◌, None, Some, IfOk}
+use Rattle.std.proofs.Common.{◌≡◌, ◌∙◌, sym, ap, subst, arith, ℕ, ◌+◌, ◌^◌, ◌<◌, ◌≤◌, ℤ, pos, None, Some, IfOk, length}
 use Rattle.std.specs.Prelude.{Option, Result}
 use Rattle.std.proofs.lemmas.Result.{IfOk-weaker}
+use Rattle.fill_area.specs.Grid.{Grid}
 use Rattle.fill_raster.specs.Lattice.{tiles}
 use Rattle.fill_raster.proofs.Tiling.{tiles_few}
 use Rattle.fill_text.specs.declared.script.Edit.{Edit}
 use Rattle.fill_job.specs.Plans.{plan_of}
 use Rattle.fill_job.specs.declared.job.Job.{Job}
 use Rattle.fill_core.specs.Accounts.{Account, IsEdited, IsKeeping, state_of}
-use Rattle.fill_core.specs.Boxes.{count_places}
+use Rattle.fill_core.specs.Boxes.{count_places, total_in}
 use Rattle.fill_core.specs.Shares.{Held, IsWhole, IsWithin, totals_of}
 use Rattle.fill_core.specs.Tiles.{next_tile}
 use Rattle.fill_core.specs.declared.book.BookError.{BookError}
 use Rattle.fill_core.specs.declared.event.Reply.{Reply}
 use Rattle.fill_core.proofs.Searched.{next_first, next_none}
 use Rattle.fill_shared.specs.Passes.{HasCounted}
-use Rattle.fill_shared.specs.Sharing.{AtSomePoint, IsCompleteAt, IsFull, IsLook}
+use Rattle.fill_shared.specs.Sharing.{AtSomePoint, IsCompleteAt, IsFull, IsLook, IsSeen}
 use Rattle.fill_shared.specs.Working.{Ends, GoesOn}
 use Rattle.fill_shared.specs.declared.worker.WorkEnd.TheVariants.{Full}
 use Rattle.fill_shared.specs.declared.shared.Look.TheVariants.{Work}
@@ -34,6 +35,15 @@ pub complete_at : (a b : Account) (h : Held) (from version : ℕ) (r : Option �
     → AtSomePoint h.calls (IsCompleteAt version)
 complete_at a b h from version r at same first none is =
     (a, at.keeping, at.within.calls, subst (IsCompleteAt version) same ((next_none (tiles (plan_of b.rules).raster) (state_of b).tiles_in from).0 (sym first ∙ none), is))
+
+-- the total of a window that the book's rules have
+pub seen_at : (a b : Account) (h : Held) (m n : ℕ) (windows : Grid) (columns rows version events : ℕ) (total : ℤ) → IsPoint a h → b ≡ a → windows ≡ (plan_of b.rules).windows → columns ≡ windows.across.count → rows ≡ windows.up.count → m < columns → n < rows
+    → version ≡ (state_of b).version → events ≡ length b.history → total ≡ pos (total_in (plan_of b.rules) (state_of b).layers.metal (state_of b).fill m n)
+    → AtSomePoint h.calls (λ k. IsSeen k m n (Some (record { version = version; events = events; total = total })))
+seen_at a b h m n windows columns rows version events total at same windows_is columns_is rows_is column row version_is events_is total_is =
+    let across : m < (plan_of b.rules).windows.across.count = subst (λ (w : Grid). m < w.across.count) windows_is (rw columns_is at column) in
+    let up : n < (plan_of b.rules).windows.up.count = subst (λ (w : Grid). n < w.up.count) windows_is (rw rows_is at row) in
+    (a, at.keeping, at.within.calls, subst (λ (k : Account). IsSeen k m n (Some (record { version = version; events = events; total = total }))) same ((across, up), version_is, events_is, total_is))
 
 -- a pass with all parts has counted all that happened
 pub counted_all : (a b : Account) (pass : Held) → IsKeeping a → b ≡ a → pass.parts ≡ 1024 → (pass.parts ≡ 1024 → IsWhole pass (totals_of a.history)) → HasCounted b pass

@@ -26,7 +26,7 @@ IsFull a = length a.history ≡ a.most
 pub record IsJobOf (a : Account) (tile : ℕ) (job : Job) : Type 0 where
   pub version : job.version ≡ (state_of a).version
   pub tile_is : job.tile ≡ tile
-  pub read : read_by job.basis ≡ read_set a.rules (state_of a).metal (state_of a).low tile
+  pub read : read_by job.basis ≡ read_set a.rules (state_of a).layers (state_of a).low tile
 
 -- every tile is in, at this version
 abbrev pub IsCompleteAt : ℕ → Account → Type 0
@@ -43,5 +43,5 @@ HasWindow windows a b = (a < windows.across.count) × (b < windows.up.count)
 -- the total of a window that there is, and nothing of any other
 abbrev pub IsSeen : Account → ℕ → ℕ → Option Seen → Type 0
 IsSeen k a b (Some seen) =
-    HasWindow (plan_of k.rules).windows a b × (seen.version ≡ (state_of k).version) × (seen.events ≡ length k.history) × (seen.total ≡ pos (total_in (plan_of k.rules) (state_of k).metal (state_of k).fill a b))
+    HasWindow (plan_of k.rules).windows a b × (seen.version ≡ (state_of k).version) × (seen.events ≡ length k.history) × (seen.total ≡ pos (total_in (plan_of k.rules) (state_of k).layers.metal (state_of k).fill a b))
 IsSeen k a b None = HasWindow (plan_of k.rules).windows a b → ⊥

@@ -6,7 +6,7 @@ ghost use Rattle.fill_core.specs.Accounts.{IsKeeping, state_of};
 ghost use Rattle.fill_core.specs.Histories.{entries_of};
 ghost use Rattle.fill_core.specs.Shares.{AllParts};
 ghost use Rattle.fill_shared.specs.Passes.{HasCounted};
-ghost use Rattle.fill_shared.specs.Runs.{IsFinished, IsUnedited, IsUnfinished, changes_in};
+ghost use Rattle.fill_shared.specs.Runs.{IsFinished, IsUnedited, IsUnfinished, changes_in, opening_in};
 ghost use Rattle.fill_shared.specs.declared.runs.RunError.TheVariants as error;
 
 use crate::gate::Gate;
@@ -25,7 +25,7 @@ use std::thread::Threads;
 pub enum RunError<B: FillBook> {
     /// Memory was refused, to a worker, the editor or the run itself. The book is dropped.
     Memory,
-    /// The book that came back has another opening or other rules than the one handed in, or edits that do not begin those handed
+    /// The book that came back has other openings or other rules than the one handed in, or edits that do not begin those handed
     /// in. It is dropped.
     Mixed,
     /// Not all edits were made, as the history was full, or a tile is left that isn't in.
@@ -53,12 +53,13 @@ impl<B: FillBook> From<RoundLost> for RunError<B> {
     }
 }
 
-/// Whether a book opened on this metal, by these rules.
-fn opened_on<B: FillBook>(book: &B, opening: &Region, rules: &Rules) -> bool
-    ensures { let a = B.account book.now in IsTrue result ↔ ((a.rules ≡ values_of rules.now) × (a.opening ≡ opening.now)) }
+/// Whether a book opened on this metal and these keep-outs, by these rules.
+fn opened_on<B: FillBook>(book: &B, opening: &Region, keep: &Region, rules: &Rules) -> bool
+    ensures { let a = B.account book.now in IsTrue result ↔ ((a.rules ≡ values_of rules.now) × (opening_in a ≡ (opening.now, keep.now))) }
 {
     equal_sets_are_equal(book.opening(), opening);
-    book.rules().same_as(rules) & (*book.opening() == *opening)
+    equal_sets_are_equal(book.opening_keep(), keep);
+    book.rules().same_as(rules) & (*book.opening() == *opening) & (*book.opening_keep() == *keep)
 }
 
 /// Whether two edits are of one kind and of one rectangle.
@@ -68,6 +69,7 @@ fn are_same(a: Edit, b: Edit) -> bool
     match (a, b) {
         (Edit::Add(r), Edit::Add(s)) => r == s,
         (Edit::Cut(r), Edit::Cut(s)) => r == s,
+        (Edit::Keep(r), Edit::Keep(s)) => r == s,
         _ => false,
     }
 }
@@ -104,16 +106,17 @@ fn settle<B: FillBook>(
     book: B,
     pass: PassOf<B>,
     opening: &Region,
+    keep: &Region,
     rules: &Rules,
     edits: &[Edit],
 ) -> Result<(B, PassOf<B>), RunError<B>>
     requires keeping { IsKeeping (B.account book) }
     requires counted { HasCounted (B.account book) pass }
     ensures same { IfOk result (λ r. (r.0 ≡ book) × (r.1 ≡ pass)) }
-    ensures finished { IfOk result (λ r. IsFinished (values_of rules.now) opening.now edits.now (B.account r.0) r.1) }
-    ensures unfinished { (b : _) (p : _) → result ≡ Err (error.Unfinished b p) → IsUnfinished (values_of rules.now) opening.now edits.now (B.account b) p }
+    ensures finished { IfOk result (λ r. IsFinished (values_of rules.now) (opening.now, keep.now) edits.now (B.account r.0) r.1) }
+    ensures unfinished { (b : _) (p : _) → result ≡ Err (error.Unfinished b p) → IsUnfinished (values_of rules.now) (opening.now, keep.now) edits.now (B.account b) p }
 {
-    if !opened_on(&book, opening, rules) {
+    if !opened_on(&book, opening, keep, rules) {
         return Err(RunError::Mixed);
     }
     let Some(made) = edits_made(book.history(), edits) else {
@@ -127,7 +130,7 @@ fn settle<B: FillBook>(
 
 /// Fills a book: so many workers bring tile after tile, each in a thread of its own and in at most `limit` turns, while one editor
 /// makes the edits in their order. Where the version isn't complete after that, the workers have as many turns once more, without
-/// the editor. Worker `k` of `n` starts at the tile `k * tiles / n`. What comes back opened on the metal that the book opened on,
+/// the editor. Worker `k` of `n` starts at the tile `k * tiles / n`. What comes back opened on the metal and keep-outs that the book opened on,
 /// by the same rules, and its edits are those handed in. Without edits its fill is one function of that metal and the rules,
 /// whatever the number of workers.
 ///
@@ -147,13 +150,20 @@ pub fn run<B: FillBook + Send, G: Gate + Sync, R: Threads + Wait + Sync>(
     requires ledgers { AllParts B.Calls.parts B.Placed.parts B.Withdrawn.parts }
     requires pass { pass.parts ≡ 1024 }
     requires workers { (0 < workers) × (workers ≤ 64) }
-    ensures finished { IfOk result (λ r. IsFinished (B.account book).rules (B.account book).opening edits.now (B.account r.0) r.1) }
-    ensures unedited { edits.now ≡ [] → IfOk result (λ r. IsUnedited (B.account book).rules (B.account book).opening (state_of (B.account r.0))) }
+    ensures finished { IfOk result (λ r. IsFinished (B.account book).rules (opening_in (B.account book)) edits.now (B.account r.0) r.1) }
+    ensures unedited { edits.now ≡ [] → IfOk result (λ r. IsUnedited (B.account book).rules (opening_in (B.account book)) (state_of (B.account r.0))) }
     ensures brief { IfOk result (λ r. r.1.calls ≤ pass.calls + (length edits.now + 2 * (workers * limit))) }
-    ensures unfinished { (b : _) (p : _) → result ≡ Err (error.Unfinished b p) → IsUnfinished (B.account book).rules (B.account book).opening edits.now (B.account b) p }
+    ensures unfinished { (b : _) (p : _) → result ≡ Err (error.Unfinished b p) → IsUnfinished (B.account book).rules (opening_in (B.account book)) edits.now (B.account b) p }
 {
-    let opening = book.opening().copy(alloc)?;
-    let rules = book.rules().copy(alloc)?;
+    let (opening, keep) = book.share_opening()?;
+    let rules = book.share_rules()?;
     let (book, pass) = rounds(rt, alloc, book, pass, edits, workers, gate, limit)?;
-    settle(book, pass, &opening, &rules, edits)
+    settle(
+        book,
+        pass,
+        opening.metal(),
+        keep.metal(),
+        rules.rules(),
+        edits,
+    )
 }

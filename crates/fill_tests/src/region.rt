@@ -54,6 +54,8 @@ fn every_operation_is_a_count_over_squares(rt: HostRuntime) -> Result<(), Fail> 
         let minus = a.minus(alloc, &b)?;
         let meet = a.meet(alloc, &b)?;
         let clip = a.clip(alloc, &window)?;
+        let with = a.with_rect(alloc, &window)?;
+        let without = a.without_rect(alloc, &window)?;
         let pieces = a.pieces(alloc)?;
         let mut squares = 0u32;
         for j in 0..9u32 {
@@ -65,7 +67,10 @@ fn every_operation_is_a_count_over_squares(rt: HostRuntime) -> Result<(), Fail> 
                 assert_eq!(rt; union.has(x, y), in_a || in_b);
                 assert_eq!(rt; minus.has(x, y), in_a && !in_b);
                 assert_eq!(rt; meet.has(x, y), in_a && in_b);
-                assert_eq!(rt; clip.has(x, y), in_a && 1 <= x && x < 5 && 1 <= y && y < 6);
+                let in_window = 1 <= x && x < 5 && 1 <= y && y < 6;
+                assert_eq!(rt; clip.has(x, y), in_a && in_window);
+                assert_eq!(rt; with.has(x, y), in_a || in_window);
+                assert_eq!(rt; without.has(x, y), in_a && !in_window);
                 let times = pieces
                     .iter()
                     .filter(|r| r.x1() <= x && x < r.x2() && r.y1() <= y && y < r.y2())
@@ -190,5 +195,43 @@ fn pile_along_a_diagonal(rt: HostRuntime) -> Result<(), Fail> {
     }
     // The first square whole, and of each other the 1,999 squares that the one before it doesn't hold.
     assert_eq!(rt; area, 6_995_001);
+    Ok(())
+}
+
+/// Asserts that these are the pieces of a region.
+fn assert_pieces(
+    rt: &impl Abort,
+    alloc: Global,
+    region: &Region,
+    want: &[[i64; 4]],
+) -> Result<(), AllocError> {
+    let pieces = region.pieces(alloc)?;
+    assert_eq!(rt; pieces.len(), want.len());
+    for (piece, want) in pieces.iter().zip(want) {
+        assert_eq!(rt; [piece.x1(), piece.y1(), piece.x2(), piece.y2()], *want);
+    }
+    Ok(())
+}
+
+#[test]
+fn a_rectangle_is_added_and_taken_off(rt: HostRuntime) -> Result<(), Fail> {
+    let alloc = rt.alloc();
+    let square = Region::one(alloc, &rect(&rt, [0, 0, 4, 4]))?;
+    let wider = square.with_rect(alloc, &rect(&rt, [2, 2, 6, 6]))?;
+    assert_pieces(
+        &rt,
+        alloc,
+        &wider,
+        &[[0, 0, 4, 2], [0, 2, 6, 4], [2, 4, 6, 6]],
+    )?;
+    let inner = rect(&rt, [1, 1, 3, 3]);
+    let ring = square.without_rect(alloc, &inner)?;
+    assert_pieces(
+        &rt,
+        alloc,
+        &ring,
+        &[[0, 0, 4, 1], [0, 1, 1, 3], [3, 1, 4, 3], [0, 3, 4, 4]],
+    )?;
+    assert!(rt; ring.with_rect(alloc, &inner)? == square);
     Ok(())
 }

@@ -1,7 +1,9 @@
 use fill_area::Windows;
 use fill_base::{Point, Rect};
 use fill_raster::Raster;
-use fill_text::{Edit, Key, NumberKey, RuleError, ScriptError, TextKey, read_rules, read_script};
+use fill_text::{
+    Edit, Key, NumberKey, OptionalKey, RuleError, ScriptError, TextKey, read_rules, read_script,
+};
 use std::alloc::Global;
 use std::process::Abort;
 use std::test::Fail;
@@ -176,6 +178,9 @@ fn a_key_prints_as_its_name(rt: HostRuntime) -> Result<(), Fail> {
         (Key::Number(NumberKey::FillDatatype), "fill_datatype"),
         (Key::Text(TextKey::Top), "top"),
         (Key::Text(TextKey::FillTop), "fill_top"),
+        (Key::Optional(OptionalKey::KeepLayer), "keep_layer"),
+        (Key::Optional(OptionalKey::KeepDatatype), "keep_datatype"),
+        (Key::Padding, "padding"),
     ] {
         let text = format!(in alloc; "{key}")?;
         assert_eq!(rt; text.as_str(), want);
@@ -243,6 +248,63 @@ fn copies_are_equal_and_other_rules_are_not(rt: HostRuntime) -> Result<(), Fail>
         let other = read_rules(rt.alloc(), &rules_with(rt.alloc(), at, record)?)?;
         assert!(rt; rules != other && !rules.same_as(&other), "{record}");
     }
+    Ok(())
+}
+
+/// The rule file with more records behind it.
+fn rules_and(alloc: Global, more: &str) -> Result<Vec<u8>, Fail> {
+    let mut text = rules_with(alloc, 0, "")?;
+    text.extend_from_slice(more.as_bytes())?;
+    Ok(text)
+}
+
+/// Rules that say zero padding and those that say nothing of it are equal; other keep-outs, and ignored padding, are not.
+#[test]
+fn optional_rules_have_their_values(rt: HostRuntime) -> Result<(), Fail> {
+    let alloc = rt.alloc();
+    let plain = read_rules(alloc, &rules_and(alloc, "")?)?;
+    assert_eq!(rt; plain.keep(), None);
+    let zero = read_rules(alloc, &rules_and(alloc, "padding,zero\n")?)?;
+    assert!(rt; plain == zero);
+    let keep = read_rules(
+        alloc,
+        &rules_and(alloc, "keep_datatype,65535\nkeep_layer,0\n")?,
+    )?;
+    assert_eq!(rt; keep.keep(), Some((0, 65535)));
+    assert!(rt; keep != plain && keep == keep.copy(alloc)?);
+    let ignored = read_rules(alloc, &rules_and(alloc, "padding,ignore\n")?)?;
+    assert!(rt; ignored != plain && ignored == ignored.copy(alloc)?);
+    Ok(())
+}
+
+#[test]
+fn the_first_fault_of_an_optional_record_is_refused(rt: HostRuntime) -> Result<(), Fail> {
+    let alloc = rt.alloc();
+    let layer = Key::Optional(OptionalKey::KeepLayer);
+    let datatype = Key::Optional(OptionalKey::KeepDatatype);
+    for (more, want) in [
+        ("keep_layer,8\n", RuleError::BadRule { key: datatype }),
+        ("keep_datatype,8\n", RuleError::BadRule { key: layer }),
+        ("keep_layer,65536\n", RuleError::BadRule { key: layer }),
+        ("keep_datatype,-1\n", RuleError::BadRule { key: datatype }),
+        ("keep_layer,x\n", RuleError::BadNumber { line: 33 }),
+        (
+            "keep_layer,1\nkeep_layer,1\n",
+            RuleError::BadRow { line: 34 },
+        ),
+        ("padding,none\n", RuleError::BadRule { key: Key::Padding }),
+        ("padding,Zero\n", RuleError::BadRule { key: Key::Padding }),
+        (
+            "padding,zero\npadding,zero\n",
+            RuleError::BadRow { line: 34 },
+        ),
+        ("keep,1\n", RuleError::BadRow { line: 33 }),
+    ] {
+        assert_refused(&rt, alloc, &rules_and(alloc, more)?, want);
+    }
+    let mut short = rules_with(alloc, 21, "")?;
+    short.extend_from_slice(b"keep_layer,8\n")?;
+    assert_refused(&rt, alloc, &short, missing(NumberKey::Min));
     Ok(())
 }
 
@@ -441,12 +503,13 @@ fn a_script_gives_its_edits(rt: HostRuntime) -> Result<(), Fail> {
     assert!(rt; edits.is_err(), "the last one holds no square");
     let edits = read_script(
         rt.alloc(),
-        b"add,0,0,10,10\r\n\nadd,5,5,15,15\n\"cut\",-5,0,\"5\",5",
+        b"add,0,0,10,10\r\n\nadd,5,5,15,15\n\"cut\",-5,0,\"5\",5\nkeep,7,8,9,10",
     )?;
     let want = [
         Edit::Add(Rect::new(0, 0, 10, 10)?),
         Edit::Add(Rect::new(5, 5, 15, 15)?),
         Edit::Cut(Rect::new(-5, 0, 5, 5)?),
+        Edit::Keep(Rect::new(7, 8, 9, 10)?),
     ];
     assert!(rt; edits.as_slice() == want.as_slice());
     assert!(rt; read_script(rt.alloc(), b"")?.is_empty());
@@ -455,7 +518,12 @@ fn a_script_gives_its_edits(rt: HostRuntime) -> Result<(), Fail> {
 
 #[test]
 fn the_first_fault_of_a_script_is_refused(rt: HostRuntime) {
-    let cases: [(&[u8], ScriptError); 9] = [
+    let cases: [(&[u8], ScriptError); 11] = [
+        (b"keep,0,0,10", ScriptError::BadRow { line: 1 }),
+        (
+            b"keep,0,0,1,1\nkeep,1,0,1,1",
+            ScriptError::BadRow { line: 2 },
+        ),
         (b"add,0,0,10", ScriptError::BadRow { line: 1 }),
         (b"add,0,0,10,10,", ScriptError::BadRow { line: 1 }),
         (b"add,5,0,5,9", ScriptError::BadRow { line: 1 }),
@@ -528,6 +596,9 @@ fn edits_of_one_kind_and_one_rectangle_are_equal(rt: HostRuntime) -> Result<(), 
     assert_ne!(rt; Edit::Add(rect), Edit::Cut(rect));
     assert_ne!(rt; Edit::Add(rect), Edit::Add(wider));
     assert_ne!(rt; Edit::Cut(rect), Edit::Cut(wider));
+    assert_eq!(rt; Edit::Keep(rect), Edit::Keep(rect));
+    assert_ne!(rt; Edit::Keep(rect), Edit::Add(rect));
+    assert_ne!(rt; Edit::Keep(rect), Edit::Keep(wider));
     Ok(())
 }
 

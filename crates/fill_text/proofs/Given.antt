@@ -6,18 +6,19 @@ use Rattle.fill_base.specs.Sequence.{◌>>=◌}
 use Rattle.fill_text.specs.RectTests.{is_rect, rect_with}
 use Rattle.fill_text.specs.Grids.{grid_with, is_grid}
 use Rattle.fill_text.specs.Rasters.{has_few_places, keeps_pitch, raster_with}
-use Rattle.fill_text.specs.Keys.{all_keys, all_number_keys, all_text_keys}
+use Rattle.fill_text.specs.Keys.{all_number_keys, all_text_keys}
 use Rattle.fill_text.specs.Numbers.{number_of}
 use Rattle.fill_text.specs.Refusals.{each_fault, fault_if, fault_unless, first_some, refused_or}
-use Rattle.fill_text.specs.Rules.{Values, frame_of, joint_faults, missing, number_for, raster_of, record_fault, rule_faults, rules_of, value_of, values_for, windows_of, word_for}
+use Rattle.fill_text.specs.Rules.{Values, frame_of, joint_faults, key_faults, missing, number_for, padding_of, pair, pair_faults, raster_of, record_fault, rule_faults, rules_of, value_of, values_for, whole_windows, word_for}
 use Rattle.fill_text.specs.Rows.{rows_of}
-use Rattle.fill_text.specs.declared.keys.Key.TheVariants.{Number, Text}
+use Rattle.fill_text.specs.declared.keys.Key.TheVariants.{Number, Text, Optional, Padding}
 use Rattle.fill_text.specs.declared.keys.NumberKey.{NumberKey}
 use Rattle.fill_text.specs.declared.keys.NumberKey.TheVariants as number
+use Rattle.fill_text.specs.declared.keys.OptionalKey.TheVariants.{KeepLayer, KeepDatatype}
 use Rattle.fill_text.specs.declared.keys.TextKey.TheVariants as text
 use Rattle.fill_text.specs.declared.rule_error.RuleError.{RuleError}
 use Rattle.fill_text.specs.declared.rule_error.RuleError.TheVariants.{BadPitch, BadRect, BadRule, BadWindows, TooManyPlaces}
-use Rattle.fill_text.specs.steps.Entries.{Found, all_numbers, all_values, checked, number_found, rules_found, with_front}
+use Rattle.fill_text.specs.steps.Entries.{Found, all_numbers, all_values, checked, number_found, optional_found, pair_found, rules_found, with_front}
 use Rattle.fill_text.proofs.FirstFaults.{first_stays, later_first}
 use Rattle.fill_text.proofs.Holding.{Holds}
 
@@ -47,17 +48,37 @@ numbers_given rows found (key ∷ keys) held = by (word_for (Number key) rows) (
         let this : number_of word ≡ Some n = cc e in
         rw (written word n this, later) (front n (first_some (map (missing rows) (map Number keys))) (map (number_for rows) keys))
 
+-- the keep-outs' two numbers, or the one that is missing
+pair_given : (a b : Option (List ℕ)) (m n : Option ℤ) → option_map number_of a ≡ option_map Some m → option_map number_of b ≡ option_map Some n
+    → pair_found m n ≡ refused_or (first_some (pair_faults (is_some a) (is_some b))) (pair (option_and_then number_of a) (option_and_then number_of b))
+pair_given None None None None e f = refl
+pair_given (Some a) (Some b) (Some m) (Some n) e f =
+    let g : number_of a ≡ Some m = cc e in
+    let h : number_of b ≡ Some n = cc f in
+    rw (g, h) refl
+pair_given (Some a) None (Some m) None e f = refl
+pair_given None (Some b) None (Some n) e f = refl
+pair_given None b (Some m) n e f = cc e
+pair_given (Some a) b None n e f = cc e
+pair_given a None m (Some n) e f = cc f
+pair_given a (Some b) m None e f = cc f
+
 -- the four texts, or the first that is missing
-texts_given : (numbers : List ℤ) (a b c d : Option (List ℕ))
-    → (ok_or a (BadRule (Text text.Top)) >>= λ top. ok_or b (BadRule (Text text.FillLib)) >>= λ fill_lib. ok_or c (BadRule (Text text.FillCell)) >>= λ fill_cell. ok_or d (BadRule (Text text.FillTop)) >>= λ fill_top.
-    let values : Result Values RuleError = Ok (record { numbers = numbers; top = top; fill_lib = fill_lib; fill_cell = fill_cell; fill_top = fill_top }) in values)
-    ≡ refused_or (first_some (fault_unless (is_some a) (BadRule (Text text.Top)) ∷ fault_unless (is_some b) (BadRule (Text text.FillLib)) ∷ fault_unless (is_some c) (BadRule (Text text.FillCell)) ∷ fault_unless (is_some d) (BadRule (Text text.FillTop)) ∷ []))
-    (record { numbers = numbers; top = unwrap_or a []; fill_lib = unwrap_or b []; fill_cell = unwrap_or c []; fill_top = unwrap_or d [] })
-texts_given numbers None b c d = refl
-texts_given numbers (Some w) None c d = refl
-texts_given numbers (Some w) (Some x) None d = refl
-texts_given numbers (Some w) (Some x) (Some y) None = refl
-texts_given numbers (Some w) (Some x) (Some y) (Some z) = refl
+texts_given : (numbers : List ℤ) (a b c d : Option (List ℕ)) (ignores : Bool) (keep : Result (Option (ℤ × ℤ)) RuleError) (faults : List (Option RuleError)) (two : Option (ℤ × ℤ)) → keep ≡ refused_or (first_some faults) two
+    → (ok_or a (BadRule (Text text.Top)) >>= λ top. ok_or b (BadRule (Text text.FillLib)) >>= λ fill_lib. ok_or c (BadRule (Text text.FillCell)) >>= λ fill_cell. ok_or d (BadRule (Text text.FillTop)) >>= λ fill_top. keep >>= λ keep.
+    let values : Result Values RuleError = Ok (record { numbers = numbers; top = top; fill_lib = fill_lib; fill_cell = fill_cell; fill_top = fill_top; keep = keep; ignores = ignores }) in values)
+    ≡ refused_or (first_some (fault_unless (is_some a) (BadRule (Text text.Top)) ∷ fault_unless (is_some b) (BadRule (Text text.FillLib)) ∷ fault_unless (is_some c) (BadRule (Text text.FillCell)) ∷ fault_unless (is_some d) (BadRule (Text text.FillTop)) ∷ faults))
+    (record { numbers = numbers; top = unwrap_or a []; fill_lib = unwrap_or b []; fill_cell = unwrap_or c []; fill_top = unwrap_or d []; keep = two; ignores = ignores })
+texts_given numbers None b c d ignores keep faults two e = refl
+texts_given numbers (Some w) None c d ignores keep faults two e = refl
+texts_given numbers (Some w) (Some x) None d ignores keep faults two e = refl
+texts_given numbers (Some w) (Some x) (Some y) None ignores keep faults two e = refl
+texts_given numbers (Some w) (Some x) (Some y) (Some z) ignores keep faults two e = rw e (by (first_some faults))
+  where
+    by : (o : Option RuleError) → (refused_or o two >>= λ (keep : Option (ℤ × ℤ)). let values : Result Values RuleError = Ok (record { numbers = numbers; top = w; fill_lib = x; fill_cell = y; fill_top = z; keep = keep; ignores = ignores }) in values)
+        ≡ refused_or o (record { numbers = numbers; top = w; fill_lib = x; fill_cell = y; fill_top = z; keep = two; ignores = ignores })
+    by None = refl
+    by (Some f) = refl
 
 -- a list of 28 is what its places give
 listed : (numbers : List (Option ℤ)) → length numbers ≡ 28 → numbers ≡ map (number_found numbers) all_number_keys
@@ -69,29 +90,42 @@ same_word (Some x) (Some y) e = cc e
 same_word None (Some y) e = cc e
 same_word (Some x) None e = cc e
 
+same_padding : (o : Option (List ℕ)) (p : Option Bool) → option_map padding_of o ≡ option_map Some p → unwrap_or p false ≡ unwrap_or (option_and_then padding_of o) false
+same_padding None None e = refl
+same_padding None (Some p) e = cc e
+same_padding (Some w) None e = cc e
+same_padding (Some w) (Some p) e = let g : padding_of w ≡ Some p = cc e in rw g refl
+
 values_given : (rows : List (List (List ℕ))) (found : Found) → Holds found rows
-    → all_values found ≡ refused_or (first_some (map (missing rows) all_keys)) (values_for rows)
+    → all_values found ≡ refused_or (first_some (key_faults rows)) (values_for rows)
 unfolding all_values
 values_given rows found held = by (first_some (map (missing rows) (map Number all_number_keys))) refl
   where
     numbers : all_numbers all_number_keys found.numbers ≡ refused_or (first_some (map (missing rows) (map Number all_number_keys))) (map (number_for rows) all_number_keys)
     numbers = ap (all_numbers all_number_keys) (listed found.numbers held.many) ∙ numbers_given rows (number_found found.numbers) all_number_keys held.numbers
 
+    padding : unwrap_or found.padding false ≡ unwrap_or (option_and_then padding_of (word_for Padding rows)) false
+    padding = same_padding (word_for Padding rows) found.padding held.padding
+
+    behind : List (Option RuleError)
+    behind = map (missing rows) (map Text all_text_keys) ++ pair_faults (is_some (word_for (Optional KeepLayer) rows)) (is_some (word_for (Optional KeepDatatype) rows))
+
     by : (o : Option RuleError) → first_some (map (missing rows) (map Number all_number_keys)) ≡ o
-        → all_values found ≡ refused_or (first_some (map (missing rows) all_keys)) (values_for rows)
-    by (Some e) first = rw (numbers, first, first_stays (map (missing rows) (map Number all_number_keys)) (map (missing rows) (map Text all_text_keys)) e first) refl
+        → all_values found ≡ refused_or (first_some (key_faults rows)) (values_for rows)
+    by (Some e) first = rw (numbers, first, first_stays (map (missing rows) (map Number all_number_keys)) behind e first) refl
     by None first =
-        rw (numbers, first, later_first (map (missing rows) (map Number all_number_keys)) (map (missing rows) (map Text all_text_keys)) first, ← same_word _ _ (held.texts text.Top), ← same_word _ _ (held.texts text.FillLib), ← same_word _ _ (held.texts text.FillCell), ← same_word _ _ (held.texts text.FillTop))
-        (texts_given (map (number_for rows) all_number_keys) (word_for (Text text.Top) rows) (word_for (Text text.FillLib) rows) (word_for (Text text.FillCell) rows) (word_for (Text text.FillTop) rows))
+        rw (numbers, first, later_first (map (missing rows) (map Number all_number_keys)) behind first, ← same_word _ _ (held.texts text.Top), ← same_word _ _ (held.texts text.FillLib), ← same_word _ _ (held.texts text.FillCell), ← same_word _ _ (held.texts text.FillTop), padding)
+        (texts_given (map (number_for rows) all_number_keys) (word_for (Text text.Top) rows) (word_for (Text text.FillLib) rows) (word_for (Text text.FillCell) rows) (word_for (Text text.FillTop) rows) _ _ _ _
+        (pair_given (word_for (Optional KeepLayer) rows) (word_for (Optional KeepDatatype) rows) (optional_found found.optionals KeepLayer) (optional_found found.optionals KeepDatatype) (held.optionals KeepLayer) (held.optionals KeepDatatype)))
 
 checked_given : (values : Values) → checked values ≡ refused_or (first_some (joint_faults values)) values
 unfolding checked rect_with grid_with raster_with
-checked_given values = by (int_lt (value_of values number.Max) (value_of values number.Min)) (bytes_eq values.fill_top values.fill_cell) (is_rect (frame_of values.numbers)) (is_grid (windows_of values.numbers))
+checked_given values = by (int_lt (value_of values number.Max) (value_of values number.Min)) (bytes_eq values.fill_top values.fill_cell) (is_rect (frame_of values.numbers)) (is_grid (whole_windows values.numbers))
     (keeps_pitch (raster_of values.numbers) (value_of values number.FillSpacing)) (has_few_places (raster_of values.numbers))
   where
     by : (less same rect grid pitch few : Bool)
         → (if less then Err (BadRule (Number number.Max)) else if same then Err (BadRule (Text text.FillTop))
-        else (ok_or (if rect then Some (frame_of values.numbers) else None) BadRect >>= λ _. ok_or (if grid then Some (windows_of values.numbers) else None) BadWindows >>= λ _.
+        else (ok_or (if rect then Some (frame_of values.numbers) else None) BadRect >>= λ _. ok_or (if grid then Some (whole_windows values.numbers) else None) BadWindows >>= λ _.
         (if pitch then (if few then Ok (raster_of values.numbers) else Err TooManyPlaces) else Err BadPitch) >>= λ _. Ok values))
         ≡ refused_or (first_some (fault_if less (BadRule (Number number.Max)) ∷ fault_if same (BadRule (Text text.FillTop)) ∷ fault_unless rect BadRect ∷ fault_unless grid BadWindows ∷ fault_unless pitch BadPitch ∷ fault_unless few TooManyPlaces ∷ [])) values
     by true same rect grid pitch few = refl
@@ -107,7 +141,7 @@ pub refused_at : (file : List ℕ) (e : RuleError) → first_some (each_fault re
 unfolding rules_of
 refused_at file e first =
     let rows = rows_of file in
-    let keys = map (missing rows) all_keys in
+    let keys = key_faults rows in
     let each = each_fault record_fault [] rows in
     rw (first_stays (each ++ keys) (joint_faults (values_for rows)) e (first_stays each keys e first)) refl
 
@@ -115,15 +149,15 @@ refused_at file e first =
 pub rules_given : (file : List ℕ) (found : Found) → first_some (each_fault record_fault [] (rows_of file)) ≡ None → Holds found (rows_of file)
     → rules_of file ≡ rules_found found
 unfolding rules_of
-rules_given file found sound held = by (first_some (map (missing (rows_of file)) all_keys)) refl (values_given (rows_of file) found held)
+rules_given file found sound held = by (first_some (key_faults (rows_of file))) refl (values_given (rows_of file) found held)
   where
-    by : (o : Option RuleError) → first_some (map (missing (rows_of file)) all_keys) ≡ o → all_values found ≡ refused_or o (values_for (rows_of file))
+    by : (o : Option RuleError) → first_some (key_faults (rows_of file)) ≡ o → all_values found ≡ refused_or o (values_for (rows_of file))
         → refused_or (first_some (rule_faults (rows_of file))) (values_for (rows_of file)) ≡ (all_values found >>= checked)
     by (Some e) first given =
         let each = each_fault record_fault [] (rows_of file) in
-        let keys = map (missing (rows_of file)) all_keys in
+        let keys = key_faults (rows_of file) in
         rw (first_stays (each ++ keys) (joint_faults (values_for (rows_of file))) e (later_first each keys sound ∙ first), given) refl
     by None first given =
         let each = each_fault record_fault [] (rows_of file) in
-        let keys = map (missing (rows_of file)) all_keys in
+        let keys = key_faults (rows_of file) in
         rw (later_first (each ++ keys) (joint_faults (values_for (rows_of file))) (later_first each keys sound ∙ first), given) (sym (checked_given (values_for (rows_of file))))

@@ -9,13 +9,13 @@ use Rattle.std.proofs.lemmas.Int.{ints}
 use Rattle.fill_base.specs.Coordinates.{highest}
 use Rattle.fill_base.specs.Limits.{IsLength}
 use Rattle.fill_area.specs.Axes.{IsAxis, IsCount, axis_end}
-use Rattle.fill_area.specs.Grid.{Grid, IsGrid}
+use Rattle.fill_area.specs.Grid.{Grid, IsClip, IsGrid, all_coordinates}
 use Rattle.fill_area.specs.declared.axis.Axis.{Axis}
 use Rattle.fill_text.specs.Grids.{grid_with, is_axis, is_count, is_grid, is_length}
 use Rattle.fill_text.proofs.Rectangles.{both, is_coordinate_facts, is_coordinate_true}
 
 abbrev pub grid_of_numbers : ℤ → ℤ → ℤ → ℤ → ℤ → ℤ → ℕ → ℕ → Grid
-grid_of_numbers x y w h s t m n = record { across = record { first = x; length = w; step = s; count = m }; up = record { first = y; length = h; step = t; count = n } }
+grid_of_numbers x y w h s t m n = record { across = record { first = x; length = w; step = s; count = m }; up = record { first = y; length = h; step = t; count = n }; clip = all_coordinates }
 
 pub int_le_true : (a b : ℤ) → a ≤ℤ b → int_le a b ≡ true
 int_le_true a b order = grind (arith, ints)
@@ -72,18 +72,18 @@ is_axis_facts axis test =
 is_grid_true : (g : Grid) → IsGrid g → is_grid g ≡ true
 is_grid_true g h = rw (is_axis_true g.across h.across, is_axis_true g.up h.up, nat_le_true (g.across.count * g.up.count) 1048576 h.few) refl
 
-is_grid_facts : (g : Grid) → is_grid g ≡ true → IsGrid g
-is_grid_facts g test =
+is_grid_facts : (g : Grid) → IsClip g.clip → is_grid g ≡ true → IsGrid g
+is_grid_facts g clip test =
     let (axes, few) = both _ _ test in
     let (across, up) = both _ _ axes in
-    record { across = is_axis_facts g.across across; up = is_axis_facts g.up up; few = nat_le_facts (g.across.count * g.up.count) 1048576 few }
+    record { across = is_axis_facts g.across across; up = is_axis_facts g.up up; few = nat_le_facts (g.across.count * g.up.count) 1048576 few; clip = clip }
 
 -- what `Windows::new` gives is the grid with these numbers, if there is one
-pub grid_kept : {E : Type 0} (g : Grid) (r : Result Grid E) → (IsOk r ↔ IsGrid g) → IfOk r (λ w. w ≡ g) → result_ok r ≡ grid_with g
+pub grid_kept : {E : Type 0} (g : Grid) (r : Result Grid E) → IsClip g.clip → (IsOk r ↔ IsGrid g) → IfOk r (λ w. w ≡ g) → result_ok r ≡ grid_with g
 unfolding grid_with
-grid_kept g (Ok w) whole same = rw (is_grid_true g (whole.0 refl), same) refl
-grid_kept g (Err e) whole same = elim (cases_Bool (is_grid g)) [
-  | inl test ↦ let never : false ≡ true = whole.1 (is_grid_facts g test) in cc never
+grid_kept g (Ok w) clip whole same = rw (is_grid_true g (whole.0 refl), same) refl
+grid_kept g (Err e) clip whole same = elim (cases_Bool (is_grid g)) [
+  | inl test ↦ let never : false ≡ true = whole.1 (is_grid_facts g clip test) in cc never
   | inr test ↦ rw test refl
 ]
 

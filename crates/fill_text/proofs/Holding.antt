@@ -6,18 +6,20 @@ use Rattle.std.proofs.lemmas.Bool.{cases_eq}
 use Rattle.std.proofs.lemmas.List.{get_or-set_same, get_or-set_other, length-set}
 use Rattle.std.proofs.lemmas.List.Folds.{find-append}
 use Rattle.fill_base.specs.Sequence.{◌>>=◌}
-use Rattle.fill_text.specs.Keys.{all_text_keys, key_name, key_named, number_rule}
+use Rattle.fill_text.specs.Keys.{all_text_keys, key_name, key_named, number_rule, optional_index}
 use Rattle.fill_text.specs.Numbers.{number_of}
 use Rattle.fill_text.specs.Refusals.{fault_unless}
-use Rattle.fill_text.specs.Rules.{is_in_range, is_text, keyed_fault, number_fault, record_fault, value_fault, word_for}
+use Rattle.fill_text.specs.Rules.{is_in_range, is_layer, is_text, keyed_fault, number_fault, optional_fault, padding_of, record_fault, value_fault, word_for}
 use Rattle.fill_text.specs.declared.keys.Key.{Key}
-use Rattle.fill_text.specs.declared.keys.Key.TheVariants.{Number, Text}
+use Rattle.fill_text.specs.declared.keys.Key.TheVariants.{Number, Text, Optional, Padding}
 use Rattle.fill_text.specs.declared.keys.NumberKey.{NumberKey}
+use Rattle.fill_text.specs.declared.keys.OptionalKey.{OptionalKey}
+use Rattle.fill_text.specs.declared.keys.OptionalKey.TheVariants.{KeepLayer, KeepDatatype}
 use Rattle.fill_text.specs.declared.keys.TextKey.{TextKey}
 use Rattle.fill_text.specs.declared.keys.TextKey.TheVariants as text
 use Rattle.fill_text.specs.declared.rule_error.RuleError.{RuleError}
 use Rattle.fill_text.specs.declared.rule_error.RuleError.TheVariants.{BadNumber, BadRow, BadRule}
-use Rattle.fill_text.specs.steps.Entries.{AreAllowed, AreRanged, Found, is_found, new_key, nothing_found, number_found, ranged_number, take_number, take_row, take_text, take_value, text_found, text_index}
+use Rattle.fill_text.specs.steps.Entries.{AreAllowed, AreOptional, AreRanged, Found, is_found, layer_number, new_key, nothing_found, number_found, optional_found, ranged_number, take_number, take_optional, take_padding, take_row, take_text, take_value, text_found, text_index}
 use Rattle.fill_text.proofs.Names.{another_name, its_name, same_key}
 use Rattle.fill_text.proofs.KeyNames.{index_below, same_index}
 use Rattle.fill_text.proofs.Ranges.{in_range_facts, nothing_here, set_ranged}
@@ -29,19 +31,27 @@ Hold {K = K} key_of index read slots before = (k : K) → option_map read (word_
 pub record Holds (found : Found) (before : List (List (List ℕ))) : Type 0 where
   pub many : length found.numbers ≡ 28
   pub four : length found.texts ≡ 4
+  pub two : length found.optionals ≡ 2
   pub numbers : Hold Number (λ key. (number_rule key).index) number_of found.numbers before
   pub texts : Hold Text text_index Some found.texts before
+  pub optionals : Hold Optional optional_index number_of found.optionals before
+  pub padding : option_map padding_of (word_for Padding before) ≡ option_map Some found.padding
   pub ranged : AreRanged found.numbers
   pub allowed : AreAllowed found.texts
+  pub optional : AreOptional found.optionals
 
 pub nothing_held : Holds nothing_found []
 nothing_held = record {
   many = refl;
   four = refl;
+  two = refl;
   numbers = λ key. let none = nothing_here key in rw none refl;
   texts = λ key. nothing key;
+  optionals = λ key. no_optional key;
+  padding = refl;
   ranged = λ key. let none = nothing_here key in rw none tt;
   allowed = λ key. none_allowed key;
+  optional = λ key. none_optional key;
 }
   where
     none_allowed : (key : TextKey) → IfSome (text_found nothing_found.texts key) (λ word. is_text key word ≡ true)
@@ -50,11 +60,19 @@ nothing_held = record {
     none_allowed text.FillCell = tt
     none_allowed text.FillTop = tt
 
+    none_optional : (key : OptionalKey) → IfSome (optional_found nothing_found.optionals key) (λ n. is_layer n ≡ true)
+    none_optional KeepLayer = tt
+    none_optional KeepDatatype = tt
+
     nothing : (key : TextKey) → option_map Some (word_for (Text key) []) ≡ option_map Some (text_found nothing_found.texts key)
     nothing text.Top = refl
     nothing text.FillLib = refl
     nothing text.FillCell = refl
     nothing text.FillTop = refl
+
+    no_optional : (key : OptionalKey) → option_map number_of (word_for (Optional key) []) ≡ option_map Some (optional_found nothing_found.optionals key)
+    no_optional KeepLayer = refl
+    no_optional KeepDatatype = refl
 
 -- a key has stood in a record where its slot is filled
 stood : (found : Found) (before : List (List (List ℕ))) → Holds found before → (key : Key) → is_some (word_for key before) ≡ is_found found key
@@ -69,6 +87,8 @@ stood found before held key = by key
     by : (key : Key) → is_some (word_for key before) ≡ is_found found key
     by (Number key) = both number_of (word_for (Number key) before) (number_found found.numbers key) (held.numbers key)
     by (Text key) = both Some (word_for (Text key) before) (text_found found.texts key) (held.texts key)
+    by (Optional key) = both number_of (word_for (Optional key) before) (optional_found found.optionals key) (held.optionals key)
+    by Padding = both padding_of (word_for Padding before) found.padding held.padding
 
 -- the word for a key, with one record more
 word_after : (before : List (List (List ℕ))) (fields : List (List ℕ)) (key : Key)
@@ -126,9 +146,13 @@ number_held found before fields key n held named fresh written within = record {
   four = held.four;
   numbers = one_more_held Number (λ key. (number_rule key).index) number_of found.numbers before fields key n held.numbers named fresh written
       (subst (λ count. (number_rule key).index < count) (sym held.many) (index_below key)) (λ a b e. cc e) same_index;
+  two = held.two;
   texts = still_hold Text text_index Some found.texts before fields (Number key) held.texts named (λ k e. cc e);
+  optionals = still_hold Optional optional_index number_of found.optionals before fields (Number key) held.optionals named (λ k e. cc e);
+  padding = ap (option_map padding_of) (word_kept before fields Padding (another_name (get_or fields 0 []) (Number key) Padding named (λ e. cc e))) ∙ held.padding;
   ranged = set_ranged found.numbers key n held.ranged (in_range_facts key n within);
   allowed = held.allowed;
+  optional = held.optional;
 }
 
 text_at : ℕ → TextKey
@@ -141,11 +165,15 @@ unfolding text_at
 text_held found before fields key held named fresh this = record {
   many = held.many;
   four = length-set found.texts (text_index key) (Some (get_or fields 1 [])) ∙ held.four;
+  two = held.two;
   numbers = still_hold Number (λ key. (number_rule key).index) number_of found.numbers before fields (Text key) held.numbers named (λ k e. cc e);
+  optionals = still_hold Optional optional_index number_of found.optionals before fields (Text key) held.optionals named (λ k e. cc e);
+  padding = ap (option_map padding_of) (word_kept before fields Padding (another_name (get_or fields 0 []) (Text key) Padding named (λ e. cc e))) ∙ held.padding;
   texts = one_more_held Text text_index Some found.texts before fields key (get_or fields 1 []) held.texts named fresh refl
       (subst (λ count. text_index key < count) (sym held.four) (below key)) (λ a b e. cc e) same_text;
   ranged = held.ranged;
   allowed = λ other. by other (cases_eq (text_index other) (text_index key));
+  optional = held.optional;
 }
   where
     at : (key : TextKey) → text_at (text_index key) ≡ key
@@ -168,6 +196,54 @@ text_held found before fields key held named fresh this = record {
     by other (inl e) = rw (same_text other key e, get_or-set_same found.texts (text_index key) (Some (get_or fields 1 [])) None (subst (λ count. text_index key < count) (sym held.four) (below key))) this
     by other (inr differ) = rw (get_or-set_other found.texts (text_index key) (text_index other) (Some (get_or fields 1 [])) None differ) (held.allowed other)
 
+optional_held : (found : Found) (before : List (List (List ℕ))) (fields : List (List ℕ)) (key : OptionalKey) (n : ℤ)
+    → Holds found before → key_named (get_or fields 0 []) ≡ Some (Optional key) → word_for (Optional key) before ≡ None → number_of (get_or fields 1 []) ≡ Some n → is_layer n ≡ true
+    → Holds (record found { optionals = set found.optionals (optional_index key) (Some n) }) (before ++ fields ∷ [])
+optional_held found before fields key n held named fresh written within = record {
+  many = held.many;
+  four = held.four;
+  two = length-set found.optionals (optional_index key) (Some n) ∙ held.two;
+  numbers = still_hold Number (λ key. (number_rule key).index) number_of found.numbers before fields (Optional key) held.numbers named (λ k e. cc e);
+  texts = still_hold Text text_index Some found.texts before fields (Optional key) held.texts named (λ k e. cc e);
+  optionals = one_more_held Optional optional_index number_of found.optionals before fields key n held.optionals named fresh written
+      (subst (λ count. optional_index key < count) (sym held.two) (below key)) (λ a b e. cc e) same_optional;
+  padding = ap (option_map padding_of) (word_kept before fields Padding (another_name (get_or fields 0 []) (Optional key) Padding named (λ e. cc e))) ∙ held.padding;
+  ranged = held.ranged;
+  allowed = held.allowed;
+  optional = λ other. layer other (cases_eq (optional_index other) (optional_index key));
+}
+  where
+    below : (key : OptionalKey) → optional_index key < 2
+    below KeepLayer = lit< tt
+    below KeepDatatype = lit< tt
+
+    same_optional : (a b : OptionalKey) → optional_index a ≡ optional_index b → a ≡ b
+    same_optional KeepLayer KeepLayer e = refl
+    same_optional KeepDatatype KeepDatatype e = refl
+    same_optional KeepLayer KeepDatatype e = cc e
+    same_optional KeepDatatype KeepLayer e = cc e
+
+    layer : (other : OptionalKey) → (optional_index other ≡ optional_index key) ⊎ (optional_index other ≡ optional_index key → ⊥)
+        → IfSome (optional_found (set found.optionals (optional_index key) (Some n)) other) (λ n. is_layer n ≡ true)
+    layer other (inl e) = rw (same_optional other key e, get_or-set_same found.optionals (optional_index key) (Some n) None (subst (λ count. optional_index key < count) (sym held.two) (below key))) within
+    layer other (inr differ) = rw (get_or-set_other found.optionals (optional_index key) (optional_index other) (Some n) None differ) (held.optional other)
+
+padding_held : (found : Found) (before : List (List (List ℕ))) (fields : List (List ℕ)) (ignores : Bool)
+    → Holds found before → key_named (get_or fields 0 []) ≡ Some Padding → word_for Padding before ≡ None → padding_of (get_or fields 1 []) ≡ Some ignores
+    → Holds (record found { padding = Some ignores }) (before ++ fields ∷ [])
+padding_held found before fields ignores held named fresh written = record {
+  many = held.many;
+  four = held.four;
+  two = held.two;
+  numbers = still_hold Number (λ key. (number_rule key).index) number_of found.numbers before fields Padding held.numbers named (λ k e. cc e);
+  texts = still_hold Text text_index Some found.texts before fields Padding held.texts named (λ k e. cc e);
+  optionals = still_hold Optional optional_index number_of found.optionals before fields Padding held.optionals named (λ k e. cc e);
+  padding = ap (option_map padding_of) (word_added before fields Padding (its_name (get_or fields 0 []) Padding named) fresh) ∙ ap Some written;
+  ranged = held.ranged;
+  allowed = held.allowed;
+  optional = held.optional;
+}
+
 -- a step that is refused with this fault, or takes the records so far
 abbrev pub Takes : Option RuleError → Result Found RuleError → List (List (List ℕ)) → Type 0
 Takes (Some e) taken rows = taken ≡ Err e
@@ -180,7 +256,7 @@ none_there (Some x) e = cc e
 value_taken : (found : Found) (before : List (List (List ℕ))) (fields : List (List ℕ)) (line : ℕ) (key : Key) → Holds found before
     → key_named (get_or fields 0 []) ≡ Some key → word_for key before ≡ None
     → Takes (value_fault line key (get_or fields 1 [])) (take_value line key (get_or fields 1 []) found) (before ++ fields ∷ [])
-unfolding take_number take_text ranged_number
+unfolding take_number take_optional take_padding take_text ranged_number layer_number
 value_taken found before fields line (Number key) held named fresh = by (number_of (get_or fields 1 [])) refl
   where
     ranged : (n : ℤ) → number_of (get_or fields 1 []) ≡ Some n → (b : Bool) → is_in_range key n ≡ b
@@ -200,6 +276,25 @@ value_taken found before fields line (Text key) held named fresh = by (is_text k
         → Takes (fault_unless b (BadRule (Text key))) (if b then Ok (record found { texts = set found.texts (text_index key) (Some (get_or fields 1 [])) }) else Err (BadRule (Text key))) (before ++ fields ∷ [])
     by true allowed = (record found { texts = set found.texts (text_index key) (Some (get_or fields 1 [])) }, refl, text_held found before fields key held named fresh allowed)
     by false allowed = refl
+value_taken found before fields line (Optional key) held named fresh = by (number_of (get_or fields 1 [])) refl
+  where
+    layer : (n : ℤ) → number_of (get_or fields 1 []) ≡ Some n → (b : Bool) → is_layer n ≡ b
+        → Takes (fault_unless b (BadRule (Optional key)))
+        ((if b then Ok n else Err (BadRule (Optional key))) >>= λ n. Ok (record found { optionals = set found.optionals (optional_index key) (Some n) })) (before ++ fields ∷ [])
+    layer n written true within = (record found { optionals = set found.optionals (optional_index key) (Some n) }, refl, optional_held found before fields key n held named fresh written within)
+    layer n written false within = refl
+
+    by : (o : Option ℤ) → number_of (get_or fields 1 []) ≡ o
+        → Takes (optional_fault line key o)
+        ((ok_or o (BadNumber line) >>= λ n. if is_layer n then Ok n else Err (BadRule (Optional key))) >>= λ n. Ok (record found { optionals = set found.optionals (optional_index key) (Some n) })) (before ++ fields ∷ [])
+    by None written = refl
+    by (Some n) written = layer n written (is_layer n) refl
+value_taken found before fields line Padding held named fresh = by (padding_of (get_or fields 1 [])) refl
+  where
+    by : (o : Option Bool) → padding_of (get_or fields 1 []) ≡ o
+        → Takes (fault_unless (is_some o) (BadRule Padding)) (ok_or o (BadRule Padding) >>= λ ignores. Ok (record found { padding = Some ignores })) (before ++ fields ∷ [])
+    by None written = refl
+    by (Some ignores) written = (record found { padding = Some ignores }, refl, padding_held found before fields ignores held named fresh written)
 
 -- what taking a record does: it is refused with its fault, or adds its word
 row_taken : (found : Found) (before : List (List (List ℕ))) (fields : List (List ℕ)) → Holds found before

@@ -1,25 +1,48 @@
 -- What `==` compares of two rules is every value.
-use Rattle.std.proofs.Common.{◌≡◌, ◌&&◌, ℕ, ℤ, List, ap, refl}
+use Rattle.std.proofs.Common.{◌≡◌, ◌&&◌, Bool, true, false, ℕ, ℤ, List, Option, Some, None, ap, refl}
 use Rattle.std.specs.Bool.{Decides}
 use Rattle.std.specs.Cmp.Rules.{signed_items}
 use Rattle.std.specs.Prelude.{bytes_eq}
+use Rattle.std.specs.Option.{option_eq}
 use Rattle.std.specs.Ordering.{int_eq}
-use Rattle.std.proofs.lemmas.Bool.Decides.{Decides-and}
+use Rattle.std.proofs.Math.Bool.{beq}
+use Rattle.std.proofs.lemmas.Bool.Decides.{Decides-and, Decides-int_eq}
 use Rattle.std.proofs.lemmas.Slice.Eq.{bytes_eq-Decides}
 use Rattle.std.specs.Cmp.Lexicographic.{pointwise}
 use Rattle.fill_text.specs.Rules.{Values}
 
-made_of : List ℤ → List ℕ → List ℕ → List ℕ → List ℕ → Values
-made_of numbers top fill_lib fill_cell fill_top = record { numbers = numbers; top = top; fill_lib = fill_lib; fill_cell = fill_cell; fill_top = fill_top }
+abbrev pub same_pair : Option (ℤ × ℤ) → Option (ℤ × ℤ) → Bool
+same_pair = option_eq (λ p q. int_eq p.0 q.0 && int_eq p.1 q.1)
 
-made_same : (n m : List ℤ) (a a' b b' c c' d d' : List ℕ) → n ≡ m → a ≡ a' → b ≡ b' → c ≡ c' → d ≡ d' → made_of n a b c d ≡ made_of m a' b' c' d'
-made_same n m a a' b b' c c' d d' e f g h i = rw (e, f, g, h, i) refl
+pairs_decided : (a b : Option (ℤ × ℤ)) → Decides (same_pair a b) (a ≡ b)
+pairs_decided None None = (λ h. refl, λ e. refl)
+pairs_decided None (Some q) = (λ h. cc h, λ e. cc e)
+pairs_decided (Some p) None = (λ h. cc h, λ e. cc e)
+pairs_decided (Some p) (Some q) =
+    let each = Decides-and _ _ (Decides-int_eq p.0 q.0) (Decides-int_eq p.1 q.1) in
+    (λ h. let e = each.0 h in ap Some (both e.0 e.1), λ e. let same : p ≡ q = cc e in each.1 (ap (λ (r : ℤ × ℤ). r.0) same, ap (λ (r : ℤ × ℤ). r.1) same))
+  where
+    both : p.0 ≡ q.0 → p.1 ≡ q.1 → p ≡ q
+    both e f = λ k. (e k, f k)
 
-pub same_values : (a b : Values) → Decides (pointwise int_eq a.numbers b.numbers && (bytes_eq a.top b.top && (bytes_eq a.fill_lib b.fill_lib && (bytes_eq a.fill_cell b.fill_cell && bytes_eq a.fill_top b.fill_top)))) (a ≡ b)
+bools_decided : (a b : Bool) → Decides (beq a b) (a ≡ b)
+bools_decided true true = (λ h. refl, λ e. refl)
+bools_decided true false = (λ h. cc h, λ e. cc e)
+bools_decided false true = (λ h. cc h, λ e. cc e)
+bools_decided false false = (λ h. refl, λ e. refl)
+
+made_of : List ℤ → List ℕ → List ℕ → List ℕ → List ℕ → Option (ℤ × ℤ) → Bool → Values
+made_of numbers top fill_lib fill_cell fill_top keep ignores = record { numbers = numbers; top = top; fill_lib = fill_lib; fill_cell = fill_cell; fill_top = fill_top; keep = keep; ignores = ignores }
+
+made_same : (n m : List ℤ) (a a' b b' c c' d d' : List ℕ) (k k' : Option (ℤ × ℤ)) (v v' : Bool) → n ≡ m → a ≡ a' → b ≡ b' → c ≡ c' → d ≡ d' → k ≡ k' → v ≡ v' → made_of n a b c d k v ≡ made_of m a' b' c' d' k' v'
+made_same n m a a' b b' c c' d d' k k' v v' e f g h i j l = rw (e, f, g, h, i, j, l) refl
+
+pub same_values : (a b : Values) → Decides (pointwise int_eq a.numbers b.numbers && ((bytes_eq a.top b.top && (bytes_eq a.fill_lib b.fill_lib && (bytes_eq a.fill_cell b.fill_cell && bytes_eq a.fill_top b.fill_top))) && (same_pair a.keep b.keep && beq a.ignores b.ignores))) (a ≡ b)
 unfolding made_of
 same_values a b =
-    let each = Decides-and _ _ (signed_items a.numbers b.numbers) (Decides-and _ _ (bytes_eq-Decides a.top b.top)
-    (Decides-and _ _ (bytes_eq-Decides a.fill_lib b.fill_lib) (Decides-and _ _ (bytes_eq-Decides a.fill_cell b.fill_cell) (bytes_eq-Decides a.fill_top b.fill_top)))) in (
-      λ test. let e = each.0 test in made_same _ _ _ _ _ _ _ _ _ _ e.0 e.1.0 e.1.1.0 e.1.1.1.0 e.1.1.1.1,
-      λ e. each.1 (ap (λ (v : Values). v.numbers) e, (ap (λ (v : Values). v.top) e, (ap (λ (v : Values). v.fill_lib) e, (ap (λ (v : Values). v.fill_cell) e, ap (λ (v : Values). v.fill_top) e)))),
+    let texts = Decides-and _ _ (bytes_eq-Decides a.top b.top)
+    (Decides-and _ _ (bytes_eq-Decides a.fill_lib b.fill_lib) (Decides-and _ _ (bytes_eq-Decides a.fill_cell b.fill_cell) (bytes_eq-Decides a.fill_top b.fill_top))) in
+    let each = Decides-and _ _ (signed_items a.numbers b.numbers) (Decides-and _ _ texts (Decides-and _ _ (pairs_decided a.keep b.keep) (bools_decided a.ignores b.ignores))) in (
+      λ test. let e = each.0 test in made_same _ _ _ _ _ _ _ _ _ _ _ _ _ _ e.0 e.1.0.0 e.1.0.1.0 e.1.0.1.1.0 e.1.0.1.1.1 e.1.1.0 e.1.1.1,
+      λ e. each.1 (ap (λ (v : Values). v.numbers) e, ((ap (λ (v : Values). v.top) e, (ap (λ (v : Values). v.fill_lib) e, (ap (λ (v : Values). v.fill_cell) e, ap (λ (v : Values). v.fill_top) e))), (ap (λ (v : Values). v.keep) e, ap (λ (v : Values). v.ignores) e))),
     )

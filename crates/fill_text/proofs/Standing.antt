@@ -1,17 +1,18 @@
 -- In a rule file that is accepted each key stands in a record that breaks no rule.
 use Rattle.std.proofs.Common.{◌≡◌, ◌∙◌, ◌+◌, ◌==◌, ℕ, ℤ, pos, Bool, true, false, List, [], ◌∷◌, ◌++◌, length, get_or, map, Option, Some, None, option_map, Ok, ap, sym, refl, arith}
-use Rattle.std.specs.Prelude.{bytes_eq, find, is_some, if◌then◌else◌}
+use Rattle.std.specs.Prelude.{⊤, bytes_eq, find, is_some, if◌then◌else◌}
 use Rattle.std.proofs.lemmas.Bool.Decides.{nat_tests}
 use Rattle.std.proofs.lemmas.List.{get_or-map}
 use Rattle.std.proofs.lemmas.Slice.Eq.{bytes_eq-Decides}
-use Rattle.fill_text.specs.Keys.{all_keys, all_number_keys, all_text_keys, key_name, key_named, number_rule}
+use Rattle.fill_text.specs.Keys.{all_number_keys, all_text_keys, key_name, key_named, number_rule, required_keys}
 use Rattle.fill_text.specs.Refusals.{each_fault, first_some}
 use Rattle.fill_text.specs.Rows.{rows_of}
-use Rattle.fill_text.specs.Rules.{Values, joint_faults, keyed_fault, missing, number_in, record_fault, rule_faults, rules_of, value_fault, values_for, word_for}
+use Rattle.fill_text.specs.Rules.{Values, joint_faults, key_faults, keyed_fault, missing, number_in, pair_faults, record_fault, rule_faults, rules_of, value_fault, values_for, word_for}
 use Rattle.fill_text.specs.declared.keys.Key.{Key}
-use Rattle.fill_text.specs.declared.keys.Key.TheVariants.{Number, Text}
+use Rattle.fill_text.specs.declared.keys.Key.TheVariants.{Number, Text, Optional, Padding}
 use Rattle.fill_text.specs.declared.keys.NumberKey.{NumberKey}
 use Rattle.fill_text.specs.declared.keys.NumberKey.TheVariants.{FrameX1}
+use Rattle.fill_text.specs.declared.keys.OptionalKey.TheVariants.{KeepLayer, KeepDatatype}
 use Rattle.fill_text.specs.declared.keys.TextKey.TheVariants as text
 use Rattle.fill_text.specs.declared.rule_error.RuleError.{RuleError}
 use Rattle.fill_text.specs.declared.rule_error.RuleError.TheVariants.{BadRow}
@@ -47,30 +48,45 @@ sound_record before fields sound = by (length fields == 2) refl (key_named (get_
     by true two None named e = cc e
     by false two o named e = cc e
 
+-- the key may not be left out
+abbrev pub IsRequired : Key → Type 0
+IsRequired (Number key) = ⊤
+IsRequired (Text key) = ⊤
+IsRequired (Optional key) = ⊥
+IsRequired Padding = ⊥
+
 number_there : (f : NumberKey → Option RuleError) → first_some (map f all_number_keys) ≡ None → (key : NumberKey) → f key ≡ None
 number_there f none key =
     sym (ap f (key_at key)) ∙ sym (get_or-map f all_number_keys (number_rule key).index FrameX1 None (index_below key)) ∙ none_at (map f all_number_keys) (number_rule key).index none
 
-key_there : (f : Key → Option RuleError) → first_some (map f all_keys) ≡ None → (key : Key) → f key ≡ None
-key_there f none (Number key) = number_there (λ k. f (Number k)) (none_in_both (map (λ k. f (Number k)) all_number_keys) (map (λ k. f (Text k)) all_text_keys) none).0 key
-key_there f none (Text text.Top) = none_at (map f all_keys) 28 none
-key_there f none (Text text.FillLib) = none_at (map f all_keys) 29 none
-key_there f none (Text text.FillCell) = none_at (map f all_keys) 30 none
-key_there f none (Text text.FillTop) = none_at (map f all_keys) 31 none
+key_there : (f : Key → Option RuleError) → first_some (map f required_keys) ≡ None → (key : Key) → IsRequired key → f key ≡ None
+key_there f none (Number key) is = number_there (λ k. f (Number k)) (none_in_both (map (λ k. f (Number k)) all_number_keys) (map (λ k. f (Text k)) all_text_keys) none).0 key
+key_there f none (Text text.Top) is = none_at (map f required_keys) 28 none
+key_there f none (Text text.FillLib) is = none_at (map f required_keys) 29 none
+key_there f none (Text text.FillCell) is = none_at (map f required_keys) 30 none
+key_there f none (Text text.FillTop) is = none_at (map f required_keys) 31 none
+key_there f none (Optional key) is = absurd is
+key_there f none Padding is = absurd is
 
 pub value_listed : (f : NumberKey → ℤ) (key : NumberKey) → number_in (map f all_number_keys) key ≡ f key
 value_listed f key = get_or-map f all_number_keys (number_rule key).index FrameX1 (pos 0) (index_below key) ∙ ap f (key_at key)
 
 -- an accepted file: no record breaks a rule, no key is missing, and the values are those of the records
-pub accepted : (file : List ℕ) (values : Values) → rules_of file ≡ Ok values
-    → (first_some (each_fault record_fault [] (rows_of file)) ≡ None) × ((key : Key) → is_some (word_for key (rows_of file)) ≡ true) × (values_for (rows_of file) ≡ values)
+pub record Accepted (file : List ℕ) (values : Values) : Type 0 where
+  pub sound : first_some (each_fault record_fault [] (rows_of file)) ≡ None
+  pub all : (key : Key) → IsRequired key → is_some (word_for key (rows_of file)) ≡ true
+  pub paired : first_some (pair_faults (is_some (word_for (Optional KeepLayer) (rows_of file))) (is_some (word_for (Optional KeepDatatype) (rows_of file)))) ≡ None
+  pub same : values_for (rows_of file) ≡ values
+
+pub accepted : (file : List ℕ) (values : Values) → rules_of file ≡ Ok values → Accepted file values
 unfolding rules_of
 accepted file values e =
     let rows = rows_of file in
     let (none, same) = not_refused (first_some (rule_faults rows)) (values_for rows) values e in
-    let (front, joint) = none_in_both (each_fault record_fault [] rows ++ map (missing rows) all_keys) (joint_faults (values_for rows)) none in
-    let (sound, all) = none_in_both (each_fault record_fault [] rows) (map (missing rows) all_keys) front in
-    (sound, λ key. unless_holds _ _ (key_there (missing rows) all key), same)
+    let (front, joint) = none_in_both (each_fault record_fault [] rows ++ key_faults rows) (joint_faults (values_for rows)) none in
+    let (sound, keys) = none_in_both (each_fault record_fault [] rows) (key_faults rows) front in
+    let (all, paired) = none_in_both (map (missing rows) required_keys) (pair_faults (is_some (word_for (Optional KeepLayer) rows)) (is_some (word_for (Optional KeepDatatype) rows))) keys in
+    record { sound = sound; all = λ key is. unless_holds _ _ (key_there (missing rows) all key is); paired = paired; same = same }
 
 -- the record of a key
 pub stands : (rows : List (List (List ℕ))) (key : Key) → first_some (each_fault record_fault [] rows) ≡ None → is_some (word_for key rows) ≡ true

@@ -28,14 +28,15 @@ five_fields (a ∷ b ∷ c ∷ d ∷ f ∷ []) e = refl
 five_fields (a ∷ b ∷ c ∷ d ∷ f ∷ g ∷ more) e = absurd (omega arith)
 
 kind_written : (word : List ℕ) → is_some (kind_of word) ≡ true → word ≡ kind_word (unwrap_or (kind_of word) kind.Add)
-kind_written word e = by (bytes_eq word (codes "add")) refl (bytes_eq word (codes "cut")) refl e
+kind_written word e = by (bytes_eq word (codes "add")) refl (bytes_eq word (codes "cut")) refl (bytes_eq word (codes "keep")) refl e
   where
-    by : (a : Bool) → bytes_eq word (codes "add") ≡ a → (b : Bool) → bytes_eq word (codes "cut") ≡ b
-        → (let kind : Option Kind = if a then Some kind.Add else (if b then Some kind.Cut else None) in is_some kind ≡ true)
-        → word ≡ kind_word (unwrap_or (if a then Some kind.Add else (if b then Some kind.Cut else None)) kind.Add)
-    by true ea b eb e = (bytes_eq-Decides word (codes "add")).0 ea
-    by false ea true eb e = (bytes_eq-Decides word (codes "cut")).0 eb
-    by false ea false eb e = cc e
+    by : (a : Bool) → bytes_eq word (codes "add") ≡ a → (b : Bool) → bytes_eq word (codes "cut") ≡ b → (k : Bool) → bytes_eq word (codes "keep") ≡ k
+        → (let kind : Option Kind = if a then Some kind.Add else (if b then Some kind.Cut else (if k then Some kind.Keep else None)) in is_some kind ≡ true)
+        → word ≡ kind_word (unwrap_or (if a then Some kind.Add else (if b then Some kind.Cut else (if k then Some kind.Keep else None))) kind.Add)
+    by true ea b eb k ek e = (bytes_eq-Decides word (codes "add")).0 ea
+    by false ea true eb k ek e = (bytes_eq-Decides word (codes "cut")).0 eb
+    by false ea false eb true ek e = (bytes_eq-Decides word (codes "keep")).0 ek
+    by false ea false eb false ek e = cc e
 
 there : (o : Option ℤ) → is_some o ≡ true → o ≡ Some (unwrap_or o (pos 0))
 there None e = cc e

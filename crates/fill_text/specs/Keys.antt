@@ -1,10 +1,13 @@
--- The table of rules: for each key its index, its name and what its value may be. The numbers stand before the texts.
-use Rattle.std.specs.Prelude.{ℕ, ℤ, pos, ◌≤ℤ◌, List, [], ◌∷◌, ◌++◌, map, Option, Some, None, find, option_map, bytes_eq, codes}
+-- The table of rules: for each key its index, its name and what its value may be. The numbers stand before the texts, and the
+-- keys that may be left out behind them.
+use Rattle.std.specs.Prelude.{Bool, true, false, ℕ, ℤ, pos, ◌≤ℤ◌, List, [], ◌∷◌, ◌++◌, map, Option, Some, None, find, option_map, bytes_eq, codes}
 use Rattle.fill_base.specs.Coordinates.{lowest, highest}
 use Rattle.fill_text.specs.declared.keys.Key.{Key}
-use Rattle.fill_text.specs.declared.keys.Key.TheVariants.{Number, Text}
+use Rattle.fill_text.specs.declared.keys.Key.TheVariants.{Number, Text, Optional, Padding}
 use Rattle.fill_text.specs.declared.keys.NumberKey.{NumberKey}
 use Rattle.fill_text.specs.declared.keys.NumberKey.TheVariants.{FrameX1, FrameY1, FrameX2, FrameY2, BoxW, BoxH, StepX, StepY, OriginX, OriginY, Spacing, FillSpacing, WinW, WinH, WinStepX, WinStepY, WinX, WinY, WinNx, WinNy, Min, Max, TileNx, TileNy, Layer, Datatype, FillLayer, FillDatatype}
+use Rattle.fill_text.specs.declared.keys.OptionalKey.{OptionalKey}
+use Rattle.fill_text.specs.declared.keys.OptionalKey.TheVariants.{KeepLayer, KeepDatatype}
 use Rattle.fill_text.specs.declared.keys.TextKey.{TextKey}
 use Rattle.fill_text.specs.declared.keys.TextKey.TheVariants.{Top, FillLib, FillCell, FillTop}
 
@@ -89,19 +92,45 @@ text_name FillTop = codes "fill_top"
 abbrev pub all_text_keys : List TextKey
 all_text_keys = Top ∷ FillLib ∷ FillCell ∷ FillTop ∷ []
 
+abbrev pub optional_name : OptionalKey → List ℕ
+optional_name KeepLayer = codes "keep_layer"
+optional_name KeepDatatype = codes "keep_datatype"
+
+abbrev pub optional_index : OptionalKey → ℕ
+optional_index KeepLayer = 0
+optional_index KeepDatatype = 1
+
+-- those whose values are numbers
+abbrev pub all_optional_keys : List OptionalKey
+all_optional_keys = KeepLayer ∷ KeepDatatype ∷ []
+
+-- the keys that each rule file has, in table order
+abbrev pub required_keys : List Key
+required_keys = map Number all_number_keys ++ map Text all_text_keys
+
+-- the keys that a rule file may leave out, in table order
+abbrev pub optional_keys : List Key
+optional_keys = map Optional all_optional_keys ++ Padding ∷ []
+
 -- all keys in table order
 abbrev pub all_keys : List Key
-all_keys = map Number all_number_keys ++ map Text all_text_keys
+all_keys = required_keys ++ optional_keys
 
 abbrev pub key_name : Key → List ℕ
 key_name (Number key) = (number_rule key).name
 key_name (Text key) = text_name key
+key_name (Optional key) = optional_name key
+key_name Padding = codes "padding"
 
--- a number's key, or else a text's
-abbrev pub either_key : Option NumberKey → Option TextKey → Option Key
-either_key (Some key) text = Some (Number key)
-either_key None text = option_map Text text
+-- a number's key, or else a text's, or else an optional one
+abbrev pub either_key : Option NumberKey → Option TextKey → Option OptionalKey → Bool → Option Key
+either_key (Some key) text optional padding = Some (Number key)
+either_key None (Some key) optional padding = Some (Text key)
+either_key None None (Some key) padding = Some (Optional key)
+either_key None None None true = Some Padding
+either_key None None None false = None
 
 -- the key of a name
 abbrev pub key_named : List ℕ → Option Key
 key_named word = either_key (find (λ k. bytes_eq word (number_rule k).name) all_number_keys) (find (λ k. bytes_eq word (text_name k)) all_text_keys)
+    (find (λ k. bytes_eq word (optional_name k)) all_optional_keys) (bytes_eq word (codes "padding"))

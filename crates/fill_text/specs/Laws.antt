@@ -1,15 +1,18 @@
 -- The two texts in the words of their files: each key of the rules stands in one record, each value in a record of its own
 -- key, and each record of a script is one change.
-use Rattle.std.specs.Prelude.{◌≡◌, ℕ, ℤ, List, [], ◌∷◌, length, get_or, map, Some, Ok, Any, codes}
+use Rattle.std.specs.Prelude.{◌≡◌, ℕ, ℤ, List, [], ◌∷◌, length, get_or, map, filter, Option, Some, None, is_some, Ok, Any, codes, ◌++◌, ◌+◌}
 use Rattle.std.specs.List.{AllZip}
 use Rattle.std.specs.List.Sorted.{IsPermutation}
-use Rattle.fill_text.specs.Keys.{all_keys, key_name, key_named, number_rule, text_name}
+use Rattle.fill_text.specs.Keys.{optional_keys, key_name, key_named, number_rule, optional_name, required_keys, text_name}
 use Rattle.fill_text.specs.Numbers.{number_of}
 use Rattle.fill_text.specs.Rows.{rows_of}
-use Rattle.fill_text.specs.Rules.{Values, rules_of, text_of, value_of}
+use Rattle.fill_text.specs.Rules.{Values, rules_of, text_of, value_of, word_for}
 use Rattle.fill_text.specs.Script.{Change, edits_of}
 use Rattle.fill_text.specs.declared.keys.Key.{Key}
+use Rattle.fill_text.specs.declared.keys.Key.TheVariants.{Optional}
 use Rattle.fill_text.specs.declared.keys.NumberKey.{NumberKey}
+use Rattle.fill_text.specs.declared.keys.OptionalKey.{OptionalKey}
+use Rattle.fill_text.specs.declared.keys.OptionalKey.TheVariants.{KeepLayer, KeepDatatype}
 use Rattle.fill_text.specs.declared.keys.TextKey.{TextKey}
 use Rattle.fill_text.specs.declared.script.Kind.{Kind}
 use Rattle.fill_text.specs.declared.script.Kind.TheVariants as kind
@@ -30,21 +33,34 @@ EachNumberIsWritten = (file : List ℕ) (values : Values) → rules_of file ≡ 
 abbrev pub EachTextIsWritten : Type 0
 EachTextIsWritten = (file : List ℕ) (values : Values) → rules_of file ≡ Ok values → (key : TextKey) → Any (WritesText key (text_of values key)) (rows_of file)
 
--- the names of the 32 keys, in table order
-abbrev pub all_key_names : List (List ℕ)
-all_key_names = map key_name all_keys
+-- a record of two fields: the key's name, and a word that writes the number
+abbrev pub WritesOptional : OptionalKey → ℤ → List (List ℕ) → Type 0
+WritesOptional key n fields = (word : List ℕ) × (fields ≡ optional_name key ∷ word ∷ []) × (number_of word ≡ Some n)
+
+-- and the keep-outs' layer and data type: both, or neither stands
+abbrev pub AreWrittenOrLeftOut : Option (ℤ × ℤ) → List (List (List ℕ)) → Type 0
+AreWrittenOrLeftOut (Some (layer, datatype)) rows = Any (WritesOptional KeepLayer layer) rows × Any (WritesOptional KeepDatatype datatype) rows
+AreWrittenOrLeftOut None rows = (word_for (Optional KeepLayer) rows ≡ None) × (word_for (Optional KeepDatatype) rows ≡ None)
+
+abbrev pub KeepIsWritten : Type 0
+KeepIsWritten = (file : List ℕ) (values : Values) → rules_of file ≡ Ok values → AreWrittenOrLeftOut values.keep (rows_of file)
+
+-- the optional keys that stand in the records, in table order
+abbrev pub optional_standing : List (List (List ℕ)) → List Key
+optional_standing rows = filter (λ key. is_some (word_for key rows)) optional_keys
 
 -- the names that records begin with
 abbrev pub first_fields : List (List (List ℕ)) → List (List ℕ)
 first_fields = map (λ fields. get_or fields 0 [])
 
--- where a rule file is accepted, its records begin with the names of the keys, each name once, in any order
+-- where a rule file is accepted, its records begin with the names of the keys that each has and of the optional ones that stand
+-- in it, each name once, in any order
 abbrev pub EachKeyStandsOnce : Type 0
-EachKeyStandsOnce = (file : List ℕ) (values : Values) → rules_of file ≡ Ok values → IsPermutation (first_fields (rows_of file)) all_key_names
+EachKeyStandsOnce = (file : List ℕ) (values : Values) → rules_of file ≡ Ok values → IsPermutation (first_fields (rows_of file)) (map key_name (required_keys ++ optional_standing (rows_of file)))
 
--- and so it has 32 records, and nothing else stands in it
-abbrev pub ThirtyTwoRecords : Type 0
-ThirtyTwoRecords = (file : List ℕ) (values : Values) → rules_of file ≡ Ok values → length (rows_of file) ≡ 32
+-- and so it has 32 records and one for each optional key that stands, and nothing else stands in it
+abbrev pub ARecordForEachKey : Type 0
+ARecordForEachKey = (file : List ℕ) (values : Values) → rules_of file ≡ Ok values → length (rows_of file) ≡ 32 + length (optional_standing (rows_of file))
 
 -- the name of each key names that key, so that no two keys have one name
 abbrev pub EachNameIsOfOneKey : Type 0
@@ -54,6 +70,7 @@ EachNameIsOfOneKey = (key : Key) → key_named (key_name key) ≡ Some key
 abbrev pub kind_word : Kind → List ℕ
 kind_word kind.Add = codes "add"
 kind_word kind.Cut = codes "cut"
+kind_word kind.Keep = codes "keep"
 
 -- a record of five fields: the word of the change's kind, and four words that write its rectangle's numbers
 abbrev pub WritesChange : List (List ℕ) → Change → Type 0

@@ -1,20 +1,22 @@
 -- What a rule file says: the value of each key, or the first rule that it breaks.
-use Rattle.std.specs.Prelude.{unsigned_abs, ℕ, ℤ, pos, ◌+◌, ◌==◌, ◌&&◌, ◌||◌, ◌++◌, Bool, List, [], ◌∷◌, length, get_or, map, find, Option, Some, None, option_map, option_and_then, unwrap_or, is_some, Result, bytes_eq, int_le, int_lt, nat_lt, nat_le, if◌then◌else◌}
+use Rattle.std.specs.Prelude.{codes, true, false, unsigned_abs, ℕ, ℤ, pos, ◌+◌, ◌==◌, ◌&&◌, ◌||◌, not, ◌++◌, Bool, List, [], ◌∷◌, length, get_or, map, find, Option, Some, None, option_map, option_and_then, unwrap_or, is_some, Result, bytes_eq, int_le, int_lt, nat_lt, nat_le, if◌then◌else◌}
 use Rattle.std.specs.List.{list_all}
-use Rattle.fill_area.specs.Grid.{Grid}
+use Rattle.fill_area.specs.Grid.{Grid, all_coordinates, clipped_to}
 use Rattle.fill_raster.specs.Lattice.{Lattice}
 use Rattle.fill_base.specs.Sides.{Sides, sides}
 use Rattle.fill_text.specs.RectTests.{is_rect}
 use Rattle.fill_text.specs.Grids.{is_grid}
-use Rattle.fill_text.specs.Keys.{all_keys, all_number_keys, key_name, key_named, number_rule}
+use Rattle.fill_text.specs.Keys.{all_number_keys, key_name, key_named, number_rule, required_keys}
 use Rattle.fill_text.specs.Numbers.{number_of}
 use Rattle.fill_text.specs.Rasters.{has_few_places, keeps_pitch}
 use Rattle.fill_text.specs.Refusals.{each_fault, fault_if, fault_unless, first_some, refused_or}
 use Rattle.fill_text.specs.Rows.{rows_of}
 use Rattle.fill_text.specs.declared.keys.Key.{Key}
-use Rattle.fill_text.specs.declared.keys.Key.TheVariants.{Number, Text}
+use Rattle.fill_text.specs.declared.keys.Key.TheVariants.{Number, Text, Optional, Padding}
 use Rattle.fill_text.specs.declared.keys.NumberKey.{NumberKey}
 use Rattle.fill_text.specs.declared.keys.NumberKey.TheVariants as number
+use Rattle.fill_text.specs.declared.keys.OptionalKey.{OptionalKey}
+use Rattle.fill_text.specs.declared.keys.OptionalKey.TheVariants.{KeepLayer, KeepDatatype}
 use Rattle.fill_text.specs.declared.keys.TextKey.{TextKey}
 use Rattle.fill_text.specs.declared.keys.TextKey.TheVariants as text
 use Rattle.fill_text.specs.declared.rule_error.RuleError.{RuleError}
@@ -27,6 +29,10 @@ pub record Values : Type 0 where
   pub fill_lib : List ℕ
   pub fill_cell : List ℕ
   pub fill_top : List ℕ
+  -- the layer and the data type of the keep-outs
+  pub keep : Option (ℤ × ℤ)
+  -- what is out of the frame counts nothing
+  pub ignores : Bool
 
 abbrev pub number_in : List ℤ → NumberKey → ℤ
 number_in numbers key = get_or numbers (number_rule key).index (pos 0)
@@ -43,11 +49,20 @@ text_of values text.FillTop = values.fill_top
 abbrev pub frame_of : List ℤ → Sides
 frame_of numbers = sides (number_in numbers number.FrameX1) (number_in numbers number.FrameY1) (number_in numbers number.FrameX2) (number_in numbers number.FrameY2)
 
-abbrev pub windows_of : List ℤ → Grid
-windows_of numbers = record {
+-- the windows, each of which counts whole
+abbrev pub whole_windows : List ℤ → Grid
+whole_windows numbers = record {
   across = record { first = number_in numbers number.WinX; length = number_in numbers number.WinW; step = number_in numbers number.WinStepX; count = unsigned_abs (number_in numbers number.WinNx) };
   up = record { first = number_in numbers number.WinY; length = number_in numbers number.WinH; step = number_in numbers number.WinStepY; count = unsigned_abs (number_in numbers number.WinNy) };
+  clip = all_coordinates;
 }
+
+abbrev pub windows_with : List ℤ → Bool → Grid
+windows_with numbers ignores = if ignores then clipped_to (whole_windows numbers) (frame_of numbers) else whole_windows numbers
+
+-- of each window what is in the frame counts, or all
+abbrev pub windows_of : Values → Grid
+windows_of values = windows_with values.numbers values.ignores
 
 abbrev pub raster_of : List ℤ → Lattice
 raster_of numbers = record {
@@ -96,10 +111,29 @@ abbrev pub number_fault : ℕ → NumberKey → Option ℤ → Option RuleError
 number_fault line key None = Some (BadNumber line)
 number_fault line key (Some n) = fault_unless (is_in_range key n) (BadRule (Number key))
 
+-- a layer or a data type
+abbrev pub is_layer : ℤ → Bool
+is_layer n = int_le (pos 0) n && int_le n (pos 65535)
+
+-- both numbers of a pair are, if there is one
+abbrev pub are_layers : Option (ℤ × ℤ) → Bool
+are_layers None = true
+are_layers (Some k) = is_layer k.0 && is_layer k.1
+
+-- whether the word says that padding is ignored
+abbrev pub padding_of : List ℕ → Option Bool
+padding_of word = if bytes_eq word (codes "zero") then Some false else (if bytes_eq word (codes "ignore") then Some true else None)
+
+abbrev pub optional_fault : ℕ → OptionalKey → Option ℤ → Option RuleError
+optional_fault line key None = Some (BadNumber line)
+optional_fault line key (Some n) = fault_unless (is_layer n) (BadRule (Optional key))
+
 -- what is wrong with a word as the value of a key
 abbrev pub value_fault : ℕ → Key → List ℕ → Option RuleError
 value_fault line (Number key) word = number_fault line key (number_of word)
 value_fault line (Text key) word = fault_unless (is_text key word) (BadRule (Text key))
+value_fault line (Optional key) word = optional_fault line key (number_of word)
+value_fault line Padding word = fault_unless (is_some (padding_of word)) (BadRule Padding)
 
 -- what is wrong with a record of this key, if its name is that of one, and this word, behind the records before
 abbrev pub keyed_fault : ℕ → List (List (List ℕ)) → Option Key → List ℕ → Option RuleError
@@ -113,9 +147,16 @@ record_fault before fields =
     let line = length before + 1 in
     if length fields == 2 then keyed_fault line before (key_named (get_or fields 0 [])) (get_or fields 1 []) else Some (BadRow line)
 
--- each key stands in a record
+-- each key that a rule file has stands in a record
 abbrev pub missing : List (List (List ℕ)) → Key → Option RuleError
 missing rows key = fault_unless (is_some (word_for key rows)) (BadRule key)
+
+-- the keep-outs' layer and data type stand both or neither
+abbrev pub pair_faults : Bool → Bool → List (Option RuleError)
+pair_faults layer datatype = fault_unless (layer || not datatype) (BadRule (Optional KeepLayer)) ∷ fault_unless (datatype || not layer) (BadRule (Optional KeepDatatype)) ∷ []
+
+abbrev pub key_faults : List (List (List ℕ)) → List (Option RuleError)
+key_faults rows = map (missing rows) required_keys ++ pair_faults (is_some (word_for (Optional KeepLayer) rows)) (is_some (word_for (Optional KeepDatatype) rows))
 
 -- the number and the text that the records give
 abbrev pub number_for : List (List (List ℕ)) → NumberKey → ℤ
@@ -124,6 +165,14 @@ number_for rows key = unwrap_or (option_and_then number_of (word_for (Number key
 abbrev pub text_for : List (List (List ℕ)) → TextKey → List ℕ
 text_for rows key = unwrap_or (word_for (Text key) rows) []
 
+abbrev pub optional_for : List (List (List ℕ)) → OptionalKey → Option ℤ
+optional_for rows key = option_and_then number_of (word_for (Optional key) rows)
+
+abbrev pub pair : Option ℤ → Option ℤ → Option (ℤ × ℤ)
+pair (Some a) (Some b) = Some (a, b)
+pair (Some a) None = None
+pair None b = None
+
 abbrev pub values_for : List (List (List ℕ)) → Values
 values_for rows = record {
   numbers = map (number_for rows) all_number_keys;
@@ -131,6 +180,8 @@ values_for rows = record {
   fill_lib = text_for rows text.FillLib;
   fill_cell = text_for rows text.FillCell;
   fill_top = text_for rows text.FillTop;
+  keep = pair (optional_for rows KeepLayer) (optional_for rows KeepDatatype);
+  ignores = unwrap_or (option_and_then padding_of (word_for Padding rows)) false;
 }
 
 -- what is asked of the values together
@@ -139,14 +190,14 @@ joint_faults values =
     fault_if (int_lt (value_of values number.Max) (value_of values number.Min)) (BadRule (Number number.Max))
     ∷ fault_if (bytes_eq values.fill_top values.fill_cell) (BadRule (Text text.FillTop))
     ∷ fault_unless (is_rect (frame_of values.numbers)) BadRect
-    ∷ fault_unless (is_grid (windows_of values.numbers)) BadWindows
+    ∷ fault_unless (is_grid (whole_windows values.numbers)) BadWindows
     ∷ fault_unless (keeps_pitch (raster_of values.numbers) (value_of values number.FillSpacing)) BadPitch
     ∷ fault_unless (has_few_places (raster_of values.numbers)) TooManyPlaces
     ∷ []
 
 -- every fault of a rule file, in the order in which it is refused: of each record, of each key in table order, of the values
 abbrev pub rule_faults : List (List (List ℕ)) → List (Option RuleError)
-rule_faults rows = each_fault record_fault [] rows ++ map (missing rows) all_keys ++ joint_faults (values_for rows)
+rule_faults rows = each_fault record_fault [] rows ++ key_faults rows ++ joint_faults (values_for rows)
 
 -- the values that a rule file gives, or its first fault
 unfoldable pub rules_of : List ℕ → Result Values RuleError

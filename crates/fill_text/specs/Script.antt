@@ -12,7 +12,7 @@ use Rattle.fill_text.specs.declared.script.Kind.TheVariants as kind
 use Rattle.fill_text.specs.declared.script.ScriptError.{ScriptError}
 use Rattle.fill_text.specs.declared.script.ScriptError.TheVariants.{BadRow, BadNumber, TooManyLines}
 
--- a change of the metal: a kind and a rectangle
+-- a change of the metal or of the keep-outs: a kind and a rectangle
 pub record Change : Type 0 where
   pub kind : Kind
   pub rect : Sides
@@ -20,10 +20,11 @@ pub record Change : Type 0 where
 abbrev pub change_of : Edit → Change
 change_of (edit.Add r) = record { kind = kind.Add; rect = sides_of r }
 change_of (edit.Cut r) = record { kind = kind.Cut; rect = sides_of r }
+change_of (edit.Keep r) = record { kind = kind.Keep; rect = sides_of r }
 
 -- the kind that a record's first field names
 abbrev pub kind_of : List ℕ → Option Kind
-kind_of word = if bytes_eq word (codes "add") then Some kind.Add else (if bytes_eq word (codes "cut") then Some kind.Cut else None)
+kind_of word = if bytes_eq word (codes "add") then Some kind.Add else (if bytes_eq word (codes "cut") then Some kind.Cut else (if bytes_eq word (codes "keep") then Some kind.Keep else None))
 
 -- the number that a field of a record writes, if it writes one
 abbrev pub number_at : List (List ℕ) → ℕ → Option ℤ
@@ -39,7 +40,7 @@ sides_in fields = sides (corner fields 1) (corner fields 2) (corner fields 3) (c
 abbrev pub change_in : List (List ℕ) → Change
 change_in fields = record { kind = unwrap_or (kind_of (get_or fields 0 [])) kind.Add; rect = sides_in fields }
 
--- what is asked of a record of this number, in this order: five fields, of which the first is `add` or `cut` and the others
+-- what is asked of a record of this number, in this order: five fields, of which the first is `add`, `cut` or `keep` and the others
 -- are numbers, which make a rectangle
 abbrev pub change_faults : ℕ → List (List ℕ) → List (Option ScriptError)
 change_faults line fields =

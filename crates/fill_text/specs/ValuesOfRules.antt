@@ -1,16 +1,16 @@
 -- What the values of the rules show.
-use Rattle.std.specs.Prelude.{◌≡◌}
+use Rattle.std.specs.Prelude.{◌≡◌, Bool, ℤ, Option}
 use Rattle.fill_text.specs.Rules.{Values}
 use Rattle.fill_text.specs.declared.rules.Numbers.{Numbers}
 use Rattle.fill_text.specs.declared.rules.Rules.{Rules}
 use Rattle.fill_text.specs.declared.rules.Texts.{Texts}
 
-abbrev pub values_from : Numbers → Texts → Values
-values_from n t = record { numbers = n.values; top = t.top.items; fill_lib = t.fill_lib.items; fill_cell = t.fill_cell.items; fill_top = t.fill_top.items }
+abbrev pub values_from : Numbers → Texts → Option (ℤ × ℤ) → Bool → Values
+values_from n t k i = record { numbers = n.values; top = t.top.items; fill_lib = t.fill_lib.items; fill_cell = t.fill_cell.items; fill_top = t.fill_top.items; keep = k; ignores = i }
 
 -- the value of each key
 abbrev pub values_of : Rules → Values
-values_of r = values_from r.numbers r.texts
+values_of r = values_from r.numbers r.texts r.keep r.ignores
 
 -- each text has the same bytes
 pub record SameTexts (a b : Texts) : Type 0 where

@@ -4,7 +4,7 @@ ghost use Rattle.fill_base.specs.Sides.{sides_of};
 ghost use Rattle.fill_raster.specs.Lattice.{KeepsPitch};
 ghost use Rattle.fill_text.specs.Keys.{IsWithin};
 ghost use Rattle.fill_text.specs.Rules as spec;
-ghost use Rattle.fill_text.specs.Rules.{value_of};
+ghost use Rattle.fill_text.specs.Rules.{are_layers, value_of};
 ghost use Rattle.fill_text.specs.ValuesOfRules.{values_of};
 
 use crate::keys::NumberKey;
@@ -23,7 +23,7 @@ impl Rules {
 
     /// The density windows.
     pub fn windows(&self) -> Windows
-        ensures { result ≡ spec.windows_of (values_of self.now).numbers }
+        ensures { result ≡ spec.windows_of (values_of self.now) }
     {
         self.windows
     }
@@ -258,6 +258,14 @@ impl Rules {
         ensures range { IsWithin NumberKey.FillDatatype result }
     {
         self.number(NumberKey::FillDatatype)
+    }
+
+    /// The layer and the data type of the keep-outs, each 0 to 65,535, if there are any.
+    pub fn keep(&self) -> Option<(i64, i64)>
+        ensures value { result ≡ (values_of self.now).keep }
+        ensures range { are_layers result ≡ true }
+    {
+        self.keep
     }
 
     /// The name of the design's top cell, 1 to 1,024 bytes.

@@ -8,7 +8,7 @@ ghost use Rattle.fill_text.specs.Rules as spec;
 ghost use Rattle.fill_text.specs.steps.Entries as step;
 ghost use Rattle.fill_text.specs.steps.Entries.{found_in};
 
-use crate::keys::{Key, NUMBER_COUNT, NUMBER_KEYS, NumberKey, TextKey};
+use crate::keys::{Key, NUMBER_COUNT, NUMBER_KEYS, NumberKey, OptionalKey, TextKey};
 use crate::numbers::number;
 use crate::rows::field;
 use crate::rule_error::RuleError;
@@ -23,6 +23,8 @@ pub struct Entries {
     pub fill_lib: Option<Vec<u8>>,
     pub fill_cell: Option<Vec<u8>>,
     pub fill_top: Option<Vec<u8>>,
+    pub optionals: [Option<i64>; 2],
+    pub padding: Option<bool>,
 }
 
 impl Entries {
@@ -36,6 +38,8 @@ impl Entries {
             fill_lib: None,
             fill_cell: None,
             fill_top: None,
+            optionals: [None; 2],
+            padding: None,
         }
     }
 
@@ -49,6 +53,8 @@ impl Entries {
             Key::Text(TextKey::FillLib) => self.fill_lib.is_some(),
             Key::Text(TextKey::FillCell) => self.fill_cell.is_some(),
             Key::Text(TextKey::FillTop) => self.fill_top.is_some(),
+            Key::Optional(key) => self.optionals[key.index()].is_some(),
+            Key::Padding => self.padding.is_some(),
         }
     }
 
@@ -91,6 +97,22 @@ impl Entries {
         Ok(())
     }
 
+    #[tactic(auto, unfolding(crate::specs::steps::Entries::take_optional))]
+    fn take_optional(&mut self, line: u64, key: OptionalKey, word: &[u8]) -> Result<(), RuleError>
+        ensures { seen (λ _. found_in self.new) result ≡ step.take_optional line key word.now (found_in self.old) }
+    {
+        self.optionals[key.index()] = Some(layer_for(line, key, word)?);
+        Ok(())
+    }
+
+    #[tactic(auto, unfolding(crate::specs::steps::Entries::take_padding))]
+    fn take_padding(&mut self, word: &[u8]) -> Result<(), RuleError>
+        ensures { seen (λ _. found_in self.new) result ≡ step.take_padding word.now (found_in self.old) }
+    {
+        self.padding = Some(padding(word).ok_or(RuleError::BadRule { key: Key::Padding })?);
+        Ok(())
+    }
+
     /// Takes what one record adds.
     ///
     /// # Errors
@@ -107,6 +129,8 @@ impl Entries {
         match self.new_key(line, field(row, 0))? {
             Key::Number(key) => self.take_number(line, key, word),
             Key::Text(key) => self.take_text(alloc, key, word),
+            Key::Optional(key) => self.take_optional(line, key, word),
+            Key::Padding => self.take_padding(word),
         }
     }
 
@@ -142,6 +166,34 @@ fn number_for(line: u64, key: NumberKey, word: &[u8]) -> Result<i64, RuleError>
     } else {
         Err(RuleError::BadRule {
             key: Key::Number(key),
+        })
+    }
+}
+
+/// Whether the word says that padding is ignored.
+fn padding(word: &[u8]) -> Option<bool>
+    ensures { result ≡ spec.padding_of word.now }
+{
+    if word == "zero".as_bytes() {
+        Some(false)
+    } else if word == "ignore".as_bytes() {
+        Some(true)
+    } else {
+        None
+    }
+}
+
+/// The layer or the data type that a record's second field gives a key.
+#[tactic(auto, unfolding(crate::specs::steps::Entries::layer_number))]
+fn layer_for(line: u64, key: OptionalKey, word: &[u8]) -> Result<i64, RuleError>
+    ensures { result ≡ step.layer_number line key word.now }
+{
+    let layer = number(word).ok_or(RuleError::BadNumber { line })?;
+    if 0 <= layer && layer <= 65535 {
+        Ok(layer)
+    } else {
+        Err(RuleError::BadRule {
+            key: Key::Optional(key),
         })
     }
 }

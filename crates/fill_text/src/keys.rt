@@ -1,6 +1,6 @@
 //! The table of rules: their keys, names and ranges.
 ghost use Rattle.std.specs.Prelude.{◌≡◌, ◌<◌, find, bytes_eq};
-ghost use Rattle.fill_text.specs.Keys.{all_number_keys, all_text_keys, key_name, key_named, number_rule, text_name};
+ghost use Rattle.fill_text.specs.Keys.{all_number_keys, all_optional_keys, all_text_keys, key_name, key_named, number_rule, optional_index, optional_name, text_name};
 
 use fill_base::rect::{HIGHEST, LOWEST};
 
@@ -84,13 +84,26 @@ pub enum TextKey {
     FillTop,
 }
 
-/// The key of a rule. In the table of rules the numbers stand before the texts.
+/// A rule that a rule file may leave out, in the order of the table of rules: a number, 0 to 65,535.
+#[derive(Clone, Copy, Debug, PartialEq, Eq)]
+pub enum OptionalKey {
+    /// The layer of the keep-outs, which stands with their data type or not at all.
+    KeepLayer,
+    /// The data type of the keep-outs.
+    KeepDatatype,
+}
+
+/// The key of a rule. In the table of rules the numbers stand before the texts, and the optional ones behind them.
 #[derive(Clone, Copy, Debug, PartialEq, Eq)]
 pub enum Key {
     /// A rule whose value is a number.
     Number(NumberKey),
     /// A rule whose value is a text.
     Text(TextKey),
+    /// A rule that may be left out.
+    Optional(OptionalKey),
+    /// What counts of a window that is partly out of the frame: `zero` or `ignore`. It may be left out, and is `zero` then.
+    Padding,
 }
 
 /// How many rules have a number for their value.
@@ -135,6 +148,9 @@ pub const TEXT_KEYS: [TextKey; 4] = [
     TextKey::FillCell,
     TextKey::FillTop,
 ];
+
+/// The optional keys, in table order.
+pub const OPTIONAL_KEYS: [OptionalKey; 2] = [OptionalKey::KeepLayer, OptionalKey::KeepDatatype];
 
 /// What the table says of a number: its name in the rule file, and the least and the greatest value that it may have.
 #[derive(Clone, Copy)]
@@ -243,6 +259,36 @@ impl TextKey {
     }
 }
 
+impl OptionalKey {
+    /// The key's name in a rule file.
+    pub fn name(self) -> &'static str
+        ensures { result.now ≡ optional_name self }
+    {
+        match self {
+            OptionalKey::KeepLayer => "keep_layer",
+            OptionalKey::KeepDatatype => "keep_datatype",
+        }
+    }
+
+    /// The key's index among the optional ones, from 0.
+    pub fn index(self) -> usize
+        ensures index { result ≡ optional_index self }
+        ensures within { result < 2 }
+    {
+        self as usize
+    }
+
+    /// The key of a name.
+    pub fn named(word: &[u8]) -> Option<OptionalKey>
+        ensures { result ≡ find (λ k. bytes_eq word.now (optional_name k)) all_optional_keys }
+    {
+        OPTIONAL_KEYS
+            .iter()
+            .copied()
+            .find(|key| word == key.name().as_bytes())
+    }
+}
+
 impl Key {
     /// The key's name in a rule file.
     pub fn name(self) -> &'static str
@@ -251,6 +297,8 @@ impl Key {
         match self {
             Key::Number(key) => key.name(),
             Key::Text(key) => key.name(),
+            Key::Optional(key) => key.name(),
+            Key::Padding => "padding",
         }
     }
 
@@ -258,9 +306,19 @@ impl Key {
     pub fn named(word: &[u8]) -> Option<Key>
         ensures { result ≡ key_named word.now }
     {
-        match NumberKey::named(word) {
-            Some(key) => Some(Key::Number(key)),
-            None => TextKey::named(word).map(Key::Text),
+        if let Some(key) = NumberKey::named(word) {
+            return Some(Key::Number(key));
+        }
+        if let Some(key) = TextKey::named(word) {
+            return Some(Key::Text(key));
+        }
+        if let Some(key) = OptionalKey::named(word) {
+            return Some(Key::Optional(key));
+        }
+        if word == "padding".as_bytes() {
+            Some(Key::Padding)
+        } else {
+            None
         }
     }
 }

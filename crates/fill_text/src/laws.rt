@@ -1,5 +1,5 @@
 //! What holds of rule files and scripts whatever the code does. Each function's contract is the law.
-ghost use Rattle.fill_text.specs.Laws.{EachKeyStandsOnce, EachNameIsOfOneKey, EachNumberIsWritten, EachRecordIsAChange, EachTextIsWritten, ThirtyTwoRecords};
+ghost use Rattle.fill_text.specs.Laws.{ARecordForEachKey, EachKeyStandsOnce, EachNameIsOfOneKey, EachNumberIsWritten, EachRecordIsAChange, EachTextIsWritten, KeepIsWritten};
 
 /// Where a rule file is accepted, each number is what some record writes: a record of two fields, the key's name and
 /// the number in decimal.
@@ -19,9 +19,14 @@ pub fn each_key_stands_once()
     ensures { EachKeyStandsOnce }
 {}
 
-/// Where a rule file is accepted, it has as many records as there are keys, 32.
-pub fn thirty_two_records()
-    ensures { ThirtyTwoRecords }
+/// Where a rule file is accepted, it has 32 records and one more for each optional key that stands.
+pub fn a_record_for_each_key()
+    ensures { ARecordForEachKey }
+{}
+
+/// Where a rule file is accepted, the keep-outs' layer and data type are what two records write, or no record has either key.
+pub fn keep_is_written()
+    ensures { KeepIsWritten }
 {}
 
 /// The name of each key names that key, so no two keys have one name.

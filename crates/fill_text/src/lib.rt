@@ -19,7 +19,7 @@ mod rules;
 mod script;
 mod sides;
 
-pub use keys::{Key, NumberKey, TextKey};
+pub use keys::{Key, NumberKey, OptionalKey, TextKey};
 pub use rule_error::RuleError;
 pub use rule_file::read_rules;
 pub use rules::{Numbers, Rules, Texts};

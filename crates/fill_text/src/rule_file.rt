@@ -1,17 +1,19 @@
 //! The reader of a rule file.
-ghost use Rattle.std.specs.Prelude.{◌≡◌, option_map};
+ghost use Rattle.std.specs.Prelude.{◌≡◌, true, get_or, None, option_map, IfOk, if◌then◌else◌};
 ghost use Rattle.fill_text.specs.Refusals.{seen, Gives};
 ghost use Rattle.fill_base.specs.Sides.{sides_of};
+ghost use Rattle.fill_area.specs.Grid.{clipped_to};
 ghost use Rattle.fill_text.specs.RectTests.{rect_with};
 ghost use Rattle.fill_text.specs.Grids.{grid_with};
 ghost use Rattle.fill_text.specs.Rasters.{raster_with};
 ghost use Rattle.fill_text.specs.Rules as spec;
+ghost use Rattle.fill_text.specs.Rules.{are_layers};
 ghost use Rattle.fill_text.specs.steps.Entries as step;
 ghost use Rattle.fill_text.specs.steps.Entries.{found_in};
 ghost use Rattle.fill_text.specs.ValuesOfRules.{values_from, values_of};
 
 use crate::entries::Entries;
-use crate::keys::{Key, NumberKey, TextKey};
+use crate::keys::{Key, NumberKey, OptionalKey, TextKey};
 use crate::rows::rows;
 use crate::rule_error::RuleError;
 use crate::rules::{Numbers, Rules, Texts};
@@ -35,7 +37,7 @@ fn frame_in(numbers: &Numbers) -> Option<Rect>
 
 /// The windows that the numbers make, if there are at most 2^20, each within the coordinates.
 fn windows_in(numbers: &Numbers) -> Option<Windows>
-    ensures { result ≡ grid_with (spec.windows_of numbers.now.values) }
+    ensures { result ≡ grid_with (spec.whole_windows numbers.now.values) }
 {
     let origin = Point {
         x: numbers.value(NumberKey::WinX),
@@ -79,10 +81,27 @@ fn raster_in(numbers: &Numbers, frame: Rect) -> Result<Raster, RuleError>
     }
 }
 
+/// The windows, of which what is out of the frame counts nothing where it is ignored.
+fn counted(windows: Windows, ignores: bool, frame: &Rect) -> Windows
+    ensures { result ≡ if ignores then clipped_to windows (sides_of frame.now) else windows }
+{
+    if ignores {
+        windows.clipped_to(frame)
+    } else {
+        windows
+    }
+}
+
 /// What is asked of the values together.
 #[tactic(auto, unfolding(crate::specs::steps::Entries::checked))]
-fn checked(numbers: Numbers, texts: Texts) -> Result<Rules, RuleError>
-    ensures { seen values_of result ≡ step.checked (values_from numbers texts) }
+fn checked(
+    numbers: Numbers,
+    texts: Texts,
+    keep: Option<(i64, i64)>,
+    ignores: bool,
+) -> Result<Rules, RuleError>
+    requires { are_layers keep ≡ true }
+    ensures { seen values_of result ≡ step.checked (values_from numbers texts keep ignores) }
 {
     if numbers.value(NumberKey::Max) < numbers.value(NumberKey::Min) {
         return Err(RuleError::BadRule {
@@ -100,8 +119,10 @@ fn checked(numbers: Numbers, texts: Texts) -> Result<Rules, RuleError>
     Ok(Rules {
         numbers,
         texts,
+        keep,
+        ignores,
         frame,
-        windows,
+        windows: counted(windows, ignores, &frame),
         raster,
     })
 }
@@ -111,6 +132,7 @@ fn checked(numbers: Numbers, texts: Texts) -> Result<Rules, RuleError>
 fn rules_found(entries: Entries) -> Result<Rules, RuleError>
     requires numbers { step.AreRanged (found_in entries).numbers }
     requires texts { step.AreAllowed (found_in entries).texts }
+    requires optionals { step.AreOptional (found_in entries).optionals }
     ensures { seen values_of result ≡ step.rules_found (found_in entries) }
 {
     let numbers = Numbers::new(entries.all_numbers()?);
@@ -120,11 +142,14 @@ fn rules_found(entries: Entries) -> Result<Rules, RuleError>
         fill_lib,
         fill_cell,
         fill_top,
+        optionals,
+        padding,
     } = entries;
     let top = top.ok_or(missing(TextKey::Top))?;
     let fill_lib = fill_lib.ok_or(missing(TextKey::FillLib))?;
     let fill_cell = fill_cell.ok_or(missing(TextKey::FillCell))?;
     let fill_top = fill_top.ok_or(missing(TextKey::FillTop))?;
+    let keep = keep_found(optionals)?;
     checked(
         numbers,
         Texts {
@@ -133,7 +158,27 @@ fn rules_found(entries: Entries) -> Result<Rules, RuleError>
             fill_cell,
             fill_top,
         },
+        keep,
+        padding.unwrap_or(false),
     )
+}
+
+/// The layer and the data type of the keep-outs, both or neither of which were found.
+fn keep_found(optionals: [Option<i64>; 2]) -> Result<Option<(i64, i64)>, RuleError>
+    requires { step.AreOptional optionals }
+    ensures pair { result ≡ step.pair_found (get_or optionals 0 None) (get_or optionals 1 None) }
+    ensures layers { IfOk result (λ keep. are_layers keep ≡ true) }
+{
+    match (optionals[0], optionals[1]) {
+        (Some(layer), Some(datatype)) => Ok(Some((layer, datatype))),
+        (Some(_), None) => Err(RuleError::BadRule {
+            key: Key::Optional(OptionalKey::KeepDatatype),
+        }),
+        (None, Some(_)) => Err(RuleError::BadRule {
+            key: Key::Optional(OptionalKey::KeepLayer),
+        }),
+        (None, None) => Ok(None),
+    }
 }
 
 fn missing(key: TextKey) -> RuleError

@@ -91,6 +91,8 @@ pub struct Texts {
 pub struct Rules {
     pub(crate) numbers: Numbers,
     pub(crate) texts: Texts,
+    pub(crate) keep: Option<(i64, i64)>,
+    pub(crate) ignores: bool,
     // These follow from the numbers, so a comparison leaves them out.
     #[derive_where(skip(EqHashOrd))]
     pub(crate) frame: Rect,
@@ -98,11 +100,12 @@ pub struct Rules {
     pub(crate) windows: Windows,
     #[derive_where(skip(EqHashOrd))]
     pub(crate) raster: Raster,
-    pub ghost windowed: { windows ≡ spec.windows_of numbers.values },
+    pub ghost windowed: { windows ≡ spec.windows_with numbers.values ignores },
     pub ghost placed: { raster ≡ spec.raster_of numbers.values },
     pub ghost pitched: { KeepsPitch (spec.raster_of numbers.values) (spec.number_in numbers.values NumberKey.FillSpacing) },
     pub ghost apart: { bytes_eq texts.fill_top.items texts.fill_cell.items ≡ false },
     pub ghost framed: { sides_of frame ≡ spec.frame_of numbers.values },
+    pub ghost layered: { spec.are_layers keep ≡ true },
 }
 
 impl Texts {
@@ -142,6 +145,8 @@ impl Rules {
         Ok(Rules {
             numbers: self.numbers,
             texts: self.texts.copy(alloc)?,
+            keep: self.keep,
+            ignores: self.ignores,
             frame: self.frame,
             windows: self.windows,
             raster: self.raster,

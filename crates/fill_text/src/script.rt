@@ -17,19 +17,21 @@ use thiserror::Error;
 /// How many records a script may have.
 const MOST_RECORDS: u64 = 100_000;
 
-/// A change of the drawn metal.
+/// A change of the drawn metal or of the keep-outs.
 #[derive(Clone, Copy, Debug, PartialEq, Eq)]
 pub enum Edit {
     /// The rectangle's squares become metal.
     Add(Rect),
     /// The rectangle's squares are metal no more.
     Cut(Rect),
+    /// No box may share a square with the rectangle from now on.
+    Keep(Rect),
 }
 
 /// Why a script was refused. A line is the number of a record, counted from 1.
 #[derive(Clone, Copy, Debug, PartialEq, Eq, Error)]
 pub enum ScriptError {
-    /// Not five fields, a first field that is neither `add` nor `cut`, or numbers that make no rectangle.
+    /// Not five fields, a first field that is none of `add`, `cut` and `keep`, or numbers that make no rectangle.
     #[error("record {line} is no edit")]
     BadRow { line: u64 },
     /// A field that should be a number isn't one.
@@ -67,6 +69,8 @@ pub enum Kind {
     Add,
     /// Its squares are metal no more.
     Cut,
+    /// Its squares are kept out of the fill.
+    Keep,
 }
 
 /// The kind that a record's first field names.
@@ -77,6 +81,8 @@ fn kind_named(word: &[u8]) -> Option<Kind>
         Some(Kind::Add)
     } else if word == b"cut".as_slice() {
         Some(Kind::Cut)
+    } else if word == b"keep".as_slice() {
+        Some(Kind::Keep)
     } else {
         None
     }
@@ -105,10 +111,11 @@ fn edit_in(row: &ByteRecord, line: u64) -> Result<Edit, ScriptError>
     Ok(match kind {
         Kind::Add => Edit::Add(rect),
         Kind::Cut => Edit::Cut(rect),
+        Kind::Keep => Edit::Keep(rect),
     })
 }
 
-/// The edits of a script, in its order: records `add,x1,y1,x2,y2` and `cut,x1,y1,x2,y2` of comma-separated fields
+/// The edits of a script, in its order: records `add,x1,y1,x2,y2`, `cut,x1,y1,x2,y2` and `keep,x1,y1,x2,y2` of comma-separated fields
 /// with no header, at most 100,000 of them, with numbers in database units (this project's profile).
 ///
 /// # Errors

@@ -5,25 +5,28 @@ use Rattle.std.specs.List.{flat_map}
 use Rattle.std.specs.Str.{bytes_eq}
 use Rattle.std.proofs.lemmas.List.{length-map}
 use Rattle.std.proofs.lemmas.Grind.{common_steps}
-use Rattle.gds_grammar.specs.declared.element.Element.{Element}
+use Rattle.gds_grammar.specs.Values.{Shape as Element}
+use Rattle.gds_flatten.specs.Designs.{Entry}
 use Rattle.gds_flatten.specs.declared.cell.Cell.{Cell}
 use Rattle.gds_flatten.specs.declared.link.Link.{Link}
 use Rattle.gds_flatten.specs.declared.placement.Placement.{Placement}
 use Rattle.gds_flatten.specs.Graphs.{next, item, IsReached, IsDeep, IsWhole}
 use Rattle.gds_flatten.specs.References.{placements_of, name_of}
 use Rattle.gds_flatten.specs.Copies.{Copy, own_copy, carry_copy, copies}
-use Rattle.gds_flatten.specs.Designs.{Entry, index_of, elements_at, target_if, targets, graph_of, singles_to, singles_among, hierarchy_of}
+use Rattle.gds_flatten.specs.Designs.{index_of, elements_at, target_if, targets, graph_of, singles_to, singles_among, hierarchy_of}
 use Rattle.gds_flatten.specs.steps.Searches.{State}
 use Rattle.gds_flatten.specs.steps.Surveys.{IsSurveyed}
 use Rattle.gds_flatten.specs.steps.Walks.{own_in, singles_in, hierarchy}
 use Rattle.gds_flatten.specs.steps.Built.{IsCellAt, AreBuilt}
 use Rattle.gds_flatten.specs.steps.Counting.{IsCapped, links_in, IsTied, IsCount, AreCounted}
+use Rattle.gds_shape.specs.declared.bounds.Bounds.{Bounds}
+use Rattle.gds_flatten.specs.steps.Framing.{IsRight, AreHeld, IsTight, IsExtentOf, extent_at}
 use Rattle.gds_flatten.proofs.Chains.{chain_joins, reached_next}
 use Rattle.gds_flatten.proofs.Naming.{no_more}
 
 -- ---- the graph
 
-pub next_is : (all es : List Entry) (c : ℕ) → next (map (λ (e : Entry). targets all e.1.items) es) c ≡ targets all (elements_at es c)
+pub next_is : (all es : List Entry) (c : ℕ) → next (map (λ (e : Entry). targets all e.shapes) es) c ≡ targets all (elements_at es c)
 next_is all [] c = refl
 next_is all (e ∷ es) zero = refl
 next_is all (e ∷ es) (suc c) = next_is all es c
@@ -32,7 +35,7 @@ small_targets : (all : List Entry) (es : List Element) (k : ℕ) → k < length 
 small_targets all [] k within = absurd (grind (arith, common_steps, within))
 small_targets all (e ∷ es) k within = cases (small_targets all es) (name_of e) k within where
   cases : ((j : ℕ) → j < length (targets all es) → item (targets all es) j ≤ length all) → (o : Option (List ℕ)) (j : ℕ) → j < length (target_if all o ++ targets all es) → item (target_if all o ++ targets all es) j ≤ length all
-  cases rest (Some name) zero inside = no_more (λ (x : Entry). bytes_eq name x.0.items) all
+  cases rest (Some name) zero inside = no_more (λ (x : Entry). bytes_eq name x.name) all
   cases rest (Some name) (suc j) inside = rest j (grind (arith, common_steps, inside))
   cases rest None j inside = rest j inside
 
@@ -130,7 +133,7 @@ module _ (entries : List Entry) (layer data_type t : ℕ) (s : State) (surveyed 
       )
 
   -- no chain of 256 references begins at a reached cell
-  shallow : (c : ℕ) → IsReached (graph_of entries) t c → IsDeep (graph_of entries) 256 c → ⊥
+  pub shallow : (c : ℕ) → IsReached (graph_of entries) t c → IsDeep (graph_of entries) 256 c → ⊥
   shallow c (m, way) (d, chain) = surveyed.shallow (record {
     references = m + 256;
     chain = (d, chain_joins (graph_of entries) m 256 t c d way chain);
@@ -168,3 +171,30 @@ module _ (entries : List Entry) (layer data_type t : ℕ) (s : State) (surveyed 
 
     pub top_counted : (c : ℕ) → IsReached (graph_of entries) t c → AreCounted cells counts 256 c
     top_counted c reached = counted 256 c reached (shallow c reached)
+
+  module _ (extents : List (Option Bounds)) (right : (q : ℕ) → q < length s.order → IsExtentOf (graph_of entries) cells (item s.order q) (extent_at extents (item s.order q))) where
+    -- where no chain of n references begins at a cell, its extent and those of all below it are right
+    pub held : (n c : ℕ) → IsReached (graph_of entries) t c → (IsDeep (graph_of entries) n c → ⊥) → AreHeld cells extents n c
+    unfolding AreHeld
+    held zero c reached shallow_here = absurd (shallow_here (c, refl))
+    held (suc n) c reached shallow_here =
+        let (q, within, is) = surveyed.all c reached in
+        let links : map (λ l. l.cell) (links_in (slice_get cells c)) ≡ next (graph_of entries) c =
+        subst (λ x. map (λ l. l.cell) (links_in (slice_get cells x)) ≡ next (graph_of entries) x) is (tied q within).1 in (
+          subst (λ x. IsRight (copies (hierarchy cells) (suc n) x) (extent_at extents x)) is
+              (right q within (suc n) (subst (λ x. IsDeep (graph_of entries) (suc n) x → ⊥) (sym is) shallow_here)),
+          λ k d small.
+              let row = in_row (links_in (slice_get cells c)) (next (graph_of entries) c) links k d small in
+              subst (λ x. AreHeld cells extents n x) row.1
+              (held n (item (next (graph_of entries) c) k) (reached_next (graph_of entries) t c k reached row.0)
+              (λ deep. shallow_here (deep.0, (k, row.0, deep.1)))),
+        )
+
+    pub top_held : (c : ℕ) → IsReached (graph_of entries) t c → AreHeld cells extents 256 c
+    top_held c reached = held 256 c reached (shallow c reached)
+
+    pub top_tight : (c : ℕ) → IsReached (graph_of entries) t c → IsTight (copies (hierarchy cells) 256 c) (extent_at extents c)
+    top_tight c reached =
+        let (q, within, is) = surveyed.all c reached in
+        subst (λ x. IsTight (copies (hierarchy cells) 256 x) (extent_at extents x)) is
+        (right q within 256 (shallow (item s.order q) (surveyed.order q within))).tight

@@ -9,7 +9,6 @@ use Rattle.std.proofs.Math.Path.{fun_ext}
 use Rattle.fill_base.specs.declared.place.Point.{Point}
 use Rattle.gds_record.specs.Numbers.{IsStored}
 use Rattle.gds_grammar.specs.declared.element.Transform.{Transform}
-use Rattle.gds_grammar.specs.declared.element.Array.{Array}
 use Rattle.gds_flatten.specs.declared.placement.Placement.{Placement}
 use Rattle.gds_flatten.specs.Placements.{placed}
 use Rattle.gds_flatten.specs.References.{is_bad_transform, is_count, is_whole, has_steps, array_fault, array_placements, placement_of, turns_in, is_reflected, point_at, step_of, grid_point}
@@ -39,16 +38,15 @@ laid_is p m d e r n x y k h =
     let moved : Placement → Placement = λ q. record q { x = f q.x; y = g q.y } in
     ap moved h ∙ moved_on r n x y f g
 
-pub array_is : (a : Array) (p : Placement) (m n : ℕ) (d e : Point) → p ≡ placement_of a.transform (point_at a.points 0) → m ≡ a.columns → n ≡ a.rows
-    → d ≡ step_of (point_at a.points 0) (point_at a.points 1) a.columns → e ≡ step_of (point_at a.points 0) (point_at a.points 2) a.rows
-    → map (laid p m d e) (range_with_len 0 (m * n)) ≡ array_placements a
-array_is a p m n d e hp hm hn hd he =
-    let t = a.transform in
-    let first = point_at a.points 0 in
-    let there : ℕ → Placement = λ k. placement_of t (grid_point a.points a.columns a.rows (k % a.columns) (k / a.columns)) in
+pub array_is : (t : Transform) (columns rows : ℕ) (points : List Point) (p : Placement) (m n : ℕ) (d e : Point) → p ≡ placement_of t (point_at points 0) → m ≡ columns → n ≡ rows
+    → d ≡ step_of (point_at points 0) (point_at points 1) columns → e ≡ step_of (point_at points 0) (point_at points 2) rows
+    → map (laid p m d e) (range_with_len 0 (m * n)) ≡ array_placements t columns rows points
+array_is t columns rows points p m n d e hp hm hn hd he =
+    let first = point_at points 0 in
+    let there : ℕ → Placement = λ k. placement_of t (grid_point points columns rows (k % columns) (k / columns)) in
     let each : (k : ℕ) → laid p m d e k ≡ there k = λ k. laid_is p m d e (is_reflected t) (unwrap_or (turns_in t.angle) 0) first.x first.y k hp ∙ rw (hm, hd, he) refl in
-    let count : m * n ≡ a.columns * a.rows = rw (hm, hn) refl in
-    ap (λ n. map (laid p m d e) (range_with_len 0 n)) count ∙ ap (λ f. map f (range_with_len 0 (a.columns * a.rows))) (fun_ext each)
+    let count : m * n ≡ columns * rows = rw (hm, hn) refl in
+    ap (λ n. map (laid p m d e) (range_with_len 0 n)) count ∙ ap (λ f. map f (range_with_len 0 (columns * rows))) (fun_ext each)
 
 -- ---- how far they go
 
@@ -115,7 +113,7 @@ stored_at (p ∷ points) zero h = h 0 origin (omega arith)
 stored_at (p ∷ points) (suc k) h = stored_at points k (λ j d lt. h (suc j) d (omega arith))
 
 -- why it isn't refused
-pub fine : (a : Array) → is_bad_transform a.transform ≡ false → is_count a.columns ≡ true → is_count a.rows ≡ true
-    → has_steps (point_at a.points 0) (point_at a.points 1) a.columns ≡ true → has_steps (point_at a.points 0) (point_at a.points 2) a.rows ≡ true
-    → array_fault a ≡ None
-fine a t m n d e = rw (t, m, n, d, e) refl
+pub fine : (t : Transform) (columns rows : ℕ) (points : List Point) → is_bad_transform t ≡ false → is_count columns ≡ true → is_count rows ≡ true
+    → has_steps (point_at points 0) (point_at points 1) columns ≡ true → has_steps (point_at points 0) (point_at points 2) rows ≡ true
+    → array_fault t columns rows points ≡ None
+fine t columns rows points h m n d e = rw (h, m, n, d, e) refl

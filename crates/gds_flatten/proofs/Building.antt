@@ -6,8 +6,8 @@ use Rattle.std.proofs.lemmas.List.{take_more, get_or-take, get_or_append_left, m
 use Rattle.std.proofs.lemmas.Option.{slice_get_read, slice_get_past, slice_get-get_or}
 use Rattle.std.proofs.Math.Seq.{get_or-append_seam}
 use Rattle.std.proofs.lemmas.Grind.{common_steps, flat_map-append}
-use Rattle.gds_grammar.specs.declared.element.Element.{Element}
-use Rattle.gds_grammar.specs.declared.element.Element.TheVariants.{Boundary, Path, Ref, Array}
+use Rattle.gds_grammar.specs.Values.{boundary, path, reference, array, Shape as Element, shape_of}
+use Rattle.gds_flatten.specs.Designs.{Entry}
 use Rattle.gds_flatten.specs.declared.cell.Cell.{Cell}
 use Rattle.gds_flatten.specs.declared.cell.Run.{Run}
 use Rattle.gds_flatten.specs.declared.link.Link.{Link}
@@ -17,7 +17,7 @@ use Rattle.gds_flatten.specs.declared.error.FlattenError.TheVariants.{Memory}
 use Rattle.gds_flatten.specs.Graphs.{item, next}
 use Rattle.gds_flatten.specs.References.{placements_of, name_of}
 use Rattle.gds_flatten.specs.Shapes.{is_shape}
-use Rattle.gds_flatten.specs.Designs.{Entry, graph_of, index_of, elements_at, target_if, targets, singles_to, singles_among, element_fault, AreFine}
+use Rattle.gds_flatten.specs.Designs.{graph_of, index_of, elements_at, target_if, targets, singles_to, singles_among, element_fault, AreFine}
 use Rattle.gds_flatten.specs.steps.Walks.{singles_of, own_in, singles_in}
 use Rattle.gds_flatten.specs.steps.Built.{own_of, links_from, singles_from, index_if, IsAdded, AreOf, IsRun, IsCell, IsFaulty, IsCellAt, AreBuilt, IsFaultAmong}
 
@@ -63,10 +63,10 @@ module _ (layer data_type : ℕ) where
 
     singles_same : (e : Element) (index : ℕ) → ((name : List ℕ) → name_of e ≡ Some name → index ≡ index_of cells name)
         → map (λ p. (index, p)) (placements_of e) ≡ singles_to cells (name_of e) (placements_of e)
-    singles_same (Boundary b) index is = refl
-    singles_same (Path p) index is = refl
-    singles_same (Ref r) index is = ap (λ (i : ℕ). map (λ p. (i, p)) (placements_of (Ref r))) (is r.cell.items refl)
-    singles_same (Array a) index is = ap (λ (i : ℕ). map (λ p. (i, p)) (placements_of (Array a))) (is a.value.cell.items refl)
+    singles_same (boundary l d points) index is = refl
+    singles_same (path l d wire) index is = refl
+    singles_same (reference cell transform origin) index is = ap (λ (i : ℕ). map (λ p. (i, p)) (placements_of (reference cell transform origin))) (is cell refl)
+    singles_same (array cell transform columns rows points) index is = ap (λ (i : ℕ). map (λ p. (i, p)) (placements_of (array cell transform columns rows points))) (is cell refl)
 
     target_same : (o : Option (List ℕ)) (index : ℕ) → ((name : List ℕ) → o ≡ Some name → index ≡ index_of cells name)
         → index_if index o ≡ target_if cells o
@@ -120,7 +120,7 @@ module _ (layer data_type : ℕ) where
     pub joins : (es fs : List Element) (ss ts : List Shape) (ks ls : List Link) → AreOf cells layer data_type es ss ks → AreOf cells layer data_type fs ts ls
         → AreOf cells layer data_type (es ++ fs) (ss ++ ts) (ks ++ ls)
     joins es fs ss ts ks ls first second = record {
-      own = map-append (λ (s : Shape). s.element.now) ss ts ∙ rw (first.own, second.own) (sym (filter_joins es fs));
+      own = map-append (λ (s : Shape). (shape_of s.element.now)) ss ts ∙ rw (first.own, second.own) (sym (filter_joins es fs));
       links = map-append (λ (l : Link). l.cell) ks ls ∙ rw (first.links, second.links) (sym (flat_map-append (λ x. target_if cells (name_of x)) es fs));
       singles = flat_map-append singles_of ks ls ∙ rw (first.singles, second.singles) (sym (flat_map-append (λ x. singles_to cells (name_of x) (placements_of x)) es fs));
     }
@@ -230,7 +230,7 @@ pub row_of : (entries : List Entry) (graph : List (List ℕ)) (c : ℕ) (row : L
     → row ≡ next graph c → elements ≡ elements_at entries c → row ≡ targets entries elements
 row_of entries graph c row elements is row_is elements_is =
     row_is ∙ ap (λ g. next g c) is ∙ at entries c ∙ ap (targets entries) (sym elements_is) where
-      at : (es : List Entry) (k : ℕ) → next (map (λ (e : Entry). targets entries e.1.items) es) k ≡ targets entries (elements_at es k)
+      at : (es : List Entry) (k : ℕ) → next (map (λ (e : Entry). targets entries e.shapes) es) k ≡ targets entries (elements_at es k)
       at [] k = refl
       at (e ∷ es) zero = refl
       at (e ∷ es) (suc k) = at es k

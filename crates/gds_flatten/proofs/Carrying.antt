@@ -16,6 +16,7 @@ use Rattle.gds_shape.specs.Paths.{in_bounds, AreInRange}
 use Rattle.gds_flatten.specs.declared.placement.Placement.{Placement}
 use Rattle.gds_flatten.specs.Placements.{back_x, back_y, signed, mirrored, carried, carried_bounds}
 use Rattle.gds_flatten.specs.steps.Prepared.{edges_of, IsOrdered}
+use Rattle.gds_flatten.specs.steps.Framing.{IsPart}
 
 -- ---- one axis: a range, negated or not, and moved
 
@@ -122,13 +123,6 @@ carried_solid p b h = cases p.swapped
     })
     cases true = record { wide = strict p.flip_x b.bottom b.top p.x h.tall; tall = strict p.flip_y b.left b.right p.y h.wide }
     cases false = record { wide = strict p.flip_x b.left b.right p.x h.wide; tall = strict p.flip_y b.bottom b.top p.y h.tall }
-
--- the rectangle lies within the other
-pub record IsPart (b c : Bounds) : Type 0 where
-  pub left : b.left ≤ℤ c.left
-  pub bottom : b.bottom ≤ℤ c.bottom
-  pub right : c.right ≤ℤ b.right
-  pub top : c.top ≤ℤ b.top
 
 pub part_carried : (p : Placement) (b c : Bounds) → IsPart b c → IsOrdered c → AreInRange (carried_bounds p b) → AreInRange (carried_bounds p c)
 part_carried p b c h o = cases p.swapped

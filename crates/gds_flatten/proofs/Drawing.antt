@@ -8,7 +8,7 @@ use Rattle.std.proofs.lemmas.List.FromFn.{get_or-range_with_len, length-range_wi
 use Rattle.std.proofs.lemmas.Grind.{common_steps, flat_map-append}
 use Rattle.fill_base.specs.declared.rect.Rect.{Rect}
 use Rattle.fill_region.specs.Squares.{covered}
-use Rattle.gds_grammar.specs.declared.element.Element.{Element}
+use Rattle.gds_grammar.specs.Values.{Shape as Element, shape_of}
 use Rattle.gds_flatten.specs.declared.error.FlattenError.{FlattenError}
 use Rattle.gds_flatten.specs.declared.error.FlattenError.TheVariants.{Memory, OutOfRange}
 use Rattle.gds_flatten.specs.declared.placement.Placement.{Placement}
@@ -31,13 +31,13 @@ append_nil (x ∷ xs) = ap (λ ys. x ∷ ys) (append_nil xs)
 zero_more : (k : ℕ) → 0 + k ≡ k
 zero_more k = omega arith
 
-or_false : (a : Bool) → a ≡ (a || false)
+pub or_false : (a : Bool) → a ≡ (a || false)
 or_false a = grind arith
 
-or_joins : (a b c : Bool) → ((a || b) || c) ≡ (a || (b || c))
+pub or_joins : (a b c : Bool) → ((a || b) || c) ≡ (a || (b || c))
 or_joins a b c = grind arith
 
-drawn_joins : (cs ds : List Copy) (x y : ℤ) → drawn (cs ++ ds) x y ≡ (drawn cs x y || drawn ds x y)
+pub drawn_joins : (cs ds : List Copy) (x y : ℤ) → drawn (cs ++ ds) x y ≡ (drawn cs x y || drawn ds x y)
 drawn_joins [] ds x y = refl
 drawn_joins (c ∷ cs) ds x y = rw (drawn_joins cs ds x y) (sym (or_joins (copy_covers c x y) (drawn cs x y) (drawn ds x y)))
 
@@ -114,14 +114,14 @@ pub shape_leaves : (at : Placement) (element : Element) → (StaysInRange at ele
 shape_leaves at element leaves =
     one_leaves (carry_copy at (own_copy element)) (λ stays. leaves (subst (λ (p : Placement). StaysInRange p element) (composed_still at) stays))
 
-carried_twice : (p q : Placement) (cs : List Copy) → map (carry_copy p) (map (carry_copy q) cs) ≡ map (carry_copy (composed p q)) cs
+pub carried_twice : (p q : Placement) (cs : List Copy) → map (carry_copy p) (map (carry_copy q) cs) ≡ map (carry_copy (composed p q)) cs
 carried_twice p q [] = refl
 carried_twice p q (c ∷ cs) = λ k. record { placement = composed_groups p q c.placement k; element = c.element } ∷ carried_twice p q cs k
 
 own_carried : (at : Placement) (shapes : List Shape)
-    → map (carry_copy at) (map own_copy (map (λ s. s.element.now) shapes)) ≡ flat_map (shape_copies at) shapes
+    → map (carry_copy at) (map own_copy (map (λ s. (shape_of s.element.now)) shapes)) ≡ flat_map (shape_copies at) shapes
 own_carried at [] = refl
-own_carried at (s ∷ shapes) = ap (λ cs. carry_copy at (own_copy s.element.now) ∷ cs) (own_carried at shapes)
+own_carried at (s ∷ shapes) = ap (λ cs. carry_copy at (own_copy (shape_of s.element.now)) ∷ cs) (own_carried at shapes)
 
 module _ (at : Placement) (below : ℕ → List Copy) where
   abbrev through : ℕ × Placement → List Copy

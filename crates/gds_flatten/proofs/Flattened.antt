@@ -5,8 +5,8 @@ use Rattle.std.specs.List.{list_any}
 use Rattle.std.proofs.lemmas.Grind.{common_steps}
 use Rattle.fill_base.specs.declared.rect.Rect.{Rect}
 use Rattle.fill_region.specs.Squares.{covered}
-use Rattle.gds_grammar.specs.declared.element.Element.{Element}
-use Rattle.gds_grammar.specs.declared.element.Element.TheVariants.{Boundary, Path, Ref, Array}
+use Rattle.gds_grammar.specs.Values.{boundary, path, reference, array, Shape as Element}
+use Rattle.gds_flatten.specs.Designs.{Entry}
 use Rattle.gds_shape.specs.declared.error.ShapeError.{ShapeError}
 use Rattle.gds_shape.specs.declared.error.ShapeError.TheVariants as shapes
 use Rattle.gds_shape.specs.Winding.{edges}
@@ -20,7 +20,7 @@ use Rattle.gds_flatten.specs.References.{reference_fault, is_bad_transform, is_b
 use Rattle.gds_flatten.specs.Shapes.{is_shape, shape_fault, refusal_if}
 use Rattle.gds_flatten.specs.Copies.{Copy, carry_copy, copies, drawn, AllStayInRange}
 use Rattle.gds_flatten.specs.Placements.{still}
-use Rattle.gds_flatten.specs.Designs.{Entry, index_of, graph_of, element_fault, IsFirstFault, AllFine}
+use Rattle.gds_flatten.specs.Designs.{index_of, graph_of, element_fault, IsFirstFault, AllFine}
 use Rattle.gds_flatten.specs.Flattening.{HasTop, LacksCell, IsSound, copies_of, IsCountable, IsRefused}
 use Rattle.gds_flatten.specs.steps.Searches.{State, IsOrdered}
 use Rattle.gds_flatten.specs.steps.Surveys.{IsSurveyed, IsUnsound}
@@ -76,17 +76,17 @@ own_drawn true o h = h
 own_drawn false o h = tt
 
 own_shape : (e : Element) → IsOwn (shape_fault e)
-own_shape (Boundary b) = own_slant (list_any is_slanted (edges b.points.items))
-own_shape (Path p) = own_drawn (is_drawn p) (fault_among p (corners_of p))
+own_shape (boundary l d points) = own_slant (list_any is_slanted (edges points))
+own_shape (path l d p) = own_drawn (is_drawn p) (fault_among p (corners_of p))
     (own_path (list_any is_slanted (edges (corners_of p))) (has_round_end p) (has_odd_width p) (doubles_back (corners_of p)) (has_bad_extension p))
-own_shape (Ref r) = tt
-own_shape (Array a) = tt
+own_shape (reference cell transform origin) = tt
+own_shape (array cell transform columns rows points) = tt
 
 own_ref : (e : Element) → IsOwn (reference_fault e)
-own_ref (Boundary b) = tt
-own_ref (Path p) = tt
-own_ref (Ref r) = own_single (is_bad_transform r.transform)
-own_ref (Array a) = own_reference (is_bad_transform a.value.transform) (is_bad_array a.value.columns a.value.rows a.value.points)
+own_ref (boundary l d points) = tt
+own_ref (path l d p) = tt
+own_ref (reference cell transform origin) = own_single (is_bad_transform transform)
+own_ref (array cell transform columns rows points) = own_reference (is_bad_transform transform) (is_bad_array columns rows points)
 
 own_fault : (layer data_type : ℕ) (e : Element) → IsOwn (element_fault layer data_type e)
 own_fault layer data_type e = cases (is_shape layer data_type e) where
@@ -126,7 +126,11 @@ module _ (entries : List Entry) (top : List ℕ) (layer data_type : ℕ) where
   refused_own TooManyShapes own sound fault = absurd cc
   refused_own OutOfRange own sound fault = absurd cc
 
-  long : length (graph_of entries) ≡ length entries
+  -- no fault of an element is one of copies
+  not_own : (f e : FlattenError) → is_own f ≡ false → is_own e ≡ true → e ≡ f → ⊥
+  not_own f e other own is = let same = ap is_own is in let both : true ≡ false = sym own ∙ same ∙ other in cc
+
+  pub long : length (graph_of entries) ≡ length entries
   long = grind (arith, common_steps)
 
   lacks : IsReached (graph_of entries) (index_of entries top) (length (graph_of entries)) → LacksCell entries top
@@ -153,7 +157,7 @@ module _ (entries : List Entry) (top : List ℕ) (layer data_type : ℕ) where
   unsound_refused has OutOfRange h = absurd h
 
   module _ (has : HasTop entries top) (s : State) (surveyed : IsSurveyed (graph_of entries) (index_of entries top) s) where
-    sound : IsSound entries top
+    pub sound : IsSound entries top
     sound = record {
       has_top = has;
       complete = λ l. surveyed.complete (lacked l);
@@ -174,6 +178,15 @@ module _ (entries : List Entry) (top : List ℕ) (layer data_type : ℕ) where
           before = among.fault.before;
           earlier = λ c less reached. among.earlier c less (surveyed.found c reached);
         })
+
+    pub fault_early : (e : FlattenError) → ((e ≡ Memory) ⊎ IsFaultAmong entries layer data_type s.steps e) → (e ≡ TooManyShapes → ⊥) × (e ≡ OutOfRange → ⊥)
+    unfolding is_own
+    fault_early e (inl m) = ((λ is. let both : Memory ≡ TooManyShapes = sym m ∙ is in cc), (λ is. let both : Memory ≡ OutOfRange = sym m ∙ is in cc))
+    fault_early e (inr among) =
+        let own = is_the_own layer data_type among.fault.element e among.fault.faulty in (
+          (λ is. not_own TooManyShapes e refl own is),
+          (λ is. not_own OutOfRange e refl own is),
+        )
 
     module _ (cells : List Cell) (built : AreBuilt entries layer data_type s.steps (length entries) cells) (counts : List ℕ)
         (right : (q : ℕ) → q < length s.order → IsCount (graph_of entries) cells (item s.order q) (item counts (item s.order q))) where

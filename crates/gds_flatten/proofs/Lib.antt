@@ -9,6 +9,12 @@ pub mod Within
 pub mod Composing
 pub mod Centres
 pub mod Stepping
+pub mod Sized
+pub mod Tight
+pub mod Beside
+pub mod Missed
+pub mod Inside
+pub mod Busy
 pub mod Turns
 pub mod Arrays
 pub mod Wholes
@@ -27,3 +33,10 @@ pub mod Surveying
 pub mod Agreeing
 pub mod Flattened
 pub mod Extending
+pub mod Shaping
+pub mod Leaving
+pub mod Seen
+pub mod Holding
+pub mod ExtentsInOrder
+pub mod Cornered
+pub mod Framing

@@ -11,7 +11,7 @@ use Rattle.fill_base.specs.Coordinates.{lowest, highest}
 use Rattle.fill_base.specs.Squares.{squares}
 use Rattle.fill_base.proofs.Signed.{read}
 use Rattle.fill_region.specs.Squares.{covered}
-use Rattle.gds_grammar.specs.declared.element.Element.{Element}
+use Rattle.gds_grammar.specs.Values.{Shape as Element}
 use Rattle.gds_shape.specs.declared.bounds.Bounds.{Bounds}
 use Rattle.gds_shape.specs.Paths.{in_bounds, AreInRange}
 use Rattle.gds_shape.specs.Extents.{IsExtent, IsNarrow, IsNear, corner_move}
@@ -21,7 +21,8 @@ use Rattle.gds_flatten.specs.Shapes.{covers_of, parts_of, StaysInRange}
 use Rattle.gds_flatten.specs.steps.Prepared.{edges_of, way_back, IsOrdered, IsDrawn}
 use Rattle.gds_flatten.specs.steps.Ranges.{IsWithin}
 use Rattle.gds_flatten.proofs.Composing.{carried_together, point_together_x, point_together_y}
-use Rattle.gds_flatten.proofs.Carrying.{low, high, InRange, IsPart, part_carried, rect_ordered}
+use Rattle.gds_flatten.proofs.Carrying.{low, high, InRange, part_carried, rect_ordered}
+use Rattle.gds_flatten.specs.steps.Framing.{IsPart}
 
 le_self : (a : ℤ) → a ≤ℤ a
 le_self a = omega (arith, ints)

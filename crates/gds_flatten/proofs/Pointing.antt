@@ -83,14 +83,19 @@ four l m r t = record { left = l; bottom = m; right = r; top = t }
 four_is : (l m r t l' m' r' t' : ℤ) → l ≡ l' → m ≡ m' → r ≡ r' → t ≡ t' → four l m r t ≡ four l' m' r' t'
 four_is l m r t l' m' r' t' h i j k = rw (h, i, j, k) refl
 
-pub bounds_read : (p : Placement) (b : Bounds) (x1 y1 x2 y2 l m r t : ℤ) → IsWithin 258 p → IsNear b
+pub bounds_read_close : (p : Placement) (b : Bounds) (x1 y1 x2 y2 l m r t : ℤ) → IsWithin 258 p → FourClose b
     → x1 ≡ point_x p b.left b.bottom → y1 ≡ point_y p b.left b.bottom → x2 ≡ point_x p b.right b.top → y2 ≡ point_y p b.right b.top
     → l ≡ int_min (read x1) (read x2) → m ≡ int_min (read y1) (read y2) → r ≡ int_max (read x1) (read x2) → t ≡ int_max (read y1) (read y2)
     → four (read l) (read m) (read r) (read t) ≡ carried_bounds p b
-bounds_read p b x1 y1 x2 y2 l m r t w n hx1 hy1 hx2 hy2 hl hm hr ht =
-    let c = near_fours b n in
+bounds_read_close p b x1 y1 x2 y2 l m r t w c hx1 hy1 hx2 hy2 hl hm hr ht =
     let fx1 : IsFair (point_x p b.left b.bottom) = point_fair p.flip_x p.swapped b.bottom b.left p.x c.bottom c.left w.x in
     let fy1 : IsFair (point_y p b.left b.bottom) = point_fair p.flip_y p.swapped b.left b.bottom p.y c.left c.bottom w.y in
     let fx2 : IsFair (point_x p b.right b.top) = point_fair p.flip_x p.swapped b.top b.right p.x c.top c.right w.x in
     let fy2 : IsFair (point_y p b.right b.top) = point_fair p.flip_y p.swapped b.right b.top p.y c.right c.top w.y in
     four_is _ _ _ _ _ _ _ _ (least_read x1 x2 _ _ l fx1 fx2 hx1 hx2 hl) (least_read y1 y2 _ _ m fy1 fy2 hy1 hy2 hm) (most_read x1 x2 _ _ r fx1 fx2 hx1 hx2 hr) (most_read y1 y2 _ _ t fy1 fy2 hy1 hy2 ht)
+
+pub bounds_read : (p : Placement) (b : Bounds) (x1 y1 x2 y2 l m r t : ℤ) → IsWithin 258 p → IsNear b
+    → x1 ≡ point_x p b.left b.bottom → y1 ≡ point_y p b.left b.bottom → x2 ≡ point_x p b.right b.top → y2 ≡ point_y p b.right b.top
+    → l ≡ int_min (read x1) (read x2) → m ≡ int_min (read y1) (read y2) → r ≡ int_max (read x1) (read x2) → t ≡ int_max (read y1) (read y2)
+    → four (read l) (read m) (read r) (read t) ≡ carried_bounds p b
+bounds_read p b x1 y1 x2 y2 l m r t w n = bounds_read_close p b x1 y1 x2 y2 l m r t w (near_fours b n)

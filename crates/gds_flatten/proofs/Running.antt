@@ -10,13 +10,14 @@ use Rattle.std.proofs.lemmas.Option.{slice_get_within}
 use Rattle.std.proofs.lemmas.Nat.{div-add-mod', mod_below}
 use Rattle.std.proofs.Math.Seq.{get_or-append_seam}
 use Rattle.std.proofs.lemmas.Grind.{common_steps, flat_map-append}
-use Rattle.gds_grammar.specs.declared.element.Element.{Element}
+use Rattle.gds_grammar.specs.Values.{Shape as Element}
+use Rattle.gds_flatten.specs.Designs.{Entry}
 use Rattle.gds_flatten.specs.declared.cell.Run.{Run}
 use Rattle.gds_flatten.specs.declared.error.FlattenError.{FlattenError}
 use Rattle.gds_flatten.specs.declared.error.FlattenError.TheVariants.{Memory}
 use Rattle.gds_flatten.specs.declared.link.Link.{Link}
 use Rattle.gds_flatten.specs.declared.shape.Shape.{Shape}
-use Rattle.gds_flatten.specs.Designs.{Entry, element_fault, AreFine}
+use Rattle.gds_flatten.specs.Designs.{element_fault, AreFine}
 use Rattle.gds_flatten.specs.steps.Built.{AreOf, IsRun, IsFaulty, AreRuns, run_at}
 use Rattle.gds_flatten.proofs.Building.{joins}
 
@@ -115,20 +116,23 @@ module _ (entries : List Entry) (layer data_type size : ℕ) (elements : List El
       (subst (λ xs. AreOf entries layer data_type xs (flat_map vec_items shapes) links) whole joined.are, subst (λ xs. AreFine layer data_type xs) whole joined.fine)
 
 -- the runs, as ranges of the elements
-pub runs_are : (entries : List Entry) (layer data_type size : ℕ) (elements : List Element) (runs : List (Result Run FlattenError)) → 0 < size
-    → length runs ≡ length elements / size + min 1 (length elements % size)
-    → ((k : ℕ) (d : Result Run FlattenError) → k < length runs → IfOk (get_or runs k d) (λ run. IsRun entries layer data_type (take (min size (length elements - k * size)) (drop (k * size) elements)) run))
-    → ((k : ℕ) (d : Result Run FlattenError) → k < length runs → IfOk (get_or runs k d) (λ run. AreFine layer data_type (take (min size (length elements - k * size)) (drop (k * size) elements))))
-    → ((k : ℕ) (d : Result Run FlattenError) → k < length runs → IfErr (get_or runs k d) (λ e. (e ≡ Memory) ⊎ IsFaulty layer data_type (take (min size (length elements - k * size)) (drop (k * size) elements)) e))
+pub runs_are : (entries : List Entry) (layer data_type size : ℕ) (elements : List Element) (runs : List (Result Run FlattenError)) (n : ℕ) → n ≡ length elements → 0 < size
+    → length runs ≡ n / size + min 1 (n % size)
+    → ((k : ℕ) (d : Result Run FlattenError) → k < length runs → IfOk (get_or runs k d) (λ run. IsRun entries layer data_type (take (min size (n - k * size)) (drop (k * size) elements)) run))
+    → ((k : ℕ) (d : Result Run FlattenError) → k < length runs → IfOk (get_or runs k d) (λ run. AreFine layer data_type (take (min size (n - k * size)) (drop (k * size) elements))))
+    → ((k : ℕ) (d : Result Run FlattenError) → k < length runs → IfErr (get_or runs k d) (λ e. (e ≡ Memory) ⊎ IsFaulty layer data_type (take (min size (n - k * size)) (drop (k * size) elements)) e))
     → AreRuns entries layer data_type size elements runs
-runs_are entries layer data_type size elements runs some count built fine refused = record {
-  all = let whole = div-add-mod' (length elements) size in let rest = mod_below (length elements) size some in enough (length elements / size) (length elements % size) size (length elements) (length runs) whole rest count;
-  built = λ k d within. subst (λ xs. IfOk (get_or runs k d) (λ run. IsRun entries layer data_type xs run)) (taken_left size (k * size) elements) (built k d within);
-  fine = λ k d within. subst (λ xs. IfOk (get_or runs k d) (λ run. AreFine layer data_type xs)) (taken_left size (k * size) elements) (fine k d within);
-  refused = λ k d within. subst (λ xs. IfErr (get_or runs k d) (λ e. (e ≡ Memory) ⊎ IsFaulty layer data_type xs e)) (taken_left size (k * size) elements) (refused k d within);
+runs_are entries layer data_type size elements runs n long some count built fine refused = record {
+  all = let whole = div-add-mod' n size in let rest = mod_below n size some in subst (λ m. m ≤ length runs * size) long (enough (n / size) (n % size) size n (length runs) whole rest count);
+  built = λ k d within. subst (λ xs. IfOk (get_or runs k d) (λ run. IsRun entries layer data_type xs run)) (left k) (built k d within);
+  fine = λ k d within. subst (λ xs. IfOk (get_or runs k d) (λ run. AreFine layer data_type xs)) (left k) (fine k d within);
+  refused = λ k d within. subst (λ xs. IfErr (get_or runs k d) (λ e. (e ≡ Memory) ⊎ IsFaulty layer data_type xs e)) (left k) (refused k d within);
 } where
   enough : (q r s n m : ℕ) → q * s + r ≡ n → r < s → m ≡ q + min 1 r → n ≤ m * s
   enough q r s n m whole less is = grind (arith, whole, less, is)
+
+  left : (k : ℕ) → take (min size (n - k * size)) (drop (k * size) elements) ≡ run_at size k elements
+  left k = ap (λ m. take (min size (m - k * size)) (drop (k * size) elements)) long ∙ taken_left size (k * size) elements
 
 -- where nothing is left, all have come
 pub all_came : {X : Type 0} (done rest all : List X) (n : ℕ) → done ++ rest ≡ all → n ≡ length rest → n ≡ 0 → length done ≡ length all

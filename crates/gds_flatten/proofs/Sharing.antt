@@ -14,6 +14,7 @@ use Rattle.std.proofs.lemmas.Grind.{common_steps, flat_map-append, div_ceil_time
 use Rattle.fill_base.specs.declared.rect.Rect.{Rect}
 use Rattle.fill_base.specs.Squares.{squares}
 use Rattle.fill_region.specs.Squares.{covered}
+use Rattle.gds_grammar.specs.Values.{shape_of}
 use Rattle.gds_flatten.specs.declared.cell.Cell.{Cell}
 use Rattle.gds_flatten.specs.declared.link.Link.{Link}
 use Rattle.gds_flatten.specs.declared.placement.Placement.{Placement}
@@ -82,7 +83,7 @@ part_stays f t cs all = All-drop (λ (c : Copy). StaysInRange c.placement c.elem
 
 module _ (at : Placement) where
   abbrev carried_shape : Shape → Copy
-  carried_shape s = carry_copy at (own_copy s.element.now)
+  carried_shape s = carry_copy at (own_copy (shape_of s.element.now))
 
   -- each shape is one copy
   pub own_long : (shapes : List Shape) → length (flat_map (shape_copies at) shapes) ≡ length shapes

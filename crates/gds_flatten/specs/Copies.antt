@@ -2,7 +2,7 @@
 -- each carried as its references say.
 use Rattle.std.specs.Prelude.{ℕ, zero, suc, ℤ, Bool, List, [], ◌++◌, map, All}
 use Rattle.std.specs.List.{list_any, flat_map}
-use Rattle.gds_grammar.specs.declared.element.Element.{Element}
+use Rattle.gds_grammar.specs.Values.{Shape as Element}
 use Rattle.gds_flatten.specs.declared.placement.Placement.{Placement}
 use Rattle.gds_flatten.specs.Placements.{carried, composed, still}
 use Rattle.gds_flatten.specs.Shapes.{covers_of, StaysInRange}

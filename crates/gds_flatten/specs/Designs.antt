@@ -2,8 +2,7 @@
 use Rattle.std.specs.Prelude.{◌≡◌, ℕ, ◌<◌, List, [], ◌∷◌, map, take, slice_get, filter, if◌then◌else◌, Option, Some, None, All}
 use Rattle.std.specs.List.{flat_map, position_or_len}
 use Rattle.std.specs.Str.{bytes_eq}
-use Rattle.std.specs.Global.{Vec}
-use Rattle.gds_grammar.specs.declared.element.Element.{Element}
+use Rattle.gds_grammar.specs.Values.{Cell, Shape as Element}
 use Rattle.gds_flatten.specs.declared.error.FlattenError.{FlattenError}
 use Rattle.gds_flatten.specs.declared.placement.Placement.{Placement}
 use Rattle.gds_flatten.specs.References.{placements_of, name_of, reference_fault}
@@ -11,16 +10,16 @@ use Rattle.gds_flatten.specs.Shapes.{is_shape, shape_fault}
 use Rattle.gds_flatten.specs.Graphs.{Graph, IsReached}
 use Rattle.gds_flatten.specs.Copies.{Hierarchy}
 
--- a cell, as the library has it: its name and its elements
+-- a cell, as the library says it: its name and its elements
 abbrev pub Entry : Type 0
-Entry = Vec ℕ × Vec Element
+Entry = Cell
 
 -- the index of the cell of this name; the number of cells where none has it
 abbrev pub index_of : List Entry → List ℕ → ℕ
-index_of cells name = position_or_len (λ e. bytes_eq name e.0.items) cells
+index_of cells name = position_or_len (λ e. bytes_eq name e.name) cells
 
 abbrev pub elements_in : Option Entry → List Element
-elements_in (Some e) = e.1.items
+elements_in (Some e) = e.shapes
 elements_in None = []
 
 abbrev pub elements_at : List Entry → ℕ → List Element
@@ -35,7 +34,7 @@ abbrev pub targets : List Entry → List Element → List ℕ
 targets cells elements = flat_map (λ e. target_if cells (name_of e)) elements
 
 abbrev pub graph_of : List Entry → Graph
-graph_of cells = map (λ e. targets cells e.1.items) cells
+graph_of cells = map (λ e. targets cells e.shapes) cells
 
 -- the single references that elements stand for, each with the index of its cell
 abbrev pub singles_to : List Entry → Option (List ℕ) → List Placement → List (ℕ × Placement)

@@ -1,9 +1,11 @@
 -- What flattening answers, and when each refusal comes.
 use Rattle.std.specs.Prelude.{ℕ, ◌<◌, ◌≤◌, List, length}
+use Rattle.fill_base.specs.declared.rect.Rect.{Rect}
 use Rattle.gds_flatten.specs.declared.error.FlattenError.{FlattenError}
 use Rattle.gds_flatten.specs.declared.error.FlattenError.TheVariants.{Memory, NoTop, MissingCell, Cycle, TooDeep, TooManyShapes, OutOfRange}
 use Rattle.gds_flatten.specs.Graphs.{IsReached, IsCyclic, IsTooDeep}
 use Rattle.gds_flatten.specs.Copies.{Copy, copies, AllStayInRange}
+use Rattle.gds_flatten.specs.Frames.{met}
 use Rattle.gds_flatten.specs.Designs.{Entry, index_of, graph_of, hierarchy_of, IsFirstFault, AllFine}
 
 abbrev pub HasTop : List Entry → List ℕ → Type 0
@@ -47,3 +49,19 @@ IsRefused cells top layer data_type OutOfRange =
     IsCountable cells top layer data_type × (AllStayInRange (copies_of cells top layer data_type) → ⊥)
 IsRefused cells top layer data_type e =
     IsSound cells top × IsFirstFault cells (index_of cells top) layer data_type e
+
+-- so too of a part of a design, but that only the copies count whose extents meet the frame
+pub record IsCountableOn (cells : List Entry) (top : List ℕ) (layer data_type : ℕ) (frame : Rect) : Type 0 where
+  pub sound : IsSound cells top
+  pub fine : AllFine cells (index_of cells top) layer data_type
+  pub few : met frame (copies_of cells top layer data_type) ≤ 4000000
+
+-- why a design is refused of which a part is asked for: for the same causes, but that of the copies only those
+-- are too many that meet the frame; one that passes the range is a cause wherever it lies
+abbrev pub IsRefusedOn : List Entry → List ℕ → ℕ → ℕ → Rect → FlattenError → Type 0
+IsRefusedOn cells top layer data_type frame TooManyShapes =
+    IsSound cells top × AllFine cells (index_of cells top) layer data_type
+    × (4000000 < met frame (copies_of cells top layer data_type))
+IsRefusedOn cells top layer data_type frame OutOfRange =
+    IsCountableOn cells top layer data_type frame × (AllStayInRange (copies_of cells top layer data_type) → ⊥)
+IsRefusedOn cells top layer data_type frame e = IsRefused cells top layer data_type e

@@ -5,6 +5,8 @@ pub mod Graphs
 pub mod Links
 pub mod Copies
 pub mod Designs
+pub mod Frames
 pub mod Flattening
+pub mod Layers
 pub mod Laws
 pub mod steps

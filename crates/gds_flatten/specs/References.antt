@@ -6,9 +6,7 @@ use Rattle.std.specs.Ordering.{int_eq}
 use Rattle.fill_base.specs.declared.place.Point.{Point}
 use Rattle.gds_record.specs.Reals.{bits_of, fraction, exponent, is_negative, turns_of}
 use Rattle.gds_grammar.specs.declared.element.Transform.{Transform}
-use Rattle.gds_grammar.specs.declared.element.Array as arrays
-use Rattle.gds_grammar.specs.declared.element.Element.{Element}
-use Rattle.gds_grammar.specs.declared.element.Element.TheVariants.{Boundary, Path, Ref, Array}
+use Rattle.gds_grammar.specs.Values.{boundary, path, reference, array, Shape as Element}
 use Rattle.gds_flatten.specs.declared.error.FlattenError.{FlattenError}
 use Rattle.gds_flatten.specs.declared.error.FlattenError.TheVariants.{BadTransform, BadArray}
 use Rattle.gds_flatten.specs.declared.placement.Placement.{Placement}
@@ -94,36 +92,36 @@ is_bad_array columns rows points =
     && has_steps (point_at points 0) (point_at points 2) rows)
 
 -- the single references of an array, row by row
-abbrev pub array_placements : arrays.Array → List Placement
-array_placements a =
-    map (λ k. placement_of a.transform (grid_point a.points a.columns a.rows (k % a.columns) (k / a.columns)))
-    (range_with_len 0 (a.columns * a.rows))
+abbrev pub array_placements : Transform → ℕ → ℕ → List Point → List Placement
+array_placements transform columns rows points =
+    map (λ k. placement_of transform (grid_point points columns rows (k % columns) (k / columns)))
+    (range_with_len 0 (columns * rows))
 
 -- why an array is refused
-abbrev pub array_fault : arrays.Array → Option FlattenError
-array_fault a =
-    if is_bad_transform a.transform then Some BadTransform
-    else if is_bad_array a.columns a.rows a.points then Some BadArray
+abbrev pub array_fault : Transform → ℕ → ℕ → List Point → Option FlattenError
+array_fault transform columns rows points =
+    if is_bad_transform transform then Some BadTransform
+    else if is_bad_array columns rows points then Some BadArray
     else None
 
 -- ---- the single references that an element stands for
 
 abbrev pub placements_of : Element → List Placement
-placements_of (Boundary b) = []
-placements_of (Path p) = []
-placements_of (Ref r) = placement_of r.transform r.origin ∷ []
-placements_of (Array a) = array_placements a.value
+placements_of (boundary l d points) = []
+placements_of (path l d wire) = []
+placements_of (reference cell transform origin) = placement_of transform origin ∷ []
+placements_of (array cell transform columns rows points) = array_placements transform columns rows points
 
 -- the name of the cell that an element refers to
 abbrev pub name_of : Element → Option (List ℕ)
-name_of (Boundary b) = None
-name_of (Path p) = None
-name_of (Ref r) = Some r.cell.items
-name_of (Array a) = Some a.value.cell.items
+name_of (boundary l d points) = None
+name_of (path l d wire) = None
+name_of (reference cell transform origin) = Some cell
+name_of (array cell transform columns rows points) = Some cell
 
 -- why a reference is refused
 abbrev pub reference_fault : Element → Option FlattenError
-reference_fault (Boundary b) = None
-reference_fault (Path p) = None
-reference_fault (Ref r) = if is_bad_transform r.transform then Some BadTransform else None
-reference_fault (Array a) = array_fault a.value
+reference_fault (boundary l d points) = None
+reference_fault (path l d wire) = None
+reference_fault (reference cell transform origin) = if is_bad_transform transform then Some BadTransform else None
+reference_fault (array cell transform columns rows points) = array_fault transform columns rows points

@@ -1,8 +1,7 @@
 -- The shapes of a layer: what each covers, how far it goes, and why it's refused.
 use Rattle.std.specs.Prelude.{ℕ, ℤ, Bool, false, ◌&&◌, ◌==◌, List, [], map, cond, Option, Some, None, All}
 use Rattle.std.specs.List.{list_any}
-use Rattle.gds_grammar.specs.declared.element.Element.{Element}
-use Rattle.gds_grammar.specs.declared.element.Element.TheVariants.{Boundary, Path, Ref, Array}
+use Rattle.gds_grammar.specs.Values.{boundary, path, reference, array, Shape as Element}
 use Rattle.gds_shape.specs.declared.bounds.Bounds.{Bounds}
 use Rattle.gds_shape.specs.declared.error.ShapeError.{ShapeError}
 use Rattle.gds_shape.specs.declared.error.ShapeError.TheVariants as shapes
@@ -16,24 +15,24 @@ use Rattle.gds_flatten.specs.Placements.{carried_bounds}
 
 -- a boundary or path of the layer and data type
 abbrev pub is_shape : ℕ → ℕ → Element → Bool
-is_shape layer data_type (Boundary b) = b.layer == layer && b.data_type == data_type
-is_shape layer data_type (Path p) = p.layer == layer && p.data_type == data_type
-is_shape layer data_type (Ref r) = false
-is_shape layer data_type (Array a) = false
+is_shape layer data_type (boundary l d points) = l == layer && d == data_type
+is_shape layer data_type (path l d wire) = l == layer && d == data_type
+is_shape layer data_type (reference cell transform origin) = false
+is_shape layer data_type (array cell transform columns rows points) = false
 
 -- the squares that it covers
 abbrev pub covers_of : Element → ℤ → ℤ → Bool
-covers_of (Boundary b) x y = covers b.points.items x y
-covers_of (Path p) x y = path_covers p x y
-covers_of (Ref r) x y = false
-covers_of (Array a) x y = false
+covers_of (boundary l d points) x y = covers points x y
+covers_of (path l d wire) x y = path_covers wire x y
+covers_of (reference cell transform origin) x y = false
+covers_of (array cell transform columns rows points) x y = false
 
 -- the points of a boundary, the rectangles of a path's segments
 abbrev pub parts_of : Element → List Bounds
-parts_of (Boundary b) = map at_point b.points.items
-parts_of (Path p) = segments_of p
-parts_of (Ref r) = []
-parts_of (Array a) = []
+parts_of (boundary l d points) = map at_point points
+parts_of (path l d wire) = segments_of wire
+parts_of (reference cell transform origin) = []
+parts_of (array cell transform columns rows points) = []
 
 -- carried so, it stays within the coordinates, also where it covers nothing
 abbrev pub StaysInRange : Placement → Element → Type 0
@@ -54,7 +53,7 @@ refusal_if None = None
 
 -- why a shape is refused
 abbrev pub shape_fault : Element → Option FlattenError
-shape_fault (Boundary b) = cond (list_any is_slanted (edges b.points.items)) (Some NotManhattan) None
-shape_fault (Path p) = refusal_if (path_fault p)
-shape_fault (Ref r) = None
-shape_fault (Array a) = None
+shape_fault (boundary l d points) = cond (list_any is_slanted (edges points)) (Some NotManhattan) None
+shape_fault (path l d wire) = refusal_if (path_fault wire)
+shape_fault (reference cell transform origin) = None
+shape_fault (array cell transform columns rows points) = None

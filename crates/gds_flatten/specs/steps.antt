@@ -9,3 +9,5 @@ pub mod Counting
 pub mod Built
 pub mod Filled
 pub mod Prepared
+pub mod Framing
+pub mod Idle

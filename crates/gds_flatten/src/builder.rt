@@ -1,8 +1,8 @@
 //! How a cell is built of its elements: by the calling thread alone, or by several.
 
-ghost use Rattle.std.specs.Prelude.{◌≡◌, ◌⊎◌, ℕ, ◌+◌, ◌≤◌, List, length, take, drop, IfOk, IfErr};
+ghost use Rattle.std.specs.Prelude.{◌≡◌, ◌⊎◌, ℕ, ◌+◌, ◌≤◌, List, length, take, drop, IfOk, IfErr, map};
 ghost use Rattle.std.specs.Thread.{IsSync};
-ghost use Rattle.gds_grammar.specs.declared.element.Element.{Element};
+ghost use Rattle.gds_grammar.specs.Values.{cell_of, shape_of, Shape};
 ghost use Rattle.gds_flatten.specs.Designs.{Entry, targets, AreFine};
 ghost use Rattle.gds_flatten.specs.steps.Built.{IsRun, IsCell, IsFaulty, AreRuns};
 
@@ -31,21 +31,21 @@ pub trait Builder {
     ///
     /// # Errors
     /// The first fault of a reference or shape in the order of the file, or `Memory` where memory is refused.
-    fn cell<'a>(
+    fn cell<'a, 'b>(
         &self,
         alloc: Global,
-        cells: &IndexMap<Vec<u8>, Vec<Element>>,
-        elements: &'a [Element],
+        cells: &IndexMap<Vec<u8>, Vec<Element<'_>>>,
+        elements: &'a [Element<'b>],
         row: &[usize],
         layer: u16,
         data_type: u16,
-    ) -> Result<Cell<'a>, FlattenError>
+    ) -> Result<Cell<'a, 'b>, FlattenError>
         requires ready { can_build self.now }
-        requires row { row.now ≡ targets cells.now.entries elements.now }
-        ensures built { IfOk result (λ cell. IsCell cells.now.entries layer data_type elements.now cell) }
-        ensures fine { IfOk result (λ cell. AreFine layer data_type elements.now) }
+        requires row { row.now ≡ targets (map cell_of cells.now.entries) (map shape_of elements.now) }
+        ensures built { IfOk result (λ cell. IsCell (map cell_of cells.now.entries) layer data_type (map shape_of elements.now) cell) }
+        ensures fine { IfOk result (λ cell. AreFine layer data_type (map shape_of elements.now)) }
         ensures refused { IfErr result (λ e. (e ≡ FlattenError.Memory)
-            ⊎ IsFaulty layer data_type elements.now e) };
+            ⊎ IsFaulty layer data_type (map shape_of elements.now) e) };
 }
 
 /// The calling thread alone.
@@ -59,15 +59,15 @@ pub struct Together<'r, R>(pub &'r R);
 impl Builder for Alone {
     ghost can_build = { λ _. Unit {0} };
 
-    fn cell<'a>(
+    fn cell<'a, 'b>(
         &self,
         alloc: Global,
-        cells: &IndexMap<Vec<u8>, Vec<Element>>,
-        elements: &'a [Element],
+        cells: &IndexMap<Vec<u8>, Vec<Element<'_>>>,
+        elements: &'a [Element<'b>],
         row: &[usize],
         layer: u16,
         data_type: u16,
-    ) -> Result<Cell<'a>, FlattenError> {
+    ) -> Result<Cell<'a, 'b>, FlattenError> {
         whole_cell(alloc, elements, row, layer, data_type)
     }
 }
@@ -75,15 +75,15 @@ impl Builder for Alone {
 impl<R: Threads + Sync> Builder for Together<'_, R> {
     ghost can_build = { λ _. IsSync R.row };
 
-    fn cell<'a>(
+    fn cell<'a, 'b>(
         &self,
         alloc: Global,
-        cells: &IndexMap<Vec<u8>, Vec<Element>>,
-        elements: &'a [Element],
+        cells: &IndexMap<Vec<u8>, Vec<Element<'_>>>,
+        elements: &'a [Element<'b>],
         row: &[usize],
         layer: u16,
         data_type: u16,
-    ) -> Result<Cell<'a>, FlattenError> {
+    ) -> Result<Cell<'a, 'b>, FlattenError> {
         if elements.len() <= row.len().saturating_mul(2).max(LEAST_RUN) {
             return whole_cell(alloc, elements, row, layer, data_type);
         }
@@ -92,17 +92,17 @@ impl<R: Threads + Sync> Builder for Together<'_, R> {
 }
 
 /// The cell of these elements, which refer to the cells of the row in turn. One run is made of them.
-fn whole_cell<'a>(
+fn whole_cell<'a, 'b>(
     alloc: Global,
-    elements: &'a [Element],
+    elements: &'a [Element<'b>],
     row: &[usize],
     layer: u16,
     data_type: u16,
-) -> Result<Cell<'a>, FlattenError>
-    ensures built { IfOk result (λ cell. (entries : List Entry) → row.now ≡ targets entries elements.now → IsCell entries layer data_type elements.now cell) }
-    ensures fine { IfOk result (λ cell. AreFine layer data_type elements.now) }
+) -> Result<Cell<'a, 'b>, FlattenError>
+    ensures built { IfOk result (λ cell. (entries : List Entry) → row.now ≡ targets entries (map shape_of elements.now) → IsCell entries layer data_type (map shape_of elements.now) cell) }
+    ensures fine { IfOk result (λ cell. AreFine layer data_type (map shape_of elements.now)) }
     ensures refused { IfErr result (λ e. (e ≡ FlattenError.Memory)
-        ⊎ IsFaulty layer data_type elements.now e) }
+        ⊎ IsFaulty layer data_type (map shape_of elements.now) e) }
 {
     let run = run_of(alloc, Targets::Row(row), elements, layer, data_type)?;
     let mut shapes = Vec::new(alloc);
@@ -114,18 +114,18 @@ fn whole_cell<'a>(
 }
 
 /// The cell of these elements, whose runs several threads build. Their references lead to the cells that have their names, which are looked up.
-fn cell_by_runs<'a>(
+fn cell_by_runs<'a, 'b>(
     rt: &(impl Threads + Sync),
     alloc: Global,
-    cells: &IndexMap<Vec<u8>, Vec<Element>>,
-    elements: &'a [Element],
+    cells: &IndexMap<Vec<u8>, Vec<Element<'_>>>,
+    elements: &'a [Element<'b>],
     layer: u16,
     data_type: u16,
-) -> Result<Cell<'a>, FlattenError>
-    ensures built { IfOk result (λ cell. IsCell cells.now.entries layer data_type elements.now cell) }
-    ensures fine { IfOk result (λ cell. AreFine layer data_type elements.now) }
+) -> Result<Cell<'a, 'b>, FlattenError>
+    ensures built { IfOk result (λ cell. IsCell (map cell_of cells.now.entries) layer data_type (map shape_of elements.now) cell) }
+    ensures fine { IfOk result (λ cell. AreFine layer data_type (map shape_of elements.now)) }
     ensures refused { IfErr result (λ e. (e ≡ FlattenError.Memory)
-        ⊎ IsFaulty layer data_type elements.now e) }
+        ⊎ IsFaulty layer data_type (map shape_of elements.now) e) }
 {
     let size = elements.len().div_ceil(MOST_RUNS).max(LEAST_RUN);
     let runs = map_ranges(
@@ -136,45 +136,45 @@ fn cell_by_runs<'a>(
         size,
         &|from: usize, count: usize| -> Result<Run, FlattenError>
             requires { from + count ≤ length elements.now }
-            ensures built { IfOk result (λ run. IsRun cells.entry.now.entries layer data_type (take count (drop from elements.entry.now)) run) }
-            ensures fine { IfOk result (λ run. AreFine layer data_type (take count (drop from elements.entry.now))) }
+            ensures built { IfOk result (λ run. IsRun (map cell_of cells.entry.now.entries) layer data_type (take count (drop from (map shape_of elements.entry.now))) run) }
+            ensures fine { IfOk result (λ run. AreFine layer data_type (take count (drop from (map shape_of elements.entry.now)))) }
             ensures refused { IfErr result (λ e. (e ≡ FlattenError.Memory)
-                ⊎ IsFaulty layer data_type (take count (drop from elements.entry.now)) e) }
+                ⊎ IsFaulty layer data_type (take count (drop from (map shape_of elements.entry.now))) e) }
         { run_between(alloc, cells, elements, from, count, layer, data_type) },
     )?;
     joined(alloc, runs)
 }
 
 /// The run of `count` elements from the one at `from` on.
-fn run_between<'a>(
+fn run_between<'a, 'b>(
     alloc: Global,
-    cells: &IndexMap<Vec<u8>, Vec<Element>>,
-    elements: &'a [Element],
+    cells: &IndexMap<Vec<u8>, Vec<Element<'_>>>,
+    elements: &'a [Element<'b>],
     from: usize,
     count: usize,
     layer: u16,
     data_type: u16,
-) -> Result<Run<'a>, FlattenError>
+) -> Result<Run<'a, 'b>, FlattenError>
     requires { from + count ≤ length elements.now }
-    ensures built { IfOk result (λ run. IsRun cells.now.entries layer data_type (take count (drop from elements.now)) run) }
-    ensures fine { IfOk result (λ run. AreFine layer data_type (take count (drop from elements.now))) }
+    ensures built { IfOk result (λ run. IsRun (map cell_of cells.now.entries) layer data_type (take count (drop from (map shape_of elements.now))) run) }
+    ensures fine { IfOk result (λ run. AreFine layer data_type (take count (drop from (map shape_of elements.now)))) }
     ensures refused { IfErr result (λ e. (e ≡ FlattenError.Memory)
-        ⊎ IsFaulty layer data_type (take count (drop from elements.now)) e) }
+        ⊎ IsFaulty layer data_type (take count (drop from (map shape_of elements.now))) e) }
 {
     let run = &elements[from..from + count];
     run_of(alloc, Targets::Names(cells), run, layer, data_type)
 }
 
 /// The cell of all runs, or the first refusal.
-fn joined<'a>(
+fn joined<'a, 'b>(
     alloc: Global,
-    runs: Vec<Result<Run<'a>, FlattenError>>,
-) -> Result<Cell<'a>, FlattenError>
-    ensures built { IfOk result (λ cell. (entries : List Entry) (layer data_type size : ℕ) (elements : List Element) →
+    runs: Vec<Result<Run<'a, 'b>, FlattenError>>,
+) -> Result<Cell<'a, 'b>, FlattenError>
+    ensures built { IfOk result (λ cell. (entries : List Entry) (layer data_type size : ℕ) (elements : List Shape) →
         AreRuns entries layer data_type size elements runs.entry.items → IsCell entries layer data_type elements cell) }
-    ensures fine { IfOk result (λ cell. (entries : List Entry) (layer data_type size : ℕ) (elements : List Element) →
+    ensures fine { IfOk result (λ cell. (entries : List Entry) (layer data_type size : ℕ) (elements : List Shape) →
         AreRuns entries layer data_type size elements runs.entry.items → AreFine layer data_type elements) }
-    ensures refused { IfErr result (λ e. (entries : List Entry) (layer data_type size : ℕ) (elements : List Element) →
+    ensures refused { IfErr result (λ e. (entries : List Entry) (layer data_type size : ℕ) (elements : List Shape) →
         AreRuns entries layer data_type size elements runs.entry.items → (e ≡ FlattenError.Memory) ⊎ IsFaulty layer data_type elements e) }
 {
     let mut shapes = Vec::with_capacity(alloc, runs.len())?;

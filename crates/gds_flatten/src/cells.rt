@@ -1,6 +1,7 @@
 //! The cells that the top reaches, with their shapes filled and their references resolved.
 
-ghost use Rattle.std.specs.Prelude.{◌≡◌, ◌⊎◌, length, IfOk, IfErr};
+ghost use Rattle.std.specs.Prelude.{◌≡◌, ◌⊎◌, length, IfOk, IfErr, map};
+ghost use Rattle.gds_grammar.specs.Values.{cell_of};
 ghost use Rattle.gds_flatten.specs.Designs.{graph_of};
 ghost use Rattle.gds_flatten.specs.steps.Rows.{rows};
 ghost use Rattle.gds_flatten.specs.steps.Built.{AreBuilt, IsFaultAmong};
@@ -19,21 +20,21 @@ use std::alloc::Global;
 /// # Errors
 /// The first fault of a reference or shape in the order of the file, of the cells that have a step,
 /// or `Memory` where memory is refused.
-pub fn cells_of<'a, B: Builder>(
+pub fn cells_of<'a, 'b, B: Builder>(
     builder: &B,
     alloc: Global,
-    cells: &'a IndexMap<Vec<u8>, Vec<Element>>,
+    cells: &'a IndexMap<Vec<u8>, Vec<Element<'b>>>,
     graph: &[Vec<usize>],
     steps: &[usize],
     layer: u16,
     data_type: u16,
-) -> Result<Vec<Cell<'a>>, FlattenError>
+) -> Result<Vec<Cell<'a, 'b>>, FlattenError>
     requires ready { B.can_build builder.now }
-    requires graph { rows graph.now ≡ graph_of cells.now.entries }
-    ensures built { IfOk result (λ v. AreBuilt cells.now.entries layer data_type steps.now
-        (length cells.now.entries) v.items) }
+    requires graph { rows graph.now ≡ graph_of (map cell_of cells.now.entries) }
+    ensures built { IfOk result (λ v. AreBuilt (map cell_of cells.now.entries) layer data_type steps.now
+        (length (map cell_of cells.now.entries)) v.items) }
     ensures refused { IfErr result (λ e. (e ≡ FlattenError.Memory)
-        ⊎ IsFaultAmong cells.now.entries layer data_type steps.now e) }
+        ⊎ IsFaultAmong (map cell_of cells.now.entries) layer data_type steps.now e) }
 {
     let mut built = Vec::new(alloc);
     'cells: for index in 0..cells.len() {

@@ -34,7 +34,7 @@ pub fn count_link(link: &Link, each: usize) -> usize
 }
 
 /// How many shapes the runs have, at most `TOO_MANY`.
-fn count_own(runs: &[Vec<Shape<'_>>]) -> usize
+fn count_own(runs: &[Vec<Shape<'_, '_>>]) -> usize
     ensures { IsCapped (length (flat_map vec_items runs.now)) result }
 {
     let mut total = 0;
@@ -45,7 +45,7 @@ fn count_own(runs: &[Vec<Shape<'_>>]) -> usize
 }
 
 /// How many copies the cell draws, at most `TOO_MANY`, by the counts of those that it refers to.
-fn count_cell(cell: &Cell<'_>, counts: &[usize]) -> usize
+fn count_cell(cell: &Cell<'_, '_>, counts: &[usize]) -> usize
     requires { (c : ℕ) → item counts.now c ≤ 4000001 }
     ensures { (f : ℕ → ℕ) → AreRight f counts.now cell.now.links.items
         → IsCapped (counted f cell.now) result }
@@ -63,7 +63,7 @@ fn count_cell(cell: &Cell<'_>, counts: &[usize]) -> usize
 /// 0 for all others.
 pub fn counts_of(
     alloc: Global,
-    cells: &[Cell<'_>],
+    cells: &[Cell<'_, '_>],
     order: &[usize],
 ) -> Result<Vec<usize>, AllocError>
     requires within { (q : ℕ) → q < length order.now → item order.now q < length cells.now }

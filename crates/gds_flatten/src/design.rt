@@ -8,6 +8,7 @@ ghost use Rattle.gds_flatten.specs.steps.Walks.{part, top_copies, IsDrawn, IsRef
 
 use crate::cell::Cell;
 use crate::error::FlattenError;
+use crate::idle::drop_idle;
 use crate::placement::Placement;
 use crate::share::Share;
 use crate::walk::carry_cell;
@@ -17,7 +18,7 @@ use std::alloc::Global;
 use std::thread::Threads;
 
 /// How many cells a chain may have, the top among them.
-const DEEPEST: u32 = 256;
+pub const DEEPEST: u32 = 256;
 
 /// The copies are cut into at most so many shares, which threads carry one after another.
 const MOST_SHARES: usize = 16;
@@ -26,10 +27,10 @@ const MOST_SHARES: usize = 16;
 const LEAST_SHARE: usize = 4_096;
 
 /// The cells that a top reaches, and how many copies of shapes it draws: 4,000,000 or fewer.
-#[derive(Debug, Drop)]
-pub struct Design<'a> {
+#[derive(Drop)]
+pub struct Design<'a, 'b> {
     /// The cells of the library; those that the top doesn't reach are empty.
-    pub cells: Vec<Cell<'a>>,
+    pub cells: Vec<Cell<'a, 'b>>,
     /// How many copies each cell draws.
     pub counts: Vec<usize>,
     /// The index of the top.
@@ -40,7 +41,28 @@ pub struct Design<'a> {
     pub ghost few: { number ≤ 4000000 },
 }
 
-impl Design<'_> {
+impl Design<'_, '_> {
+    /// The design without the links to cells that draw nothing, which the walk would pass over copy by copy.
+    pub fn without_idle(self) -> Self
+        requires { AreCounted self.cells.items self.counts.items 256 self.top }
+        ensures counted { AreCounted result.cells.items result.counts.items 256 result.top }
+        ensures same { top_copies result.cells.items result.top ≡ top_copies self.entry.cells.items self.entry.top }
+    {
+        let Design {
+            mut cells,
+            counts,
+            top,
+            number,
+        } = self;
+        drop_idle(&mut cells, &counts);
+        Design {
+            cells,
+            counts,
+            top,
+            number,
+        }
+    }
+
     /// The rectangles of a share of the copies.
     fn carried(&self, alloc: Global, share: Share) -> Result<Vec<Rect>, FlattenError>
         requires counted { AreCounted self.now.cells.items self.now.counts.items 256 self.now.top }

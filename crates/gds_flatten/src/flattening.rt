@@ -1,36 +1,46 @@
 //! Flattening: what the top draws on a layer.
 
-ghost use Rattle.std.specs.Prelude.{◌≡◌, ℤ, IfOk, IfErr};
+ghost use Rattle.std.specs.Prelude.{◌≡◌, ◌⊎◌, ◌&&◌, ℤ, true, false, List, All, IfOk, IfErr, map};
 ghost use Rattle.std.specs.List.{flat_map};
 ghost use Rattle.std.specs.Vec.{vec_items};
 ghost use Rattle.fill_region.specs.Bands.{holds, IsRegion};
 ghost use Rattle.fill_region.specs.Squares.{covered};
-ghost use Rattle.gds_flatten.specs.Copies.{drawn, AllStayInRange};
-ghost use Rattle.gds_flatten.specs.Designs.{index_of};
-ghost use Rattle.gds_flatten.specs.Flattening.{HasTop, copies_of, IsCountable, IsRefused};
+ghost use Rattle.gds_grammar.specs.Values.{cell_of, contents_of};
+ghost use Rattle.gds_flatten.specs.Copies.{Copy, drawn, AllStayInRange};
+ghost use Rattle.gds_flatten.specs.Designs.{index_of, AllFine};
+ghost use Rattle.gds_flatten.specs.Flattening.{HasTop, copies_of, IsSound, IsCountable, IsCountableOn, IsRefused, IsRefusedOn};
 ghost use Rattle.gds_flatten.specs.steps.Counting.{AreCounted};
+ghost use Rattle.gds_flatten.specs.steps.Framing.{IsFineIf, IsTight, AreHeld, extent_at};
 ghost use Rattle.gds_flatten.specs.steps.Walks.{top_copies};
+ghost use Rattle.fill_base.specs.Squares.{squares};
 
 use crate::builder::{Alone, Builder, Together};
+use crate::cell::Cell;
 use crate::cells::cells_of;
 use crate::counts::{TOO_MANY, counts_of};
-use crate::design::Design;
+use crate::design::{DEEPEST, Design};
 use crate::error::FlattenError;
+use crate::extents::extents_of;
+use crate::found::Found;
+use crate::framed::{carry_cell_on, clipped, extent_at};
 use crate::graph::{graph_of, index_of};
+use crate::idle::drop_idle;
+use crate::placement::Placement;
 use crate::search::number_at;
 use crate::survey::survey;
 use fill_base::Rect;
 use fill_region::Region;
 use fill_threads::{let_go, processors};
 use gds_grammar::{Element, Library};
+use gds_shape::{Bounds, is_in_range};
 use indexmap::IndexMap;
 use std::alloc::Global;
 use std::thread::Threads;
 
 /// The index of the top.
-fn top_of(cells: &IndexMap<Vec<u8>, Vec<Element>>, top: &[u8]) -> Result<usize, FlattenError>
-    ensures found { IfOk result (λ c. HasTop cells.now.entries top.now × (c ≡ index_of cells.now.entries top.now)) }
-    ensures refused { IfErr result (λ e. (e ≡ FlattenError.NoTop) × (HasTop cells.now.entries top.now → ⊥)) }
+fn top_of(cells: &IndexMap<Vec<u8>, Vec<Element<'_>>>, top: &[u8]) -> Result<usize, FlattenError>
+    ensures found { IfOk result (λ c. HasTop (map cell_of cells.now.entries) top.now × (c ≡ index_of (map cell_of cells.now.entries) top.now)) }
+    ensures refused { IfErr result (λ e. (e ≡ FlattenError.NoTop) × (HasTop (map cell_of cells.now.entries) top.now → ⊥)) }
 {
     let index = index_of(cells, top);
     if index < cells.len() {
@@ -41,20 +51,20 @@ fn top_of(cells: &IndexMap<Vec<u8>, Vec<Element>>, top: &[u8]) -> Result<usize, 
 }
 
 /// The design of the top on the layer, its copies counted.
-fn design_of<'a, B: Builder>(
+fn counted_of<'a, 'b, B: Builder>(
     builder: &B,
     alloc: Global,
-    library: &'a Library,
+    library: &'a Library<'b>,
     top: &[u8],
     layer: u16,
     data_type: u16,
-) -> Result<Design<'a>, FlattenError>
+) -> Result<Design<'a, 'b>, FlattenError>
     requires { B.can_build builder.now }
-    ensures fine { IfOk result (λ d. IsCountable library.now.cells.entries top.now layer data_type) }
+    ensures fine { IfOk result (λ d. IsCountable (contents_of library.now).cells top.now layer data_type) }
     ensures counted { IfOk result (λ d. AreCounted d.cells.items d.counts.items 256 d.top) }
     ensures same { IfOk result (λ d. top_copies d.cells.items d.top
-        ≡ copies_of library.now.cells.entries top.now layer data_type) }
-    ensures refused { IfErr result (λ e. IsRefused library.now.cells.entries top.now layer data_type e) }
+        ≡ copies_of (contents_of library.now).cells top.now layer data_type) }
+    ensures refused { IfErr result (λ e. IsRefused (contents_of library.now).cells top.now layer data_type e) }
 {
     let cells = &library.cells;
     let top = top_of(cells, top)?;
@@ -82,6 +92,169 @@ fn design_of<'a, B: Builder>(
     })
 }
 
+/// The design of the top on the layer, its copies counted, without links to cells that draw nothing.
+fn design_of<'a, 'b, B: Builder>(
+    builder: &B,
+    alloc: Global,
+    library: &'a Library<'b>,
+    top: &[u8],
+    layer: u16,
+    data_type: u16,
+) -> Result<Design<'a, 'b>, FlattenError>
+    requires { B.can_build builder.now }
+    ensures fine { IfOk result (λ d. IsCountable (contents_of library.now).cells top.now layer data_type) }
+    ensures counted { IfOk result (λ d. AreCounted d.cells.items d.counts.items 256 d.top) }
+    ensures same { IfOk result (λ d. top_copies d.cells.items d.top
+        ≡ copies_of (contents_of library.now).cells top.now layer data_type) }
+    ensures refused { IfErr result (λ e. IsRefused (contents_of library.now).cells top.now layer data_type e) }
+{
+    let design = counted_of(builder, alloc, library, top, layer, data_type)?;
+    Ok(design.without_idle())
+}
+
+/// The cells that a top reaches, with their extents.
+#[derive(Drop)]
+struct Framed<'a, 'b> {
+    /// The cells of the library; those that the top doesn't reach are empty.
+    cells: Vec<Cell<'a, 'b>>,
+    /// How far what each cell draws goes.
+    extents: Vec<Option<Bounds>>,
+    /// How many copies each cell draws, at most 4,000,001.
+    counts: Vec<usize>,
+    /// The index of the top.
+    top: usize,
+}
+
+impl Framed<'_, '_> {
+    /// The cells without the links to cells that draw nothing, which the walk would pass over copy by copy.
+    fn without_idle(self) -> Self
+        requires counted { AreCounted self.cells.items self.counts.items 256 self.top }
+        requires held { AreHeld self.cells.items self.extents.items 256 self.top }
+        ensures held { AreHeld result.cells.items result.extents.items 256 result.top }
+        ensures same { top_copies result.cells.items result.top ≡ top_copies self.entry.cells.items self.entry.top }
+        ensures extents { result.extents.items ≡ self.entry.extents.items }
+        ensures top { result.top ≡ self.entry.top }
+    {
+        let Framed {
+            mut cells,
+            extents,
+            counts,
+            top,
+        } = self;
+        drop_idle(&mut cells, &counts);
+        Framed {
+            cells,
+            extents,
+            counts,
+            top,
+        }
+    }
+}
+
+/// The cells of the top on the layer, with their extents and counts.
+fn extended_of<'a, 'b>(
+    alloc: Global,
+    library: &'a Library<'b>,
+    top: &[u8],
+    layer: u16,
+    data_type: u16,
+) -> Result<Framed<'a, 'b>, FlattenError>
+    ensures sound { IfOk result (λ d. IsSound (contents_of library.now).cells top.now) }
+    ensures fine { IfOk result (λ d. AllFine (contents_of library.now).cells (index_of (contents_of library.now).cells top.now) layer data_type) }
+    ensures extents { IfOk result (λ d. All IsFineIf d.extents.items) }
+    ensures held { IfOk result (λ d. AreHeld d.cells.items d.extents.items 256 d.top) }
+    ensures tight { IfOk result (λ d. IsTight (top_copies d.cells.items d.top) (extent_at d.extents.items d.top)) }
+    ensures counted { IfOk result (λ d. AreCounted d.cells.items d.counts.items 256 d.top) }
+    ensures same { IfOk result (λ d. top_copies d.cells.items d.top
+        ≡ copies_of (contents_of library.now).cells top.now layer data_type) }
+    ensures refused { IfErr result (λ e. (frame : Rect) → IsRefusedOn (contents_of library.now).cells top.now layer data_type frame e) }
+{
+    let cells = &library.cells;
+    let top = top_of(cells, top)?;
+    let graph = graph_of(alloc, cells)?;
+    let found = survey(alloc, &graph, top)?;
+    let built = cells_of(&Alone, alloc, cells, &graph, &found.steps, layer, data_type)?;
+    let extents = extents_of(alloc, &built, &found.order)?;
+    let counts = counts_of(alloc, &built, &found.order)?;
+    Ok(Framed {
+        cells: built,
+        extents,
+        counts,
+        top,
+    })
+}
+
+/// The same, without links to cells that draw nothing.
+fn framed_of<'a, 'b>(
+    alloc: Global,
+    library: &'a Library<'b>,
+    top: &[u8],
+    layer: u16,
+    data_type: u16,
+) -> Result<Framed<'a, 'b>, FlattenError>
+    ensures sound { IfOk result (λ d. IsSound (contents_of library.now).cells top.now) }
+    ensures fine { IfOk result (λ d. AllFine (contents_of library.now).cells (index_of (contents_of library.now).cells top.now) layer data_type) }
+    ensures extents { IfOk result (λ d. All IsFineIf d.extents.items) }
+    ensures held { IfOk result (λ d. AreHeld d.cells.items d.extents.items 256 d.top) }
+    ensures tight { IfOk result (λ d. IsTight (top_copies d.cells.items d.top) (extent_at d.extents.items d.top)) }
+    ensures same { IfOk result (λ d. top_copies d.cells.items d.top
+        ≡ copies_of (contents_of library.now).cells top.now layer data_type) }
+    ensures refused { IfErr result (λ e. (frame : Rect) → IsRefusedOn (contents_of library.now).cells top.now layer data_type frame e) }
+{
+    let framed = extended_of(alloc, library, top, layer, data_type)?;
+    Ok(framed.without_idle())
+}
+
+/// Whether the extent lies within the coordinates.
+fn is_inside(extent: Option<Bounds>) -> bool
+    requires { IsFineIf extent }
+    ensures yes { result ≡ true → (cs : List Copy) → IsTight cs extent → AllStayInRange cs }
+    ensures no { result ≡ false → (cs : List Copy) → IsTight cs extent → AllStayInRange cs → ⊥ }
+{
+    match extent {
+        Some(extent) => is_in_range(&extent),
+        None => true,
+    }
+}
+
+/// What the top draws on the layer within a frame, as rectangles that the frame holds. Copies of cells whose
+/// extent doesn't meet the frame are not entered, so a part of a chip costs its share of the copies.
+///
+/// # Errors
+/// Those of `flatten_rects`, but that only the copies count for `TooManyShapes` whose extents meet the
+/// frame: more than 4,000,000 of them. `OutOfRange` is answered wherever the copy lies.
+pub fn flatten_within(
+    alloc: Global,
+    library: &Library<'_>,
+    top: &[u8],
+    layer: u16,
+    data_type: u16,
+    frame: &Rect,
+) -> Result<Vec<Rect>, FlattenError>
+    ensures fine { IfOk result (λ v. IsCountableOn (contents_of library.now).cells top.now layer data_type frame.now) }
+    ensures inside { IfOk result (λ v. AllStayInRange (copies_of (contents_of library.now).cells top.now layer data_type)) }
+    ensures squares { IfOk result (λ v. (x y : ℤ) → covered v.items x y
+        ≡ (drawn (copies_of (contents_of library.now).cells top.now layer data_type) x y && squares frame.now x y)) }
+    ensures refused { IfErr result (λ e. IsRefusedOn (contents_of library.now).cells top.now layer data_type frame.now e) }
+{
+    let framed = framed_of(alloc, library, top, layer, data_type)?;
+    let mut found = Found::new(alloc);
+    carry_cell_on(
+        &framed.cells,
+        &framed.extents,
+        DEEPEST,
+        framed.top,
+        &Placement::shift(0, 0),
+        frame,
+        &mut found,
+    )?;
+    if !is_inside(extent_at(&framed.extents, framed.top)) {
+        return Err(FlattenError::OutOfRange);
+    }
+    let rects = clipped(alloc, &found.rects, frame)?;
+    Ok(rects)
+}
+
 /// The rectangles that the top draws on the layer, as many as its copies of shapes come to; together
 /// they are what is drawn. All lengths are database units (Calma GDSII Stream Format Manual, release
 /// 6.0, with this project's profile).
@@ -93,16 +266,16 @@ fn design_of<'a, B: Builder>(
 /// coordinates from -2^30 to 2^30. Or `Memory` where memory is refused.
 pub fn flatten_rects(
     alloc: Global,
-    library: &Library,
+    library: &Library<'_>,
     top: &[u8],
     layer: u16,
     data_type: u16,
 ) -> Result<Vec<Rect>, FlattenError>
-    ensures fine { IfOk result (λ v. IsCountable library.now.cells.entries top.now layer data_type) }
-    ensures inside { IfOk result (λ v. AllStayInRange (copies_of library.now.cells.entries top.now layer data_type)) }
+    ensures fine { IfOk result (λ v. IsCountable (contents_of library.now).cells top.now layer data_type) }
+    ensures inside { IfOk result (λ v. AllStayInRange (copies_of (contents_of library.now).cells top.now layer data_type)) }
     ensures squares { IfOk result (λ v. (x y : ℤ) → covered v.items x y
-        ≡ drawn (copies_of library.now.cells.entries top.now layer data_type) x y) }
-    ensures refused { IfErr result (λ e. IsRefused library.now.cells.entries top.now layer data_type e) }
+        ≡ drawn (copies_of (contents_of library.now).cells top.now layer data_type) x y) }
+    ensures refused { IfErr result (λ e. IsRefused (contents_of library.now).cells top.now layer data_type e) }
 {
     let design = design_of(&Alone, alloc, library, top, layer, data_type)?;
     design.rects(alloc)
@@ -117,16 +290,16 @@ pub fn flatten_rects(
 pub fn flatten_parts(
     rt: &(impl Threads + Sync),
     alloc: Global,
-    library: &Library,
+    library: &Library<'_>,
     top: &[u8],
     layer: u16,
     data_type: u16,
 ) -> Result<Vec<Vec<Rect>>, FlattenError>
-    ensures fine { IfOk result (λ v. IsCountable library.now.cells.entries top.now layer data_type) }
-    ensures inside { IfOk result (λ v. AllStayInRange (copies_of library.now.cells.entries top.now layer data_type)) }
+    ensures fine { IfOk result (λ v. IsCountable (contents_of library.now).cells top.now layer data_type) }
+    ensures inside { IfOk result (λ v. AllStayInRange (copies_of (contents_of library.now).cells top.now layer data_type)) }
     ensures squares { IfOk result (λ v. (x y : ℤ) → covered (flat_map vec_items v.items) x y
-        ≡ drawn (copies_of library.now.cells.entries top.now layer data_type) x y) }
-    ensures refused { IfErr result (λ e. IsRefused library.now.cells.entries top.now layer data_type e) }
+        ≡ drawn (copies_of (contents_of library.now).cells top.now layer data_type) x y) }
+    ensures refused { IfErr result (λ e. IsRefused (contents_of library.now).cells top.now layer data_type e) }
 {
     let design = design_of(&Together(rt), alloc, library, top, layer, data_type)?;
     let parts = design.parts(rt, alloc);
@@ -135,7 +308,7 @@ pub fn flatten_parts(
 }
 
 /// Lets go of a design. The shapes of a large cell, which several threads filled, are given back by several threads.
-fn let_go_of(rt: &(impl Threads + Sync), alloc: Global, design: Design<'_>) {
+fn let_go_of(rt: &(impl Threads + Sync), alloc: Global, design: Design<'_, '_>) {
     for cell in design.cells {
         if cell.shapes.len() > 1 {
             let_go(rt, alloc, processors(rt), cell.shapes);
@@ -149,19 +322,67 @@ fn let_go_of(rt: &(impl Threads + Sync), alloc: Global, design: Design<'_>) {
 /// Those of `flatten_rects`.
 pub fn flatten(
     alloc: Global,
-    library: &Library,
+    library: &Library<'_>,
     top: &[u8],
     layer: u16,
     data_type: u16,
 ) -> Result<Region, FlattenError>
     ensures region { IfOk result IsRegion }
-    ensures fine { IfOk result (λ r. IsCountable library.now.cells.entries top.now layer data_type) }
-    ensures inside { IfOk result (λ r. AllStayInRange (copies_of library.now.cells.entries top.now layer data_type)) }
+    ensures fine { IfOk result (λ r. IsCountable (contents_of library.now).cells top.now layer data_type) }
+    ensures inside { IfOk result (λ r. AllStayInRange (copies_of (contents_of library.now).cells top.now layer data_type)) }
     ensures squares { IfOk result (λ r. (x y : ℤ) → holds r x y
-        ≡ drawn (copies_of library.now.cells.entries top.now layer data_type) x y) }
-    ensures refused { IfErr result (λ e. IsRefused library.now.cells.entries top.now layer data_type e) }
+        ≡ drawn (copies_of (contents_of library.now).cells top.now layer data_type) x y) }
+    ensures refused { IfErr result (λ e. IsRefused (contents_of library.now).cells top.now layer data_type e) }
 {
     let rects = flatten_rects(alloc, library, top, layer, data_type)?;
+    let region = Region::from_rects(alloc, &rects)?;
+    Ok(region)
+}
+
+/// What `flatten_within` answers, as `flatten_parts` answers it: as parts, of which there is one.
+///
+/// # Errors
+/// Those of `flatten_within`.
+pub fn flatten_parts_within(
+    alloc: Global,
+    library: &Library<'_>,
+    top: &[u8],
+    layer: u16,
+    data_type: u16,
+    frame: &Rect,
+) -> Result<Vec<Vec<Rect>>, FlattenError>
+    ensures fine { IfOk result (λ v. IsCountableOn (contents_of library.now).cells top.now layer data_type frame.now) }
+    ensures inside { IfOk result (λ v. AllStayInRange (copies_of (contents_of library.now).cells top.now layer data_type)) }
+    ensures squares { IfOk result (λ v. (x y : ℤ) → covered (flat_map vec_items v.items) x y
+        ≡ (drawn (copies_of (contents_of library.now).cells top.now layer data_type) x y && squares frame.now x y)) }
+    ensures refused { IfErr result (λ e. IsRefusedOn (contents_of library.now).cells top.now layer data_type frame.now e) }
+{
+    let rects = flatten_within(alloc, library, top, layer, data_type, frame)?;
+    let mut parts = Vec::new(alloc);
+    parts.push(rects)?;
+    Ok(parts)
+}
+
+/// The squares that the top draws on the layer within a frame, as a region.
+///
+/// # Errors
+/// Those of `flatten_within`.
+pub fn flatten_region_within(
+    alloc: Global,
+    library: &Library<'_>,
+    top: &[u8],
+    layer: u16,
+    data_type: u16,
+    frame: &Rect,
+) -> Result<Region, FlattenError>
+    ensures region { IfOk result IsRegion }
+    ensures fine { IfOk result (λ r. IsCountableOn (contents_of library.now).cells top.now layer data_type frame.now) }
+    ensures inside { IfOk result (λ r. AllStayInRange (copies_of (contents_of library.now).cells top.now layer data_type)) }
+    ensures squares { IfOk result (λ r. (x y : ℤ) → holds r x y
+        ≡ (drawn (copies_of (contents_of library.now).cells top.now layer data_type) x y && squares frame.now x y)) }
+    ensures refused { IfErr result (λ e. IsRefusedOn (contents_of library.now).cells top.now layer data_type frame.now e) }
+{
+    let rects = flatten_within(alloc, library, top, layer, data_type, frame)?;
     let region = Region::from_rects(alloc, &rects)?;
     Ok(region)
 }

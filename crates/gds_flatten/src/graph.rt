@@ -1,7 +1,8 @@
 //! Which cells refer to which, each name looked up once for each reference.
 
-ghost use Rattle.std.specs.Prelude.{◌≡◌, ◌≤◌, length, IfOk};
+ghost use Rattle.std.specs.Prelude.{◌≡◌, ◌≤◌, ◌<◌, length, IfOk, map};
 ghost use Rattle.std.specs.Option.{option_map};
+ghost use Rattle.gds_grammar.specs.Values.{cell_of, shape_of};
 ghost use Rattle.gds_flatten.specs.Designs.{index_of, elements_at, targets, graph_of};
 ghost use Rattle.gds_flatten.specs.References.{name_of};
 ghost use Rattle.gds_flatten.specs.steps.Rows.{rows};
@@ -11,30 +12,32 @@ use indexmap::IndexMap;
 use std::alloc::{AllocError, Global};
 
 /// The index of the cell of this name, the number of cells where none has it.
-pub fn index_of(cells: &IndexMap<Vec<u8>, Vec<Element>>, name: &[u8]) -> usize
-    ensures value { result ≡ index_of cells.now.entries name.now }
+pub fn index_of(cells: &IndexMap<Vec<u8>, Vec<Element<'_>>>, name: &[u8]) -> usize
+    ensures value { result ≡ index_of (map cell_of cells.now.entries) name.now }
     ensures within { result ≤ length cells.now.entries }
 {
     cells.get_index_of(name).unwrap_or(cells.len())
 }
 
-/// The elements of the cell at the index, none where there's no such cell.
-pub fn elements_at(cells: &IndexMap<Vec<u8>, Vec<Element>>, index: usize) -> &[Element]
-    ensures { result.now ≡ elements_at cells.now.entries index }
+/// The elements of the cell at the index.
+pub fn elements_at<'a, 'b>(
+    cells: &'a IndexMap<Vec<u8>, Vec<Element<'b>>>,
+    index: usize,
+) -> &'a [Element<'b>]
+    requires { index < length cells.now.entries }
+    ensures { map shape_of result.now ≡ elements_at (map cell_of cells.now.entries) index }
 {
-    match cells.get_index(index) {
-        Some((_, elements)) => elements.as_slice(),
-        None => &[],
-    }
+    let (_, elements) = cells.get_index(index).unwrap();
+    elements.as_slice()
 }
 
 /// The name of the cell that the element refers to.
-pub fn name_of(element: &Element) -> Option<&[u8]>
-    ensures { option_map (λ n. n.now) result ≡ name_of element.now }
+pub fn name_of<'b>(element: &Element<'b>) -> Option<&'b [u8]>
+    ensures { option_map (λ n. n.now) result ≡ name_of (shape_of element.now) }
 {
     match element {
-        Element::Ref(reference) => Some(reference.cell.as_slice()),
-        Element::Array(array) => Some(array.cell.as_slice()),
+        Element::Ref(reference) => Some(reference.cell),
+        Element::Array(array) => Some(array.cell),
         Element::Boundary(_) | Element::Path(_) => None,
     }
 }
@@ -42,10 +45,10 @@ pub fn name_of(element: &Element) -> Option<&[u8]>
 /// The cells that the elements refer to, reference by reference.
 fn targets_of(
     alloc: Global,
-    cells: &IndexMap<Vec<u8>, Vec<Element>>,
-    elements: &[Element],
+    cells: &IndexMap<Vec<u8>, Vec<Element<'_>>>,
+    elements: &[Element<'_>],
 ) -> Result<Vec<usize>, AllocError>
-    ensures { IfOk result (λ v. v.items ≡ targets cells.now.entries elements.now) }
+    ensures { IfOk result (λ v. v.items ≡ targets (map cell_of cells.now.entries) (map shape_of elements.now)) }
 {
     let mut found = Vec::new(alloc);
     'elements: for element in elements {
@@ -59,9 +62,9 @@ fn targets_of(
 /// The cells that each cell refers to.
 pub fn graph_of(
     alloc: Global,
-    cells: &IndexMap<Vec<u8>, Vec<Element>>,
+    cells: &IndexMap<Vec<u8>, Vec<Element<'_>>>,
 ) -> Result<Vec<Vec<usize>>, AllocError>
-    ensures { IfOk result (λ v. rows v.items ≡ graph_of cells.now.entries) }
+    ensures { IfOk result (λ v. rows v.items ≡ graph_of (map cell_of cells.now.entries)) }
 {
     let mut graph = Vec::new(alloc);
     'cells: for index in 0..cells.len() {

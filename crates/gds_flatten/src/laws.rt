@@ -1,6 +1,8 @@
-//! The laws of placements and references: they do what the manual's words say, one after the other.
+//! The laws of placements and references: they do what the manual's words say, one after the other. And those of layers and frames.
 
 ghost use Rattle.gds_flatten.specs.Laws.{ActsOnCentres, ActsInTurn, GroupsFreely, TurnsAreDegrees, UnitIsOne, StepsAreWhole};
+ghost use Rattle.gds_flatten.specs.Frames.{SideBySide};
+ghost use Rattle.gds_flatten.specs.Layers.{LayersSuffice};
 
 /// A placement of a reflection, turns and a move does these three, in this order, to the centre of
 /// each square (Calma GDSII Stream Format Manual, release 6.0, STRANS and ANGLE).
@@ -33,4 +35,15 @@ pub fn unit_is_one()
 /// those (Calma GDSII Stream Format Manual, release 6.0, COLROW; this project's profile).
 pub fn steps_are_whole()
     ensures { StepsAreWhole }
+{}
+
+/// A library of which only some layers were read draws on each of these what the whole library draws, and
+/// is refused for the same causes.
+pub fn layers_suffice()
+    ensures { LayersSuffice }
+{}
+
+/// What is drawn in two frames side by side is, united, what is drawn in the frame that both make up.
+pub fn side_by_side()
+    ensures { SideBySide }
 {}

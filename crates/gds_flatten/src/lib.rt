@@ -6,13 +6,18 @@
 mod builder;
 mod cell;
 mod cells;
+mod corners;
 mod counts;
 mod design;
 mod error;
+mod extents;
 mod filled;
 mod flattening;
+mod found;
+mod framed;
 mod graph;
 mod heights;
+mod idle;
 pub mod laws;
 mod link;
 mod placement;
@@ -24,9 +29,13 @@ mod shapes;
 mod share;
 mod survey;
 mod walk;
+mod whole;
 
 pub use error::FlattenError;
-pub use flattening::{flatten, flatten_parts, flatten_rects};
+pub use flattening::{
+    flatten, flatten_parts, flatten_parts_within, flatten_rects, flatten_region_within,
+    flatten_within,
+};
 pub use link::Link;
 pub use placement::Placement;
 pub use reference::{array_link, reference_link};

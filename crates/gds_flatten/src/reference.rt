@@ -5,6 +5,7 @@
 ghost use Rattle.std.specs.Prelude.{◌≡◌, ◌*◌, ◌≤◌, ◌<◌, ◌-ℤ◌, pos, true, false, None, Some, IfOk, IfErr, IfSome, IfNone, unsigned_abs};
 ghost use Rattle.std.specs.Int.{int_div_euclid};
 ghost use Rattle.gds_record.specs.Numbers.{IsStored};
+ghost use Rattle.gds_grammar.specs.Values.{shape_of};
 ghost use Rattle.gds_flatten.specs.References.{turns_in, is_magnified, is_reflected, has_absolute_angle, is_bad_transform, placement_of, is_count, is_whole, has_steps, step_of, array_placements, array_fault, placements_of, reference_fault};
 ghost use Rattle.gds_flatten.specs.Links.{stepped, single, singles};
 ghost use Rattle.gds_flatten.specs.steps.Ranges.{IsWithin};
@@ -106,10 +107,10 @@ const NO_STEP: Point = Point { x: 0, y: 0 };
 ///
 /// # Errors
 /// `BadTransform` where the angle is absolute or no quarter turns, or the magnification isn't 1.
-pub fn reference_link(cell: usize, reference: &Ref) -> Result<Link, FlattenError>
-    ensures ok { IfOk result (λ l. (reference_fault (Element.Ref reference.now) ≡ None) × (l.cell ≡ cell)
-        × (singles l ≡ placements_of (Element.Ref reference.now))) }
-    ensures refused { IfErr result (λ e. reference_fault (Element.Ref reference.now) ≡ Some e) }
+pub fn reference_link(cell: usize, reference: &Ref<'_>) -> Result<Link, FlattenError>
+    ensures ok { IfOk result (λ l. (reference_fault (shape_of (Element.Ref reference.now)) ≡ None) × (l.cell ≡ cell)
+        × (singles l ≡ placements_of (shape_of (Element.Ref reference.now)))) }
+    ensures refused { IfErr result (λ e. reference_fault (shape_of (Element.Ref reference.now)) ≡ Some e) }
 {
     let placement = placement_of(&reference.transform, reference.origin)?;
     Ok(Link {
@@ -166,10 +167,10 @@ fn step_between(from: Point, to: Point, count: u16) -> Option<Point>
 /// # Errors
 /// `BadTransform` where the angle is absolute or no quarter turns, or the magnification isn't 1, else
 /// `BadArray` where there are no columns or rows, more than 32767, or steps that are no whole numbers.
-pub fn array_link(cell: usize, array: &Array) -> Result<Link, FlattenError>
-    ensures ok { IfOk result (λ l. (array_fault array.now ≡ None) × (l.cell ≡ cell)
-        × (singles l ≡ array_placements array.now)) }
-    ensures refused { IfErr result (λ e. array_fault array.now ≡ Some e) }
+pub fn array_link(cell: usize, array: &Array<'_>) -> Result<Link, FlattenError>
+    ensures ok { IfOk result (λ l. (array_fault array.now.transform array.now.columns array.now.rows array.now.points ≡ None) × (l.cell ≡ cell)
+        × (singles l ≡ array_placements array.now.transform array.now.columns array.now.rows array.now.points)) }
+    ensures refused { IfErr result (λ e. array_fault array.now.transform array.now.columns array.now.rows array.now.points ≡ Some e) }
 {
     let placement = placement_of(&array.transform, array.points[0])?;
     if !is_count(array.columns) || !is_count(array.rows) {

@@ -5,6 +5,7 @@ ghost use Rattle.fill_base.specs.Squares.{squares};
 ghost use Rattle.fill_region.specs.Squares.{covered};
 ghost use Rattle.gds_shape.specs.Paths.{AreInRange};
 ghost use Rattle.gds_shape.specs.Extents.{IsNear};
+ghost use Rattle.gds_grammar.specs.Values.{shape_of};
 ghost use Rattle.gds_flatten.specs.Placements.{carried, carried_bounds, composed};
 ghost use Rattle.gds_flatten.specs.Shapes.{is_shape, covers_of, shape_fault, refusal_of, StaysInRange};
 ghost use Rattle.gds_flatten.specs.steps.Prepared.{edges_of, way_back};
@@ -14,8 +15,8 @@ use crate::error::FlattenError;
 use crate::filled::Filled;
 use crate::placement::Placement;
 use crate::shape::Shape;
-use fill_base::Rect;
 use fill_base::rect::LOWEST;
+use fill_base::{Point, Rect};
 use gds_grammar::{Boundary, Element, Path};
 use gds_shape::{
     Bounds, ShapeError, is_in_range, is_manhattan, put_boundary_at_corner, put_path_at_corner,
@@ -39,8 +40,8 @@ impl From<ShapeError> for FlattenError {
 }
 
 /// Whether the element is a boundary or path of the layer and data type.
-fn is_shape(element: &Element, layer: u16, data_type: u16) -> bool
-    ensures { result ≡ is_shape layer data_type element.now }
+fn is_shape(element: &Element<'_>, layer: u16, data_type: u16) -> bool
+    ensures { result ≡ is_shape layer data_type (shape_of element.now) }
 {
     match element {
         Element::Boundary(boundary) => boundary.layer == layer && boundary.data_type == data_type,
@@ -49,41 +50,43 @@ fn is_shape(element: &Element, layer: u16, data_type: u16) -> bool
     }
 }
 
-/// The boundary, filled in the empty list.
-fn boundary_shape<'a>(
+/// The boundary, filled in the empty list of rectangles; `points` is room for its points.
+fn boundary_shape<'a, 'b>(
     alloc: Global,
+    points: &mut Vec<Point>,
     rects: &mut Vec<Rect>,
-    element: &'a Element,
-    boundary: &Boundary,
-) -> Result<Shape<'a>, FlattenError>
+    element: &'a Element<'b>,
+    boundary: &Boundary<'_>,
+) -> Result<Shape<'a, 'b>, FlattenError>
     requires is { element.now ≡ Element.Boundary boundary.now }
     requires empty { rects.old.items ≡ [] }
     ensures empty { IfOk result (λ s. rects.new.items ≡ []) }
-    ensures fine { IfOk result (λ s. shape_fault element.now ≡ None) }
+    ensures fine { IfOk result (λ s. shape_fault (shape_of element.now) ≡ None) }
     ensures same { IfOk result (λ s. s.element.now ≡ element.now) }
-    ensures refused { IfErr result (λ e. (e ≡ FlattenError.Memory) ⊎ (shape_fault element.now ≡ Some e)) }
+    ensures refused { IfErr result (λ e. (e ≡ FlattenError.Memory) ⊎ (shape_fault (shape_of element.now) ≡ Some e)) }
 {
-    if !is_manhattan(&boundary.points) {
+    boundary.points.put(points)?;
+    if !is_manhattan(points) {
         return Err(FlattenError::NotManhattan);
     }
-    let extent = put_boundary_at_corner(alloc, rects, &boundary.points)?;
+    let extent = put_boundary_at_corner(alloc, rects, points)?;
     let filled = Filled::taken(alloc, rects, Some(extent))?;
     Ok(Shape { element, filled })
 }
 
 /// The path, filled in the empty list.
-fn path_shape<'a>(
+fn path_shape<'a, 'b>(
     alloc: Global,
     rects: &mut Vec<Rect>,
-    element: &'a Element,
-    path: &Path,
-) -> Result<Shape<'a>, FlattenError>
+    element: &'a Element<'b>,
+    path: &Path<'_>,
+) -> Result<Shape<'a, 'b>, FlattenError>
     requires is { element.now ≡ Element.Path path.now }
     requires empty { rects.old.items ≡ [] }
     ensures empty { IfOk result (λ s. rects.new.items ≡ []) }
-    ensures fine { IfOk result (λ s. shape_fault element.now ≡ None) }
+    ensures fine { IfOk result (λ s. shape_fault (shape_of element.now) ≡ None) }
     ensures same { IfOk result (λ s. s.element.now ≡ element.now) }
-    ensures refused { IfErr result (λ e. (e ≡ FlattenError.Memory) ⊎ (shape_fault element.now ≡ Some e)) }
+    ensures refused { IfErr result (λ e. (e ≡ FlattenError.Memory) ⊎ (shape_fault (shape_of element.now) ≡ Some e)) }
 {
     let extent = put_path_at_corner(alloc, rects, path)?;
     let filled = Filled::taken(alloc, rects, extent)?;
@@ -91,31 +94,35 @@ fn path_shape<'a>(
 }
 
 /// The element, filled, if it's a boundary or path of the layer and data type; `None` for every other
-/// one, which isn't looked at. The list is one to fill it in, empty before and afterwards.
+/// one, which isn't looked at. The lists are room for its points, and one to fill it in, empty before and
+/// afterwards.
 ///
 /// # Errors
 /// `NotManhattan`, `RoundEnd`, `OddWidth`, `DoublesBack` or `BadExtension`, the first in this order
 /// that the shape has, or `Memory` where memory is refused.
-pub fn shape_of<'a>(
+pub fn shape_of<'a, 'b>(
     alloc: Global,
+    points: &mut Vec<Point>,
     rects: &mut Vec<Rect>,
-    element: &'a Element,
+    element: &'a Element<'b>,
     layer: u16,
     data_type: u16,
-) -> Result<Option<Shape<'a>>, FlattenError>
+) -> Result<Option<Shape<'a, 'b>>, FlattenError>
     requires { rects.old.items ≡ [] }
     ensures empty { IfOk result (λ o. rects.new.items ≡ []) }
-    ensures none { IfOk result (λ o. IfNone o (is_shape layer data_type element.now ≡ false)) }
-    ensures some { IfOk result (λ o. IfSome o (λ s. (is_shape layer data_type element.now ≡ true)
-        × (shape_fault element.now ≡ None) × (s.element.now ≡ element.now))) }
+    ensures none { IfOk result (λ o. IfNone o (is_shape layer data_type (shape_of element.now) ≡ false)) }
+    ensures some { IfOk result (λ o. IfSome o (λ s. (is_shape layer data_type (shape_of element.now) ≡ true)
+        × (shape_fault (shape_of element.now) ≡ None) × (s.element.now ≡ element.now))) }
     ensures refused { IfErr result (λ e. (e ≡ FlattenError.Memory)
-        ⊎ ((is_shape layer data_type element.now ≡ true) × (shape_fault element.now ≡ Some e))) }
+        ⊎ ((is_shape layer data_type (shape_of element.now) ≡ true) × (shape_fault (shape_of element.now) ≡ Some e))) }
 {
     if !is_shape(element, layer, data_type) {
         return Ok(None);
     }
     match element {
-        Element::Boundary(boundary) => Ok(Some(boundary_shape(alloc, rects, element, boundary)?)),
+        Element::Boundary(boundary) => Ok(Some(boundary_shape(
+            alloc, points, rects, element, boundary,
+        )?)),
         Element::Path(path) => Ok(Some(path_shape(alloc, rects, element, path)?)),
         Element::Ref(_) | Element::Array(_) => Ok(None),
     }
@@ -134,7 +141,7 @@ fn edges_of(rect: &Rect) -> Bounds
 }
 
 /// Where a rectangle goes.
-fn carried_bounds(at: &Placement, bounds: &Bounds) -> Bounds
+pub fn carried_bounds(at: &Placement, bounds: &Bounds) -> Bounds
     requires within { IsWithin 258 at.now }
     requires near { IsNear bounds.now }
     ensures { result ≡ carried_bounds at.now bounds.now }
@@ -194,16 +201,16 @@ fn from_corner(at: &Placement, extent: &Bounds) -> Placement
 /// `OutOfRange` where its points or the rectangles of its segments would pass the coordinates from
 /// -2^30 to 2^30, or `Memory` where memory is refused.
 pub fn carry_shape(
-    shape: &Shape<'_>,
+    shape: &Shape<'_, '_>,
     at: &Placement,
     out: &mut Vec<Rect>,
 ) -> Result<(), FlattenError>
     requires { IsWithin 257 at.now }
-    ensures inside { OnOk result (StaysInRange at.now shape.now.element.now) }
+    ensures inside { OnOk result (StaysInRange at.now (shape_of shape.now.element.now)) }
     ensures added { OnOk result ((x y : ℤ) → covered out.new.items x y
-        ≡ (covered out.old.items x y || carried at.now (covers_of shape.now.element.now) x y)) }
+        ≡ (covered out.old.items x y || carried at.now (covers_of (shape_of shape.now.element.now)) x y)) }
     ensures refused { IfErr result (λ e. (e ≡ FlattenError.Memory)
-        ⊎ ((e ≡ FlattenError.OutOfRange) × (StaysInRange at.now shape.now.element.now → ⊥))) }
+        ⊎ ((e ≡ FlattenError.OutOfRange) × (StaysInRange at.now (shape_of shape.now.element.now) → ⊥))) }
 {
     let Some(extent) = shape.filled.extent() else {
         return Ok(());

@@ -21,7 +21,7 @@ use fill_base::Rect;
 
 /// Appends what the shapes cover, carried so.
 fn carry_shapes(
-    shapes: &[Shape<'_>],
+    shapes: &[Shape<'_, '_>],
     at: &Placement,
     out: &mut Vec<Rect>,
 ) -> Result<(), FlattenError>
@@ -37,7 +37,7 @@ fn carry_shapes(
 }
 
 /// The share of a cell's shapes, each of which is one copy.
-fn own_share<'a, 'b>(shapes: &'b [Shape<'a>], share: Share) -> &'b [Shape<'a>]
+fn own_share<'a, 'b, 's>(shapes: &'s [Shape<'a, 'b>], share: Share) -> &'s [Shape<'a, 'b>]
     ensures { result.now ≡ part share.from share.to shapes.now }
 {
     let end = share.to.min(shapes.len());
@@ -47,7 +47,7 @@ fn own_share<'a, 'b>(shapes: &'b [Shape<'a>], share: Share) -> &'b [Shape<'a>]
 
 /// Appends a share of what the shapes of all runs cover, carried so, and answers what is left of the share behind them.
 fn carry_own(
-    runs: &[Vec<Shape<'_>>],
+    runs: &[Vec<Shape<'_, '_>>],
     at: &Placement,
     share: Share,
     out: &mut Vec<Rect>,
@@ -68,7 +68,11 @@ fn carry_own(
 }
 
 /// The cell at the index, or `None` where it draws nothing by chains of so many cells.
-fn cell_at<'a, 'b>(cells: &'b [Cell<'a>], depth: u32, index: usize) -> Option<&'b Cell<'a>>
+pub fn cell_at<'a, 'b, 's>(
+    cells: &'s [Cell<'a, 'b>],
+    depth: u32,
+    index: usize,
+) -> Option<&'s Cell<'a, 'b>>
     ensures none { IfNone result (copies (hierarchy cells.now) depth index ≡ []) }
     ensures some { IfSome result (λ c. (0 < depth) × (slice_get cells.now index ≡ Some c.now)) }
 {
@@ -105,7 +109,7 @@ fn end_turn(link: &Link, each: usize, share: Share) -> u32
 /// Only the single references of which the share has copies are followed.
 #[cycle(carry)]
 fn carry_link(
-    cells: &[Cell<'_>],
+    cells: &[Cell<'_, '_>],
     counts: &[usize],
     depth: u32,
     link: &Link,
@@ -138,7 +142,7 @@ fn carry_link(
 /// behind the share is passed by its count.
 #[cycle(carry)]
 pub fn carry_cell(
-    cells: &[Cell<'_>],
+    cells: &[Cell<'_, '_>],
     counts: &[usize],
     depth: u32,
     index: usize,

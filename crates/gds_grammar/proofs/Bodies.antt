@@ -12,8 +12,9 @@ use Rattle.fill_base.specs.declared.place.Point.{Point}
 use Rattle.gds_record.specs.declared.records.Record.{Record}
 use Rattle.gds_record.specs.Records.{Rec, view}
 use Rattle.gds_record.specs.Numbers.{point_of}
+use Rattle.gds_grammar.specs.Points.{points_of}
 use Rattle.gds_grammar.specs.Forms.{among, has_size, kinds_of_2, kinds_of_4, kinds_of_8, IsWell}
-use Rattle.gds_grammar.specs.Elements.{kinds_in, points_of, last_of, is_same_point, is_ring, has_count, are_points, body_of}
+use Rattle.gds_grammar.specs.Elements.{kinds_in, last_of, is_same_point, is_ring, has_count, are_points, body_of}
 use Rattle.gds_grammar.specs.declared.element.ElementKind.{ElementKind}
 use Rattle.gds_grammar.specs.declared.element.ElementKind.TheVariants.{Boundary}
 use Rattle.std.proofs.lemmas.Bool.{eqb-true, ltb-true}

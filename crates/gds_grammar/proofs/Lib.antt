@@ -7,5 +7,6 @@ pub mod Why
 pub mod Paths
 pub mod Bodies
 pub mod Cells
+pub mod Keeping
 pub mod Unique
 pub mod Exact

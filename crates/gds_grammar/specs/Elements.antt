@@ -11,6 +11,7 @@ use Rattle.gds_grammar.specs.declared.element.ElementKind.TheVariants.{Boundary,
 use Rattle.gds_grammar.specs.declared.element.Transform.{Transform}
 use Rattle.gds_grammar.specs.Forms.{among}
 use Rattle.gds_grammar.specs.Values.{Shape, boundary, path, reference, array}
+use Rattle.gds_grammar.specs.Points.{points_of}
 
 -- the kind of element that a record of this kind opens
 unfoldable pub opening : ℕ → Option ElementKind
@@ -59,12 +60,6 @@ kinds_in records = map (λ r. r.kind) records
 -- what has to stand before XY stands there
 abbrev pub is_whole : ElementKind → List ℕ → Bool
 is_whole element seen = list_all (λ k. among seen k) (required element)
-
--- the points of XY, eight bytes each
-abbrev pub points_of : List ℕ → List Point
-points_of (a ∷ b ∷ c ∷ d ∷ e ∷ f ∷ g ∷ h ∷ rest) =
-    point_of (a ∷ b ∷ c ∷ d ∷ e ∷ f ∷ g ∷ h ∷ []) ∷ points_of rest
-points_of _ = []
 
 -- how many points an element has
 abbrev pub has_count : ElementKind → ℕ → Bool
@@ -151,10 +146,13 @@ abbrev pub shapes_in : ElementKind → List Rec → List ℕ → List Shape
 shapes_in Boundary before xy =
     boundary (word_in kinds.LAYER before) (word_in kinds.DATATYPE before) (points_of xy) ∷ []
 shapes_in Path before xy =
-    path (word_in kinds.LAYER before) (word_in kinds.DATATYPE before)
-    (value_if word_of (body_of kinds.PATHTYPE before)) (value_if number_of (body_of kinds.WIDTH before))
-    (value_if number_of (body_of kinds.BGNEXTN before))
-    (value_if number_of (body_of kinds.ENDEXTN before)) (points_of xy) ∷ []
+    path (word_in kinds.LAYER before) (word_in kinds.DATATYPE before) (record {
+      path_type = value_if word_of (body_of kinds.PATHTYPE before);
+      width = value_if number_of (body_of kinds.WIDTH before);
+      begin_extension = value_if number_of (body_of kinds.BGNEXTN before);
+      end_extension = value_if number_of (body_of kinds.ENDEXTN before);
+      points = points_of xy;
+    }) ∷ []
 shapes_in Reference before xy =
     reference (name_in before) (transform_in before) (point_of xy) ∷ []
 shapes_in Array before xy =

@@ -1,5 +1,7 @@
 pub mod Forms
+pub mod Points
 pub mod Values
+pub mod Layers
 pub mod Elements
 pub mod Grammar
 pub mod Machine

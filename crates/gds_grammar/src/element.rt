@@ -2,10 +2,13 @@
 
 ghost use Rattle.std.specs.Prelude.{◌≡◌, ◌-◌, ◌<◌, length, slice_get, All};
 ghost use Rattle.gds_record.specs.Numbers.{IsStored};
+ghost use Rattle.gds_grammar.specs.Points.{points_of};
 
+use crate::element::points::Points;
 use fill_base::Point;
 
 pub mod body;
+pub mod points;
 pub mod reading;
 pub mod tables;
 pub mod values;
@@ -23,22 +26,21 @@ pub struct Transform {
 
 /// A filled polygon.
 #[derive(Debug, Drop)]
-pub struct Boundary {
+pub struct Boundary<'a> {
     /// LAYER, as an unsigned number (this project's profile).
     pub layer: u16,
     /// DATATYPE, as an unsigned number (this project's profile).
     pub data_type: u16,
-    /// Its points in database units, in the order of the file.
-    pub points: Vec<Point>,
-    pub ghost filled: { 0 < length points.items },
-    pub ghost closed: { slice_get points.items 0
-        ≡ slice_get points.items (length points.items - 1) },
-    pub ghost stored: { All IsStored points.items },
+    /// Its points.
+    pub points: Points<'a>,
+    pub ghost filled: { 0 < length (points_of points.xy.now) },
+    pub ghost closed: { slice_get (points_of points.xy.now) 0
+        ≡ slice_get (points_of points.xy.now) (length (points_of points.xy.now) - 1) },
 }
 
 /// A wire along a chain of points.
 #[derive(Debug, Drop)]
-pub struct Path {
+pub struct Path<'a> {
     /// LAYER, as an unsigned number (this project's profile).
     pub layer: u16,
     /// DATATYPE, as an unsigned number (this project's profile).
@@ -51,16 +53,15 @@ pub struct Path {
     pub begin_extension: Option<i32>,
     /// ENDEXTN in database units: how far it goes past its last point.
     pub end_extension: Option<i32>,
-    /// Its points in database units, in the order of the file; at least one.
-    pub points: Vec<Point>,
-    pub ghost stored: { All IsStored points.items },
+    /// Its points; at least one.
+    pub points: Points<'a>,
 }
 
 /// A reference to a cell.
 #[derive(Debug, Drop)]
-pub struct Ref {
+pub struct Ref<'a> {
     /// The name of the cell, without the zero bytes at its end.
-    pub cell: Vec<u8>,
+    pub cell: &'a [u8],
     /// What is done to it before it is moved.
     pub transform: Transform,
     /// Where its origin goes, in database units.
@@ -70,9 +71,9 @@ pub struct Ref {
 
 /// An array of references to a cell.
 #[derive(Debug, Drop)]
-pub struct Array {
+pub struct Array<'a> {
     /// The name of the cell, without the zero bytes at its end.
-    pub cell: Vec<u8>,
+    pub cell: &'a [u8],
     /// What is done to it before it is moved.
     pub transform: Transform,
     /// The first number of COLROW, unsigned.
@@ -87,16 +88,16 @@ pub struct Array {
 
 /// An element that carries metal or refers to some.
 #[derive(Debug, Drop)]
-pub enum Element {
+pub enum Element<'a> {
     /// A filled polygon.
-    Boundary(Boundary),
+    Boundary(Boundary<'a>),
     /// A wire along a chain of points.
-    Path(Path),
+    Path(Path<'a>),
     /// A reference to a cell.
-    Ref(Ref),
+    Ref(Ref<'a>),
     /// An array of references to a cell, boxed so that the other elements, of which there are more, take
     /// less memory.
-    Array(Box<Array>),
+    Array(Box<Array<'a>>),
 }
 
 /// What an element is. Texts, nodes and boxes carry no metal, and are read over.

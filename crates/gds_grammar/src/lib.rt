@@ -11,8 +11,11 @@ mod head;
 pub mod laws;
 mod library;
 mod next;
+mod wanted;
 mod well_formed;
 
+pub use element::points::Points;
 pub use element::{Array, Boundary, Element, Path, Ref, Transform};
 pub use error::LibraryError;
-pub use library::{Library, read_library};
+pub use library::{Library, read_layers, read_library};
+pub use wanted::Layer;

@@ -1,5 +1,5 @@
 -- The corners of boxes, as they are reckoned and written.
-use Rattle.std.proofs.Common.{◌≡◌, refl, ap, sym, subst, unsigned_abs, ◌∙◌, ℕ, zero, suc, ◌<◌, ℤ, pos, negsuc, ◌+ℤ◌, ◌*ℤ◌, ◌≤ℤ◌, ◌<ℤ◌, arith, true, w64, FitsSigned, List, [], ◌∷◌, map}
+use Rattle.std.proofs.Common.{◌≡◌, refl, ap, sym, subst, unsigned_abs, ◌∙◌, ℕ, zero, suc, ◌<◌, ℤ, pos, negsuc, ◌+ℤ◌, ◌*ℤ◌, ◌≤ℤ◌, ◌<ℤ◌, arith, true, false, ◌&&◌, ◌==◌, w64, FitsSigned, List, [], ◌∷◌, map}
 use Rattle.std.specs.List.{All}
 use Rattle.std.proofs.lemmas.Int.{ints}
 use Rattle.fill_base.specs.Coordinates.{lowest, highest}
@@ -12,13 +12,13 @@ use Rattle.fill_raster.specs.Axes.{IsAxis, box_begin, box_end, first, past, is_o
 use Rattle.fill_raster.specs.Lattice.{Lattice, IsLattice, in_raster}
 use Rattle.fill_raster.specs.declared.axis.Axis.{Axis}
 use Rattle.fill_raster.proofs.Floors.{one_more}
+use Rattle.fill_stacks.specs.declared.pieces.Stack.{Stack}
 use Rattle.fill_raster.proofs.Ranges.{on_range}
 use Rattle.std.proofs.Math.IntN.{zero-*ℤ}
-use Rattle.std.proofs.lemmas.Bool.{and_from, ne_eqb}
-use Rattle.gds_out.specs.Runs.{run}
+use Rattle.std.proofs.lemmas.Bool.{and_from}
 use Rattle.fill_raster.proofs.Reading.{length_read, box_range, BoxRange}
-use Rattle.gds_out.specs.FillText.{coordinates, points_bytes, box_corners, reference_records, array_records, piece_records}
-use Rattle.gds_out.specs.steps.Ranges.{at, IsArray, IsRowPart}
+use Rattle.gds_out.specs.FillText.{coordinates, points_bytes, box_corners, reference_records, array_records, stack_records}
+use Rattle.gds_out.specs.steps.Ranges.{at, IsArray, IsStackOf}
 
 pub all_three : (a b c : Point) → IsStored a → IsStored b → IsStored c → All IsStored (a ∷ b ∷ c ∷ [])
 all_three a b c ha hb hc zero d lt = ha
@@ -43,24 +43,40 @@ stored_read z low high = read_is z (stored_fits z low high)
 far_fits : (x q : ℤ) → negsuc 2147483647 ≤ℤ x → x ≤ℤ pos 2147483647 → negsuc 2147483647 ≤ℤ (x +ℤ q) → (x +ℤ q) ≤ℤ pos 2147483647 → FitsSigned w64 q
 far_fits x q l h m k = omega (arith, ints)
 
-pub behind_is : (p step : Point) (n : ℕ) (m : ℤ) → IsArray p step n → n < 65536 → m ≡ pos n
-    → at (read (read p.x +ℤ read (read m *ℤ read step.x))) (read p.y) ≡ at (p.x +ℤ (pos n *ℤ step.x)) p.y
-behind_is p step n m is few m_is =
-    let px = stored_read p.x is.corner.left is.corner.right in
-    let py = stored_read p.y is.corner.low is.corner.high in
+-- so many steps further
+far_is : (x s : ℤ) (n : ℕ) (m : ℤ) → IsLength s → negsuc 2147483647 ≤ℤ x → x ≤ℤ pos 2147483647 → negsuc 2147483647 ≤ℤ (x +ℤ (pos n *ℤ s)) → (x +ℤ (pos n *ℤ s)) ≤ℤ pos 2147483647 → n < 65536 → m ≡ pos n
+    → read (read x +ℤ read (read m *ℤ read s)) ≡ x +ℤ (pos n *ℤ s)
+far_is x s n m length low high far_low far_high few m_is =
+    let rx = stored_read x low high in
     let count : read m ≡ pos n = ap read m_is ∙ read_is (pos n) (pos_fits n (omega (arith, few))) in
-    let s = length_read step.x is.wide in
-    let far : read (pos n *ℤ step.x) ≡ pos n *ℤ step.x = read_is _ (far_fits p.x (pos n *ℤ step.x) is.corner.left is.corner.right is.behind.left is.behind.right) in
-    let sum : read (p.x +ℤ (pos n *ℤ step.x)) ≡ p.x +ℤ (pos n *ℤ step.x) = stored_read _ is.behind.left is.behind.right in
-    rw (px, count, s, far, sum, py) refl
+    let rs = length_read s length in
+    let far : read (pos n *ℤ s) ≡ pos n *ℤ s = read_is _ (far_fits x (pos n *ℤ s) low high far_low far_high) in
+    let sum : read (x +ℤ (pos n *ℤ s)) ≡ x +ℤ (pos n *ℤ s) = stored_read _ far_low far_high in
+    rw (rx, count, rs, far, sum) refl
 
-pub above_is : (p step : Point) (n : ℕ) → IsArray p step n → at (read p.x) (read (read p.y +ℤ read step.y)) ≡ at p.x (p.y +ℤ step.y)
-above_is p step n is =
-    let px = stored_read p.x is.corner.left is.corner.right in
-    let py = stored_read p.y is.corner.low is.corner.high in
-    let s = length_read step.y is.tall in
-    let sum : read (p.y +ℤ step.y) ≡ p.y +ℤ step.y = stored_read _ is.above.low is.above.high in
-    rw (px, py, s, sum) refl
+-- the same sum fits
+pub far_sum_fits : (x s : ℤ) (n : ℕ) (m : ℤ) → IsLength s → negsuc 2147483647 ≤ℤ x → x ≤ℤ pos 2147483647 → negsuc 2147483647 ≤ℤ (x +ℤ (pos n *ℤ s)) → (x +ℤ (pos n *ℤ s)) ≤ℤ pos 2147483647 → n < 65536 → m ≡ pos n
+    → FitsSigned w64 (read x +ℤ read (read m *ℤ read s))
+far_sum_fits x s n m length low high far_low far_high few m_is =
+    let rx = stored_read x low high in
+    let count : read m ≡ pos n = ap read m_is ∙ read_is (pos n) (pos_fits n (omega (arith, few))) in
+    let rs = length_read s length in
+    let far : read (pos n *ℤ s) ≡ pos n *ℤ s = read_is _ (far_fits x (pos n *ℤ s) low high far_low far_high) in
+    rw (rx, count, rs, far) (stored_fits _ far_low far_high)
+
+pub behind_is : (p step : Point) (n k : ℕ) (m : ℤ) → IsArray p step n k → n < 65536 → m ≡ pos n
+    → at (read (read p.x +ℤ read (read m *ℤ read step.x))) (read p.y) ≡ at (p.x +ℤ (pos n *ℤ step.x)) p.y
+behind_is p step n k m is few m_is =
+    let x = far_is p.x step.x n m is.wide is.corner.left is.corner.right is.behind.left is.behind.right few m_is in
+    let y = stored_read p.y is.corner.low is.corner.high in
+    rw (x, y) refl
+
+pub above_is : (p step : Point) (n k : ℕ) (m : ℤ) → IsArray p step n k → k < 65536 → m ≡ pos k
+    → at (read p.x) (read (read p.y +ℤ read (read m *ℤ read step.y))) ≡ at p.x (p.y +ℤ (pos k *ℤ step.y))
+above_is p step n k m is few m_is =
+    let x = stored_read p.x is.corner.left is.corner.right in
+    let y = far_is p.y step.y k m is.tall is.corner.low is.corner.high is.above.low is.above.high few m_is in
+    rw (x, y) refl
 
 -- a place between the least and the greatest is on the axis
 pub on_axis : (a : Axis) (i : ℤ) → IsAxis a → first a ≤ℤ i → i <ℤ past a → is_on a i ≡ true
@@ -110,87 +126,83 @@ low_more z s h is = let a = is.least in omega (arith, ints)
 high_more : (z s : ℤ) → z ≤ℤ highest → IsLength s → (z +ℤ s) ≤ℤ pos 2147483647
 high_more z s h is = let a = is.most in omega (arith, ints)
 
-pub row_array : (r : Lattice) (i j : ℤ) (n : ℕ) → IsAxis r.across → IsAxis r.up → IsRowPart r i j n → 0 < n
-    → IsArray (at (box_begin r.across i) (box_begin r.up j)) (at r.across.step r.up.step) n
-row_array r i j zero across up part some = absurd (omega (arith, some))
-row_array r i j (suc k) across up part some =
-    let first_on = on_axis r.across i across part.from (before_past i k (past r.across) part.to) in
-    let last_on = on_axis r.across (i +ℤ pos k) across (last_from (first r.across) i k part.from) (last_to i k (past r.across) part.to) in
-    let x = box_range r.across i across first_on in
-    let l = box_range r.across (i +ℤ pos k) across last_on in
-    let y = box_range r.up j up part.row in
-    let corner : IsStored (at (box_begin r.across i) (box_begin r.up j)) = record {
-      left = low_stored _ x.least;
-      right = high_stored _ (begin_most r.across i x);
-      low = low_stored _ y.least;
-      high = high_stored _ (begin_most r.up j y);
-    } in
-    let behind = behind_last r.across.origin i r.across.step k in
+-- the boxes of so many places along an axis: where the first begins, and where one behind the last would
+record IsSpan (a : Axis) (i : ℤ) (n : ℕ) : Type 0 where
+  low : negsuc 2147483647 ≤ℤ box_begin a i
+  high : box_begin a i ≤ℤ pos 2147483647
+  far_low : negsuc 2147483647 ≤ℤ (box_begin a i +ℤ (pos n *ℤ a.step))
+  far_high : (box_begin a i +ℤ (pos n *ℤ a.step)) ≤ℤ pos 2147483647
+
+before : (i : ℤ) (n : ℕ) (p : ℤ) → 0 < n → (i +ℤ pos n) ≤ℤ p → i <ℤ p
+before i n p some to = omega (arith, ints)
+
+span_of : (a : Axis) (i : ℤ) (n : ℕ) → IsAxis a → 0 < n → first a ≤ℤ i → (i +ℤ pos n) ≤ℤ past a → IsSpan a i n
+span_of a i zero is some low high = absurd (omega (arith, some))
+span_of a i (suc k) is some low high =
+    let first_on = on_axis a i is low (before i (suc k) (past a) some high) in
+    let last_on = on_axis a (i +ℤ pos k) is (last_from (first a) i k low) (last_to i k (past a) high) in
+    let x = box_range a i is first_on in
+    let l = box_range a (i +ℤ pos k) is last_on in
+    let behind = behind_last a.origin i a.step k in
     record {
-      wide = across.step_is;
-      tall = up.step_is;
-      corner = corner;
-      behind = record {
-        left = subst (λ z. negsuc 2147483647 ≤ℤ z) (sym behind) (low_more (box_begin r.across (i +ℤ pos k)) r.across.step l.least across.step_is);
-        right = subst (λ z. z ≤ℤ pos 2147483647) (sym behind) (high_more (box_begin r.across (i +ℤ pos k)) r.across.step (begin_most r.across (i +ℤ pos k) l) across.step_is);
-        low = corner.low;
-        high = corner.high;
-      };
-      above = record {
-        left = corner.left;
-        right = corner.right;
-        low = low_more _ r.up.step y.least up.step_is;
-        high = high_more _ r.up.step (begin_most r.up j y) up.step_is;
-      };
+      low = low_stored _ x.least;
+      high = high_stored _ (begin_most a i x);
+      far_low = subst (λ z. negsuc 2147483647 ≤ℤ z) (sym behind) (low_more (box_begin a (i +ℤ pos k)) a.step l.least is.step_is);
+      far_high = subst (λ z. z ≤ℤ pos 2147483647) (sym behind) (high_more (box_begin a (i +ℤ pos k)) a.step (begin_most a (i +ℤ pos k) l) is.step_is);
     }
   where
-    before_past : (i : ℤ) (k : ℕ) (p : ℤ) → (i +ℤ pos (suc k)) ≤ℤ p → i <ℤ p
-    before_past i k p to = omega (arith, ints)
-
     last_from : (f i : ℤ) (k : ℕ) → f ≤ℤ i → f ≤ℤ (i +ℤ pos k)
     last_from f i k from = omega (arith, ints)
 
     last_to : (i : ℤ) (k : ℕ) (p : ℤ) → (i +ℤ pos (suc k)) ≤ℤ p → (i +ℤ pos k) <ℤ p
     last_to i k p to = omega (arith, ints)
 
-pub part_array : (r : Lattice) (i j : ℤ) (n : ℕ) → IsLattice r → IsRowPart r i j n → 0 < n
-    → IsArray (at (box_begin r.across i) (box_begin r.up j)) (at r.across.step r.up.step) n
-part_array r i j n is = row_array r i j n is.across is.up
+pub stack_array : (r : Lattice) (s : Stack) → IsAxis r.across → IsAxis r.up → IsStackOf r s
+    → IsArray (at (box_begin r.across s.column) (box_begin r.up s.row)) (at r.across.step r.up.step) s.columns s.rows
+stack_array r s across up is =
+    let x = span_of r.across s.column s.columns across is.wide is.left is.right in
+    let y = span_of r.up s.row s.rows up is.tall is.low is.high in
+    record {
+      wide = across.step_is;
+      tall = up.step_is;
+      corner = record { left = x.low; right = x.high; low = y.low; high = y.high };
+      behind = record { left = x.far_low; right = x.far_high; low = y.low; high = y.high };
+      above = record { left = x.low; right = x.high; low = y.far_low; high = y.far_high };
+    }
 
--- the first place of a row part is the raster's
-pub part_on : (r : Lattice) (i j : ℤ) (n : ℕ) → IsLattice r → IsRowPart r i j n → 0 < n → in_raster r i j ≡ true
-part_on r i j n is part some = and_from (is_on r.across i) (is_on r.up j) (on_axis r.across i is.across part.from (before i n (past r.across) some part.to)) part.row
-  where
-    before : (i : ℤ) (n : ℕ) (p : ℤ) → 0 < n → (i +ℤ pos n) ≤ℤ p → i <ℤ p
-    before i n p some to = omega (arith, ints)
+-- the first place of a stack is the raster's
+pub first_on : (r : Lattice) (s : Stack) → IsLattice r → IsStackOf r s → in_raster r s.column s.row ≡ true
+first_on r s is part =
+    and_from (is_on r.across s.column) (is_on r.up s.row) (on_axis r.across s.column is.across part.left (before s.column s.columns (past r.across) part.wide part.right))
+    (on_axis r.up s.row is.up part.low (before s.row s.rows (past r.up) part.tall part.high))
 
 -- the corner as it's read
-pub corner_is : (r : Lattice) (i j : ℤ) (n : ℕ) (x y x' y' : ℤ) → IsLattice r → IsRowPart r i j n → 0 < n → x ≡ x' → x' ≡ box_begin r.across i → y ≡ y' → y' ≡ box_begin r.up j
-    → at (read x) (read y) ≡ at (box_begin r.across i) (box_begin r.up j)
-corner_is r i j n x y x' y' is part some x_is x_at y_is y_at =
-    let c = (part_array r i j n is part some).corner in
-    let rx : read x ≡ box_begin r.across i = ap read (x_is ∙ x_at) ∙ stored_read _ c.left c.right in
-    let ry : read y ≡ box_begin r.up j = ap read (y_is ∙ y_at) ∙ stored_read _ c.low c.high in
+pub corner_is : (r : Lattice) (s : Stack) (x y x' y' : ℤ) → IsLattice r → IsStackOf r s → x ≡ x' → x' ≡ box_begin r.across s.column → y ≡ y' → y' ≡ box_begin r.up s.row
+    → at (read x) (read y) ≡ at (box_begin r.across s.column) (box_begin r.up s.row)
+corner_is r s x y x' y' is part x_is x_at y_is y_at =
+    let c = (stack_array r s is.across is.up part).corner in
+    let rx : read x ≡ box_begin r.across s.column = ap read (x_is ∙ x_at) ∙ stored_read _ c.left c.right in
+    let ry : read y ≡ box_begin r.up s.row = ap read (y_is ∙ y_at) ∙ stored_read _ c.low c.high in
     rw (rx, ry) refl
 
 pub layer_read : (z v : ℤ) → z ≡ v → pos 0 ≤ℤ z → z ≤ℤ pos 65535 → unsigned_abs (read z) ≡ unsigned_abs v
 layer_read z v is low high = ap unsigned_abs (stored_read z (omega (arith, ints)) (omega (arith, ints)) ∙ is)
 
--- a piece of one box, and of more
-pub piece_one : (cell cell' : List ℕ) (r : Lattice) (i j : ℤ) (n : ℕ) (p : Point) → n ≡ 1 → cell ≡ cell' → p ≡ at (box_begin r.across i) (box_begin r.up j)
-    → reference_records cell p.x p.y ≡ piece_records cell' r j (run i n)
-piece_one cell cell' r i j n p one cells is = rw (cells, is, one) refl
+-- a stack of one box, and of more
+pub stack_one : (cell cell' : List ℕ) (r : Lattice) (s : Stack) (p : Point) → ((s.columns == 1) && (s.rows == 1)) ≡ true → cell ≡ cell' → p ≡ at (box_begin r.across s.column) (box_begin r.up s.row)
+    → reference_records cell p.x p.y ≡ stack_records cell' r s
+stack_one cell cell' r s p one cells is = rw (cells, is, one) refl
 
-pub piece_many : (cell cell' : List ℕ) (r : Lattice) (i j : ℤ) (n : ℕ) (p s : Point) → (n ≡ 1 → ⊥) → cell ≡ cell' → p ≡ at (box_begin r.across i) (box_begin r.up j) → s ≡ at r.across.step r.up.step
-    → array_records cell n s.x s.y p.x p.y ≡ piece_records cell' r j (run i n)
-piece_many cell cell' r i j n p s many cells is step = rw (cells, is, step, ne_eqb n 1 many) refl
+pub stack_many : (cell cell' : List ℕ) (r : Lattice) (s : Stack) (p q : Point) → ((s.columns == 1) && (s.rows == 1)) ≡ false → cell ≡ cell' → p ≡ at (box_begin r.across s.column) (box_begin r.up s.row) → q ≡ at r.across.step r.up.step
+    → array_records cell s.columns s.rows q.x q.y p.x p.y ≡ stack_records cell' r s
+stack_many cell cell' r s p q many cells is step = rw (cells, is, step, many) refl
 
-pub array_bytes : (p step : Point) (n : ℕ) (m : ℤ) → IsArray p step n → n < 65536 → m ≡ pos n
-    → points_bytes (map coordinates (p ∷ at (read (read p.x +ℤ read (read m *ℤ read step.x))) (read p.y) ∷ at (read p.x) (read (read p.y +ℤ read step.y)) ∷ []))
-    ≡ points_bytes ((p.x, p.y) ∷ (p.x +ℤ (pos n *ℤ step.x), p.y) ∷ (p.x, p.y +ℤ step.y) ∷ [])
-array_bytes p step n m is few m_is =
-    ap (λ (q : Point). points_bytes (map coordinates (p ∷ q ∷ at (read p.x) (read (read p.y +ℤ read step.y)) ∷ []))) (behind_is p step n m is few m_is)
-    ∙ ap (λ (q : Point). points_bytes (map coordinates (p ∷ at (p.x +ℤ (pos n *ℤ step.x)) p.y ∷ q ∷ []))) (above_is p step n is)
+pub array_bytes : (p step : Point) (n k : ℕ) (m l : ℤ) → IsArray p step n k → n < 65536 → m ≡ pos n → k < 65536 → l ≡ pos k
+    → points_bytes (map coordinates (p ∷ at (read (read p.x +ℤ read (read m *ℤ read step.x))) (read p.y) ∷ at (read p.x) (read (read p.y +ℤ read (read l *ℤ read step.y))) ∷ []))
+    ≡ points_bytes ((p.x, p.y) ∷ (p.x +ℤ (pos n *ℤ step.x), p.y) ∷ (p.x, p.y +ℤ (pos k *ℤ step.y)) ∷ [])
+array_bytes p step n k m l is few m_is small l_is =
+    ap (λ (q : Point). points_bytes (map coordinates (p ∷ q ∷ at (read p.x) (read (read p.y +ℤ read (read l *ℤ read step.y))) ∷ []))) (behind_is p step n k m is few m_is)
+    ∙ ap (λ (q : Point). points_bytes (map coordinates (p ∷ at (p.x +ℤ (pos n *ℤ step.x)) p.y ∷ q ∷ []))) (above_is p step n k l is small l_is)
 
 -- the corners of the one box
 pub size_read : (v n : ℤ) → v ≡ n → pos 1 ≤ℤ v → v ≤ℤ pos 1048576 → read v ≡ n

@@ -4,7 +4,7 @@ use Rattle.std.specs.Prelude.{if◌then◌else◌}
 use Rattle.std.specs.List.{filter}
 use Rattle.std.specs.Ordering.{int_eq}
 use Rattle.std.proofs.lemmas.Int.{ints}
-use Rattle.gds_out.specs.Runs.{Run, run, runs, joined, numbers_from}
+use Rattle.fill_stacks.specs.Runs.{Run, run, runs, joined, numbers_from}
 
 one_on : (z : ℤ) (k : ℕ) → (z +ℤ pos 1) +ℤ pos k ≡ z +ℤ pos (suc k)
 one_on z k = omega (arith, ints)

@@ -3,9 +3,7 @@ use Rattle.std.proofs.Common.{◌≡◌, refl, ap, ◌∙◌, ℕ, suc, ◌*◌,
 use Rattle.std.specs.List.{flat_map, filter, range_with_len, AllByRecursion}
 use Rattle.std.proofs.lemmas.Bool.{eq-eqb}
 use Rattle.fill_base.specs.declared.place.Point.{Point}
-use Rattle.gds_grammar.specs.declared.element.Element.{Element}
-use Rattle.gds_grammar.specs.declared.element.Element.TheVariants.{Boundary, Path, Ref, Array}
-use Rattle.gds_grammar.specs.Values.{Shape, Cell, boundary, path, reference, array, shape_of, cell_of}
+use Rattle.gds_grammar.specs.Values.{Shape, boundary, path, reference, array}
 use Rattle.gds_shape.specs.Winding.{covers}
 use Rattle.gds_flatten.specs.declared.placement.Placement.{Placement}
 use Rattle.gds_flatten.specs.Copies.{Hierarchy, copies, own_copy, carry_copy}
@@ -18,89 +16,67 @@ use Rattle.gds_flatten.specs.Shapes.{is_shape, covers_of}
 -- the single references of a shape
 abbrev pub singles_of : List Entry → Shape → List (ℕ × Placement)
 singles_of cells (boundary l d ps) = []
-singles_of cells (path l d t w b e ps) = []
+singles_of cells (path l d wire) = []
 singles_of cells (reference name t o) = (index_of cells name, placement_of t o) ∷ []
 singles_of cells (array name t m n ps) = map (λ p. (index_of cells name, p)) (map (λ k. placement_of t (grid_point ps m n (k % m) (k / m))) (range_with_len 0 (m * n)))
 
-singles_are : (cells : List Entry) (e : Element) → singles_to cells (name_of e) (placements_of e) ≡ singles_of cells (shape_of e)
-singles_are cells (Boundary b) = refl
-singles_are cells (Path p) = refl
-singles_are cells (Ref r) = refl
-singles_are cells (Array a) = refl
+singles_are : (cells : List Entry) (e : Shape) → singles_to cells (name_of e) (placements_of e) ≡ singles_of cells e
+singles_are cells (boundary l d ps) = refl
+singles_are cells (path l d wire) = refl
+singles_are cells (reference name t o) = refl
+singles_are cells (array name t m n ps) = refl
 
-pub singles_by_shape : (cells : List Entry) (es : List Element) → singles_among cells es ≡ flat_map (singles_of cells) (map shape_of es)
+pub singles_by_shape : (cells : List Entry) (es : List Shape) → singles_among cells es ≡ flat_map (singles_of cells) (es)
 singles_by_shape cells [] = refl
-singles_by_shape cells (e ∷ es) = ap (λ s. s ++ singles_among cells es) (singles_are cells e) ∙ ap (λ s. singles_of cells (shape_of e) ++ s) (singles_by_shape cells es)
+singles_by_shape cells (e ∷ es) = ap (λ s. s ++ singles_among cells es) (singles_are cells e) ∙ ap (λ s. singles_of cells e ++ s) (singles_by_shape cells es)
 
 -- a reference or an array
 abbrev pub IsLink : Shape → Type 0
 IsLink (boundary l d ps) = ⊥
-IsLink (path l d t w b e ps) = ⊥
+IsLink (path l d wire) = ⊥
 IsLink (reference name t o) = Unit {0}
 IsLink (array name t m n ps) = Unit {0}
 
-not_drawn : (l d : ℕ) (e : Element) → IsLink (shape_of e) → is_shape l d e ≡ false
-not_drawn l d (Boundary b) is = absurd is
-not_drawn l d (Path p) is = absurd is
-not_drawn l d (Ref r) is = refl
-not_drawn l d (Array a) is = refl
+not_drawn : (l d : ℕ) (e : Shape) → IsLink e → is_shape l d e ≡ false
+not_drawn l d (boundary a b ps) is = absurd is
+not_drawn l d (path a b wire) is = absurd is
+not_drawn l d (reference name t o) is = refl
+not_drawn l d (array name t m n ps) is = refl
 
-pub links_draw_nothing : (l d : ℕ) (es : List Element) → AllByRecursion IsLink (map shape_of es) → filter (is_shape l d) es ≡ []
+pub links_draw_nothing : (l d : ℕ) (es : List Shape) → AllByRecursion IsLink es → filter (is_shape l d) es ≡ []
 links_draw_nothing l d [] all = refl
 links_draw_nothing l d (e ∷ es) all = rw (not_drawn l d e all.0) (links_draw_nothing l d es all.1)
 
 -- a boundary of a layer and data type
-pub record IsBoundary (l d : ℕ) (ps : List Point) (e : Element) : Type 0 where
+pub record IsBoundary (l d : ℕ) (ps : List Point) (e : Shape) : Type 0 where
   pub drawn : is_shape l d e ≡ true
   pub squares : covers_of e ≡ covers ps
   pub nowhere : (cells : List Entry) → singles_to cells (name_of e) (placements_of e) ≡ []
 
-is_boundary : (l d : ℕ) (ps : List Point) (e : Element) → shape_of e ≡ boundary l d ps → IsBoundary l d ps e
-is_boundary l d ps (Boundary b) is =
-    let layer : b.layer ≡ l = cc is in
-    let data_type : b.data_type ≡ d = cc is in
-    let points : b.points.items ≡ ps = cc is in
-    record { drawn = rw (layer, data_type, eq-eqb l l refl, eq-eqb d d refl) refl; squares = ap covers points; nowhere = λ cells. refl }
-is_boundary l d ps (Path p) is = absurd (cc is)
-is_boundary l d ps (Ref r) is = absurd (cc is)
-is_boundary l d ps (Array a) is = absurd (cc is)
+is_boundary : (l d : ℕ) (ps : List Point) (e : Shape) → e ≡ boundary l d ps → IsBoundary l d ps e
+is_boundary l d ps e is = rw is (record { drawn = rw (eq-eqb l l refl, eq-eqb d d refl) refl; squares = refl; nowhere = λ cells. refl })
 
 -- the one element of a cell of one boundary
-pub record OneBoundary (l d : ℕ) (ps : List Point) (es : List Element) : Type 0 where
-  pub element : Element
+pub record OneBoundary (l d : ℕ) (ps : List Point) (es : List Shape) : Type 0 where
+  pub element : Shape
   pub own : filter (is_shape l d) es ≡ element ∷ []
   pub squares : covers_of element ≡ covers ps
   pub singles : (cells : List Entry) → singles_among cells es ≡ []
 
-pub one_boundary : (l d : ℕ) (ps : List Point) (es : List Element) → map shape_of es ≡ boundary l d ps ∷ [] → OneBoundary l d ps es
+pub one_boundary : (l d : ℕ) (ps : List Point) (es : List Shape) → es ≡ boundary l d ps ∷ [] → OneBoundary l d ps es
 one_boundary l d ps [] is = absurd (cc is)
 one_boundary l d ps (e ∷ []) is =
     let b = is_boundary l d ps e (cc is) in
     record { element = e; own = rw b.drawn refl; squares = b.squares; singles = λ cells. rw (b.nowhere cells) refl }
 one_boundary l d ps (e ∷ f ∷ es) is = absurd (cc is)
 
--- ---- two cells
-
-pub record TwoCells (a b : Cell) (cells : List Entry) : Type 0 where
-  pub first : Entry
-  pub second : Entry
-  pub are : cells ≡ first ∷ second ∷ []
-  pub first_is : cell_of first ≡ a
-  pub second_is : cell_of second ≡ b
-
-pub two_cells : (a b : Cell) (cells : List Entry) → map cell_of cells ≡ a ∷ b ∷ [] → TwoCells a b cells
-two_cells a b [] is = absurd (cc is)
-two_cells a b (e ∷ []) is = absurd (cc is)
-two_cells a b (e ∷ f ∷ []) is = record { first = e; second = f; are = refl; first_is = cc is; second_is = cc is }
-two_cells a b (e ∷ f ∷ g ∷ es) is = absurd (cc is)
-
 -- ---- copies
 
-leaf : (h : Hierarchy) (n : ℕ) (b : Element) → h.own 0 ≡ b ∷ [] → h.singles 0 ≡ [] → copies h (suc n) 0 ≡ own_copy b ∷ []
+leaf : (h : Hierarchy) (n : ℕ) (b : Shape) → h.own 0 ≡ b ∷ [] → h.singles 0 ≡ [] → copies h (suc n) 0 ≡ own_copy b ∷ []
 unfolding copies
 leaf h n b own none = rw (own, none) refl
 
-each_carried : {X : Type 0} (h : Hierarchy) (n : ℕ) (b : Element) (at : X → Placement) (xs : List X) → copies h n 0 ≡ own_copy b ∷ []
+each_carried : {X : Type 0} (h : Hierarchy) (n : ℕ) (b : Shape) (at : X → Placement) (xs : List X) → copies h n 0 ≡ own_copy b ∷ []
     → flat_map (λ (s : ℕ × Placement). map (carry_copy s.1) (copies h n s.0)) (map (λ x. (0, at x)) xs) ≡ map (λ x. carry_copy (at x) (own_copy b)) xs
 each_carried h n b at [] is = refl
 each_carried h n b at (x ∷ xs) is =
@@ -108,7 +84,7 @@ each_carried h n b at (x ∷ xs) is =
     ∙ ap (λ cs. carry_copy (at x) (own_copy b) ∷ cs) (each_carried h n b at xs is)
 
 -- of a cell of one shape, and of one that refers to it alone
-pub carried_copies : {X : Type 0} (h : Hierarchy) (n : ℕ) (b : Element) (at : X → Placement) (xs : List X) → h.own 0 ≡ b ∷ [] → h.singles 0 ≡ [] → h.own 1 ≡ []
+pub carried_copies : {X : Type 0} (h : Hierarchy) (n : ℕ) (b : Shape) (at : X → Placement) (xs : List X) → h.own 0 ≡ b ∷ [] → h.singles 0 ≡ [] → h.own 1 ≡ []
     → h.singles 1 ≡ map (λ x. (0, at x)) xs → copies h (suc (suc n)) 1 ≡ map (λ x. carry_copy (at x) (own_copy b)) xs
 unfolding copies
 carried_copies h n b at xs own none empty singles = rw (empty, singles) (each_carried h (suc n) b at xs (leaf h n b own none))

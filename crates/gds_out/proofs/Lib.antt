@@ -4,14 +4,13 @@ pub mod Corners
 pub mod Names
 pub mod Along
 pub mod RowTurns
+pub mod RowStacks
 pub mod TestMarks
-pub mod PieceLaws
+pub mod ByStacks
 pub mod Standing
 pub mod Boxed
-pub mod Lists
 pub mod RuleAxes
 pub mod Listing
-pub mod ByPieces
 pub mod Wells
 pub mod ReadBack
 pub mod Entries

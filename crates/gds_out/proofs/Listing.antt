@@ -13,8 +13,8 @@ use Rattle.fill_raster.specs.Lattice.{Lattice}
 use Rattle.fill_raster.specs.declared.axis.Axis.{Axis}
 use Rattle.fill_raster.proofs.Ranges.{first_past, on_range}
 use Rattle.gds_out.specs.Laws.{is_place, raster_in, EachPlaceStandsOnce}
-use Rattle.gds_out.specs.Places.{PlaceSet, places_along, filled_columns}
-use Rattle.gds_out.specs.Runs.{numbers_from}
+use Rattle.fill_stacks.specs.Places.{PlaceSet, places_along, filled_columns}
+use Rattle.fill_stacks.specs.Runs.{numbers_from}
 use Rattle.gds_out.proofs.RuleAxes.{across_is, up_is}
 
 same : (i : ℤ) → int_eq i i ≡ true

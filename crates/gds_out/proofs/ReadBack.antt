@@ -7,7 +7,7 @@ use Rattle.std.proofs.lemmas.Int.{ints, to_z-of_z}
 use Rattle.std.proofs.lemmas.Nat.{from_be_bytes-to_be_bytes_2, from_be_bytes-to_be_bytes_4}
 use Rattle.fill_base.specs.declared.place.Point.{Point}
 use Rattle.gds_record.specs.Numbers.{word_of, number_of, point_of, IsStored}
-use Rattle.gds_grammar.specs.Elements.{points_of}
+use Rattle.gds_grammar.specs.Points.{points_of}
 use Rattle.gds_out.specs.FillText.{word_bytes, number_bytes, point_bytes, points_bytes, coordinates}
 
 pub word_back : (n : ℕ) → n < 65536 → word_of (word_bytes n) ≡ n

@@ -1,17 +1,19 @@
 -- The shape copies of the library that the text spells.
-use Rattle.std.proofs.Common.{◌≡◌, refl, ap, sym, subst, ◌∙◌, ℕ, ◌*◌, ◌/◌, ◌%◌, ℤ, Bool, true, false, List, [], ◌∷◌, map}
+use Rattle.std.proofs.Common.{◌≡◌, refl, ap, sym, subst, ◌∙◌, ℕ, ◌*◌, ◌/◌, ◌%◌, ℤ, Bool, true, false, ◌&&◌, List, [], ◌∷◌, map}
 use Rattle.std.specs.Prelude.{◌==◌, if◌then◌else◌}
 use Rattle.std.specs.List.{flat_map, range_with_len, AllByRecursion}
+use Rattle.std.specs.List.Sorted.{IsPermutation}
 use Rattle.std.specs.Str.{bytes_eq}
 use Rattle.std.proofs.lemmas.Slice.Eq.{bytes_eq-Decides}
 use Rattle.std.proofs.lemmas.List.{append-nil}
 use Rattle.std.proofs.lemmas.List.Concat.{flat_map_single}
+use Rattle.std.proofs.lemmas.List.Sorted.{IsPermutation-map}
 use Rattle.std.proofs.lemmas.Simd.{map-map}
 use Rattle.fill_base.specs.declared.place.Point.{Point}
 use Rattle.gds_record.specs.Records.{Rec, spelling}
 use Rattle.gds_grammar.specs.Grammar.{all_rules, IsLibrary}
 use Rattle.gds_grammar.specs.Outcomes.{Spells}
-use Rattle.gds_grammar.specs.Values.{Cell, Contents, reference, array, shape_of, cell_of}
+use Rattle.gds_grammar.specs.Values.{Cell, Contents, reference, array}
 use Rattle.gds_grammar.proofs.Back.{library_runs}
 use Rattle.gds_grammar.proofs.Unique.{one_value}
 use Rattle.gds_flatten.specs.declared.placement.Placement.{Placement}
@@ -27,17 +29,19 @@ use Rattle.fill_raster.specs.Lattice.{Lattice, box_squares}
 use Rattle.fill_text.specs.Rules.{Values, raster_of}
 use Rattle.fill_text.specs.ValuesOfRules.{values_of}
 use Rattle.fill_text.specs.declared.rules.Rules.{Rules}
-use Rattle.gds_out.specs.FillContents.{layer_of, data_type_of, box_points, corner_of, array_points, plain, piece_shapes, box_cell, top_cell}
+use Rattle.gds_out.specs.FillContents.{layer_of, data_type_of, box_points, corner_of, stack_points, plain, stack_shapes, box_cell, top_cell}
 use Rattle.gds_out.specs.FillText.{fill_records}
-use Rattle.gds_out.specs.Laws.{piece_corners, BoxesAreThePlaces}
-use Rattle.gds_out.specs.Places.{PlaceSet, of_pieces, filled_places}
-use Rattle.gds_out.specs.Runs.{Run}
+use Rattle.gds_out.specs.Laws.{stack_corners, BoxesAreThePlaces}
+use Rattle.fill_stacks.specs.Places.{PlaceSet, filled_places}
+use Rattle.fill_stacks.specs.Stacks.{stack_places, stacks}
+use Rattle.fill_stacks.specs.declared.pieces.Stack.{Stack}
+use Rattle.fill_stacks.proofs.Stacking.{hold_each_once}
 use Rattle.gds_out.proofs.Boxed.{box_moved}
-use Rattle.gds_out.proofs.ByPieces.{pieces_same, pieces_all}
-use Rattle.gds_out.proofs.Entries.{singles_of, singles_by_shape, IsLink, links_draw_nothing, one_boundary, two_cells, carried_copies}
+use Rattle.gds_out.proofs.ByStacks.{all_on, stacks_same, stacks_all}
+use Rattle.gds_out.proofs.Entries.{singles_of, singles_by_shape, IsLink, links_draw_nothing, one_boundary, carried_copies}
 use Rattle.gds_out.proofs.Grammatical.{is_a_library}
 use Rattle.gds_out.proofs.RuleAxes.{across_is, up_is}
-use Rattle.gds_out.proofs.Standing.{stand_at_places}
+use Rattle.gds_out.proofs.Standing.{corners_of}
 
 -- a library that is spelled in these records says this
 one_contents : (records : List Rec) (v w : Contents) → IsLibrary all_rules records v → Spells (flat_map spelling records) w → v ≡ w
@@ -52,18 +56,19 @@ moved_all : (n : ℕ) (f : ℕ → Point) (ks : List ℕ) → n ≡ 0 → map (�
 moved_all n f [] is = refl
 moved_all n f (k ∷ ks) is = ap (λ m. (m, shift (f k).x (f k).y) ∷ map (λ (p : Placement). (n, p)) (map (λ k. placement_of plain (f k)) ks)) is ∙ ap (λ t. moved_to (f k) ∷ t) (moved_all n f ks is)
 
-piece_singles : (cells : List Entry) (cell : List ℕ) (r : Lattice) (j : ℤ) (p : Run) → index_of cells cell ≡ 0 → flat_map (singles_of cells) (piece_shapes cell r j p) ≡ map moved_to (piece_corners r j p)
-piece_singles cells cell r j p is = by (p.count == 1)
+stack_singles : (cells : List Entry) (cell : List ℕ) (r : Lattice) (s : Stack) → index_of cells cell ≡ 0 → flat_map (singles_of cells) (stack_shapes cell r s) ≡ map moved_to (stack_corners r s)
+stack_singles cells cell r s is = by ((s.columns == 1) && (s.rows == 1))
   where
-    by : (b : Bool) → flat_map (singles_of cells) (if b then reference cell plain (corner_of r p.start j) ∷ [] else array cell plain p.count 1 (array_points r j p) ∷ [])
-        ≡ map moved_to (if b then corner_of r p.start j ∷ [] else map (λ k. grid_point (array_points r j p) p.count 1 (k % p.count) (k / p.count)) (range_with_len 0 (p.count * 1)))
-    by true = ap (λ (m : ℕ). (m, shift (box_begin r.across p.start) (box_begin r.up j)) ∷ []) is
-    by false = append-nil _ ∙ moved_all (index_of cells cell) (λ k. grid_point (array_points r j p) p.count 1 (k % p.count) (k / p.count)) (range_with_len 0 (p.count * 1)) is
+    by : (b : Bool) → flat_map (singles_of cells) (if b then reference cell plain (corner_of r s.column s.row) ∷ [] else array cell plain s.columns s.rows (stack_points r s) ∷ [])
+        ≡ map moved_to (if b then corner_of r s.column s.row ∷ []
+        else map (λ k. grid_point (stack_points r s) s.columns s.rows (k % s.columns) (k / s.columns)) (range_with_len 0 (s.columns * s.rows)))
+    by true = ap (λ (m : ℕ). (m, shift (box_begin r.across s.column) (box_begin r.up s.row)) ∷ []) is
+    by false = append-nil _ ∙ moved_all (index_of cells cell) (λ k. grid_point (stack_points r s) s.columns s.rows (k % s.columns) (k / s.columns)) (range_with_len 0 (s.columns * s.rows)) is
 
-pieces_link : (cell : List ℕ) (r : Lattice) (j : ℤ) (p : Run) → AllByRecursion IsLink (piece_shapes cell r j p)
-pieces_link cell r j p = by (p.count == 1)
+stacks_link : (cell : List ℕ) (r : Lattice) (s : Stack) → AllByRecursion IsLink (stack_shapes cell r s)
+stacks_link cell r s = by ((s.columns == 1) && (s.rows == 1))
   where
-    by : (b : Bool) → AllByRecursion IsLink (if b then reference cell plain (corner_of r p.start j) ∷ [] else array cell plain p.count 1 (array_points r j p) ∷ [])
+    by : (b : Bool) → AllByRecursion IsLink (if b then reference cell plain (corner_of r s.column s.row) ∷ [] else array cell plain s.columns s.rows (stack_points r s) ∷ [])
     by true = (tt, tt)
     by false = (tt, tt)
 
@@ -72,21 +77,21 @@ abbrev placed_at : Lattice → ℤ × ℤ → Placement
 placed_at r q = shift (box_begin r.across q.0) (box_begin r.up q.1)
 
 all_singles : (rules : Rules) (filled : PlaceSet) (cells : List Entry) → let v : Values = values_of rules in let r : Lattice = raster_of v.numbers in index_of cells v.fill_cell ≡ 0
-    → flat_map (singles_of cells) (of_pieces (piece_shapes v.fill_cell r) filled r) ≡ map (λ q. (0, placed_at r q)) (filled_places filled r)
+    → flat_map (singles_of cells) (flat_map (stack_shapes v.fill_cell r) (stacks filled r)) ≡ map (λ q. (0, placed_at r q)) (flat_map stack_places (stacks filled r))
 all_singles rules filled cells is =
     let v = values_of rules in
     let r = raster_of v.numbers in
-    let carried_to = pieces_same r filled (λ c. moved_to c ∷ []) (piece_corners r) (λ j p. map moved_to (piece_corners r j p)) (up_is rules) (λ j p _. flat_map_single moved_to (piece_corners r j p)) in
-    pieces_same r filled (singles_of cells) (piece_shapes v.fill_cell r) (λ j p. map moved_to (piece_corners r j p)) (up_is rules) (λ j p _. piece_singles cells v.fill_cell r j p is)
-    ∙ (sym carried_to ∙ (flat_map_single moved_to (of_pieces (piece_corners r) filled r)
-    ∙ (ap (map moved_to) (stand_at_places r filled) ∙ map-map moved_to (λ (q : ℤ × ℤ). corner_of r q.0 q.1) (filled_places filled r))))
+    let carried_to = stacks_same r filled (λ c. moved_to c ∷ []) (stack_corners r) (λ s. map moved_to (stack_corners r s)) (λ s _. flat_map_single moved_to (stack_corners r s)) in
+    stacks_same r filled (singles_of cells) (stack_shapes v.fill_cell r) (λ s. map moved_to (stack_corners r s)) (λ s _. stack_singles cells v.fill_cell r s is)
+    ∙ (sym carried_to ∙ (flat_map_single moved_to (flat_map (stack_corners r) (stacks filled r))
+    ∙ (ap (map moved_to) (corners_of filled r (stacks filled r) (all_on filled r)) ∙ map-map moved_to (λ (q : ℤ × ℤ). corner_of r q.0 q.1) (flat_map stack_places (stacks filled r)))))
 
 -- the boxes of a library of these two cells
-module _ (rules : Rules) (filled : PlaceSet) (first second : Entry) (first_is : cell_of first ≡ box_cell (values_of rules)) (second_is : cell_of second ≡ top_cell (values_of rules) filled) where
-  names_first : first.0.items ≡ (values_of rules).fill_cell
+module _ (rules : Rules) (filled : PlaceSet) (first second : Entry) (first_is : first ≡ box_cell (values_of rules)) (second_is : second ≡ top_cell (values_of rules) filled) where
+  names_first : first.name ≡ (values_of rules).fill_cell
   names_first = ap (λ (c : Cell). c.name) first_is
 
-  names_second : second.0.items ≡ (values_of rules).fill_top
+  names_second : second.name ≡ (values_of rules).fill_top
   names_second = ap (λ (c : Cell). c.name) second_is
 
   same : (xs : List ℕ) → bytes_eq xs xs ≡ true
@@ -99,26 +104,28 @@ module _ (rules : Rules) (filled : PlaceSet) (first second : Entry) (first_is : 
   top_index = rw (names_first, names_second, rules.apart, same (values_of rules).fill_top) refl
 
   pub boxes_of_two : map copy_covers (copies_of (first ∷ second ∷ []) (values_of rules).fill_top (layer_of (values_of rules)) (data_type_of (values_of rules)))
-      ≡ map (λ p. box_squares (raster_of (values_of rules).numbers) p.0 p.1) (filled_places filled (raster_of (values_of rules).numbers))
+      ≡ map (λ p. box_squares (raster_of (values_of rules).numbers) p.0 p.1) (flat_map stack_places (stacks filled (raster_of (values_of rules).numbers)))
   boxes_of_two =
       let v = values_of rules in
       let r = raster_of v.numbers in
       let cells = first ∷ second ∷ [] in
-      let box = one_boundary (layer_of v) (data_type_of v) (box_points r) first.1.items (ap (λ (c : Cell). c.shapes) first_is) in
-      let rows : map shape_of second.1.items ≡ of_pieces (piece_shapes v.fill_cell r) filled r = ap (λ (c : Cell). c.shapes) second_is in
-      let links = subst (AllByRecursion IsLink) (sym rows) (pieces_all r filled IsLink (piece_shapes v.fill_cell r) (pieces_link v.fill_cell r)) in
-      let singles = singles_by_shape cells second.1.items ∙ (ap (flat_map (singles_of cells)) rows ∙ all_singles rules filled cells box_index) in
+      let box = one_boundary (layer_of v) (data_type_of v) (box_points r) first.shapes (ap (λ (c : Cell). c.shapes) first_is) in
+      let rows : second.shapes ≡ flat_map (stack_shapes v.fill_cell r) (stacks filled r) = ap (λ (c : Cell). c.shapes) second_is in
+      let links = subst (AllByRecursion IsLink) (sym rows) (stacks_all r filled IsLink (stack_shapes v.fill_cell r) (stacks_link v.fill_cell r)) in
+      let singles = singles_by_shape cells second.shapes ∙ (ap (flat_map (singles_of cells)) rows ∙ all_singles rules filled cells box_index) in
       let each = λ (q : ℤ × ℤ). ap (λ p. carried p (covers_of box.element)) (composed_still (placed_at r q))
       ∙ (ap (λ s. carried (placed_at r q) s) box.squares ∙ (λ i. λ x y. box_moved r (across_is rules).length_is.least (up_is rules).length_is.least q.0 q.1 x y i)) in
-      let all = carried_copies (hierarchy_of cells (layer_of v) (data_type_of v)) 254 box.element (placed_at r) (filled_places filled r) box.own (box.singles cells)
-      (links_draw_nothing (layer_of v) (data_type_of v) second.1.items links) singles in
+      let all = carried_copies (hierarchy_of cells (layer_of v) (data_type_of v)) 254 box.element (placed_at r) (flat_map stack_places (stacks filled r)) box.own (box.singles cells)
+      (links_draw_nothing (layer_of v) (data_type_of v) second.shapes links) singles in
       ap (λ k. map copy_covers (copies (hierarchy_of cells (layer_of v) (data_type_of v)) 256 k)) top_index
       ∙ (ap (map copy_covers) all
-      ∙ (map-map copy_covers (λ q. carry_copy (placed_at r q) (own_copy box.element)) (filled_places filled r) ∙ (λ i. map (λ q. each q i) (filled_places filled r))))
+      ∙ (map-map copy_covers (λ q. carry_copy (placed_at r q) (own_copy box.element)) (flat_map stack_places (stacks filled r)) ∙ (λ i. map (λ q. each q i) (flat_map stack_places (stacks filled r)))))
 
 pub boxes_are_places : BoxesAreThePlaces
 boxes_are_places rules units dates filled library size len spelled =
     let v = values_of rules in
-    let cells = sym (ap (λ (x : Contents). x.cells) (one_contents (fill_records units dates v filled) _ _ (is_a_library rules units dates filled size len) spelled)) in
-    let two = two_cells (box_cell v) (top_cell v filled) library.cells.entries cells in
-    ap (λ es. map copy_covers (copies_of es v.fill_top (layer_of v) (data_type_of v))) two.are ∙ boxes_of_two rules filled two.first two.second two.first_is two.second_is
+    let r = raster_of v.numbers in
+    let cells = ap (λ (x : Contents). x.cells) (one_contents (fill_records units dates v filled) _ _ (is_a_library rules units dates filled size len) spelled) in
+    let boxes = ap (λ es. map copy_covers (copies_of es v.fill_top (layer_of v) (data_type_of v))) (sym cells) ∙ boxes_of_two rules filled (box_cell v) (top_cell v filled) refl refl in
+    subst (λ bs. IsPermutation bs (map (λ p. box_squares r p.0 p.1) (filled_places filled r))) (sym boxes)
+    (IsPermutation-map (λ (p : ℤ × ℤ). box_squares r p.0 p.1) (flat_map stack_places (stacks filled r)) (filled_places filled r) (hold_each_once filled r))

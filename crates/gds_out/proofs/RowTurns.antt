@@ -1,21 +1,22 @@
 -- Rows, run by run, and runs, piece by piece.
-use Rattle.std.proofs.Common.{◌≡◌, refl, ap, sym, subst, ◌∙◌, ℕ, zero, suc, min, ◌+◌, ◌-◌, ◌*◌, ◌<◌, ◌≤◌, ℤ, pos, negsuc, ◌+ℤ◌, ◌-ℤ◌, ◌≤ℤ◌, ◌<ℤ◌, arith, Bool, true, false, ◌⊎◌, inl, inr, List, [], ◌∷◌, ◌++◌, map, Fits, w32, w64, FitsSigned}
+use Rattle.std.proofs.Common.{◌≡◌, refl, ap, sym, subst, ◌∙◌, ℕ, zero, suc, ◌+◌, ◌*◌, ◌<◌, ◌≤◌, ℤ, pos, negsuc, ◌+ℤ◌, ◌-ℤ◌, ◌≤ℤ◌, ◌<ℤ◌, arith, Bool, true, false, ◌⊎◌, inl, inr, List, [], ◌∷◌, ◌++◌, map, Fits, w32, w64, FitsSigned}
 use Rattle.std.specs.Int.{div_ceil}
 use Rattle.std.specs.List.{flat_map, filter, range_with_len}
 use Rattle.std.proofs.lemmas.Int.{ints}
 use Rattle.std.proofs.lemmas.Grind.{flat_map-append}
-use Rattle.std.proofs.lemmas.List.{append-nil, append_assoc}
+use Rattle.std.proofs.lemmas.List.{append-nil, append_assoc, map-append}
 use Rattle.std.proofs.lemmas.List.FromFn.{map-range_with_len_more}
 use Rattle.fill_base.specs.Counts.{span_len}
 use Rattle.fill_base.proofs.Signed.{read, read_is}
 use Rattle.gds_record.specs.Records.{Rec, spelling}
-use Rattle.fill_raster.specs.Axes.{first, past, is_on}
+use Rattle.fill_raster.specs.Axes.{first, past}
 use Rattle.fill_raster.specs.Lattice.{Lattice, IsLattice}
 use Rattle.fill_raster.proofs.Groups.{starts_below}
 use Rattle.fill_raster.proofs.Ranges.{first_bounded, past_bounded, extent_bounded}
-use Rattle.gds_out.specs.Runs.{Run, run, runs, piece, numbers_from}
+use Rattle.fill_stacks.specs.Counting.{as_piece}
+use Rattle.fill_stacks.specs.Runs.{Run, run, runs, piece, pieces, numbers_from}
+use Rattle.fill_stacks.specs.declared.pieces.Piece.{Piece}
 use Rattle.gds_out.specs.steps.Columns.{IsNext}
-use Rattle.gds_out.specs.steps.Ranges.{IsRowPart}
 use Rattle.gds_out.proofs.Appending.{then}
 use Rattle.gds_out.proofs.Cutting.{one_turn, if_some}
 
@@ -27,62 +28,44 @@ number_fits z low high = omega (arith, ints)
 pub number_read : (z : ℤ) → negsuc 2147483647 ≤ℤ z → z ≤ℤ pos 2147483648 → read z ≡ z
 number_read z low high = read_is z (number_fits z low high)
 
-pub record IsPart (r : Lattice) (i j : ℤ) (count d : ℕ) : Type 0 where
+pub record IsPart (i : ℤ) (d : ℕ) : Type 0 where
   pub begins : read i ≡ i
   pub offset : read (pos d) ≡ pos d
   pub fits : FitsSigned w64 (i +ℤ pos d)
   pub at : read (i +ℤ pos d) ≡ i +ℤ pos d
-  pub part : IsRowPart r (i +ℤ pos d) j (min (count - d) 32767)
 
-pub part_of : (r : Lattice) (i j : ℤ) (count k : ℕ) → IsLattice r → IsRowPart r i j count → k < div_ceil count 32767 → IsPart r i j count (k * 32767)
-part_of r i j count k is row lt =
+-- a piece of a run begins in it
+pub part_of : (i : ℤ) (count k : ℕ) → negsuc 2147483647 ≤ℤ i → (i +ℤ pos count) ≤ℤ pos 2147483648 → k < div_ceil count 32767 → IsPart i (k * 32767)
+part_of i count k low high lt =
     let below : k * 32767 < count = starts_below count 32767 k (omega arith) lt in
-    let low = (first_bounded r.across is.across).least in
-    let high = (past_bounded r.across is.across).most in
-    let at_low = from_low (first r.across) i (k * 32767) low row.from in
-    let at_high = to_high i (past r.across) count (k * 32767) row.to high below in
-    let i_low = from_self (first r.across) i low row.from in
-    let i_high = to_self i (past r.across) count row.to high in
+    let at_low = further i (k * 32767) low in
+    let at_high = to_high i count (k * 32767) high below in
     record {
-      begins = number_read i i_low i_high;
-      offset = read_is (pos (k * 32767)) (pos_high (first r.across) i (past r.across) count (k * 32767) low row.from row.to high below);
+      begins = number_read i low (to_self i count high);
+      offset = read_is (pos (k * 32767)) (pos_high i count (k * 32767) low high below);
       fits = number_fits (i +ℤ pos (k * 32767)) at_low at_high;
       at = number_read (i +ℤ pos (k * 32767)) at_low at_high;
-      part = record {
-        from = later (first r.across) i (k * 32767) row.from;
-        to = within i (past r.across) count (k * 32767) row.to below;
-        row = row.row;
-      };
     }
   where
-    from_self : (f i : ℤ) → negsuc 2147483647 ≤ℤ f → f ≤ℤ i → negsuc 2147483647 ≤ℤ i
-    from_self f i h g = omega (arith, ints)
+    to_self : (i : ℤ) (n : ℕ) → (i +ℤ pos n) ≤ℤ pos 2147483648 → i ≤ℤ pos 2147483648
+    to_self i n h = omega (arith, ints)
 
-    to_self : (i p : ℤ) (n : ℕ) → (i +ℤ pos n) ≤ℤ p → p ≤ℤ pos 2147483648 → i ≤ℤ pos 2147483648
-    to_self i p n h g = omega (arith, ints)
+    further : (i : ℤ) (d : ℕ) → negsuc 2147483647 ≤ℤ i → negsuc 2147483647 ≤ℤ (i +ℤ pos d)
+    further i d h = omega (arith, ints)
 
-    from_low : (f i : ℤ) (d : ℕ) → negsuc 2147483647 ≤ℤ f → f ≤ℤ i → negsuc 2147483647 ≤ℤ (i +ℤ pos d)
-    from_low f i d h g = omega (arith, ints)
+    to_high : (i : ℤ) (n d : ℕ) → (i +ℤ pos n) ≤ℤ pos 2147483648 → d < n → (i +ℤ pos d) ≤ℤ pos 2147483648
+    to_high i n d h lt = omega (arith, ints)
 
-    to_high : (i p : ℤ) (n d : ℕ) → (i +ℤ pos n) ≤ℤ p → p ≤ℤ pos 2147483648 → d < n → (i +ℤ pos d) ≤ℤ pos 2147483648
-    to_high i p n d h g lt = omega (arith, ints)
-
-    pos_high : (f i p : ℤ) (n d : ℕ) → negsuc 2147483647 ≤ℤ f → f ≤ℤ i → (i +ℤ pos n) ≤ℤ p → p ≤ℤ pos 2147483648 → d < n → FitsSigned w64 (pos d)
-    pos_high f i p n d l fi h g lt = omega (arith, ints)
-
-    later : (f i : ℤ) (d : ℕ) → f ≤ℤ i → f ≤ℤ (i +ℤ pos d)
-    later f i d h = omega (arith, ints)
-
-    within : (i p : ℤ) (n d : ℕ) → (i +ℤ pos n) ≤ℤ p → d < n → ((i +ℤ pos d) +ℤ pos (min (n - d) 32767)) ≤ℤ p
-    within i p n d h lt = omega (arith, ints)
+    pos_high : (i : ℤ) (n d : ℕ) → negsuc 2147483647 ≤ℤ i → (i +ℤ pos n) ≤ℤ pos 2147483648 → d < n → FitsSigned w64 (pos d)
+    pos_high i n d l h lt = omega (arith, ints)
 
 -- one piece more
-pub piece_more : (f : Run → List Rec) (r : Run) (k : ℕ) (old mid new : List ℕ) → mid ≡ old ++ flat_map spelling (flat_map f (map (piece r) (range_with_len 0 k)))
-    → new ≡ mid ++ flat_map spelling (f (piece r k)) → new ≡ old ++ flat_map spelling (flat_map f (map (piece r) (range_with_len 0 (k + 1))))
-piece_more f r k old mid new before this =
-    then old mid new (flat_map f (map (piece r) (range_with_len 0 k))) (f (piece r k)) before this
-    ∙ ap (λ rs. old ++ flat_map spelling rs) (sym (ap (flat_map f) (map-range_with_len_more (piece r) 0 k k (omega arith))
-    ∙ (flat_map-append f (map (piece r) (range_with_len 0 k)) (piece r k ∷ []) ∙ ap (λ rs. flat_map f (map (piece r) (range_with_len 0 k)) ++ rs) (append-nil (f (piece r k))))))
+pub piece_more : (r : Run) (k : ℕ) (old mid new : List Piece) → mid ≡ old ++ map as_piece (map (piece r) (range_with_len 0 k)) → new ≡ mid ++ as_piece (piece r k) ∷ []
+    → new ≡ old ++ map as_piece (map (piece r) (range_with_len 0 (k + 1)))
+piece_more r k old mid new before this =
+    this ∙ (ap (λ ps. ps ++ as_piece (piece r k) ∷ []) before
+    ∙ (append_assoc old (map as_piece (map (piece r) (range_with_len 0 k))) (as_piece (piece r k) ∷ [])
+    ∙ ap (λ ps. old ++ ps) (sym (ap (map as_piece) (map-range_with_len_more (piece r) 0 k k (omega arith)) ∙ map-append as_piece (map (piece r) (range_with_len 0 k)) (piece r k ∷ [])))))
 
 -- ---- runs
 
@@ -95,7 +78,7 @@ pub record IsTurn (i s e q : ℤ) (p : ℤ → Bool) : Type 0 where
   pub all : (m : ℤ) → s ≤ℤ m → m <ℤ e → p m ≡ true
   pub ends : e <ℤ q → p e ≡ false
 
-pub run_turn : (f : Run → List Rec) (p : ℤ → Bool) (i s e q : ℤ) → IsTurn i s e q p → ((z : ℤ) → f (run z 0) ≡ [])
+pub run_turn : (f : Run → List Run) (p : ℤ → Bool) (i s e q : ℤ) → IsTurn i s e q p → ((z : ℤ) → f (run z 0) ≡ [])
     → flat_map f (runs (filter p (numbers_from i (span_len i q)))) ≡ f (run s (span_len s e)) ++ flat_map f (runs (filter p (numbers_from e (span_len e q))))
 run_turn f p i s e q t nothing =
     let a = span_len i s in let k = span_len s e in let n = span_len e q in
@@ -124,23 +107,23 @@ run_turn f p i s e q t nothing =
     by zero = sym (ap (λ t. t ++ flat_map f (runs (filter p (numbers_from e (span_len e q))))) (nothing s))
     by (suc k) = refl
 
--- the text with one run more
-pub row_more : (f : Run → List Rec) (p : ℤ → Bool) (i s e q : ℤ) (old new whole : List ℕ) → IsTurn i s e q p → ((z : ℤ) → f (run z 0) ≡ [])
-    → new ≡ old ++ flat_map spelling (f (run s (span_len s e)))
-    → old ++ flat_map spelling (flat_map f (runs (filter p (numbers_from i (span_len i q))))) ≡ whole
-    → new ++ flat_map spelling (flat_map f (runs (filter p (numbers_from e (span_len e q))))) ≡ whole
-row_more f p i s e q old new whole t nothing new_is before =
-    ap (λ u. u ++ flat_map spelling (flat_map f (runs (filter p (numbers_from e (span_len e q)))))) new_is
-    ∙ (append_assoc old (flat_map spelling (f (run s (span_len s e)))) (flat_map spelling (flat_map f (runs (filter p (numbers_from e (span_len e q))))))
-    ∙ (ap (λ u. old ++ u) (sym (ap (flat_map spelling) (run_turn f p i s e q t nothing)
-    ∙ flat_map-append spelling (f (run s (span_len s e))) (flat_map f (runs (filter p (numbers_from e (span_len e q)))))))
+-- the row with one run more
+pub row_more : (p : ℤ → Bool) (i s e q : ℤ) (old new whole : List Piece) → IsTurn i s e q p
+    → new ≡ old ++ map as_piece (pieces (run s (span_len s e)))
+    → old ++ map as_piece (flat_map pieces (runs (filter p (numbers_from i (span_len i q))))) ≡ whole
+    → new ++ map as_piece (flat_map pieces (runs (filter p (numbers_from e (span_len e q))))) ≡ whole
+row_more p i s e q old new whole t new_is before =
+    ap (λ u. u ++ map as_piece (flat_map pieces (runs (filter p (numbers_from e (span_len e q)))))) new_is
+    ∙ (append_assoc old (map as_piece (pieces (run s (span_len s e)))) (map as_piece (flat_map pieces (runs (filter p (numbers_from e (span_len e q))))))
+    ∙ (ap (λ u. old ++ u) (sym (ap (map as_piece) (run_turn pieces p i s e q t (λ z. refl))
+    ∙ map-append as_piece (pieces (run s (span_len s e))) (flat_map pieces (runs (filter p (numbers_from e (span_len e q)))))))
     ∙ before))
 
 -- nothing is left at the row's end
-pub row_done : (f : Run → List Rec) (p : ℤ → Bool) (i q : ℤ) (text whole : List ℕ) → i ≤ℤ q → q ≤ℤ i
-    → text ++ flat_map spelling (flat_map f (runs (filter p (numbers_from i (span_len i q))))) ≡ whole → text ≡ whole
-row_done f p i q text whole to over is =
-    sym (ap (λ n. text ++ flat_map spelling (flat_map f (runs (filter p (numbers_from i n))))) (none i q to over) ∙ append-nil text) ∙ is
+pub row_done : (p : ℤ → Bool) (i q : ℤ) (list whole : List Piece) → i ≤ℤ q → q ≤ℤ i
+    → list ++ map as_piece (flat_map pieces (runs (filter p (numbers_from i (span_len i q))))) ≡ whole → list ≡ whole
+row_done p i q list whole to over is =
+    sym (ap (λ n. list ++ map as_piece (flat_map pieces (runs (filter p (numbers_from i n))))) (none i q to over) ∙ append-nil list) ∙ is
   where
     none : (i q : ℤ) → i ≤ℤ q → q ≤ℤ i → span_len i q ≡ 0
     none i q a b = omega (arith, ints)
@@ -183,6 +166,8 @@ pub record IsLength (s e : ℤ) : Type 0 where
   pub difference : read (e -ℤ s) ≡ pos (span_len s e)
   pub small : Fits w32 (span_len s e)
   pub behind : s +ℤ pos (span_len s e) ≡ e
+  pub low : negsuc 2147483647 ≤ℤ s
+  pub high : (s +ℤ pos (span_len s e)) ≤ℤ pos 2147483648
 
 pub length_of : (f q s e : ℤ) → negsuc 2147483647 ≤ℤ f → q ≤ℤ pos 2147483648 → span_len f q ≤ 2147483648 → f ≤ℤ s → s ≤ℤ e → e ≤ℤ q → IsLength s e
 length_of f q s e low high few fs se eq = record {
@@ -192,6 +177,8 @@ length_of f q s e low high few fs se eq = record {
   difference = read_is (e -ℤ s) (omega (arith, ints)) ∙ omega (arith, ints);
   small = omega (arith, ints);
   behind = omega (arith, ints);
+  low = omega (arith, ints);
+  high = omega (arith, ints);
 }
 
 -- ---- what the search for a run has found
@@ -247,13 +234,6 @@ turn_of r filled j i s e is lt low start end =
 
     never : (b : Bool) → b ≡ true → b ≡ false → ⊥
     never b h g = let e : true ≡ false = sym h ∙ g in cc e
-
-pub row_part : (r : Lattice) (filled : ℤ → ℤ → Bool) (j s e : ℤ) {j' i : ℤ} → Turned r filled j' i s e → is_on r.up j ≡ true → IsRowPart r s j (span_len s e)
-row_part r filled j s e t row = record {
-  from = t.low;
-  to = subst (λ z. z ≤ℤ past r.across) (sym t.length.behind) t.turn.to;
-  row = row;
-}
 
 pub next_to : (j q : ℤ) → j <ℤ q → (j +ℤ pos 1) ≤ℤ q
 next_to j q lt = omega (arith, ints)

@@ -13,11 +13,11 @@ use Rattle.fill_text.specs.Rules.{Values, is_fill_name, raster_of}
 use Rattle.fill_text.specs.ValuesOfRules.{values_of}
 use Rattle.fill_text.specs.declared.rules.Rules.{Rules}
 use Rattle.gds_grammar.specs.Grammar.{AreWell}
-use Rattle.gds_out.specs.FillText.{rec, padded, word_bytes, points_bytes, box_corners, cell_records, reference_records, array_records, piece_records, rows_records, top_records, head_records, fill_records}
-use Rattle.gds_out.specs.Places.{PlaceSet}
-use Rattle.gds_out.specs.Runs.{Run}
-use Rattle.gds_out.proofs.ByPieces.{pieces_all}
-use Rattle.gds_out.proofs.Lists.{all_append}
+use Rattle.gds_out.specs.FillText.{rec, padded, word_bytes, points_bytes, box_corners, cell_records, reference_records, array_records, stack_records, stacks_records, top_records, head_records, fill_records}
+use Rattle.fill_stacks.specs.Places.{PlaceSet}
+use Rattle.fill_stacks.specs.declared.pieces.Stack.{Stack}
+use Rattle.fill_stacks.proofs.Lists.{all_append}
+use Rattle.gds_out.proofs.ByStacks.{stacks_all}
 use Rattle.gds_out.proofs.Names.{name_short}
 
 pub record IsGood (r : Rec) : Type 0 where
@@ -88,32 +88,32 @@ reference_good cell x y is = (
   ),
 )
 
-array_good : (cell : List ℕ) (n : ℕ) (s t x y : ℤ) → is_fill_name cell ≡ true → AllByRecursion IsGood (array_records cell n s t x y)
+array_good : (cell : List ℕ) (n m : ℕ) (s t x y : ℤ) → is_fill_name cell ≡ true → AllByRecursion IsGood (array_records cell n m s t x y)
 unfolding has_form has_size has_name_if_asked
-array_good cell n s t x y is = (
+array_good cell n m s t x y is = (
   good 0x0b 0x00 [] (omega arith) (omega arith) refl (omega arith) refl,
   (
     named 0x12 cell (omega arith) is (name_asked cell is),
     (
-      good 0x13 0x02 (word_bytes n ++ word_bytes 1) (omega arith) (omega arith) refl (omega arith) refl,
+      good 0x13 0x02 (word_bytes n ++ word_bytes m) (omega arith) (omega arith) refl (omega arith) refl,
       (
-        good 0x10 0x03 (points_bytes ((x, y) ∷ (x +ℤ (pos n *ℤ s), y) ∷ (x, y +ℤ t) ∷ [])) (omega arith) (omega arith) refl (omega arith) refl,
+        good 0x10 0x03 (points_bytes ((x, y) ∷ (x +ℤ (pos n *ℤ s), y) ∷ (x, y +ℤ (pos m *ℤ t)) ∷ [])) (omega arith) (omega arith) refl (omega arith) refl,
         (good 0x11 0x00 [] (omega arith) (omega arith) refl (omega arith) refl, tt),
       ),
     ),
   ),
 )
 
-piece_good : (cell : List ℕ) (r : Lattice) (j : ℤ) (p : Run) → is_fill_name cell ≡ true → AllByRecursion IsGood (piece_records cell r j p)
-piece_good cell r j p is = by (p.count == 1)
+stack_good : (cell : List ℕ) (r : Lattice) (s : Stack) → is_fill_name cell ≡ true → AllByRecursion IsGood (stack_records cell r s)
+stack_good cell r s is = by ((s.columns == 1) && (s.rows == 1))
   where
-    by : (b : Bool) → AllByRecursion IsGood (if b then reference_records cell (box_begin r.across p.start) (box_begin r.up j)
-        else array_records cell p.count r.across.step r.up.step (box_begin r.across p.start) (box_begin r.up j))
-    by true = reference_good cell (box_begin r.across p.start) (box_begin r.up j) is
-    by false = array_good cell p.count r.across.step r.up.step (box_begin r.across p.start) (box_begin r.up j) is
+    by : (b : Bool) → AllByRecursion IsGood (if b then reference_records cell (box_begin r.across s.column) (box_begin r.up s.row)
+        else array_records cell s.columns s.rows r.across.step r.up.step (box_begin r.across s.column) (box_begin r.up s.row))
+    by true = reference_good cell (box_begin r.across s.column) (box_begin r.up s.row) is
+    by false = array_good cell s.columns s.rows r.across.step r.up.step (box_begin r.across s.column) (box_begin r.up s.row) is
 
-rows_good : (cell : List ℕ) (r : Lattice) (filled : PlaceSet) → is_fill_name cell ≡ true → AllByRecursion IsGood (rows_records cell r filled)
-rows_good cell r filled is = pieces_all r filled IsGood (piece_records cell r) (λ j p. piece_good cell r j p is)
+stacks_good : (cell : List ℕ) (r : Lattice) (filled : PlaceSet) → is_fill_name cell ≡ true → AllByRecursion IsGood (stacks_records cell r filled)
+stacks_good cell r filled is = stacks_all r filled IsGood (stack_records cell r) (λ s. stack_good cell r s is)
 
 cell_good : (dates : List ℕ) (v : Values) → length dates ≡ 24 → is_fill_name v.fill_cell ≡ true → AllByRecursion IsGood (cell_records dates v)
 unfolding has_form has_size has_name_if_asked
@@ -146,7 +146,7 @@ top_good dates v filled len cell top = (
   dated 0x05 dates len (omega arith) (rw len refl),
   (
     named 0x06 v.fill_top (omega arith) top (name_asked v.fill_top top),
-    all_append IsGood (rows_records v.fill_cell (raster_of v.numbers) filled) (rec 0x07 0x00 [] ∷ []) (rows_good v.fill_cell (raster_of v.numbers) filled cell)
+    all_append IsGood (stacks_records v.fill_cell (raster_of v.numbers) filled) (rec 0x07 0x00 [] ∷ []) (stacks_good v.fill_cell (raster_of v.numbers) filled cell)
         (good 0x07 0x00 [] (omega arith) (omega arith) refl (omega arith) refl, tt),
   ),
 )

@@ -1,5 +1,6 @@
 -- What a fill library says: the contents that its text spells.
-use Rattle.std.specs.Prelude.{ℕ, ◌==◌, ℤ, pos, ◌+ℤ◌, ◌*ℤ◌, unsigned_abs, if◌then◌else◌, List, [], ◌∷◌, None}
+use Rattle.std.specs.Prelude.{ℕ, ◌==◌, ℤ, pos, ◌+ℤ◌, ◌*ℤ◌, unsigned_abs, ◌&&◌, if◌then◌else◌, List, [], ◌∷◌, None}
+use Rattle.std.specs.List.{flat_map}
 use Rattle.fill_base.specs.declared.place.Point.{Point}
 use Rattle.fill_raster.specs.Axes.{box_begin}
 use Rattle.fill_raster.specs.Lattice.{Lattice}
@@ -7,8 +8,9 @@ use Rattle.fill_text.specs.Rules.{Values, value_of, raster_of}
 use Rattle.fill_text.specs.declared.keys.NumberKey.TheVariants.{FillLayer, FillDatatype}
 use Rattle.gds_grammar.specs.declared.element.Transform.{Transform}
 use Rattle.gds_grammar.specs.Values.{Shape, Cell, Contents, boundary, reference, array}
-use Rattle.gds_out.specs.Places.{PlaceSet, of_pieces}
-use Rattle.gds_out.specs.Runs.{Run}
+use Rattle.fill_stacks.specs.Places.{PlaceSet}
+use Rattle.fill_stacks.specs.Stacks.{stacks}
+use Rattle.fill_stacks.specs.declared.pieces.Stack.{Stack}
 
 -- the fill layer and the fill data type
 abbrev pub layer_of : Values → ℕ
@@ -27,22 +29,22 @@ box_points r =
 abbrev pub corner_of : Lattice → ℤ → ℤ → Point
 corner_of r i j = record { x = box_begin r.across i; y = box_begin r.up j }
 
--- the points of an array: the first corner, the one behind the last box, the one above the first
-abbrev pub array_points : Lattice → ℤ → Run → List Point
-array_points r j p =
-    corner_of r p.start j
-    ∷ record { x = box_begin r.across p.start +ℤ (pos p.count *ℤ r.across.step); y = box_begin r.up j }
-    ∷ record { x = box_begin r.across p.start; y = box_begin r.up j +ℤ r.up.step } ∷ []
+-- the points of the array of a stack: the first corner, the one behind the last column, the one above the last row
+abbrev pub stack_points : Lattice → Stack → List Point
+stack_points r s =
+    corner_of r s.column s.row
+    ∷ record { x = box_begin r.across s.column +ℤ (pos s.columns *ℤ r.across.step); y = box_begin r.up s.row }
+    ∷ record { x = box_begin r.across s.column; y = box_begin r.up s.row +ℤ (pos s.rows *ℤ r.up.step) } ∷ []
 
 -- neither reflected nor turned nor magnified
 abbrev pub plain : Transform
 plain = record { flags = 0; magnification = None; angle = None }
 
--- a piece of the row j: a reference for a box alone, an array of one row for more
-abbrev pub piece_shapes : List ℕ → Lattice → ℤ → Run → List Shape
-piece_shapes cell r j p =
-    if p.count == 1 then reference cell plain (corner_of r p.start j) ∷ []
-    else array cell plain p.count 1 (array_points r j p) ∷ []
+-- a stack: a reference for a box alone, an array for more
+abbrev pub stack_shapes : List ℕ → Lattice → Stack → List Shape
+stack_shapes cell r s =
+    if (s.columns == 1) && (s.rows == 1) then reference cell plain (corner_of r s.column s.row) ∷ []
+    else array cell plain s.columns s.rows (stack_points r s) ∷ []
 
 -- the cell of the one box
 abbrev pub box_cell : Values → Cell
@@ -50,7 +52,7 @@ box_cell v = record { name = v.fill_cell; shapes = boundary (layer_of v) (data_t
 
 -- the cell that refers to it
 abbrev pub top_cell : Values → PlaceSet → Cell
-top_cell v filled = record { name = v.fill_top; shapes = of_pieces (piece_shapes v.fill_cell (raster_of v.numbers)) filled (raster_of v.numbers) }
+top_cell v filled = record { name = v.fill_top; shapes = flat_map (stack_shapes v.fill_cell (raster_of v.numbers)) (stacks filled (raster_of v.numbers)) }
 
 abbrev pub fill_contents : List ℕ → List ℕ → Values → PlaceSet → Contents
 fill_contents units dates v filled = record { dates = dates; units = units; cells = box_cell v ∷ top_cell v filled ∷ [] }

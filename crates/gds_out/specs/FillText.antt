@@ -1,6 +1,6 @@
 -- The text of a fill library: which records stand in it, by the numbers of the manual (Calma GDSII Stream Format Manual, release
 -- 6.0), and their bytes.
-use Rattle.std.specs.Prelude.{ℕ, ◌%◌, ◌==◌, ℤ, pos, ◌+ℤ◌, ◌*ℤ◌, unsigned_abs, if◌then◌else◌, List, [], ◌∷◌, ◌++◌, length}
+use Rattle.std.specs.Prelude.{ℕ, ◌%◌, ◌==◌, ℤ, pos, ◌+ℤ◌, ◌*ℤ◌, unsigned_abs, ◌&&◌, if◌then◌else◌, List, [], ◌∷◌, ◌++◌, length}
 use Rattle.std.specs.List.{flat_map}
 use Rattle.std.specs.Int.{w16, w32, to_be_bytes, cast_unsigned}
 use Rattle.gds_record.specs.Records.{Rec, spelling}
@@ -9,8 +9,9 @@ use Rattle.fill_raster.specs.Axes.{box_begin}
 use Rattle.fill_raster.specs.Lattice.{Lattice}
 use Rattle.fill_text.specs.Rules.{Values, value_of, raster_of}
 use Rattle.fill_text.specs.declared.keys.NumberKey.TheVariants.{FillLayer, FillDatatype}
-use Rattle.gds_out.specs.Runs.{Run, runs, pieces}
-use Rattle.gds_out.specs.Places.{PlaceSet, places_along, filled_columns}
+use Rattle.fill_stacks.specs.Places.{PlaceSet}
+use Rattle.fill_stacks.specs.Stacks.{stacks}
+use Rattle.fill_stacks.specs.declared.pieces.Stack.{Stack}
 
 -- a record of this kind and data type, with this data
 abbrev pub rec : ℕ → ℕ → List ℕ → Rec
@@ -55,43 +56,36 @@ cell_records dates v =
     ∷ rec 0x10 0x03 (points_bytes (box_corners (raster_of v.numbers))) ∷ rec 0x11 0x00 []
     ∷ rec 0x07 0x00 [] ∷ []
 
--- ---- the top cell: one reference for a box alone, one array for boxes in a row
+-- ---- the top cell: one reference for a box alone, one array for boxes that stand in columns and rows
 
 -- SREF, SNAME, XY, ENDEL
 abbrev pub reference_records : List ℕ → ℤ → ℤ → List Rec
 reference_records cell x y =
     rec 0x0a 0x00 [] ∷ rec 0x12 0x06 (padded cell) ∷ rec 0x10 0x03 (points_bytes ((x, y) ∷ [])) ∷ rec 0x11 0x00 [] ∷ []
 
--- AREF, SNAME, COLROW, XY, ENDEL; the points are the first box's corner, the corner behind the last box, and the corner above
--- the first one
-abbrev pub array_records : List ℕ → ℕ → ℤ → ℤ → ℤ → ℤ → List Rec
-array_records cell count step_x step_y x y =
-    rec 0x0b 0x00 [] ∷ rec 0x12 0x06 (padded cell) ∷ rec 0x13 0x02 (word_bytes count ++ word_bytes 1)
-    ∷ rec 0x10 0x03 (points_bytes ((x, y) ∷ (x +ℤ (pos count *ℤ step_x), y) ∷ (x, y +ℤ step_y) ∷ []))
+-- AREF, SNAME, COLROW, XY, ENDEL; the points are the first box's corner, the corner behind the last column, and the corner above
+-- the last row
+abbrev pub array_records : List ℕ → ℕ → ℕ → ℤ → ℤ → ℤ → ℤ → List Rec
+array_records cell columns rows step_x step_y x y =
+    rec 0x0b 0x00 [] ∷ rec 0x12 0x06 (padded cell) ∷ rec 0x13 0x02 (word_bytes columns ++ word_bytes rows)
+    ∷ rec 0x10 0x03 (points_bytes ((x, y) ∷ (x +ℤ (pos columns *ℤ step_x), y) ∷ (x, y +ℤ (pos rows *ℤ step_y)) ∷ []))
     ∷ rec 0x11 0x00 [] ∷ []
 
--- a piece of the row j
-abbrev pub piece_records : List ℕ → Lattice → ℤ → Run → List Rec
-piece_records cell r j p =
-    if p.count == 1 then reference_records cell (box_begin r.across p.start) (box_begin r.up j)
-    else array_records cell p.count r.across.step r.up.step (box_begin r.across p.start) (box_begin r.up j)
+-- a stack of boxes
+abbrev pub stack_records : List ℕ → Lattice → Stack → List Rec
+stack_records cell r s =
+    if (s.columns == 1) && (s.rows == 1) then reference_records cell (box_begin r.across s.column) (box_begin r.up s.row)
+    else array_records cell s.columns s.rows r.across.step r.up.step (box_begin r.across s.column) (box_begin r.up s.row)
 
-abbrev pub run_records : List ℕ → Lattice → ℤ → Run → List Rec
-run_records cell r j p = flat_map (piece_records cell r j) (pieces p)
+-- the stacks of the filled places by their lowest rows upwards, and from left to right
+abbrev pub stacks_records : List ℕ → Lattice → PlaceSet → List Rec
+stacks_records cell r filled = flat_map (stack_records cell r) (stacks filled r)
 
--- the runs of a row's filled places, from left to right
-abbrev pub row_records : List ℕ → Lattice → PlaceSet → ℤ → List Rec
-row_records cell r filled j = flat_map (run_records cell r j) (runs (filled_columns filled r j))
-
--- the rows upwards
-abbrev pub rows_records : List ℕ → Lattice → PlaceSet → List Rec
-rows_records cell r filled = flat_map (row_records cell r filled) (places_along r.up)
-
--- BGNSTR, STRNAME, the rows, ENDSTR
+-- BGNSTR, STRNAME, the stacks, ENDSTR
 abbrev pub top_records : List ℕ → Values → PlaceSet → List Rec
 top_records dates v filled =
     rec 0x05 0x02 dates ∷ rec 0x06 0x06 (padded v.fill_top)
-    ∷ (rows_records v.fill_cell (raster_of v.numbers) filled ++ rec 0x07 0x00 [] ∷ [])
+    ∷ (stacks_records v.fill_cell (raster_of v.numbers) filled ++ rec 0x07 0x00 [] ∷ [])
 
 -- ---- the library: HEADER with the number 600, BGNLIB, LIBNAME, UNITS, the two cells, ENDLIB
 

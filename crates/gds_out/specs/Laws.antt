@@ -1,6 +1,7 @@
--- What holds of runs and pieces, of where the references of a fill library stand, and of its text once it is read.
-use Rattle.std.specs.Prelude.{◌≡◌, ℕ, length, ◌*◌, ◌/◌, ◌%◌, ◌==◌, ℤ, pos, ◌+ℤ◌, Bool, ◌&&◌, if◌then◌else◌, List, [], ◌∷◌, map, filter}
+-- What holds of where the references of a fill library stand, and of its text once it is read.
+use Rattle.std.specs.Prelude.{◌≡◌, ℕ, length, ◌*◌, ◌/◌, ◌%◌, ◌==◌, ◌<◌, ℤ, Bool, ◌&&◌, if◌then◌else◌, List, [], ◌∷◌, map, filter}
 use Rattle.std.specs.List.{flat_map, range_with_len}
+use Rattle.std.specs.List.Sorted.{IsPermutation}
 use Rattle.std.specs.Ordering.{int_eq}
 use Rattle.fill_base.specs.declared.place.Point.{Point}
 use Rattle.fill_raster.specs.Axes.{box_begin}
@@ -8,46 +9,28 @@ use Rattle.fill_raster.specs.Lattice.{Lattice, IsLattice, in_raster, box_squares
 use Rattle.fill_text.specs.Rules.{Values, raster_of}
 use Rattle.fill_text.specs.ValuesOfRules.{values_of}
 use Rattle.fill_text.specs.declared.rules.Rules.{Rules}
+use Rattle.fill_stacks.specs.Places.{PlaceSet, filled_places}
+use Rattle.fill_stacks.specs.Stacks.{stacks, stack_places}
+use Rattle.fill_stacks.specs.declared.pieces.Stack.{Stack}
 use Rattle.gds_flatten.specs.Copies.{copy_covers}
 use Rattle.gds_flatten.specs.Flattening.{copies_of}
 use Rattle.gds_flatten.specs.Placements.{carried, shift}
 use Rattle.gds_flatten.specs.References.{grid_point}
 use Rattle.gds_grammar.specs.Grammar.{IsLibrary, all_rules}
 use Rattle.gds_grammar.specs.Outcomes.{Spells}
-use Rattle.gds_grammar.specs.Values.{contents_of}
-use Rattle.gds_grammar.specs.declared.library.Library.{Library}
+use Rattle.gds_grammar.specs.Values.{Contents}
 use Rattle.gds_shape.specs.Winding.{covers}
-use Rattle.gds_out.specs.FillContents.{layer_of, data_type_of, box_points, corner_of, array_points, fill_contents}
+use Rattle.gds_out.specs.FillContents.{layer_of, data_type_of, box_points, corner_of, stack_points, fill_contents}
 use Rattle.gds_out.specs.FillText.{fill_records, fill_text}
-use Rattle.gds_out.specs.Places.{PlaceSet, of_pieces, filled_places}
-use Rattle.gds_out.specs.Runs.{Run, runs, pieces, numbers_from}
 
--- the numbers of a run
-abbrev pub numbers_in : Run → List ℤ
-numbers_in r = numbers_from r.start r.count
+-- where the single references of a stack stand: an array's as flattening finds them from its points
+abbrev pub stack_corners : Lattice → Stack → List Point
+stack_corners r s =
+    if (s.columns == 1) && (s.rows == 1) then corner_of r s.column s.row ∷ []
+    else map (λ k. grid_point (stack_points r s) s.columns s.rows (k % s.columns) (k / s.columns)) (range_with_len 0 (s.columns * s.rows))
 
--- the numbers of the pieces of runs, from left to right
-abbrev pub numbers_of_pieces : List Run → List ℤ
-numbers_of_pieces rs = flat_map (λ r. flat_map numbers_in (pieces r)) rs
-
--- no run begins right behind the one before it
-abbrev pub AreApart : List Run → Type 0
-AreApart (r ∷ s ∷ rs) = (s.start ≡ r.start +ℤ pos r.count → ⊥) × AreApart (s ∷ rs)
-AreApart _ = Unit {0}
-
--- runs are as long as can be
-abbrev pub RunsAreLongest : Type 0
-RunsAreLongest = (zs : List ℤ) → AreApart (runs zs)
-
--- the pieces of a list's runs hold each of its numbers once, in its order, and nothing else
-abbrev pub PiecesHoldEachOnce : Type 0
-PiecesHoldEachOnce = (zs : List ℤ) → numbers_of_pieces (runs zs) ≡ zs
-
--- where the single references of a piece of the row j stand: an array's as flattening finds them from its points
-abbrev pub piece_corners : Lattice → ℤ → Run → List Point
-piece_corners r j p =
-    if p.count == 1 then corner_of r p.start j ∷ []
-    else map (λ k. grid_point (array_points r j p) p.count 1 (k % p.count) (k / p.count)) (range_with_len 0 (p.count * 1))
+abbrev pub StacksStandAtTheirPlaces : Type 0
+StacksStandAtTheirPlaces = (r : Lattice) (s : Stack) → 0 < s.columns → 0 < s.rows → stack_corners r s ≡ map (λ p. corner_of r p.0 p.1) (stack_places s)
 
 -- the place (i, j)
 abbrev pub is_place : ℤ → ℤ → ℤ × ℤ → Bool
@@ -62,10 +45,10 @@ abbrev pub EachPlaceStandsOnce : Type 0
 EachPlaceStandsOnce = (rules : Rules) (filled : PlaceSet) (i j : ℤ)
     → filter (is_place i j) (filled_places filled (raster_in rules)) ≡ (if in_raster (raster_in rules) i j && filled i j then (i, j) ∷ [] else [])
 
--- the single references of all rows stand at the corners of the filled places' boxes, at each once, and nowhere else
+-- the single references of all stacks stand at the corners of the filled places' boxes, at each once, and nowhere else
 abbrev pub ReferencesStandAtTheirPlaces : Type 0
 ReferencesStandAtTheirPlaces = (r : Lattice) (filled : PlaceSet)
-    → of_pieces (piece_corners r) filled r ≡ map (λ p. corner_of r p.0 p.1) (filled_places filled r)
+    → IsPermutation (flat_map (stack_corners r) (stacks filled r)) (map (λ p. corner_of r p.0 p.1) (filled_places filled r))
 
 -- the boundary of the one box, moved to the corner of a place's box, covers that box's squares and no other
 abbrev pub MovedBoxIsThePlaces : Type 0
@@ -78,12 +61,11 @@ TextIsALibrary = (rules : Rules) (units dates : List ℕ) (filled : PlaceSet) �
     → IsLibrary all_rules (fill_records units dates (values_of rules) filled) (fill_contents units dates (values_of rules) filled)
 
 -- the squares of each shape copy of a library from fill_top on, on the fill layer and data type, in the order of flattening
-abbrev pub boxes_of : Values → Library → List (ℤ → ℤ → Bool)
-boxes_of v library = map copy_covers (copies_of library.cells.entries v.fill_top (layer_of v) (data_type_of v))
+abbrev pub boxes_of : Values → Contents → List (ℤ → ℤ → Bool)
+boxes_of v library = map copy_covers (copies_of library.cells v.fill_top (layer_of v) (data_type_of v))
 
--- of any library that the text spells these are the boxes of the filled places, each once, row by row, and no other
+-- of any library that the text spells these are the boxes of the filled places, each once, in another order, and no other
 abbrev pub BoxesAreThePlaces : Type 0
-BoxesAreThePlaces = (rules : Rules) (units dates : List ℕ) (filled : PlaceSet) (library : Library) → length units ≡ 16 → length dates ≡ 24
-    → Spells (fill_text units dates (values_of rules) filled) (contents_of library)
-    → boxes_of (values_of rules) library
-    ≡ map (λ p. box_squares (raster_in rules) p.0 p.1) (filled_places filled (raster_in rules))
+BoxesAreThePlaces = (rules : Rules) (units dates : List ℕ) (filled : PlaceSet) (library : Contents) → length units ≡ 16 → length dates ≡ 24
+    → Spells (fill_text units dates (values_of rules) filled) library
+    → IsPermutation (boxes_of (values_of rules) library) (map (λ p. box_squares (raster_in rules) p.0 p.1) (filled_places filled (raster_in rules)))

@@ -1,4 +1,3 @@
-pub mod Runs
 pub mod Places
 pub mod FillText
 pub mod FillContents

@@ -1,17 +1,17 @@
 //! The elements of a fill library: the boundary of one box, and references to its cell.
 
-ghost use Rattle.std.specs.Prelude.{◌≡◌, ◌≤◌, ◌<◌, ◌≤ℤ◌, pos, unsigned_abs, length, OnOk};
+ghost use Rattle.std.specs.Prelude.{◌≡◌, ◌≤◌, ◌≤ℤ◌, ◌==◌, ◌&&◌, pos, unsigned_abs, length, OnOk};
 ghost use Rattle.gds_record.specs.Numbers.{IsStored};
 ghost use Rattle.fill_text.specs.Rules.{raster_of};
 ghost use Rattle.fill_text.specs.ValuesOfRules.{values_of};
-ghost use Rattle.gds_out.specs.FillText.{cell_records, reference_records, array_records, piece_records};
-ghost use Rattle.gds_out.specs.Runs.{run};
-ghost use Rattle.gds_out.specs.steps.Ranges.{IsArray, IsRowPart};
+ghost use Rattle.gds_out.specs.FillText.{cell_records, reference_records, array_records, stack_records};
+ghost use Rattle.gds_out.specs.steps.Ranges.{IsArray, IsStackOf};
 ghost use Rattle.gds_out.specs.steps.Writing.{Adds};
 
 use crate::writer::Writer;
 use fill_base::Point;
 use fill_raster::Place;
+use fill_stacks::Stack;
 use fill_text::Rules;
 use gds_record::{form, kind};
 use std::alloc::AllocError;
@@ -29,58 +29,63 @@ fn put_reference(writer: &mut Writer, cell: &[u8], corner: Point) -> Result<(), 
     Ok(())
 }
 
-/// Writes an array of so many references to a cell in a row: the first moved to a point, each further one a step to the right.
+/// Writes an array of references to a cell, of the stack's columns and rows: the first moved to a point, each further one a step to
+/// the right, and each further row a step up.
 fn put_array(
     writer: &mut Writer,
     cell: &[u8],
     corner: Point,
     step: Point,
-    count: u16,
+    stack: Stack,
 ) -> Result<(), AllocError>
     requires name { length cell.now ≤ 32 }
-    requires array { IsArray corner step count }
-    ensures { OnOk result (Adds writer.old writer.new (array_records cell.now count step.x step.y corner.x corner.y)) }
+    requires array { IsArray corner step stack.columns stack.rows }
+    ensures { OnOk result (Adds writer.old writer.new (array_records cell.now stack.columns stack.rows step.x step.y corner.x corner.y)) }
 {
     let behind = Point {
-        x: corner.x + i64::from(count) * step.x,
+        x: corner.x + i64::from(stack.columns) * step.x,
         y: corner.y,
     };
     let above = Point {
         x: corner.x,
-        y: corner.y + step.y,
+        y: corner.y + i64::from(stack.rows) * step.y,
     };
     writer.put(kind::AREF, form::NONE, &[])?;
     writer.put_name(kind::SNAME, cell)?;
-    writer.put_words(kind::COLROW, count, 1)?;
+    writer.put_words(kind::COLROW, stack.columns, stack.rows)?;
     writer.put_points(&[corner, behind, above])?;
     writer.put(kind::ENDEL, form::NONE, &[])?;
     Ok(())
 }
 
-/// Writes a reference, or for more than one box an array, for so many boxes in a row from a place on.
-pub(crate) fn put_piece(
-    writer: &mut Writer,
-    rules: &Rules,
-    place: Place,
-    count: u16,
-) -> Result<(), AllocError>
-    requires some { 0 < count }
-    requires part { IsRowPart (raster_of (values_of rules.now).numbers) place.i place.j count }
-    ensures { OnOk result (Adds writer.old writer.new (piece_records (values_of rules.now).fill_cell (raster_of (values_of rules.now).numbers) place.j (run place.i count))) }
+/// Whether a stack is one box alone.
+fn is_one_box(stack: Stack) -> bool
+    ensures { result ≡ (stack.columns == 1) && (stack.rows == 1) }
 {
-    let rect = rules.raster().box_of(place);
+    stack.columns == 1 && stack.rows == 1
+}
+
+/// Writes a reference, or for more than one box an array, for a stack of boxes.
+pub(crate) fn put_stack(writer: &mut Writer, rules: &Rules, stack: Stack) -> Result<(), AllocError>
+    requires { IsStackOf (raster_of (values_of rules.now).numbers) stack }
+    ensures { OnOk result (Adds writer.old writer.new (stack_records (values_of rules.now).fill_cell (raster_of (values_of rules.now).numbers) stack)) }
+{
+    let rect = rules.raster().box_of(Place {
+        i: stack.column,
+        j: stack.row,
+    });
     let corner = Point {
         x: rect.x1(),
         y: rect.y1(),
     };
-    if count == 1 {
+    if is_one_box(stack) {
         return put_reference(writer, rules.fill_cell(), corner);
     }
     let step = Point {
         x: rules.step_x(),
         y: rules.step_y(),
     };
-    put_array(writer, rules.fill_cell(), corner, step, count)
+    put_array(writer, rules.fill_cell(), corner, step, stack)
 }
 
 /// A layer or a data type as a word.

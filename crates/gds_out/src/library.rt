@@ -33,6 +33,7 @@ fn put_head(
 
 /// Writes the cell that refers to each box.
 fn put_top(
+    alloc: Global,
     writer: &mut Writer,
     dates: &[u8; 24],
     rules: &Rules,
@@ -43,13 +44,13 @@ fn put_top(
 {
     writer.put(kind::BGNSTR, form::WORDS, dates)?;
     writer.put_name(kind::STRNAME, rules.fill_top())?;
-    put_rows(writer, rules, marks)?;
+    put_rows(alloc, writer, rules, marks)?;
     writer.put(kind::ENDSTR, form::NONE, &[])?;
     Ok(())
 }
 
 /// The text of the fill library: a cell of one box, and a top cell that refers to it once for each marked place, by an array for
-/// boxes that stand in a row. Units and dates are those of the design (Calma GDSII Stream Format Manual, release 6.0, with this
+/// equal pieces of rows that stand on one another. Units and dates are those of the design (Calma GDSII Stream Format Manual, release 6.0, with this
 /// project's profile). The marks are those of each tile, in the order of the tiles, of the raster of these rules.
 ///
 /// # Errors
@@ -67,7 +68,7 @@ pub fn fill_library(
     let mut writer = Writer::new(alloc);
     put_head(&mut writer, units, dates, rules)?;
     put_cell(&mut writer, dates, rules)?;
-    put_top(&mut writer, dates, rules, marks)?;
+    put_top(alloc, &mut writer, dates, rules, marks)?;
     writer.put(kind::ENDLIB, form::NONE, &[])?;
     Ok(writer.text)
 }

@@ -1,73 +1,142 @@
-//! The rows of the fill, in runs.
+//! The rows of the fill: their pieces, and the stacks that begin in each.
 
-ghost use Rattle.std.specs.Prelude.{◌≡◌, ◌++◌, ◌∷◌, [], true, OnOk};
-ghost use Rattle.fill_raster.specs.Axes.{is_on};
-ghost use Rattle.fill_raster.specs.Lattice.{IsLattice};
+ghost use Rattle.std.specs.Prelude.{◌≡◌, ◌++◌, ◌≤ℤ◌, ℤ, pos, ◌+ℤ◌, true, negsuc, map, IfOk, OnOk};
+ghost use Rattle.std.specs.List.{flat_map};
+ghost use Rattle.fill_raster.specs.Axes.{first, extent, is_on};
 ghost use Rattle.fill_text.specs.Rules.{raster_of};
 ghost use Rattle.fill_text.specs.ValuesOfRules.{values_of};
-ghost use Rattle.gds_out.specs.FillText.{run_records, row_records, rows_records};
+ghost use Rattle.fill_stacks.specs.Counting.{as_piece};
+ghost use Rattle.fill_stacks.specs.Places.{row_pieces};
+ghost use Rattle.fill_stacks.specs.Runs.{run, pieces};
+ghost use Rattle.gds_out.specs.FillText.{stack_records, stacks_records};
 ghost use Rattle.gds_out.specs.Places.{AreOfTiles, marked_by};
-ghost use Rattle.gds_out.specs.Runs.{run};
-ghost use Rattle.gds_out.specs.steps.Ranges.{IsRowPart};
+ghost use Rattle.gds_out.specs.steps.Rows.{AreBegun, begun, counts, heights_down};
 ghost use Rattle.gds_out.specs.steps.Writing.{Adds};
 
 use crate::columns::next_column;
-use crate::elements::put_piece;
+use crate::elements::put_stack;
 use crate::writer::Writer;
-use fill_raster::{Marks, Place};
+use fill_raster::{Marks, Place, Raster};
+use fill_stacks::{Counted, Piece, Stack, heights, levels};
 use fill_text::Rules;
-use std::alloc::AllocError;
+use std::alloc::{AllocError, Global};
 
-/// How many columns an array has at most.
+/// How many columns a piece has at most.
 const MOST: u32 = 32_767;
 
-/// Writes so many boxes in a row from a place on, in pieces of at most 32,767 from the left.
-fn put_run(writer: &mut Writer, rules: &Rules, place: Place, count: u32) -> Result<(), AllocError>
-    requires lattice { IsLattice (raster_of (values_of rules.now).numbers) }
-    requires part { IsRowPart (raster_of (values_of rules.now).numbers) place.i place.j count }
-    ensures { OnOk result (Adds writer.old writer.new (run_records (values_of rules.now).fill_cell (raster_of (values_of rules.now).numbers) place.j (run place.i count))) }
+/// Appends the pieces of so many columns from one on: 32,767 each from the left, and what is left.
+fn push_pieces(list: &mut Vec<Piece>, start: i64, count: u32) -> Result<(), AllocError>
+    requires low { negsuc 2147483647 ≤ℤ start }
+    requires high { (start +ℤ pos count) ≤ℤ pos 2147483648 }
+    ensures { OnOk result (list.new.items ≡ list.old.items ++ map as_piece (pieces (run start count))) }
 {
     for k in 0..count.div_ceil(MOST) {
         let done = k * MOST;
-        let here = Place {
-            i: place.i + i64::from(done),
-            j: place.j,
-        };
-        put_piece(writer, rules, here, (count - done).min(MOST) as u16)?;
+        list.push(Piece {
+            start: start + i64::from(done),
+            count: (count - done).min(MOST) as u16,
+        })?;
     }
     Ok(())
 }
 
-/// Writes the runs of a row's marked places, from left to right.
-fn put_row(writer: &mut Writer, rules: &Rules, marks: &[&Marks], j: i64) -> Result<(), AllocError>
-    requires tiles { AreOfTiles (raster_of (values_of rules.now).numbers) marks.now }
-    requires row { is_on (raster_of (values_of rules.now).numbers).up j ≡ true }
-    ensures { OnOk result (Adds writer.old writer.new (row_records (values_of rules.now).fill_cell (raster_of (values_of rules.now).numbers) (marked_by marks.now) j)) }
+/// The pieces that a row's marked places are written in, from left to right.
+fn pieces_of_row(
+    alloc: Global,
+    raster: Raster,
+    marks: &[&Marks],
+    j: i64,
+) -> Result<Vec<Piece>, AllocError>
+    requires tiles { AreOfTiles raster marks.now }
+    requires row { is_on raster.up j ≡ true }
+    ensures { IfOk result (λ v. v.items ≡ map as_piece (row_pieces (marked_by marks.now) raster j)) }
 {
-    let raster = rules.raster();
+    let mut list = Vec::new(alloc);
     let columns = raster.columns();
     let mut i = columns.start;
     while i < columns.end {
         let start = next_column(raster, marks, Place { i, j }, true);
         let end = next_column(raster, marks, Place { i: start, j }, false);
-        put_run(writer, rules, Place { i: start, j }, (end - start) as u32)?;
+        push_pieces(&mut list, start, (end - start) as u32)?;
         i = end;
+    }
+    Ok(list)
+}
+
+/// Appends the numbers of a row's pieces.
+fn push_counts(list: &mut Vec<u16>, row: &[Counted]) -> Result<(), AllocError>
+    ensures { OnOk result (list.new.items ≡ list.old.items ++ counts row.now) }
+{
+    for counted in row {
+        list.push(counted.rows)?;
     }
     Ok(())
 }
 
-/// Writes the rows of the marked places upwards.
+/// How high the stack of each piece is, from its row on: of the pieces of the highest row first, and in a row from left to right.
+fn stack_heights(alloc: Global, raster: Raster, marks: &[&Marks]) -> Result<Vec<u16>, AllocError>
+    requires { AreOfTiles raster marks.now }
+    ensures { IfOk result (λ v. v.items ≡ heights_down (marked_by marks.now) raster (first raster.up) (extent raster.up)) }
+{
+    let mut list = Vec::new(alloc);
+    let mut above = Vec::new(alloc);
+    let rows = raster.rows();
+    let mut j = rows.end;
+    while j > rows.start {
+        j -= 1;
+        let row = pieces_of_row(alloc, raster, marks, j)?;
+        above = heights(alloc, &row, &above)?;
+        push_counts(&mut list, &above)?;
+    }
+    Ok(list)
+}
+
+/// Writes the stacks that begin in a row: of the pieces with no row of their stack below them, each as high as the heights say.
+fn put_row(
+    writer: &mut Writer,
+    rules: &Rules,
+    j: i64,
+    levels: &[Counted],
+    heights: &[u16],
+) -> Result<(), AllocError>
+    requires { AreBegun (raster_of (values_of rules.now).numbers) j levels.now heights.now }
+    ensures { OnOk result (Adds writer.old writer.new (flat_map (stack_records (values_of rules.now).fill_cell (raster_of (values_of rules.now).numbers)) (begun j levels.now heights.now))) }
+{
+    for k in 0..levels.len() {
+        let Counted { piece, rows } = levels[k];
+        if rows == 0 {
+            let stack = Stack {
+                column: piece.start,
+                row: j,
+                columns: piece.count,
+                rows: heights[k],
+            };
+            put_stack(writer, rules, stack)?;
+        }
+    }
+    Ok(())
+}
+
+/// Writes the stacks of the marked places by their lowest rows upwards.
 pub(crate) fn put_rows(
+    alloc: Global,
     writer: &mut Writer,
     rules: &Rules,
     marks: &[&Marks],
 ) -> Result<(), AllocError>
     requires { AreOfTiles (raster_of (values_of rules.now).numbers) marks.now }
-    ensures { OnOk result (Adds writer.old writer.new (rows_records (values_of rules.now).fill_cell (raster_of (values_of rules.now).numbers) (marked_by marks.now))) }
+    ensures { OnOk result (Adds writer.old writer.new (stacks_records (values_of rules.now).fill_cell (raster_of (values_of rules.now).numbers) (marked_by marks.now))) }
 {
-    let rows = rules.raster().rows();
+    let raster = rules.raster();
+    let mut left = stack_heights(alloc, raster, marks)?;
+    let mut below = Vec::new(alloc);
+    let rows = raster.rows();
     for j in rows.start..rows.end {
-        put_row(writer, rules, marks, j)?;
+        let row = pieces_of_row(alloc, raster, marks, j)?;
+        below = levels(alloc, &row, &below)?;
+        let others = left.len() - below.len();
+        put_row(writer, rules, j, &below, &left[others..])?;
+        left.truncate(others);
     }
     Ok(())
 }

@@ -5,7 +5,7 @@ use Rattle.std.specs.List.{list_any, AllByRecursion}
 use Rattle.std.specs.Ordering.{int_eq}
 use Rattle.std.proofs.lemmas.Int.{ints}
 use Rattle.fill_base.specs.declared.place.Point.{Point}
-use Rattle.gds_grammar.specs.declared.element.Path.{Path}
+use Rattle.gds_grammar.specs.Values.{Wire}
 use Rattle.gds_shape.specs.declared.error.ShapeError.{ShapeError}
 use Rattle.gds_shape.specs.declared.error.ShapeError.TheVariants as errors
 use Rattle.gds_shape.specs.Winding.{edges, IsAligned, IsManhattan}
@@ -56,29 +56,29 @@ slanted_is points false same = other (list_any is_slanted (edges points)) refl
     other true h = refl
     other false h = let w : false ≡ true = same.1 (all_aligned (edges points) h) in cc
 
-pub fault_1 : (path : Path) (points : List Point) → list_any is_slanted (edges points) ≡ true → Some errors.NotManhattan ≡ fault_among path points
+pub fault_1 : (path : Wire) (points : List Point) → list_any is_slanted (edges points) ≡ true → Some errors.NotManhattan ≡ fault_among path points
 fault_1 path points a = rw a refl
 
-pub fault_2 : (path : Path) (points : List Point) → list_any is_slanted (edges points) ≡ false → has_round_end path ≡ true → Some errors.RoundEnd ≡ fault_among path points
+pub fault_2 : (path : Wire) (points : List Point) → list_any is_slanted (edges points) ≡ false → has_round_end path ≡ true → Some errors.RoundEnd ≡ fault_among path points
 fault_2 path points a b = rw (a, b) refl
 
-pub fault_3 : (path : Path) (points : List Point) → list_any is_slanted (edges points) ≡ false → has_round_end path ≡ false → has_odd_width path ≡ true → Some errors.OddWidth ≡ fault_among path points
+pub fault_3 : (path : Wire) (points : List Point) → list_any is_slanted (edges points) ≡ false → has_round_end path ≡ false → has_odd_width path ≡ true → Some errors.OddWidth ≡ fault_among path points
 fault_3 path points a b c = rw (a, b, c) refl
 
-pub fault_4 : (path : Path) (points : List Point) → list_any is_slanted (edges points) ≡ false → has_round_end path ≡ false → has_odd_width path ≡ false → doubles_back points ≡ true
+pub fault_4 : (path : Wire) (points : List Point) → list_any is_slanted (edges points) ≡ false → has_round_end path ≡ false → has_odd_width path ≡ false → doubles_back points ≡ true
     → Some errors.DoublesBack ≡ fault_among path points
 fault_4 path points a b c d = rw (a, b, c, d) refl
 
-pub fault_5 : (path : Path) (points : List Point) → list_any is_slanted (edges points) ≡ false → has_round_end path ≡ false → has_odd_width path ≡ false → doubles_back points ≡ false
+pub fault_5 : (path : Wire) (points : List Point) → list_any is_slanted (edges points) ≡ false → has_round_end path ≡ false → has_odd_width path ≡ false → doubles_back points ≡ false
     → has_bad_extension path ≡ true → Some errors.BadExtension ≡ fault_among path points
 fault_5 path points a b c d e = rw (a, b, c, d, e) refl
 
-pub no_fault : (path : Path) (points : List Point) → list_any is_slanted (edges points) ≡ false → has_round_end path ≡ false → has_odd_width path ≡ false → doubles_back points ≡ false
+pub no_fault : (path : Wire) (points : List Point) → list_any is_slanted (edges points) ≡ false → has_round_end path ≡ false → has_odd_width path ≡ false → doubles_back points ≡ false
     → has_bad_extension path ≡ false → None ≡ fault_among path points
 no_fault path points a b c d e = rw (a, b, c, d, e) refl
 
 -- none of a path's own faults is OutOfRange
-not_out : (path : Path) → path_fault path ≡ Some errors.OutOfRange → ⊥
+not_out : (path : Wire) → path_fault path ≡ Some errors.OutOfRange → ⊥
 not_out path = never (is_drawn path) (list_any is_slanted (edges (corners_of path))) (has_round_end path) (has_odd_width path) (doubles_back (corners_of path)) (has_bad_extension path)
   where
     never : (d a b c e f : Bool) → cond d (first_of ((a, errors.NotManhattan) ∷ (b, errors.RoundEnd) ∷ (c, errors.OddWidth) ∷ (e, errors.DoublesBack) ∷ (f, errors.BadExtension) ∷ [])) None ≡ Some errors.OutOfRange → ⊥
@@ -90,7 +90,7 @@ not_out path = never (is_drawn path) (list_any is_slanted (edges (corners_of pat
     never true false false false false true h = cc
     never true false false false false false h = cc
 
-pub refusal_is : (path : Path) (e : ShapeError) → (e ≡ errors.Memory) ⊎ (path_fault path ≡ Some e) → IsPathRefusal path e
+pub refusal_is : (path : Wire) (e : ShapeError) → (e ≡ errors.Memory) ⊎ (path_fault path ≡ Some e) → IsPathRefusal path e
 refusal_is path errors.Memory why = tt
 refusal_is path errors.OutOfRange why = elim why [ inl h ↦ cc | inr h ↦ absurd (not_out path h) ]
 refusal_is path errors.NotManhattan why = elim why [ inl h ↦ cc | inr h ↦ h ]

@@ -100,7 +100,7 @@ boundary_inside points b manhattan closed e x y is =
 
 -- ---- rectangles
 
-one_inside : (b c : Bounds) (x y : ℤ) → b.left ≤ℤ c.left → b.bottom ≤ℤ c.bottom → c.right ≤ℤ b.right → c.top ≤ℤ b.top → in_bounds c x y ≡ true → in_bounds b x y ≡ true
+pub one_inside : (b c : Bounds) (x y : ℤ) → b.left ≤ℤ c.left → b.bottom ≤ℤ c.bottom → c.right ≤ℤ b.right → c.top ≤ℤ b.top → in_bounds c x y ≡ true → in_bounds b x y ≡ true
 one_inside b c x y l m r t is =
     let p = and_parts _ _ is in
     let h = and_parts _ _ p.0 in

@@ -9,7 +9,7 @@ use Rattle.std.proofs.lemmas.List.{length-map, get_or-map as mapped_at}
 use Rattle.fill_base.specs.declared.place.Point.{Point}
 use Rattle.fill_base.specs.Coordinates.{lowest, IsCoordinate}
 use Rattle.gds_record.specs.Numbers.{IsStored}
-use Rattle.gds_grammar.specs.declared.element.Path.{Path}
+use Rattle.gds_grammar.specs.Values.{Wire}
 use Rattle.gds_shape.specs.declared.bounds.Bounds.{Bounds}
 use Rattle.gds_shape.specs.Winding.{edges}
 use Rattle.gds_shape.specs.Paths.{low_end, high_end, segment, segments, segments_from, ending, is_slanted, type_of, half_of, begin_of, end_of, extension, has_round_end, has_odd_width, doubles_back, has_bad_extension, fault_among, first_of, AreInRange}
@@ -79,10 +79,10 @@ near_segments half before after (p ∷ points) rh rb ra stored =
 
 -- ---- a path that isn't refused has no negative extension
 
-half_reach : (path : Path) → IsStretch (half_of path) → IsReach (half_of path)
+half_reach : (path : Wire) → IsStretch (half_of path) → IsReach (half_of path)
 half_reach path s = record { some = omega (arith, ints); most = s.most }
 
-no_bad : (path : Path) (points : List Point) → None ≡ fault_among path points → has_bad_extension path ≡ false
+no_bad : (path : Wire) (points : List Point) → None ≡ fault_among path points → has_bad_extension path ≡ false
 no_bad path points h = last (list_any is_slanted (edges points)) (has_round_end path) (has_odd_width path) (doubles_back points) (has_bad_extension path) h
   where
     last : (a b c d e : Bool)
@@ -112,7 +112,7 @@ extension_reach type half given rh s fine = cases (eqb type 2) (eqb type 4) s fi
         not_below z h = grind (arith, ints)
     cases false false s h = record { some = omega (arith, ints); most = omega (arith, ints) }
 
-pub near_made : (path : Path) (points : List Point) (made : List Bounds) → None ≡ fault_among path points → IsStretch (half_of path) → IsStretch (begin_of path) → IsStretch (end_of path)
+pub near_made : (path : Wire) (points : List Point) (made : List Bounds) → None ≡ fault_among path points → IsStretch (half_of path) → IsStretch (begin_of path) → IsStretch (end_of path)
     → All IsStored points → made ≡ segments (half_of path) (begin_of path) (end_of path) points → All IsNear made
 near_made path points made fine sh sb se stored is =
     let h = half_reach path sh in

@@ -5,7 +5,7 @@ use Rattle.std.specs.List.{list_any}
 use Rattle.fill_base.specs.declared.place.Point.{Point}
 use Rattle.fill_base.specs.Counts.{is_between}
 use Rattle.fill_base.specs.Coordinates.{IsCoordinate}
-use Rattle.gds_grammar.specs.declared.element.Path.{Path}
+use Rattle.gds_grammar.specs.Values.{Wire}
 use Rattle.gds_shape.specs.declared.bounds.Bounds.{Bounds}
 use Rattle.gds_shape.specs.declared.error.ShapeError.{ShapeError}
 use Rattle.gds_shape.specs.declared.error.ShapeError.TheVariants as errors
@@ -76,17 +76,17 @@ segments half before after (p ∷ points) = segments_from half before after p po
 
 -- ---- what the records of a path say
 
-abbrev pub width_of : Path → ℤ
+abbrev pub width_of : Wire → ℤ
 width_of path = unwrap_or path.width (pos 0)
 
-abbrev pub type_of : Path → ℕ
+abbrev pub type_of : Wire → ℕ
 type_of path = unwrap_or path.path_type 0
 
-abbrev pub corners_of : Path → List Point
-corners_of path = corners path.points.items
+abbrev pub corners_of : Wire → List Point
+corners_of path = corners path.points
 
 -- the sign of the width concerns magnification alone
-abbrev pub half_of : Path → ℤ
+abbrev pub half_of : Wire → ℤ
 half_of path = pos (unsigned_abs (width_of path) / 2)
 
 -- past an end of the path: nothing, half the width, or what is given
@@ -94,17 +94,17 @@ abbrev pub extension : ℕ → ℤ → Option ℤ → ℤ
 extension type half given =
     if type == 2 then half else if type == 4 then unwrap_or given (pos 0) else pos 0
 
-abbrev pub begin_of : Path → ℤ
+abbrev pub begin_of : Wire → ℤ
 begin_of path = extension (type_of path) (half_of path) path.begin_extension
 
-abbrev pub end_of : Path → ℤ
+abbrev pub end_of : Wire → ℤ
 end_of path = extension (type_of path) (half_of path) path.end_extension
 
 -- A path of no width covers nothing, nor does one whose points are all equal: it has one corner.
-abbrev pub is_drawn : Path → Bool
+abbrev pub is_drawn : Wire → Bool
 is_drawn path = not (int_eq (width_of path) (pos 0)) && nat_lt 1 (length (corners_of path))
 
-abbrev pub segments_of : Path → List Bounds
+abbrev pub segments_of : Wire → List Bounds
 segments_of path =
     if is_drawn path then segments (half_of path) (begin_of path) (end_of path) (corners_of path) else []
 
@@ -112,7 +112,7 @@ abbrev pub in_bounds : Bounds → ℤ → ℤ → Bool
 in_bounds b x y = is_between b.left b.right x && is_between b.bottom b.top y
 
 -- a path covers the squares of its segments
-abbrev pub path_covers : Path → ℤ → ℤ → Bool
+abbrev pub path_covers : Wire → ℤ → ℤ → Bool
 path_covers path x y = list_any (λ b. in_bounds b x y) (segments_of path)
 
 -- all four edges are coordinates
@@ -133,13 +133,13 @@ abbrev pub doubles_back : List Point → Bool
 doubles_back (p ∷ q ∷ r ∷ points) = on_one_line p q r || doubles_back (q ∷ r ∷ points)
 doubles_back _ = false
 
-abbrev pub has_round_end : Path → Bool
+abbrev pub has_round_end : Wire → Bool
 has_round_end path = not (type_of path == 0 || type_of path == 2 || type_of path == 4)
 
-abbrev pub has_odd_width : Path → Bool
+abbrev pub has_odd_width : Wire → Bool
 has_odd_width path = unsigned_abs (width_of path) % 2 == 1
 
-abbrev pub has_bad_extension : Path → Bool
+abbrev pub has_bad_extension : Wire → Bool
 has_bad_extension path =
     type_of path == 4 && (int_lt (begin_of path) (pos 0) || int_lt (end_of path) (pos 0))
 
@@ -149,7 +149,7 @@ first_of [] = None
 first_of (row ∷ rows) = if row.0 then Some row.1 else first_of rows
 
 -- why a path with these corners is refused, the first cause in this order
-abbrev pub fault_among : Path → List Point → Option ShapeError
+abbrev pub fault_among : Wire → List Point → Option ShapeError
 fault_among path points = first_of (
     (list_any is_slanted (edges points), errors.NotManhattan)
     ∷ (has_round_end path, errors.RoundEnd)
@@ -158,11 +158,11 @@ fault_among path points = first_of (
     ∷ (has_bad_extension path, errors.BadExtension) ∷ [])
 
 -- a path that covers nothing isn't checked
-abbrev pub path_fault : Path → Option ShapeError
+abbrev pub path_fault : Wire → Option ShapeError
 path_fault path = if is_drawn path then fault_among path (corners_of path) else None
 
 -- each refusal comes where its cause is the first; want of memory has none in the path
-abbrev pub IsPathRefusal : Path → ShapeError → Type 0
+abbrev pub IsPathRefusal : Wire → ShapeError → Type 0
 IsPathRefusal path errors.Memory = Unit {0}
 IsPathRefusal path errors.OutOfRange =
     (path_fault path ≡ None) × (All AreInRange (segments_of path) → ⊥)

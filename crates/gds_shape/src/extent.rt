@@ -20,7 +20,7 @@ fn at_point(point: Point) -> Bounds
 }
 
 /// The least rectangle around both.
-fn joined(a: Bounds, b: Bounds) -> Bounds
+pub fn joined(a: Bounds, b: Bounds) -> Bounds
     ensures { result ≡ joined a b }
 {
     Bounds {

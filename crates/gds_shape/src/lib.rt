@@ -18,6 +18,6 @@ mod strip;
 pub use boundary::{boundary_region, is_manhattan, put_boundary, put_boundary_at_corner};
 pub use bounds::Bounds;
 pub use error::ShapeError;
-pub use extent::{bounds_extent, move_to_corner, points_extent};
+pub use extent::{bounds_extent, joined, move_to_corner, points_extent};
 pub use path::{path_region, path_segments, put_path_at_corner};
 pub use segments::{is_in_range, put_bounds};

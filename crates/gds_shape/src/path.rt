@@ -4,6 +4,7 @@
 ghost use Rattle.std.specs.Prelude.{◌≡◌, ◌⊎◌, ◌||◌, ◌-ℤ◌, [], not, pos, ℤ, None, Some, All, MatchResult, IfOk, IfErr, IfSome, IfNone};
 ghost use Rattle.std.specs.List.{list_any};
 ghost use Rattle.std.specs.Ordering.{int_eq};
+ghost use Rattle.gds_grammar.specs.Values.{wire_of};
 ghost use Rattle.fill_region.specs.Bands.{holds, IsRegion};
 ghost use Rattle.fill_region.specs.Squares.{covered};
 ghost use Rattle.gds_shape.specs.Extents.{IsExtent, IsNarrow, IsNear, LiesWithin, corner_move};
@@ -24,21 +25,21 @@ use std::alloc::{AllocError, Global};
 
 /// WIDTH, 0 where it is left out.
 fn width_of(path: &Path) -> i32
-    ensures { result ≡ width_of path.now }
+    ensures { result ≡ width_of (wire_of path.now) }
 {
     path.width.unwrap_or(0)
 }
 
 /// PATHTYPE, 0 where it is left out.
 fn type_of(path: &Path) -> u16
-    ensures { result ≡ type_of path.now }
+    ensures { result ≡ type_of (wire_of path.now) }
 {
     path.path_type.unwrap_or(0)
 }
 
 /// Half the absolute value of WIDTH.
 fn half_of(path: &Path) -> i64
-    ensures value { result ≡ half_of path.now }
+    ensures value { result ≡ half_of (wire_of path.now) }
     ensures small { IsStretch result }
 {
     i64::from(width_of(path).unsigned_abs() / 2)
@@ -59,7 +60,7 @@ fn extension(path_type: u16, half: i64, given: Option<i32>) -> i64
 
 /// How far the path goes past its first corner.
 fn begin_of(path: &Path) -> i64
-    ensures value { result ≡ begin_of path.now }
+    ensures value { result ≡ begin_of (wire_of path.now) }
     ensures small { IsStretch result }
 {
     extension(type_of(path), half_of(path), path.begin_extension)
@@ -67,26 +68,26 @@ fn begin_of(path: &Path) -> i64
 
 /// How far the path goes past its last corner.
 fn end_of(path: &Path) -> i64
-    ensures value { result ≡ end_of path.now }
+    ensures value { result ≡ end_of (wire_of path.now) }
     ensures small { IsStretch result }
 {
     extension(type_of(path), half_of(path), path.end_extension)
 }
 
 fn has_round_end(path: &Path) -> bool
-    ensures { result ≡ has_round_end path.now }
+    ensures { result ≡ has_round_end (wire_of path.now) }
 {
     !matches!(type_of(path), 0 | 2 | 4)
 }
 
 fn has_odd_width(path: &Path) -> bool
-    ensures { result ≡ has_odd_width path.now }
+    ensures { result ≡ has_odd_width (wire_of path.now) }
 {
     width_of(path).unsigned_abs() % 2 == 1
 }
 
 fn has_bad_extension(path: &Path) -> bool
-    ensures { result ≡ has_bad_extension path.now }
+    ensures { result ≡ has_bad_extension (wire_of path.now) }
 {
     type_of(path) == 4 && (begin_of(path) < 0 || end_of(path) < 0)
 }
@@ -100,7 +101,7 @@ fn has_slanted(corners: &[Point]) -> bool
 
 /// Why a path with these corners is refused.
 fn fault_among(path: &Path, corners: &[Point]) -> Option<ShapeError>
-    ensures { result ≡ fault_among path.now corners.now }
+    ensures { result ≡ fault_among (wire_of path.now) corners.now }
 {
     if has_slanted(corners) {
         return Some(ShapeError::NotManhattan);
@@ -122,7 +123,7 @@ fn fault_among(path: &Path, corners: &[Point]) -> Option<ShapeError>
 
 /// Whether the path has a width.
 fn has_width(path: &Path) -> bool
-    ensures { result ≡ not (int_eq (width_of path.now) (pos 0)) }
+    ensures { result ≡ not (int_eq (width_of (wire_of path.now)) (pos 0)) }
 {
     width_of(path) != 0
 }
@@ -135,14 +136,15 @@ fn has_width(path: &Path) -> bool
 /// `BadExtension`, the first in this order, or `Memory` where memory is refused.
 pub fn path_segments(alloc: Global, path: &Path) -> Result<Vec<Bounds>, ShapeError>
     ensures is { MatchResult result
-        (λ v. (path_fault path.now ≡ None) × (v.items ≡ segments_of path.now))
-        (λ e. (e ≡ ShapeError.Memory) ⊎ (path_fault path.now ≡ Some e)) }
+        (λ v. (path_fault (wire_of path.now) ≡ None) × (v.items ≡ segments_of (wire_of path.now)))
+        (λ e. (e ≡ ShapeError.Memory) ⊎ (path_fault (wire_of path.now) ≡ Some e)) }
     ensures near { IfOk result (λ v. All IsNear v.items) }
 {
     if !has_width(path) {
         return Ok(Vec::new(alloc));
     }
-    let corners = corners_of(alloc, &path.points)?;
+    let points = path.points.to_vec(alloc)?;
+    let corners = corners_of(alloc, &points)?;
     if corners.len() < 2 {
         return Ok(Vec::new(alloc));
     }
@@ -165,15 +167,15 @@ pub fn put_path_at_corner(
     out: &mut Vec<Rect>,
     path: &Path,
 ) -> Result<Option<Bounds>, ShapeError>
-    ensures fine { IfOk result (λ o. path_fault path.now ≡ None) }
-    ensures none { IfOk result (λ o. IfNone o ((segments_of path.now ≡ []) × (out.new.items ≡ out.old.items))) }
-    ensures segments { IfOk result (λ o. All IsNear (segments_of path.now)) }
-    ensures extent { IfOk result (λ o. IfSome o (λ b. IsExtent (segments_of path.now) b × IsNear b
-        × LiesWithin (path_covers path.now) b)) }
+    ensures fine { IfOk result (λ o. path_fault (wire_of path.now) ≡ None) }
+    ensures none { IfOk result (λ o. IfNone o ((segments_of (wire_of path.now) ≡ []) × (out.new.items ≡ out.old.items))) }
+    ensures segments { IfOk result (λ o. All IsNear (segments_of (wire_of path.now))) }
+    ensures extent { IfOk result (λ o. IfSome o (λ b. IsExtent (segments_of (wire_of path.now)) b × IsNear b
+        × LiesWithin (path_covers (wire_of path.now)) b)) }
     ensures added { IfOk result (λ o. IfSome o (λ b. IsNarrow b → (x y : ℤ) → covered out.new.items x y
-        ≡ (covered out.old.items x y || path_covers path.now (x -ℤ (corner_move b).x) (y -ℤ (corner_move b).y)))) }
+        ≡ (covered out.old.items x y || path_covers (wire_of path.now) (x -ℤ (corner_move b).x) (y -ℤ (corner_move b).y)))) }
     ensures wide { IfOk result (λ o. IfSome o (λ b. (¬ IsNarrow b) → out.new.items ≡ out.old.items)) }
-    ensures refused { IfErr result (λ e. (e ≡ ShapeError.Memory) ⊎ (path_fault path.now ≡ Some e)) }
+    ensures refused { IfErr result (λ e. (e ≡ ShapeError.Memory) ⊎ (path_fault (wire_of path.now) ≡ Some e)) }
 {
     let segments = path_segments(alloc, path)?;
     if segments.is_empty() {
@@ -195,10 +197,10 @@ pub fn put_path_at_corner(
 /// Those of `path_segments`, else `OutOfRange` where a segment's rectangle passes the coordinates
 /// from -2^30 to 2^30, or `Memory` where memory is refused.
 pub fn path_region(alloc: Global, path: &Path) -> Result<Region, ShapeError>
-    ensures ok { IfOk result (λ r. IsRegion r × (path_fault path.now ≡ None)
-        × All AreInRange (segments_of path.now)) }
-    ensures squares { IfOk result (λ r. (x y : ℤ) → holds r x y ≡ path_covers path.now x y) }
-    ensures refused { IfErr result (λ e. IsPathRefusal path.now e) }
+    ensures ok { IfOk result (λ r. IsRegion r × (path_fault (wire_of path.now) ≡ None)
+        × All AreInRange (segments_of (wire_of path.now))) }
+    ensures squares { IfOk result (λ r. (x y : ℤ) → holds r x y ≡ path_covers (wire_of path.now) x y) }
+    ensures refused { IfErr result (λ e. IsPathRefusal (wire_of path.now) e) }
 {
     let segments = path_segments(alloc, path)?;
     if !are_in_range(&segments) {

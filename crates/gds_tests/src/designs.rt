@@ -4,7 +4,7 @@
 use crate::records::{METAL, begin_cell, finished, head, name_of, put, put_points, put_shape};
 use fill_region::Region;
 use gds_flatten::{FlattenError, flatten, flatten_parts, flatten_rects};
-use gds_grammar::Library;
+use gds_grammar::read_library;
 use std::alloc::Global;
 use std::test::*;
 use std::thread::Threads;
@@ -29,21 +29,22 @@ pub(crate) enum Draft<'a> {
 }
 
 /// The flags of STRANS and the first four bytes of ANGLE, if any.
-type Turn = Option<(u16, u32)>;
+pub(crate) type Turn = Option<(u16, u32)>;
 
 /// The left, lower, right and upper edge of a rectangle.
-type Edges = (i64, i64, i64, i64);
+pub(crate) type Edges = (i64, i64, i64, i64);
 
 /// The cells of a design with their numbers, in the order of the file.
 pub(crate) type Cells<'a> = &'a [(u16, &'a [Draft<'a>])];
 
-/// The first four bytes of 45 and 90 degrees.
+/// The first four bytes of 45 degrees.
 const HALF_RIGHT: u32 = 0x422d_0000;
 
-const RIGHT: u32 = 0x425a_0000;
+/// The first four bytes of 90 degrees.
+pub(crate) const RIGHT: u32 = 0x425a_0000;
 
 /// Four by two squares at the origin.
-const OBLONG: &[(i32, i32)] = &[(0, 0), (4, 0), (4, 2), (0, 2), (0, 0)];
+pub(crate) const OBLONG: &[(i32, i32)] = &[(0, 0), (4, 0), (4, 2), (0, 2), (0, 0)];
 
 /// A boundary with a slanted edge.
 pub(crate) const SLANTED: &[(i32, i32)] = &[(0, 0), (4, 4), (4, 0), (0, 0)];
@@ -80,7 +81,11 @@ fn put_counts(bytes: &mut Vec<u8>, (columns, rows): (u16, u16)) -> Result<(), Fa
 }
 
 /// Appends a boundary.
-fn put_boundary(bytes: &mut Vec<u8>, layer: u16, points: &[(i32, i32)]) -> Result<(), Fail> {
+pub(crate) fn put_boundary(
+    bytes: &mut Vec<u8>,
+    layer: u16,
+    points: &[(i32, i32)],
+) -> Result<(), Fail> {
     put_shape(bytes, 8, layer)?;
     put_points(bytes, points)
 }
@@ -105,14 +110,19 @@ fn put_path(
 }
 
 /// Appends a single reference.
-fn put_single(bytes: &mut Vec<u8>, cell: u16, turn: Turn, origin: (i32, i32)) -> Result<(), Fail> {
+pub(crate) fn put_single(
+    bytes: &mut Vec<u8>,
+    cell: u16,
+    turn: Turn,
+    origin: (i32, i32),
+) -> Result<(), Fail> {
     put_reference(bytes, 0x0a, cell)?;
     put_turn(bytes, turn)?;
     put_points(bytes, &[origin])
 }
 
 /// Appends an array.
-fn put_array(
+pub(crate) fn put_array(
     bytes: &mut Vec<u8>,
     cell: u16,
     turn: Turn,
@@ -149,13 +159,13 @@ fn put_cell(bytes: &mut Vec<u8>, cell: u16, elements: &[Draft<'_>]) -> Result<()
     put(bytes, 7, 0, &[])
 }
 
-/// The library of these cells in the order of the file.
-pub(crate) fn design(alloc: Global, cells: Cells<'_>) -> Result<Library, Fail> {
+/// The bytes of a library of these cells in the order of the file.
+pub(crate) fn design(alloc: Global, cells: Cells<'_>) -> Result<Vec<u8>, Fail> {
     let mut bytes = head(alloc)?;
     for (cell, elements) in cells {
         put_cell(&mut bytes, *cell, *elements)?;
     }
-    finished(alloc, &mut bytes)
+    finished(bytes)
 }
 
 /// The edges of the pieces of a region.
@@ -169,7 +179,8 @@ fn edges_of(alloc: Global, region: &Region) -> Result<Vec<Edges>, Fail> {
 
 /// The pieces of what cell 0 draws on the layer `METAL`.
 pub(crate) fn drawn(alloc: Global, cells: Cells<'_>) -> Result<Vec<Edges>, Fail> {
-    let library = design(alloc, cells)?;
+    let bytes = design(alloc, cells)?;
+    let library = read_library(alloc, &bytes)?;
     let region = flatten(alloc, &library, &name_of(0), METAL, 0)?;
     edges_of(alloc, &region)
 }
@@ -180,7 +191,8 @@ fn drawn_in_parts(
     alloc: Global,
     cells: Cells<'_>,
 ) -> Result<Vec<Edges>, Fail> {
-    let library = design(alloc, cells)?;
+    let bytes = design(alloc, cells)?;
+    let library = read_library(alloc, &bytes)?;
     let parts = flatten_parts(rt, alloc, &library, &name_of(0), METAL, 0)?;
     let region = Region::from_rects(alloc, &parts.concat(alloc)?)?;
     edges_of(alloc, &region)
@@ -192,7 +204,8 @@ pub(crate) fn refused(
     alloc: Global,
     cells: Cells<'_>,
 ) -> Result<Option<FlattenError>, Fail> {
-    let library = design(alloc, cells)?;
+    let bytes = design(alloc, cells)?;
+    let library = read_library(alloc, &bytes)?;
     let top = name_of(0);
     let error = flatten(alloc, &library, &top, METAL, 0).err();
     let alike = flatten_rects(alloc, &library, &top, METAL, 0).err();
@@ -685,7 +698,8 @@ fn refused_designs(rt: HostRuntime) -> Result<(), Fail> {
 #[test]
 fn rectangles_of_each_copy(rt: HostRuntime) -> Result<(), Fail> {
     let top: &[Draft<'static>] = &[Draft::Ref(1, HERE), Draft::Ref(1, (2, 0))];
-    let library = design(rt.alloc(), &[(0, top), (1, SHAPE)])?;
+    let bytes = design(rt.alloc(), &[(0, top), (1, SHAPE)])?;
+    let library = read_library(rt.alloc(), &bytes)?;
     let rects = flatten_rects(rt.alloc(), &library, &name_of(0), METAL, 0)?;
     assert_eq!(rt; rects.len(), 2);
     Ok(())
@@ -694,7 +708,8 @@ fn rectangles_of_each_copy(rt: HostRuntime) -> Result<(), Fail> {
 /// A cell without an element draws nothing, and names are compared without padding.
 #[test]
 fn tops(rt: HostRuntime) -> Result<(), Fail> {
-    let library = design(rt.alloc(), &[(0, SHAPE), (1, &[])])?;
+    let bytes = design(rt.alloc(), &[(0, SHAPE), (1, &[])])?;
+    let library = read_library(rt.alloc(), &bytes)?;
     let refused = flatten(rt.alloc(), &library, b"AA\0", METAL, 0).err();
     assert_eq!(rt; refused, Some(FlattenError::NoTop));
     for (name, data_type) in [(b"AB", 0), (b"AA", 1)] {
@@ -704,8 +719,8 @@ fn tops(rt: HostRuntime) -> Result<(), Fail> {
     Ok(())
 }
 
-/// A chain of so many cells, each one to the right of the one above it, the last with a shape.
-fn chain(alloc: Global, cells: u16) -> Result<Library, Fail> {
+/// The bytes of a chain of so many cells, each one to the right of the one above it, the last with a shape.
+fn chain(alloc: Global, cells: u16) -> Result<Vec<u8>, Fail> {
     let mut bytes = head(alloc)?;
     let last = cells.wrapping_sub(1);
     for cell in 0..last {
@@ -713,16 +728,18 @@ fn chain(alloc: Global, cells: u16) -> Result<Library, Fail> {
         put_cell(&mut bytes, cell, &[below])?;
     }
     put_cell(&mut bytes, last, &[Draft::Boundary(METAL, OBLONG)])?;
-    finished(alloc, &mut bytes)
+    finished(bytes)
 }
 
 #[test]
 fn chains(rt: HostRuntime) -> Result<(), Fail> {
-    let deep = chain(rt.alloc(), 256)?;
+    let bytes = chain(rt.alloc(), 256)?;
+    let deep = read_library(rt.alloc(), &bytes)?;
     let region = flatten(rt.alloc(), &deep, &name_of(0), METAL, 0)?;
     let edges = edges_of(rt.alloc(), &region)?;
     assert_eq!(rt; edges.as_slice(), [(255, 0, 259, 2)].as_slice());
-    let deeper = chain(rt.alloc(), 257)?;
+    let more = chain(rt.alloc(), 257)?;
+    let deeper = read_library(rt.alloc(), &more)?;
     let refused = flatten(rt.alloc(), &deeper, &name_of(0), METAL, 0).err();
     assert_eq!(rt; refused, Some(FlattenError::TooDeep));
     // Also where the layer has no shape.

@@ -65,17 +65,30 @@ fn joined(alloc: Global, pieces: &[&[u8]]) -> Result<Vec<u8>, AllocError> {
     Ok(bytes)
 }
 
+/// A layer that the tests have no shape of.
+const OTHER: &[Layer] = &[Layer {
+    layer: 99,
+    data_type: 0,
+}];
+
+/// Why the bytes are refused; `Memory` where they are refused otherwise when another layer is asked for.
 fn error_of(alloc: Global, bytes: &[u8]) -> Option<LibraryError> {
-    match read_library(alloc, bytes) {
-        Ok(_) => None,
-        Err(e) => Some(e),
+    let whole = read_library(alloc, bytes).err();
+    let other = read_layers(alloc, bytes, OTHER).err();
+    if whole == other {
+        whole
+    } else {
+        Some(LibraryError::Memory)
     }
 }
 
 /// The layer, the data type and the points of the only element of a cell, where that is a boundary.
-fn only_boundary(elements: &[Element]) -> Option<(u16, u16, &[Point])> {
-    match elements {
-        [Element::Boundary(b)] => Some((b.layer, b.data_type, b.points.as_slice())),
+fn only_boundary<'a>(elements: &[Element<'a>]) -> Option<(u16, u16, Points<'a>)> {
+    let [element] = elements else {
+        return None;
+    };
+    match element {
+        Element::Boundary(b) => Some((b.layer, b.data_type, b.points)),
         _ => None,
     }
 }
@@ -96,7 +109,9 @@ fn is_one_wire(rt: &impl Abort, alloc: Global, bytes: &[u8]) -> Result<(), Fail>
     assert_eq!(rt; library.units[..8], [0x41, 0x10, 0, 0, 0, 0, 0, 0][..]);
     assert_eq!(rt; library.cells.len(), 1);
     let elements = library.cells.get(b"TOP".as_slice()).ok_or("no cell TOP")?;
-    assert!(rt; only_boundary(elements) == Some((7, 0, WIRE)));
+    let (layer, data_type, points) = only_boundary(elements).ok_or("no boundary")?;
+    assert_eq!(rt; (layer, data_type), (7, 0));
+    assert_eq!(rt; points.to_vec(alloc)?.as_slice(), WIRE);
     Ok(())
 }
 
@@ -399,11 +414,11 @@ const PLACED: &[&[u8]] = &[
 ];
 
 /// The flags and the angle of a reference to `BOX4` at (3, 3) that isn't magnified.
-fn turn_of(element: &Element) -> Option<(u16, Option<[u8; 8]>)> {
+fn turn_of(element: &Element<'_>) -> Option<(u16, Option<[u8; 8]>)> {
     let Element::Ref(r) = element else {
         return None;
     };
-    let is_placed = r.cell.as_slice() == b"BOX4".as_slice() && r.origin == Point { x: 3, y: 3 };
+    let is_placed = r.cell == b"BOX4".as_slice() && r.origin == Point { x: 3, y: 3 };
     (is_placed && r.transform.magnification.is_none()).then_some((
         r.transform.flags,
         r.transform.angle,
@@ -411,16 +426,17 @@ fn turn_of(element: &Element) -> Option<(u16, Option<[u8; 8]>)> {
 }
 
 /// The columns, the rows and the points of an array of references to `BOX4`.
-fn steps_of(element: &Element) -> Option<(u16, u16, [Point; 3])> {
+fn steps_of(element: &Element<'_>) -> Option<(u16, u16, [Point; 3])> {
     let Element::Array(a) = element else {
         return None;
     };
-    (a.cell.as_slice() == b"BOX4".as_slice()).then_some((a.columns, a.rows, a.points))
+    (a.cell == b"BOX4".as_slice()).then_some((a.columns, a.rows, a.points))
 }
 
 #[test]
 fn references(rt: HostRuntime) -> Result<(), Fail> {
-    let library = read_library(rt.alloc(), &library_of(rt.alloc(), PLACED)?)?;
+    let bytes = library_of(rt.alloc(), PLACED)?;
+    let library = read_library(rt.alloc(), &bytes)?;
     let elements = library.cells.get(b"TOP".as_slice()).ok_or("no cell TOP")?;
     let [first, array, turned] = elements.as_slice() else {
         return Err("not three elements".into());
@@ -491,7 +507,9 @@ fn fill_without_a_box(rt: HostRuntime) -> Result<(), Fail> {
     let top = cells.get(b"FILLTOP".as_slice()).ok_or("no cell FILLTOP")?;
     assert!(rt; top.is_empty());
     let elements = cells.get(b"BOX4".as_slice()).ok_or("no cell BOX4")?;
-    assert!(rt; only_boundary(elements) == Some((10, 1, FOUR_BY_FOUR)));
+    let (layer, data_type, points) = only_boundary(elements).ok_or("no boundary")?;
+    assert_eq!(rt; (layer, data_type), (10, 1));
+    assert_eq!(rt; points.to_vec(rt.alloc())?.as_slice(), FOUR_BY_FOUR);
     Ok(())
 }
 
@@ -509,22 +527,27 @@ const EXTENDED: &[&[u8]] = &[
     ENDEL,
 ];
 
-/// Whether an element is that path.
-fn is_extended(element: &Element) -> bool {
-    let Element::Path(p) = element else {
-        return false;
-    };
+/// Whether a path is that one, but for its points.
+fn is_extended(p: &Path<'_>) -> bool {
     (p.layer, p.data_type) == (7, 0)
         && (p.path_type, p.width) == (Some(4), Some(-4))
         && (p.begin_extension, p.end_extension) == (Some(5), None)
-        && p.points.as_slice() == [Point { x: 3, y: 3 }].as_slice()
 }
 
 #[test]
 fn paths(rt: HostRuntime) -> Result<(), Fail> {
-    let library = read_library(rt.alloc(), &library_of(rt.alloc(), EXTENDED)?)?;
+    let bytes = library_of(rt.alloc(), EXTENDED)?;
+    let library = read_library(rt.alloc(), &bytes)?;
     let elements = library.cells.get(b"TOP".as_slice()).ok_or("no cell TOP")?;
-    assert!(rt; matches!(elements.as_slice(), [path] if is_extended(path)));
+    let [element] = elements.as_slice() else {
+        return Err("not one element".into());
+    };
+    let Element::Path(path) = element else {
+        return Err("no path".into());
+    };
+    assert!(rt; is_extended(path));
+    let points = path.points.to_vec(rt.alloc())?;
+    assert_eq!(rt; points.as_slice(), [Point { x: 3, y: 3 }].as_slice());
     Ok(())
 }
 

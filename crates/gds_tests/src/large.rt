@@ -3,6 +3,7 @@
 use crate::designs::{Draft, EDGE, SQUARE, design, drawn, refused};
 use crate::records::{METAL, name_of};
 use gds_flatten::{FlattenError, flatten_parts};
+use gds_grammar::read_library;
 use std::test::*;
 
 /// 100,000 squares: ten by ten times fifty by twenty.
@@ -58,7 +59,8 @@ fn parts_of_a_large_design(rt: HostRuntime) -> Result<(), Fail> {
     ];
     let middle = [Draft::Array(2, (20, 10), &[(0, 0), (100, 0), (0, 40)])];
     let square = [Draft::Boundary(METAL, SQUARE)];
-    let library = design(alloc, &[(0, &top), (1, &middle), (2, &square)])?;
+    let bytes = design(alloc, &[(0, &top), (1, &middle), (2, &square)])?;
+    let library = read_library(alloc, &bytes)?;
     let parts = flatten_parts(&rt, alloc, &library, &name_of(0), METAL, 0)?;
     let mut lengths = Vec::new(alloc);
     for part in &parts {

@@ -9,7 +9,11 @@ mod grammar;
 #[cfg(test)]
 mod large;
 #[cfg(test)]
+mod layers;
+#[cfg(test)]
 mod placements;
+#[cfg(test)]
+mod random;
 #[cfg(test)]
 mod records;
 #[cfg(test)]
@@ -18,3 +22,5 @@ mod runs;
 mod scan;
 #[cfg(test)]
 mod shape;
+#[cfg(test)]
+mod within;

@@ -3,7 +3,6 @@
 use fill_base::Point;
 use gds_flatten::{FlattenError, Placement, array_link, reference_link};
 use gds_grammar::{Array, Ref, Transform};
-use std::alloc::Global;
 use std::test::*;
 
 /// A transformation that leaves all as it is.
@@ -25,17 +24,17 @@ fn real(exponent: u8, high: u8, low: u8) -> Option<[u8; 8]> {
 }
 
 /// A reference that is moved to (5, 7).
-fn reference(alloc: Global, transform: Transform) -> Ref {
+fn reference(transform: Transform) -> Ref<'static> {
     Ref {
-        cell: Vec::new(alloc),
+        cell: b"",
         transform,
         origin: Point { x: 5, y: 7 },
     }
 }
 
 /// How the single reference with this transformation carries, or why it's refused.
-fn carried(alloc: Global, transform: Transform) -> Result<Placement, FlattenError> {
-    let reference = reference(alloc, transform);
+fn carried(transform: Transform) -> Result<Placement, FlattenError> {
+    let reference = reference(transform);
     let link = reference_link(3, &reference)?;
     Ok(link.placement)
 }
@@ -105,7 +104,7 @@ fn placements_of_references(rt: HostRuntime) -> Result<(), Fail> {
     for (transform, reflected, turns) in cases {
         if turns < 4 {
             let want = Placement::new(reflected, turns, 5, 7);
-            assert_eq!(rt; carried(rt.alloc(), transform), Ok(want));
+            assert_eq!(rt; carried(transform), Ok(want));
         }
     }
     Ok(())
@@ -136,23 +135,19 @@ fn refused_transformations(rt: HostRuntime) -> Result<(), Fail> {
         },
     ];
     for transform in cases {
-        assert_eq!(rt;
-            carried(rt.alloc(), transform),
-            Err(FlattenError::BadTransform)
-        );
+        assert_eq!(rt; carried(transform), Err(FlattenError::BadTransform));
     }
     Ok(())
 }
 
 /// An array that begins at (1, 2), whose columns end at (`right`, 2) and its rows at (1, `up`).
 fn array(
-    alloc: Global,
     transform: Transform,
     (columns, rows): (u16, u16),
     (right, up): (i32, i32),
-) -> Array {
+) -> Array<'static> {
     Array {
-        cell: Vec::new(alloc),
+        cell: b"",
         transform,
         columns,
         rows,
@@ -173,7 +168,7 @@ fn array(
 /// Three columns in steps of 10, two rows in steps of 20: row by row.
 #[test]
 fn singles_of_an_array(rt: HostRuntime) -> Result<(), Fail> {
-    let link = array_link(4, &array(rt.alloc(), PLAIN, (3, 2), (31, 42)))?;
+    let link = array_link(4, &array(PLAIN, (3, 2), (31, 42)))?;
     assert_eq!(rt; (link.cell, link.columns, link.rows), (4, 3, 2));
     let want = [(1, 2), (11, 2), (21, 2), (1, 22), (11, 22), (21, 22)];
     let mut index = 0u32;
@@ -190,10 +185,7 @@ fn singles_of_an_array(rt: HostRuntime) -> Result<(), Fail> {
 /// The last of as many single references as an array may have.
 #[test]
 fn largest_array(rt: HostRuntime) -> Result<(), Fail> {
-    let link = array_link(
-        0,
-        &array(rt.alloc(), PLAIN, (32767, 32767), (32768, -65532)),
-    )?;
+    let link = array_link(0, &array(PLAIN, (32767, 32767), (32768, -65532)))?;
     if link.columns == 32767 && link.rows == 32767 {
         let last = link.single(1_073_676_288);
         assert_eq!(rt; last, Placement::shift(32767, -65530));
@@ -203,23 +195,23 @@ fn largest_array(rt: HostRuntime) -> Result<(), Fail> {
 
 #[test]
 fn refused_arrays(rt: HostRuntime) -> Result<(), Fail> {
-    let cases = [
-        array(rt.alloc(), PLAIN, (3, 2), (32, 42)),
-        array(rt.alloc(), PLAIN, (3, 2), (31, 43)),
-        array(rt.alloc(), PLAIN, (0, 2), (31, 42)),
-        array(rt.alloc(), PLAIN, (3, 0), (31, 42)),
-        array(rt.alloc(), PLAIN, (32768, 2), (32769, 42)),
-        array(rt.alloc(), PLAIN, (3, 32768), (31, 32770)),
+    let cases: [((u16, u16), (i32, i32)); 6] = [
+        ((3, 2), (32, 42)),
+        ((3, 2), (31, 43)),
+        ((0, 2), (31, 42)),
+        ((3, 0), (31, 42)),
+        ((32768, 2), (32769, 42)),
+        ((3, 32768), (31, 32770)),
     ];
-    for array in &cases {
-        let refused = array_link(0, array).err();
+    for (counts, ends) in cases {
+        let refused = array_link(0, &array(PLAIN, counts, ends)).err();
         assert_eq!(rt; refused, Some(FlattenError::BadArray));
     }
     let absolute = Transform {
         flags: 0x0002,
         ..PLAIN
     };
-    let both = array(rt.alloc(), absolute, (0, 0), (0, 0));
+    let both = array(absolute, (0, 0), (0, 0));
     let refused = array_link(0, &both).err();
     assert_eq!(rt; refused, Some(FlattenError::BadTransform));
     Ok(())

@@ -4,6 +4,7 @@ use crate::designs::{Draft, SLANTED, SQUARE, UNEVEN, design, refused};
 use crate::records::{METAL, name_of};
 use fill_base::Rect;
 use gds_flatten::{FlattenError, flatten_parts, flatten_rects};
+use gds_grammar::read_library;
 use std::test::*;
 
 /// A square a hundred above the origin.
@@ -52,7 +53,8 @@ fn cell_of_many_elements(rt: HostRuntime) -> Result<(), Fail> {
     }
     let low = [Draft::Boundary(METAL, SQUARE)];
     let high = [Draft::Boundary(METAL, HIGHER)];
-    let library = design(alloc, &[(0, &top), (1, &low), (2, &high)])?;
+    let bytes = design(alloc, &[(0, &top), (1, &low), (2, &high)])?;
+    let library = read_library(alloc, &bytes)?;
     let rects = flatten_rects(alloc, &library, &name_of(0), METAL, 0)?;
     assert_eq!(rt; rects.len(), 30_000);
     assert_eq!(rt; out_of_place(&rects), 0);

@@ -3,7 +3,7 @@
 use crate::records::{METAL, begin_cell, finished, head, name_of, put, put_points, put_shape};
 use fill_base::{Point, Rect};
 use fill_region::Region;
-use gds_grammar::{Element, Library};
+use gds_grammar::{Element, Library, read_library};
 use gds_shape::*;
 use std::alloc::Global;
 use std::process::Abort;
@@ -140,17 +140,18 @@ fn put_wire(bytes: &mut Vec<u8>, wire: Wire<'_>) -> Result<(), Fail> {
 }
 
 /// A library of one path, in its cell 0.
-fn library_of(alloc: Global, wire: Wire<'_>) -> Result<Library, Fail> {
+fn library_of(alloc: Global, wire: Wire<'_>) -> Result<Vec<u8>, Fail> {
     let mut bytes = head(alloc)?;
     begin_cell(&mut bytes, 0)?;
     put_wire(&mut bytes, wire)?;
     put(&mut bytes, 7, 0, &[])?;
-    finished(alloc, &mut bytes)
+    finished(bytes)
 }
 
 /// What a path's region comes to: its squares, or why it is refused.
 fn path_area(alloc: Global, wire: Wire<'_>) -> Result<Result<i64, ShapeError>, Fail> {
-    let library = library_of(alloc, wire)?;
+    let bytes = library_of(alloc, wire)?;
+    let library = read_library(alloc, &bytes)?;
     let elements = library.cells.get(name_of(0).as_slice()).ok_or("no cell")?;
     for element in elements {
         if let Element::Path(path) = element {
@@ -271,7 +272,8 @@ fn extensions_at_their_ends(rt: HostRuntime) -> Result<(), Fail> {
         end: 3,
         ..CORNER
     };
-    let library = library_of(rt.alloc(), wire)?;
+    let bytes = library_of(rt.alloc(), wire)?;
+    let library = read_library(rt.alloc(), &bytes)?;
     for element in library.cells.get(name_of(0).as_slice()).ok_or("no cell")? {
         if let Element::Path(path) = element {
             let region = path_region(rt.alloc(), path)?;
@@ -393,14 +395,14 @@ fn large_boundary(rt: HostRuntime) -> Result<(), Fail> {
     Ok(())
 }
 
-/// A library of one boundary, in its cell 0.
-fn outline_of(alloc: Global, points: &[(i32, i32)]) -> Result<Library, Fail> {
+/// The bytes of a library of one boundary, in its cell 0.
+fn outline_of(alloc: Global, points: &[(i32, i32)]) -> Result<Vec<u8>, Fail> {
     let mut bytes = head(alloc)?;
     begin_cell(&mut bytes, 0)?;
     put_shape(&mut bytes, 8, METAL)?;
     put_points(&mut bytes, points)?;
     put(&mut bytes, 7, 0, &[])?;
-    finished(alloc, &mut bytes)
+    finished(bytes)
 }
 
 /// The sum of the areas of rectangles.
@@ -416,16 +418,20 @@ fn are_at_the_corner(rects: &[Rect]) -> bool {
 }
 
 /// The extent of the outline of a library's cell 0 and the area of the outline at the corner.
-fn outline_at_the_corner(alloc: Global, library: &Library) -> Result<(Bounds, i64), Fail> {
+fn outline_at_the_corner(alloc: Global, library: &Library<'_>) -> Result<(Bounds, i64), Fail> {
     let elements = library.cells.get(name_of(0).as_slice()).ok_or("no cell")?;
-    let [Element::Boundary(outline)] = elements.as_slice() else {
+    let [element] = elements.as_slice() else {
+        return Err("not one element".into());
+    };
+    let Element::Boundary(outline) = element else {
         return Err("no outline".into());
     };
-    if !is_manhattan(&outline.points) {
+    let points = outline.points.to_vec(alloc)?;
+    if !is_manhattan(&points) {
         return Err("slanted".into());
     }
     let mut rects = Vec::new(alloc);
-    let extent = put_boundary_at_corner(alloc, &mut rects, &outline.points)?;
+    let extent = put_boundary_at_corner(alloc, &mut rects, &points)?;
     if !are_at_the_corner(&rects) {
         return Err("not at the corner".into());
     }
@@ -481,7 +487,8 @@ const OUTLINES: &[(&[(i32, i32)], Bounds, i64)] = &[
 #[test]
 fn outlines_at_the_corner(rt: HostRuntime) -> Result<(), Fail> {
     for (points, extent, area) in OUTLINES {
-        let library = outline_of(rt.alloc(), *points)?;
+        let bytes = outline_of(rt.alloc(), *points)?;
+        let library = read_library(rt.alloc(), &bytes)?;
         let found = outline_at_the_corner(rt.alloc(), &library)?;
         assert!(rt; found == (*extent, *area), "{points:?}");
     }
@@ -490,7 +497,8 @@ fn outlines_at_the_corner(rt: HostRuntime) -> Result<(), Fail> {
 
 #[test]
 fn segments_of_a_path(rt: HostRuntime) -> Result<(), Fail> {
-    let library = library_of(rt.alloc(), CORNER)?;
+    let bytes = library_of(rt.alloc(), CORNER)?;
+    let library = read_library(rt.alloc(), &bytes)?;
     for element in library.cells.get(name_of(0).as_slice()).ok_or("no cell")? {
         if let Element::Path(path) = element {
             let segments = path_segments(rt.alloc(), path)?;
@@ -525,9 +533,12 @@ fn segments_of_a_path(rt: HostRuntime) -> Result<(), Fail> {
 }
 
 /// The extent of the path of a library's cell 0 and the area of the path at the corner.
-fn path_at_the_corner(alloc: Global, library: &Library) -> Result<(Option<Bounds>, i64), Fail> {
+fn path_at_the_corner(alloc: Global, library: &Library<'_>) -> Result<(Option<Bounds>, i64), Fail> {
     let elements = library.cells.get(name_of(0).as_slice()).ok_or("no cell")?;
-    let [Element::Path(path)] = elements.as_slice() else {
+    let [element] = elements.as_slice() else {
+        return Err("not one element".into());
+    };
+    let Element::Path(path) = element else {
         return Err("no path".into());
     };
     let mut rects = Vec::new(alloc);
@@ -575,7 +586,8 @@ const PATHS: &[(Wire<'static>, Option<Bounds>, i64)] = &[
 #[test]
 fn paths_at_the_corner(rt: HostRuntime) -> Result<(), Fail> {
     for (wire, extent, area) in PATHS {
-        let library = library_of(rt.alloc(), *wire)?;
+        let bytes = library_of(rt.alloc(), *wire)?;
+        let library = read_library(rt.alloc(), &bytes)?;
         let found = path_at_the_corner(rt.alloc(), &library)?;
         assert!(rt; found == (*extent, *area));
     }

@@ -4,7 +4,8 @@ use Rattle.std.specs.Ordering.{int_eq}
 use Rattle.fill_base.specs.Sides.{sides, sides_of}
 use Rattle.fill_base.specs.declared.rect.Rect.{Rect}
 use Rattle.fill_text.specs.declared.script.Edit.TheVariants.{Add, Cut}
-use Rattle.fill_job.specs.Plans.{Plan, PointSet}
+use Rattle.fill_area.specs.Grid.{all_coordinates}
+use Rattle.fill_job.specs.Plans.{Layers, Plan, PointSet}
 use Rattle.fill_core.specs.Machine.{replay, replies}
 use Rattle.fill_core.specs.declared.event.Event.{Event}
 use Rattle.fill_core.specs.declared.event.Event.TheVariants as event
@@ -22,6 +23,7 @@ small = record {
   windows = record {
     across = record { first = pos 0; length = pos 4; step = pos 4; count = 1 };
     up = record { first = pos 0; length = pos 4; step = pos 4; count = 1 };
+    clip = all_coordinates;
   };
   spacing = pos 1;
   fill_spacing = pos 1;
@@ -31,9 +33,9 @@ small = record {
 abbrev pub one_point : ℤ → ℤ → PointSet
 one_point u v x y = int_eq x u && int_eq y v
 
--- one square at the corner of the last box
-abbrev pub corner : PointSet
-corner = one_point (pos 3) (pos 3)
+-- one square of metal at the corner of the last box, and no keep-out
+abbrev pub corner : Layers
+corner = record { metal = one_point (pos 3) (pos 3); keep = λ x y. false }
 
 -- commits of all kinds, then metal beside the first box, and commits again
 abbrev pub worked_events : Rect → List Event
@@ -64,7 +66,7 @@ RepliesAreWorked = (r : Rect) → IsBeside r → replies small corner (worked_ev
 -- at the end the third box alone is filled, at version 2
 abbrev pub StateIsWorked : Type 0
 StateIsWorked = (r : Rect) → IsBeside r → let s = replay small corner (worked_events r) in
-    (s.version ≡ 2) × (s.fill (pos 0) (pos 0) ≡ false) × (s.fill (pos 1) (pos 0) ≡ false) × (s.fill (pos 0) (pos 1) ≡ true) × (s.fill (pos 1) (pos 1) ≡ false) × (s.metal (pos 1) (pos 0) ≡ false) × (s.metal (pos 3) (pos 3) ≡ true) × (s.tiles_in 2 ≡ false)
+    (s.version ≡ 2) × (s.fill (pos 0) (pos 0) ≡ false) × (s.fill (pos 1) (pos 0) ≡ false) × (s.fill (pos 0) (pos 1) ≡ true) × (s.fill (pos 1) (pos 1) ≡ false) × (s.layers.metal (pos 1) (pos 0) ≡ false) × (s.layers.metal (pos 3) (pos 3) ≡ true) × (s.tiles_in 2 ≡ false)
 
 -- every tile but one
 abbrev pub all_but : ℕ → ℕ → Bool

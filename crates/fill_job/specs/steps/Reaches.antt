@@ -1,18 +1,23 @@
 -- The places of a part of a row of the raster, and the metal near to them.
-use Rattle.std.specs.Prelude.{◌≡◌, ℕ, ◌<◌, ℤ, pos, ◌+ℤ◌, ◌-ℤ◌, Bool, List, length, get_or}
+use Rattle.std.specs.Prelude.{◌≡◌, ◌||◌, ℕ, ◌<◌, ℤ, pos, ◌+ℤ◌, ◌-ℤ◌, Bool, List, length, get_or}
 use Rattle.fill_base.specs.Counts.{span_len}
 use Rattle.fill_raster.specs.Axes.{box_begin, box_end}
-use Rattle.fill_job.specs.Plans.{Plan, PointSet, conflicts}
+use Rattle.fill_raster.specs.Lattice.{Lattice}
+use Rattle.fill_job.specs.Plans.{Plan, Layers, PointSet, is_taken, meets_box}
 
--- the columns that the box of a place reaches, with the spacing on both sides
-abbrev pub reach : Plan → ℤ → ℤ × ℤ
-reach plan i = (box_begin plan.raster.across i -ℤ plan.spacing, box_end plan.raster.across i +ℤ plan.spacing)
+-- the columns that the box of a place reaches, with a distance on both sides
+abbrev pub reach : Lattice → ℤ → ℤ → ℤ × ℤ
+reach r d i = (box_begin r.across i -ℤ d, box_end r.across i +ℤ d)
 
 -- those of each place of a part of a row
-pub record AreReaches (plan : Plan) (left right : ℤ) (reaches : List (ℤ × ℤ)) : Type 0 where
+pub record AreReaches (r : Lattice) (d left right : ℤ) (reaches : List (ℤ × ℤ)) : Type 0 where
   pub count : length reaches ≡ span_len left right
-  pub each : (a : ℕ) (d : ℤ × ℤ) → a < length reaches → get_or reaches a d ≡ reach plan (left +ℤ pos a)
+  pub each : (a : ℕ) (e : ℤ × ℤ) → a < length reaches → get_or reaches a e ≡ reach r d (left +ℤ pos a)
 
--- whether each place has metal too near to its box
-abbrev pub AreNear : Plan → PointSet → ℤ → ℤ → List Bool → Type 0
-AreNear plan metal left j near = (a : ℕ) (m : Bool) → a < length near → get_or near a m ≡ conflicts plan metal (left +ℤ pos a) j
+-- each place is marked that was so before, and each that the set meets at the distance
+abbrev pub AreMet : Lattice → ℤ → PointSet → ℤ → ℤ → List Bool → List Bool → Type 0
+AreMet r d p left j old new = (a : ℕ) (m : Bool) → a < length new → get_or new a m ≡ get_or old a m || meets_box r d p (left +ℤ pos a) j
+
+-- whether each place is taken
+abbrev pub AreTaken : Plan → Layers → ℤ → ℤ → List Bool → Type 0
+AreTaken plan layers left j taken = (a : ℕ) (m : Bool) → a < length taken → get_or taken a m ≡ is_taken plan layers (left +ℤ pos a) j

@@ -1,17 +1,19 @@
 -- How a rule file is read: what each record adds to the entries, and what the entries then give. This serves the private
 -- functions; what a rule file says is `rules_of`.
-use Rattle.std.specs.Prelude.{◌≡◌, true, ◌≤ℤ◌, IfSome, ℕ, ℤ, ◌==◌, Bool, List, [], ◌∷◌, ◌++◌, length, get_or, map, replicate, slice_set, Option, Some, None, option_map, ok_or, is_some, Result, Ok, Err, bytes_eq, int_lt, if◌then◌else◌}
+use Rattle.std.specs.Prelude.{◌≡◌, unwrap_or, false, true, ◌≤ℤ◌, IfSome, ℕ, ℤ, ◌==◌, Bool, List, [], ◌∷◌, ◌++◌, length, get_or, map, replicate, slice_set, Option, Some, None, option_map, ok_or, is_some, Result, Ok, Err, bytes_eq, int_lt, if◌then◌else◌}
 use Rattle.fill_base.specs.Sequence.{◌>>=◌}
 use Rattle.fill_text.specs.RectTests.{rect_with}
 use Rattle.fill_text.specs.Grids.{grid_with}
 use Rattle.fill_text.specs.Rasters.{raster_with}
-use Rattle.fill_text.specs.Keys.{all_number_keys, key_named, number_rule}
+use Rattle.fill_text.specs.Keys.{all_number_keys, key_named, number_rule, optional_index}
 use Rattle.fill_text.specs.Numbers.{number_of}
-use Rattle.fill_text.specs.Rules.{Values, frame_of, is_in_range, is_text, value_of, raster_of, windows_of}
+use Rattle.fill_text.specs.Rules.{Values, frame_of, is_in_range, is_layer, is_text, padding_of, value_of, raster_of, whole_windows}
 use Rattle.fill_text.specs.declared.keys.Key.{Key}
-use Rattle.fill_text.specs.declared.keys.Key.TheVariants.{Number, Text}
+use Rattle.fill_text.specs.declared.keys.Key.TheVariants.{Number, Text, Optional, Padding}
 use Rattle.fill_text.specs.declared.keys.NumberKey.{NumberKey}
 use Rattle.fill_text.specs.declared.keys.NumberKey.TheVariants as number
+use Rattle.fill_text.specs.declared.keys.OptionalKey.{OptionalKey}
+use Rattle.fill_text.specs.declared.keys.OptionalKey.TheVariants.{KeepLayer, KeepDatatype}
 use Rattle.fill_text.specs.declared.keys.TextKey.{TextKey}
 use Rattle.fill_text.specs.declared.keys.TextKey.TheVariants as text
 use Rattle.fill_text.specs.declared.rule_error.RuleError.{RuleError}
@@ -26,9 +28,11 @@ with_front front rest = rest >>= λ more. Ok (front ++ more)
 pub record Found : Type 0 where
   pub numbers : List (Option ℤ)
   pub texts : List (Option (List ℕ))
+  pub optionals : List (Option ℤ)
+  pub padding : Option Bool
 
 abbrev pub nothing_found : Found
-nothing_found = record { numbers = replicate 28 None; texts = replicate 4 None }
+nothing_found = record { numbers = replicate 28 None; texts = replicate 4 None; optionals = replicate 2 None; padding = None }
 
 abbrev pub text_index : TextKey → ℕ
 text_index text.Top = 0
@@ -42,6 +46,9 @@ text_found texts key = get_or texts (text_index key) None
 abbrev pub number_found : List (Option ℤ) → NumberKey → Option ℤ
 number_found numbers key = get_or numbers (number_rule key).index None
 
+abbrev pub optional_found : List (Option ℤ) → OptionalKey → Option ℤ
+optional_found optionals key = get_or optionals (optional_index key) None
+
 -- each number that was found is in its key's range
 abbrev pub AreRanged : List (Option ℤ) → Type 0
 AreRanged numbers = (key : NumberKey) → IfSome (number_found numbers key) (λ n. ((number_rule key).low ≤ℤ n) × (n ≤ℤ (number_rule key).high))
@@ -50,10 +57,16 @@ AreRanged numbers = (key : NumberKey) → IfSome (number_found numbers key) (λ 
 abbrev pub AreAllowed : List (Option (List ℕ)) → Type 0
 AreAllowed texts = (key : TextKey) → IfSome (text_found texts key) (λ word. is_text key word ≡ true)
 
+-- each number that was found for the keep-outs is a layer or a data type
+abbrev pub AreOptional : List (Option ℤ) → Type 0
+AreOptional optionals = (key : OptionalKey) → IfSome (optional_found optionals key) (λ n. is_layer n ≡ true)
+
 -- the key has stood in a record
 abbrev pub is_found : Found → Key → Bool
 is_found found (Number key) = is_some (number_found found.numbers key)
 is_found found (Text key) = is_some (text_found found.texts key)
+is_found found (Optional key) = is_some (optional_found found.optionals key)
+is_found found Padding = is_some found.padding
 
 -- the number that a word gives a key
 unfoldable pub ranged_number : ℕ → NumberKey → List ℕ → Result ℤ RuleError
@@ -69,9 +82,26 @@ take_number line key word found = do
 unfoldable pub take_text : TextKey → List ℕ → Found → Result Found RuleError
 take_text key word found = if is_text key word then Ok (record found { texts = slice_set found.texts (text_index key) (Some word) }) else Err (BadRule (Text key))
 
+unfoldable pub layer_number : ℕ → OptionalKey → List ℕ → Result ℤ RuleError
+layer_number line key word = do
+  n ← ok_or (number_of word) (BadNumber line)
+  if is_layer n then Ok n else Err (BadRule (Optional key))
+
+unfoldable pub take_optional : ℕ → OptionalKey → List ℕ → Found → Result Found RuleError
+take_optional line key word found = do
+  n ← layer_number line key word
+  Ok (record found { optionals = slice_set found.optionals (optional_index key) (Some n) })
+
+unfoldable pub take_padding : List ℕ → Found → Result Found RuleError
+take_padding word found = do
+  ignores ← ok_or (padding_of word) (BadRule Padding)
+  Ok (record found { padding = Some ignores })
+
 abbrev pub take_value : ℕ → Key → List ℕ → Found → Result Found RuleError
 take_value line (Number key) word found = take_number line key word found
 take_value line (Text key) word found = take_text key word found
+take_value line (Optional key) word found = take_optional line key word found
+take_value line Padding word found = take_padding word found
 
 -- the key that a record names, which has not stood before
 unfoldable pub new_key : ℕ → List ℕ → Found → Result Key RuleError
@@ -91,6 +121,13 @@ all_numbers [] numbers = Ok []
 all_numbers (key ∷ keys) [] = Err (BadRule (Number key))
 all_numbers (key ∷ keys) (n ∷ numbers) = ok_or n (BadRule (Number key)) >>= λ v. with_front (v ∷ []) (all_numbers keys numbers)
 
+-- both or neither
+abbrev pub pair_found : Option ℤ → Option ℤ → Result (Option (ℤ × ℤ)) RuleError
+pair_found (Some a) (Some b) = Ok (Some (a, b))
+pair_found (Some a) None = Err (BadRule (Optional KeepDatatype))
+pair_found None (Some b) = Err (BadRule (Optional KeepLayer))
+pair_found None None = Ok None
+
 -- the values, none of which may miss: the first missing key in table order is refused
 unfoldable pub all_values : Found → Result Values RuleError
 all_values found = do
@@ -99,7 +136,8 @@ all_values found = do
   fill_lib ← ok_or (text_found found.texts text.FillLib) (BadRule (Text text.FillLib))
   fill_cell ← ok_or (text_found found.texts text.FillCell) (BadRule (Text text.FillCell))
   fill_top ← ok_or (text_found found.texts text.FillTop) (BadRule (Text text.FillTop))
-  Ok (record { numbers = numbers; top = top; fill_lib = fill_lib; fill_cell = fill_cell; fill_top = fill_top })
+  keep ← pair_found (optional_found found.optionals KeepLayer) (optional_found found.optionals KeepDatatype)
+  Ok (record { numbers = numbers; top = top; fill_lib = fill_lib; fill_cell = fill_cell; fill_top = fill_top; keep = keep; ignores = unwrap_or found.padding false })
 
 -- what is asked of the values together, in this order
 unfoldable pub checked : Values → Result Values RuleError
@@ -108,7 +146,7 @@ checked values =
     else if bytes_eq values.fill_top values.fill_cell then Err (BadRule (Text text.FillTop))
     else (do
       frame ← ok_or (rect_with (frame_of values.numbers)) BadRect
-      windows ← ok_or (grid_with (windows_of values.numbers)) BadWindows
+      windows ← ok_or (grid_with (whole_windows values.numbers)) BadWindows
       raster ← raster_with (raster_of values.numbers) (value_of values number.FillSpacing)
       Ok values)
 
@@ -118,4 +156,4 @@ rules_found found = all_values found >>= checked
 
 -- what the entries hold
 abbrev pub found_in : Entries → Found
-found_in s = record { numbers = s.numbers; texts = map (option_map (λ v. v.items)) (s.top ∷ s.fill_lib ∷ s.fill_cell ∷ s.fill_top ∷ []) }
+found_in s = record { numbers = s.numbers; texts = map (option_map (λ v. v.items)) (s.top ∷ s.fill_lib ∷ s.fill_cell ∷ s.fill_top ∷ []); optionals = s.optionals; padding = s.padding }

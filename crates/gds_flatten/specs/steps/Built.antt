@@ -1,7 +1,7 @@
 -- Cells as they are built from their elements.
 use Rattle.std.specs.Prelude.{◌≡◌, ◌⊎◌, ℕ, ◌*◌, ◌<◌, ◌≤◌, List, [], ◌∷◌, ◌++◌, map, length, take, drop, filter, get_or, slice_get, Option, Some, None, Result, IfOk, IfErr}
 use Rattle.std.specs.List.{flat_map}
-use Rattle.gds_grammar.specs.declared.element.Element.{Element}
+use Rattle.gds_grammar.specs.Values.{cell_of, shape_of, Shape as Element}
 use Rattle.gds_flatten.specs.declared.cell.Cell.{Cell}
 use Rattle.gds_flatten.specs.declared.cell.Run.{Run}
 use Rattle.gds_flatten.specs.declared.link.Link.{Link}
@@ -19,7 +19,7 @@ use Rattle.gds_flatten.specs.steps.Walks.{singles_of, shapes_in, own_in, singles
 
 -- the elements of shapes, the single references and the referenced cells of links
 abbrev pub own_of : List Shape → List Element
-own_of shapes = map (λ s. s.element.now) shapes
+own_of shapes = map (λ s. shape_of s.element.now) shapes
 
 abbrev pub singles_from : List Link → List (ℕ × Placement)
 singles_from links = flat_map singles_of links
@@ -35,7 +35,7 @@ index_if index None = []
 -- what tells the cells that elements refer to: these cells in turn, or the names of all cells
 abbrev pub Leads : Targets → List Entry → List Element → Type 0
 Leads (Row row) cells elements = row.now ≡ targets cells elements
-Leads (Names names) cells elements = names.now.entries ≡ cells
+Leads (Names names) cells elements = map cell_of names.now.entries ≡ cells
 
 -- one more element, which refers to the cell at the index if it refers to any
 pub record IsAdded (e : Element) (layer data_type index : ℕ) (old new : Run) : Type 0 where

@@ -4,7 +4,7 @@ use Rattle.std.specs.List.{flat_map, range_with_len}
 use Rattle.std.specs.Vec.{vec_items}
 use Rattle.fill_base.specs.declared.rect.Rect.{Rect}
 use Rattle.fill_region.specs.Squares.{covered}
-use Rattle.gds_grammar.specs.declared.element.Element.{Element}
+use Rattle.gds_grammar.specs.Values.{shape_of, Shape as Element}
 use Rattle.gds_flatten.specs.declared.cell.Cell.{Cell}
 use Rattle.gds_flatten.specs.declared.error.FlattenError.{FlattenError}
 use Rattle.gds_flatten.specs.declared.error.FlattenError.TheVariants.{Memory, OutOfRange}
@@ -24,7 +24,7 @@ abbrev pub shapes_in : Cell → List Shape
 shapes_in c = flat_map vec_items c.shapes.items
 
 abbrev pub own_in : Option Cell → List Element
-own_in (Some c) = map (λ s. s.element.now) (shapes_in c)
+own_in (Some c) = map (λ s. shape_of s.element.now) (shapes_in c)
 own_in None = []
 
 abbrev pub singles_in : Option Cell → List (ℕ × Placement)
@@ -40,7 +40,7 @@ hierarchy cells = record {
 
 -- what a shape, a link, a cell draws, carried so, where cells draw `below`
 abbrev pub shape_copies : Placement → Shape → List Copy
-shape_copies at s = carry_copy at (own_copy s.element.now) ∷ []
+shape_copies at s = carry_copy at (own_copy (shape_of s.element.now)) ∷ []
 
 abbrev pub single_copies : Placement → (ℕ → List Copy) → Link → ℕ → List Copy
 single_copies at below l k = map (carry_copy (composed at (single l k))) (below l.cell)

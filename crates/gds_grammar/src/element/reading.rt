@@ -4,7 +4,9 @@ ghost use Rattle.std.specs.Prelude.{◌≡◌, ◌<◌, ◌++◌, [], List, ℕ,
 ghost use Rattle.gds_grammar.specs.Values.{Shape, Contents};
 ghost use Rattle.gds_grammar.specs.Elements.{has_string};
 ghost use Rattle.gds_grammar.specs.Machine.{Body, Tail, Within, behind_xy};
+ghost use Rattle.gds_grammar.specs.Layers.{kept_shapes};
 ghost use Rattle.gds_grammar.specs.steps.Reading.{Reaches, Fails, shapes_of, after_tail};
+ghost use Rattle.gds_grammar.specs.steps.Keeping.{keeps};
 
 use crate::element::body::read_body;
 use crate::element::tables::has_string;
@@ -12,6 +14,7 @@ use crate::element::values::element_of;
 use crate::element::{Element, ElementKind};
 use crate::error::{Refusal, Stop};
 use crate::next::{expect, next};
+use crate::wanted::Wanted;
 use gds_record::{Record, kind};
 use std::alloc::Global;
 
@@ -65,21 +68,23 @@ fn skip_tail(bytes: &[u8]) -> Result<&[u8], Stop>
     }
 }
 
-/// The element behind the record that opened it, if it says something, and the bytes after it.
-/// `before` is room for the records before its points, whatever stands there.
+/// The element behind the record that opened it, if it says something that is kept, and the bytes
+/// after it. `before` is room for the records before its points, whatever stands there.
 pub fn read_element<'a>(
     alloc: Global,
+    wanted: Wanted<'_>,
     before: &mut Vec<Record<'a>>,
     element: ElementKind,
     bytes: &'a [u8],
-) -> Result<(Option<Element>, &'a [u8]), Stop>
-    ensures found { IfOk result (λ x. (l : Contents) (n : List ℕ) (sh : List Shape) →
-        Reaches bytes.now (Body l n sh element []) x.1.now (Within l n (sh ++ shapes_of x.0))) }
+) -> Result<(Option<Element<'a>>, &'a [u8]), Stop>
+    ensures found { IfOk result (λ x. (more : List Shape) × (shapes_of x.0 ≡ kept_shapes (keeps wanted.entry) more)
+        × ((l : Contents) (n : List ℕ) (sh : List Shape) →
+        Reaches bytes.now (Body l n sh element []) x.1.now (Within l n (sh ++ more)))) }
     ensures refused { IfErr result (λ e. (l : Contents) (n : List ℕ) (sh : List Shape) →
         Fails bytes.now (Body l n sh element []) e) }
 {
     let body = read_body(before, element, bytes)?;
-    let made = element_of(alloc, element, before, body.xy)?;
+    let made = element_of(alloc, wanted, element, before, body.xy)?;
     let tail = skip_string(element, body.rest)?;
     let rest = skip_tail(tail)?;
     Ok((made, rest))

@@ -7,12 +7,17 @@ ghost use Rattle.gds_record.specs.declared.kind.TheConstants as kinds;
 ghost use Rattle.gds_record.specs.Records.{view};
 ghost use Rattle.gds_record.specs.Numbers.{word_of, number_of, IsStored};
 ghost use Rattle.gds_grammar.specs.Forms.{among, kinds_of_2, kinds_of_4, kinds_of_8, IsWell};
-ghost use Rattle.gds_grammar.specs.Values.{boundary, path, reference, array};
-ghost use Rattle.gds_grammar.specs.Elements.{kinds_in, body_of, value_if, word_in, name_in, columns_in, rows_in, transform_in, points_of, shapes_in};
+ghost use Rattle.gds_grammar.specs.Values.{boundary, path, reference, array, points_in, wire_of};
+ghost use Rattle.gds_grammar.specs.Points.{points_of};
+ghost use Rattle.gds_grammar.specs.Elements.{kinds_in, body_of, value_if, word_in, name_in, columns_in, rows_in, transform_in, shapes_in};
+ghost use Rattle.gds_grammar.specs.Layers.{kept_shapes};
 ghost use Rattle.gds_grammar.specs.steps.Reading.{IsBody, shapes_of};
+ghost use Rattle.gds_grammar.specs.steps.Keeping.{keeps};
 
+use crate::element::points::Points;
 use crate::element::{Array, Boundary, Element, ElementKind, Path, Ref, Transform};
 use crate::next::array_of;
+use crate::wanted::{Wanted, is_wanted};
 use fill_base::Point;
 use gds_record::{Record, kind, name, number, point, word};
 use std::alloc::{AllocError, Global};
@@ -73,11 +78,11 @@ fn real_if(before: &[Record<'_>], kind: u8) -> Option<[u8; 8]>
     Some(array_of(body))
 }
 
-fn name_of(alloc: Global, before: &[Record<'_>]) -> Result<Vec<u8>, AllocError>
+fn name_of<'a>(before: &[Record<'a>]) -> &'a [u8]
     requires { among (kinds_in (map view before.now)) kinds.SNAME ≡ true }
-    ensures { IfOk result (λ v. v.items ≡ name_in (map view before.now)) }
+    ensures { result.now ≡ name_in (map view before.now) }
 {
-    Vec::from_slice(alloc, name(body_at(before, kind::SNAME)))
+    name(body_at(before, kind::SNAME))
 }
 
 fn transform_of(before: &[Record<'_>]) -> Transform
@@ -91,76 +96,47 @@ fn transform_of(before: &[Record<'_>]) -> Transform
     }
 }
 
-fn points_of(alloc: Global, xy: &[u8]) -> Result<Vec<Point>, AllocError>
-    requires { length xy.now % 8 ≡ 0 }
-    ensures value { IfOk result (λ v. v.items ≡ points_of xy.now) }
-    ensures stored { IfOk result (λ v. All IsStored v.items) }
-{
-    let mut points = Vec::with_capacity(alloc, xy.len() / 8)?;
-    let mut rest = xy;
-    'points: while !rest.is_empty() {
-        let (first, after) = rest.split_at(8);
-        points.push(point(first))?;
-        rest = after;
-    }
-    Ok(points)
-}
-
-fn boundary_of(alloc: Global, before: &[Record<'_>], xy: &[u8]) -> Result<Boundary, AllocError>
+fn boundary_of<'a>(before: &[Record<'a>], xy: &'a [u8]) -> Boundary<'a>
     requires well { AllByRecursion IsWell (map view before.now) }
     requires body { IsBody ElementKind.Boundary (map view before.now) xy.now }
-    ensures { IfOk result (λ b. boundary b.layer b.data_type b.points.items ∷ []
-        ≡ shapes_in ElementKind.Boundary (map view before.now) xy.now) }
+    ensures { boundary result.layer result.data_type (points_in result.points) ∷ []
+        ≡ shapes_in ElementKind.Boundary (map view before.now) xy.now }
 {
-    let layer = word_at(before, kind::LAYER);
-    let data_type = word_at(before, kind::DATATYPE);
-    let points = points_of(alloc, xy)?;
-    Ok(Boundary {
-        layer,
-        data_type,
-        points,
-    })
+    Boundary {
+        layer: word_at(before, kind::LAYER),
+        data_type: word_at(before, kind::DATATYPE),
+        points: Points { xy },
+    }
 }
 
-fn path_of(alloc: Global, before: &[Record<'_>], xy: &[u8]) -> Result<Path, AllocError>
+fn path_of<'a>(before: &[Record<'a>], xy: &'a [u8]) -> Path<'a>
     requires well { AllByRecursion IsWell (map view before.now) }
     requires body { IsBody ElementKind.Path (map view before.now) xy.now }
-    ensures { IfOk result (λ p. path p.layer p.data_type p.path_type p.width
-        p.begin_extension p.end_extension p.points.items ∷ []
-        ≡ shapes_in ElementKind.Path (map view before.now) xy.now) }
+    ensures { path result.layer result.data_type (wire_of result) ∷ []
+        ≡ shapes_in ElementKind.Path (map view before.now) xy.now }
 {
-    let layer = word_at(before, kind::LAYER);
-    let data_type = word_at(before, kind::DATATYPE);
-    let path_type = word_if(before, kind::PATHTYPE);
-    let width = number_if(before, kind::WIDTH);
-    let begin_extension = number_if(before, kind::BGNEXTN);
-    let end_extension = number_if(before, kind::ENDEXTN);
-    let points = points_of(alloc, xy)?;
-    Ok(Path {
-        layer,
-        data_type,
-        path_type,
-        width,
-        begin_extension,
-        end_extension,
-        points,
-    })
+    Path {
+        layer: word_at(before, kind::LAYER),
+        data_type: word_at(before, kind::DATATYPE),
+        path_type: word_if(before, kind::PATHTYPE),
+        width: number_if(before, kind::WIDTH),
+        begin_extension: number_if(before, kind::BGNEXTN),
+        end_extension: number_if(before, kind::ENDEXTN),
+        points: Points { xy },
+    }
 }
 
-fn ref_of(alloc: Global, before: &[Record<'_>], xy: &[u8]) -> Result<Ref, AllocError>
+fn ref_of<'a>(before: &[Record<'a>], xy: &[u8]) -> Ref<'a>
     requires well { AllByRecursion IsWell (map view before.now) }
     requires body { IsBody ElementKind.Reference (map view before.now) xy.now }
-    ensures { IfOk result (λ r. reference r.cell.items r.transform r.origin ∷ []
-        ≡ shapes_in ElementKind.Reference (map view before.now) xy.now) }
+    ensures { reference result.cell.now result.transform result.origin ∷ []
+        ≡ shapes_in ElementKind.Reference (map view before.now) xy.now }
 {
-    let transform = transform_of(before);
-    let origin = point(xy);
-    let cell = name_of(alloc, before)?;
-    Ok(Ref {
-        cell,
-        transform,
-        origin,
-    })
+    Ref {
+        cell: name_of(before),
+        transform: transform_of(before),
+        origin: point(xy),
+    }
 }
 
 /// The three points of an array.
@@ -185,42 +161,78 @@ fn columns_and_rows(before: &[Record<'_>]) -> (u16, u16)
     (word(columns), word(rows))
 }
 
-fn array_element_of(alloc: Global, before: &[Record<'_>], xy: &[u8]) -> Result<Array, AllocError>
+fn array_element_of<'a>(before: &[Record<'a>], xy: &[u8]) -> Array<'a>
     requires well { AllByRecursion IsWell (map view before.now) }
     requires body { IsBody ElementKind.Array (map view before.now) xy.now }
-    ensures { IfOk result (λ a. array a.cell.items a.transform a.columns a.rows a.points ∷ []
-        ≡ shapes_in ElementKind.Array (map view before.now) xy.now) }
+    ensures { array result.cell.now result.transform result.columns result.rows result.points ∷ []
+        ≡ shapes_in ElementKind.Array (map view before.now) xy.now }
 {
-    let transform = transform_of(before);
     let (columns, rows) = columns_and_rows(before);
-    let points = three_points(xy);
-    let cell = name_of(alloc, before)?;
-    Ok(Array {
-        cell,
-        transform,
+    Array {
+        cell: name_of(before),
+        transform: transform_of(before),
         columns,
         rows,
-        points,
-    })
+        points: three_points(xy),
+    }
 }
 
-/// The element with these records before its points. Texts, nodes and boxes are none.
-pub fn element_of(
+/// Whether an element with these records before its points, which tell its layer, is kept.
+fn is_kept(wanted: Wanted<'_>, before: &[Record<'_>]) -> bool
+    requires well { AllByRecursion IsWell (map view before.now) }
+    requires layer { among (kinds_in (map view before.now)) kinds.LAYER ≡ true }
+    requires data_type { among (kinds_in (map view before.now)) kinds.DATATYPE ≡ true }
+    ensures { result ≡ keeps wanted.entry (word_in kinds.LAYER (map view before.now)) (word_in kinds.DATATYPE (map view before.now)) }
+{
+    is_wanted(
+        wanted,
+        word_at(before, kind::LAYER),
+        word_at(before, kind::DATATYPE),
+    )
+}
+
+/// The boundary with these records before its points, if it is kept.
+fn boundary_if<'a>(wanted: Wanted<'_>, before: &[Record<'a>], xy: &'a [u8]) -> Option<Element<'a>>
+    requires well { AllByRecursion IsWell (map view before.now) }
+    requires body { IsBody ElementKind.Boundary (map view before.now) xy.now }
+    ensures { shapes_of result ≡ kept_shapes (keeps wanted.entry) (shapes_in ElementKind.Boundary (map view before.now) xy.now) }
+{
+    if !is_kept(wanted, before) {
+        return None;
+    }
+    Some(Element::Boundary(boundary_of(before, xy)))
+}
+
+/// The path with these records before its points, if it is kept.
+fn path_if<'a>(wanted: Wanted<'_>, before: &[Record<'a>], xy: &'a [u8]) -> Option<Element<'a>>
+    requires well { AllByRecursion IsWell (map view before.now) }
+    requires body { IsBody ElementKind.Path (map view before.now) xy.now }
+    ensures { shapes_of result ≡ kept_shapes (keeps wanted.entry) (shapes_in ElementKind.Path (map view before.now) xy.now) }
+{
+    if !is_kept(wanted, before) {
+        return None;
+    }
+    Some(Element::Path(path_of(before, xy)))
+}
+
+/// The element with these records before its points, if it is kept. Texts, nodes and boxes are none.
+pub fn element_of<'a>(
     alloc: Global,
+    wanted: Wanted<'_>,
     element: ElementKind,
-    before: &[Record<'_>],
-    xy: &[u8],
-) -> Result<Option<Element>, AllocError>
+    before: &[Record<'a>],
+    xy: &'a [u8],
+) -> Result<Option<Element<'a>>, AllocError>
     requires well { AllByRecursion IsWell (map view before.now) }
     requires body { IsBody element (map view before.now) xy.now }
-    ensures { IfOk result (λ e. shapes_of e ≡ shapes_in element (map view before.now) xy.now) }
+    ensures { IfOk result (λ e. shapes_of e ≡ kept_shapes (keeps wanted.entry) (shapes_in element (map view before.now) xy.now)) }
 {
     match element {
-        ElementKind::Boundary => Ok(Some(Element::Boundary(boundary_of(alloc, before, xy)?))),
-        ElementKind::Path => Ok(Some(Element::Path(path_of(alloc, before, xy)?))),
-        ElementKind::Reference => Ok(Some(Element::Ref(ref_of(alloc, before, xy)?))),
+        ElementKind::Boundary => Ok(boundary_if(wanted, before, xy)),
+        ElementKind::Path => Ok(path_if(wanted, before, xy)),
+        ElementKind::Reference => Ok(Some(Element::Ref(ref_of(before, xy)))),
         ElementKind::Array => {
-            let array = array_element_of(alloc, before, xy)?;
+            let array = array_element_of(before, xy);
             Ok(Some(Element::Array(Box::new(alloc, array)?)))
         }
         ElementKind::Text | ElementKind::Node | ElementKind::Box => Ok(None),

@@ -1,25 +1,19 @@
-use Rattle.std.proofs.Common.{rules, ◌≤◌, ◌∙◌, sym, ap, length, get_or}
+use Rattle.std.proofs.Common.{◌∙◌, ◌&&◌, ap}
+use Rattle.std.proofs.lemmas.Result.{IfOk-weaker}
 use Rattle.fill_region.specs.Bands.{holds}
-use Rattle.fill_area.proofs.Gathering.{front, front_length}
-use Rattle.fill_area.proofs.Measuring.{measured, bounded}
+use Rattle.fill_area.proofs.Clipping.{clipped_measured, whole_measured}
 use Rattle.fill_area.proofs.measure.measure_all.Goals as goal
 
-pub returns-clause-areas : goal.returns-clause-areas
-returns-clause-areas g c =
-    let windows = c.args.windows.now in
-    let some : 1 ≤ c.clamp-strips.result = search rules in
-    let kept = sym (c.measure_into.ensures.len ∙ c.deref_mut.ensures.len) in
-    let whole = c.measure_into.ensures.len ∙ (c.deref_mut.ensures.len ∙ c.in_ok-sums.ensures.len) in
-    measured (holds c.args.region.now) windows c.truncate.new.self.items c.len-count.ensures.grid
-    (ap length c.truncate.ensures.items ∙ front_length windows c.clamp-strips.result c.len-count.result c.in_ok-sums.sums.len c.measure_into.new.sums _ c.len-count.ensures.count kept some whole)
-    (λ k d lt. ap (λ xs. get_or xs k d) c.truncate.ensures.items ∙ front (holds c.args.region.now) windows c.len-count.result c.in_ok-sums.sums.len c.measure_into.new.sums _ c.len-count.ensures.count kept c.measure_into.ensures.areas k d lt)
+pub returns-in_ok-clip-in-Some-clause-areas : goal.returns-in_ok-clip-in-Some-clause-areas
+returns-in_ok-clip-in-Some-clause-areas g c = IfOk-weaker c.measure_whole-in-Some.result _ _ (λ v whole.
+    (clipped_measured (holds c.args.region.now) (holds c.in_ok-clip-in-Some.field-0) c.args.windows.now v.items (λ x y. c.in_ok-clip-in-Some.ensures.squares x y ∙ ap (λ b. holds c.args.region.now x y && b) (c.in-Some.ensures.some x y)) whole).0) c.measure_whole-in-Some.ensures
 
-pub returns-clause-bounded : goal.returns-clause-bounded
-returns-clause-bounded g c =
-    let windows = c.args.windows.now in
-    let some : 1 ≤ c.clamp-strips.result = search rules in
-    let kept = sym (c.measure_into.ensures.len ∙ c.deref_mut.ensures.len) in
-    let whole = c.measure_into.ensures.len ∙ (c.deref_mut.ensures.len ∙ c.in_ok-sums.ensures.len) in
-    bounded (holds c.args.region.now) windows c.truncate.new.self.items c.len-count.ensures.grid
-    (ap length c.truncate.ensures.items ∙ front_length windows c.clamp-strips.result c.len-count.result c.in_ok-sums.sums.len c.measure_into.new.sums _ c.len-count.ensures.count kept some whole)
-    (λ k d lt. ap (λ xs. get_or xs k d) c.truncate.ensures.items ∙ front (holds c.args.region.now) windows c.len-count.result c.in_ok-sums.sums.len c.measure_into.new.sums _ c.len-count.ensures.count kept c.measure_into.ensures.areas k d lt)
+pub returns-in_ok-clip-in-Some-clause-bounded : goal.returns-in_ok-clip-in-Some-clause-bounded
+returns-in_ok-clip-in-Some-clause-bounded g c = IfOk-weaker c.measure_whole-in-Some.result _ _ (λ v whole.
+    (clipped_measured (holds c.args.region.now) (holds c.in_ok-clip-in-Some.field-0) c.args.windows.now v.items (λ x y. c.in_ok-clip-in-Some.ensures.squares x y ∙ ap (λ b. holds c.args.region.now x y && b) (c.in-Some.ensures.some x y)) whole).1) c.measure_whole-in-Some.ensures
+
+pub returns-in-None-clause-areas : goal.returns-in-None-clause-areas
+returns-in-None-clause-areas g c = IfOk-weaker c.measure_whole-in-None.result _ _ (λ v whole. (whole_measured (holds c.args.region.now) c.args.windows.now v.items (c.clip.ensures.none c.in-None.is) whole).0) c.measure_whole-in-None.ensures
+
+pub returns-in-None-clause-bounded : goal.returns-in-None-clause-bounded
+returns-in-None-clause-bounded g c = IfOk-weaker c.measure_whole-in-None.result _ _ (λ v whole. (whole_measured (holds c.args.region.now) c.args.windows.now v.items (c.clip.ensures.none c.in-None.is) whole).1) c.measure_whole-in-None.ensures

@@ -1,4 +1,4 @@
-use Rattle.std.proofs.Common.{◌≡◌, ◌/◌, ◌+◌}
+use Rattle.std.proofs.Common.{◌≡◌, ◌/◌, ◌+◌, arith}
 use Rattle.fill_base.proofs.Signed.{read}
 use Rattle.fill_region.specs.Bands.{holds}
 use Rattle.fill_area.specs.steps.Strips.{cut_at}
@@ -6,6 +6,9 @@ use Rattle.fill_area.proofs.Gathering.{strip_within}
 use Rattle.fill_area.proofs.Rows.{AreFewLines, cut_found, strip_few, strip_measured}
 use Rattle.fill_area.proofs.strips.measure_strip.Goals.{After-measure_lines-arg-1}
 use Rattle.fill_area.proofs.strips.measure_strip.Goals as goal
+
+pub cut-from-requires-clause-index : goal.cut-from-requires-clause-index
+cut-from-requires-clause-index c = let more = strip_within c.args.windows.now c.args.strips c.args.start _ c.requires.grid c.len-count.ensures.count c.requires.index in omega (arith, more)
 
 pub cut-to-requires-clause-index : goal.cut-to-requires-clause-index
 cut-to-requires-clause-index c = strip_within c.args.windows.now c.args.strips c.args.start _ c.requires.grid c.len-count.ensures.count c.requires.index

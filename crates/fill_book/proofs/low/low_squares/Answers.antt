@@ -1,4 +1,5 @@
-use Rattle.std.proofs.Common.{◌≡◌, ◌∙◌, ◌<◌, ap, arith, rules, pos, get_or, length}
+use Rattle.std.proofs.Common.{◌≡◌, ◌∙◌, ◌<◌, ◌%◌, ap, arith, rules, pos, get_or, length}
+use Rattle.fill_area.specs.Grid.{counted_size}
 use Rattle.fill_area.proofs.Shares.{area_read}
 use Rattle.fill_base.proofs.Signed.{read_is}
 use Rattle.fill_region.specs.Squares.{covered}
@@ -28,11 +29,11 @@ loop-k-preserved c =
     let g = c.args.windows.now in let totals = c.args.totals.now in let k = c.loop-k.k in
     let lt : k < length totals = rw (c.requires.count, ← c.len-k-end.ensures.count) c.loop-k-test.true in
     let so_far = rw (read_is c.args.least c.ranges.least) at c.loop-k.invariant in
-    let below = rw (area_read (get_or totals k (pos 0)) (c.requires.areas k (pos 0) lt), read_is c.args.least c.ranges.least, area_read c.window_size-size.result c.window_size-size.ensures.area) at c.is_low.ensures in
-    let at = low_at g c.args.least totals k c.window_size-size.result c.is_low.result c.requires.count lt c.window_size-size.ensures.size below in
+    let below = rw (area_read (get_or totals k (pos 0)) (c.requires.areas k (pos 0) lt), read_is c.args.least c.ranges.least, area_read c.counted_size.result c.counted_size.ensures.area) at c.is_low.ensures in
+    let at = low_at g c.args.least totals k c.counted_size.result c.is_low.result c.requires.count lt (c.counted_size.ensures.size ∙ (ap (λ i. counted_size g i c.column_and_row-column.result.1) c.column_and_row-column.ensures.column ∙ ap (counted_size g (k % g.across.count)) c.column_and_row-column.ensures.row)) below in
     rw (read_is c.args.least c.ranges.least) (elim c.if-is_low.branch [
       | then-is_low+in_ok-push w ↦ λ a b. ap (λ v. covered v.items (pos a) (pos b)) w.low-is ∙ (ap (λ items. covered items (pos a) (pos b)) w.in_ok-push.ensures.items
-          ∙ low_more g c.args.least totals k c.loop-k.low.items w.unit_square.result so_far (rw (w.column_and_row-column.ensures.column, w.column_and_row-column.ensures.row) at w.unit_square.ensures) (at ∙ w.if-is_low.true) a b)
+          ∙ low_more g c.args.least totals k c.loop-k.low.items w.unit_square.result so_far (rw (c.column_and_row-column.ensures.column, c.column_and_row-column.ensures.row) at w.unit_square.ensures) (at ∙ w.if-is_low.true) a b)
       | else-is_low w ↦ λ a b. ap (λ v. covered v.items (pos a) (pos b)) w.low-is ∙ low_passed g c.args.least totals k c.loop-k.low.items so_far (at ∙ w.if-is_low.false) a b
     ])
 

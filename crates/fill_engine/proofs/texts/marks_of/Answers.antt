@@ -1,9 +1,8 @@
 use Rattle.std.proofs.Common.{◌≡◌, ◌∙◌, ap, subst, rules}
-use Rattle.fill_region.specs.Bands.{holds}
 use Rattle.fill_raster.specs.Lattice.{IsLattice, tiles}
 use Rattle.fill_text.specs.Rules.{Values, raster_of}
 use Rattle.fill_job.specs.Plans.{plan_of}
-use Rattle.fill_core.specs.Accounts.{state_of}
+use Rattle.fill_core.specs.Accounts.{opening_of, state_of}
 use Rattle.fill_core.specs.Histories.{events_in}
 use Rattle.fill_core.proofs.Replays.{filled_allowed}
 use Rattle.fill_engine.proofs.Marked.{all_first, marks_are, one_more_tile}
@@ -31,4 +30,4 @@ returns-clause-marked g c =
     c.loop-tile.invariant c.loop-tile-test.false c.loop-tile.auto.tile-end (c.tiles-tile-end.ensures ∙ ap tiles raster) in
     let found : IsLattice c.raster.result = search rules in
     marks_are (plan_of a.rules).raster (state_of a).fill c.loop-tile.marks.items (subst IsLattice raster found) all.count (λ t m at. (all.each t m at).marked)
-    (λ i j h. (filled_allowed (plan_of a.rules) (holds a.opening) (events_in a.history) i j h).0)
+    (λ i j h. (filled_allowed (plan_of a.rules) (opening_of a) (events_in a.history) i j h).0)

@@ -4,4 +4,4 @@ use Rattle.fill_measure.specs.steps.Ends.{HoldEnds}
 use Rattle.fill_measure.proofs.lines.ends_of.Given as goal
 
 abbrev pub invariant-loop-a : goal.invariant-loop-a
-invariant-loop-a l = All IsCoordinate l.ends.items × HoldEnds l.ends.items l.axis l.a
+invariant-loop-a l = All IsCoordinate l.ends.items × HoldEnds l.ends.items l.parts l.a

@@ -1,8 +1,10 @@
-use Rattle.std.proofs.Common.{◌∙◌, subst, sym}
+use Rattle.std.proofs.Common.{◌∙◌, ap, subst, sym}
 use Rattle.std.proofs.lemmas.Result.{IfOk-weaker}
 use Rattle.fill_area.specs.Density.{AreMeasured}
+use Rattle.fill_area.specs.Grid.{parts_across, parts_up}
+use Rattle.fill_area.specs.declared.parts.Clip.{Clip}
 use Rattle.fill_region.specs.Bands.{holds}
-use Rattle.fill_measure.proofs.Cutting.{even_lines, cells_are, cut_ends}
+use Rattle.fill_measure.proofs.Cutting.{even_lines, cells_are, cut_ends, parts_of}
 use Rattle.fill_measure.proofs.measure.measure_cut.Goals as goal
 
 pub invariant_of-mesh-clause-across_lines : goal.invariant_of-mesh-clause-across_lines
@@ -19,13 +21,13 @@ corners_of-requires g c =
     let wide = c.requires.across.length_is ∙ sym c.requires.across.step_is in
     let tall = c.requires.up.length_is ∙ sym c.requires.up.step_is in
     rw (c.deref.ensures.value, c.deref-2.ensures.value, c.deref-3.ensures.value)
-    (cells_are (holds c.args.region.now) cut _ _ _ c.in_ok-cells.ensures.areas wide tall (rw c.across.ensures.value at c.in_ok-across.ensures) (rw c.up.ensures.value at c.in_ok-up.ensures))
+    (cells_are (holds c.args.region.now) cut _ _ _ c.requires.cut_whole c.in_ok-cells.ensures.areas wide tall (rw c.across.ensures.value at c.in_ok-across.ensures) (rw c.up.ensures.value at c.in_ok-up.ensures))
 
 pub new-requires-clause-across : goal.new-requires-clause-across
-new-requires-clause-across g c = cut_ends c.args.windows.now.across c.args.cut.now.across _ c.requires.across (rw c.across.ensures.value at c.in_ok-across.ensures)
+new-requires-clause-across g c = cut_ends (parts_across c.args.windows.now) c.args.cut.now.across _ (ap (λ (k : Clip). parts_of c.args.windows.now.across k.left k.right) c.requires.whole) c.len.ensures.grid.across c.requires.across (rw c.across.ensures.value at c.in_ok-across.ensures)
 
 pub new-requires-clause-up : goal.new-requires-clause-up
-new-requires-clause-up g c = cut_ends c.args.windows.now.up c.args.cut.now.up _ c.requires.up (rw c.up.ensures.value at c.in_ok-up.ensures)
+new-requires-clause-up g c = cut_ends (parts_up c.args.windows.now) c.args.cut.now.up _ (ap (λ (k : Clip). parts_of c.args.windows.now.up k.bottom k.top) c.requires.whole) c.len.ensures.grid.up c.requires.up (rw c.up.ensures.value at c.in_ok-up.ensures)
 
 pub returns-clause-areas : goal.returns-clause-areas
 returns-clause-areas g c =

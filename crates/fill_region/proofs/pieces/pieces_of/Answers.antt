@@ -17,7 +17,7 @@ put_row_pieces-requires-clause-high c = (here c).high
 
 pub loop-k-preserved : goal.loop-k-preserved
 loop-k-preserved c = bands_step _ _ _ c.args.bands.now c.loop-k.k c.index-bands-k.result c.bottom_at.result c.bottom_at-in-loop-k.result c.requires (omega arith) (omega arith)
-    c.bottom_at.ensures c.bottom_at-in-loop-k.ensures c.loop-k.invariant c.in_ok-put_row_pieces.ensures
+    c.bottom_at.ensures c.bottom_at-in-loop-k.ensures c.loop-k.invariant (rw c.spans.ensures at c.in_ok-put_row_pieces.ensures)
 
 pub returns : goal.returns
 returns c = bands_done _ _ c.args.bands.now (c.loop-k.k - 1) (omega arith) c.loop-k.invariant

@@ -12,5 +12,5 @@ invariant-loop-k g l =
     let s = state_of a in
     record {
       ready : IsReady l.writer;
-      text : written l.writer ≡ Some (first_lines l.windows l.least l.most (measures_of s.metal (boxes_of (plan_of a.rules) s.fill) l.windows) l.k);
+      text : written l.writer ≡ Some (first_lines l.windows l.least l.most (measures_of s.layers.metal (boxes_of (plan_of a.rules) s.fill) l.windows) l.k);
     }

@@ -15,5 +15,5 @@ returns g c =
     let s = state_of a in
     let least : FitsSigned w64 c.min-least.result = search rules in
     let most : FitsSigned w64 c.max-most.result = search rules in
-    subst (λ (values : Values). IfOk c.book_lines.result (λ v. v.items ≡ report_text s.metal (boxes_of (plan_of a.rules) s.fill) (windows_of values.numbers) (value_of values Min) (value_of values Max)))
+    subst (λ (values : Values). IfOk c.book_lines.result (λ v. v.items ≡ report_text s.layers.metal (boxes_of (plan_of a.rules) s.fill) (windows_of values) (value_of values Min) (value_of values Max)))
     c.rules-rules.ensures (rw (read_is _ least, read_is _ most, c.windows.ensures, c.min-least.ensures.value, c.max-most.ensures.value) at c.book_lines.ensures)

@@ -1,7 +1,7 @@
 use Rattle.std.proofs.Common.{◌≡◌, ◌∙◌, ◌%◌, ◌/◌, ap, refl, rules, pos, w64, FitsSigned}
 use Rattle.fill_base.proofs.Signed.{read, read_is}
-use Rattle.fill_area.specs.Grid.{window_left, window_right, window_bottom, window_top}
-use Rattle.fill_report.specs.Report.{density_of, share_of, window_size}
+use Rattle.fill_area.specs.Grid.{counted_size, window_left, window_right, window_bottom, window_top}
+use Rattle.fill_report.specs.Report.{density_of, share_of}
 use Rattle.fill_report.proofs.Lines.{read_at}
 use Rattle.fill_report.proofs.window.put_window.Goals as goal
 
@@ -14,11 +14,12 @@ returns-clause-text c front so_far =
     let drawn : FitsSigned w64 m.drawn = search rules in
     let fill : FitsSigned w64 m.fill = search rules in
     let total : FitsSigned w64 m.total = search rules in
-    let size : read c.window_size-size.result ≡ window_size g = read_at _ _ (search rules) c.window_size-size.ensures.size in
-    let share_read : share_of (read m.total) (read c.window_size-size.result) ≡ share_of m.total (window_size g) = rw (read_is m.total total, size) refl in
-    let density_read : density_of (read m.total) (read c.args.least) (read c.args.most) (read c.window_size-size.result) ≡ density_of m.total c.args.least c.args.most (window_size g) =
+    let counted = counted_size g (c.args.k % g.across.count) (c.args.k / g.across.count) in
+    let size : read c.counted_size-size.result ≡ counted = read_at _ _ (search rules) (c.counted_size-size.ensures.size ∙ (ap (λ i. counted_size g i c.column_and_row-a.result.1) a ∙ ap (counted_size g (c.args.k % g.across.count)) b)) in
+    let share_read : share_of (read m.total) (read c.counted_size-size.result) ≡ share_of m.total counted = rw (read_is m.total total, size) refl in
+    let density_read : density_of (read m.total) (read c.args.least) (read c.args.most) (read c.counted_size-size.result) ≡ density_of m.total c.args.least c.args.most counted =
     rw (read_is m.total total, size, read_is c.args.least c.ranges.least, read_is c.args.most c.ranges.most) refl in
-    let share : read c.share.result ≡ share_of m.total (window_size g) = read_at _ _ (search rules) (c.share.ensures ∙ share_read) in
+    let share : read c.share.result ≡ share_of m.total counted = read_at _ _ (search rules) (c.share.ensures ∙ share_read) in
     let density = c.density.ensures ∙ density_read in
     rw (
       read_at c.from.result (pos (c.args.k % g.across.count)) (search rules) (c.from.ensures ∙ ap pos a),

@@ -43,6 +43,9 @@ rules_found-requires-clause-numbers c = c.loop-row.invariant.4.ranged
 pub rules_found-requires-clause-texts : goal.rules_found-requires-clause-texts
 rules_found-requires-clause-texts c = c.loop-row.invariant.4.allowed
 
+pub rules_found-requires-clause-optionals : goal.rules_found-requires-clause-optionals
+rules_found-requires-clause-optionals c = c.loop-row.invariant.4.optional
+
 pub returns : goal.returns
 returns c =
     let (before, rest, stands, sound, held, count, below) = c.loop-row.invariant in

@@ -1,5 +1,6 @@
 use Rattle.std.proofs.Common.{◌≡◌, ◌∙◌, ap, rules}
 use Rattle.fill_base.proofs.Signed.{read, read_is}
+use Rattle.fill_area.proofs.GridTests.{all_clip}
 use Rattle.fill_text.specs.Grids.{grid_with}
 use Rattle.fill_text.specs.Rules.{number_in}
 use Rattle.fill_text.specs.declared.keys.NumberKey.TheVariants.{WinX, WinY, WinW, WinH, WinStepX, WinStepY}
@@ -14,5 +15,5 @@ returns c =
     let h : read c.value-4.result ≡ number_in c.args.numbers.now.values WinH = read_is c.value-4.result (search rules) ∙ c.value-4.ensures in
     let s : read c.value-5.result ≡ number_in c.args.numbers.now.values WinStepX = read_is c.value-5.result (search rules) ∙ c.value-5.ensures in
     let t : read c.value-6.result ≡ number_in c.args.numbers.now.values WinStepY = read_is c.value-6.result (search rules) ∙ c.value-6.ensures in
-    c.ok.ensures.value ∙ grid_kept _ c.new.result c.new.ensures.ok c.new.ensures.grid
+    c.ok.ensures.value ∙ grid_kept _ c.new.result all_clip c.new.ensures.ok c.new.ensures.grid
     ∙ ap grid_with (grids_same _ _ _ _ _ _ _ _ _ _ _ _ _ _ _ _ x y w h s t c.window_columns.ensures c.window_rows.ensures)

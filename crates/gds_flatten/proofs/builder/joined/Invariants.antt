@@ -1,6 +1,6 @@
 use Rattle.std.proofs.Common.{◌≡◌, ℕ, ◌*◌, ◌++◌, List, length}
 use Rattle.std.specs.Vec.Iter.{into_iter_items, into_iter_len}
-use Rattle.gds_grammar.specs.declared.element.Element.{Element}
+use Rattle.gds_grammar.specs.Values.{Shape as Element}
 use Rattle.gds_flatten.specs.Designs.{Entry}
 use Rattle.gds_flatten.specs.steps.Built.{AreRuns}
 use Rattle.gds_flatten.proofs.Running.{AreJoined}

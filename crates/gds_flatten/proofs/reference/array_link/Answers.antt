@@ -24,7 +24,7 @@ returns-clause-ok c =
     let p0 = read_at a.points 0 in
     let p1 = read_at a.points 1 in
     let p2 = read_at a.points 2 in (
-      fine a at.0 columns rows (rw (p0, p1) at right.0) (rw (p0, p2) at up.0),
+      fine a.transform a.columns a.rows a.points at.0 columns rows (rw (p0, p1) at right.0) (rw (p0, p2) at up.0),
       refl,
-      array_is a c.in_ok-placement.placement c.from.result c.from-2.result c.in-Some.column_step c.in-Some-step_between.row_step (rw p0 at at.1) c.from.ensures c.from-2.ensures (rw (p0, p1) at right.1) (rw (p0, p2) at up.1),
+      array_is a.transform a.columns a.rows a.points c.in_ok-placement.placement c.from.result c.from-2.result c.in-Some.column_step c.in-Some-step_between.row_step (rw p0 at at.1) c.from.ensures c.from-2.ensures (rw (p0, p1) at right.1) (rw (p0, p2) at up.1),
     )

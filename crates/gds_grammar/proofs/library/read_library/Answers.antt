@@ -1,34 +1,18 @@
-use Rattle.std.proofs.Common.{◌≡◌, ◌<◌, ◌^◌, length, sym, subst, ◌∙◌, arith}
-use Rattle.gds_grammar.specs.Values.{contents_of}
-use Rattle.gds_grammar.specs.Outcomes.{IsRefused}
-use Rattle.gds_grammar.proofs.Unique.{spells, one_value, only_memory, is_refused}
-use Rattle.std.specs.Prelude.{◌⊎◌}
+use Rattle.std.proofs.Common.{◌≡◌, sym, subst, ◌∙◌}
+use Rattle.std.specs.Prelude.{MatchResult}
+use Rattle.std.proofs.lemmas.Result.{IfOk-weaker}
 use Rattle.gds_grammar.specs.declared.error.LibraryError.{LibraryError}
 use Rattle.gds_grammar.specs.declared.error.LibraryError.TheVariants.{Memory}
-use Rattle.gds_grammar.proofs.Exact.{told, no_fault_told}
+use Rattle.gds_grammar.specs.declared.library.Library.{Library}
+use Rattle.gds_grammar.specs.Values.{Contents, contents_of}
+use Rattle.gds_grammar.specs.Outcomes.{Spells}
+use Rattle.gds_grammar.proofs.Keeping.{every_kept}
 use Rattle.gds_grammar.proofs.library.read_library.Goals as goal
 
-pub returns-in-Ok-clause-ok : goal.returns-in-Ok-clause-ok
-returns-in-Ok-clause-ok c = spells c.args.bytes.now _ (contents_of c.in-Ok.library) c.in-Ok.ensures.found
+pub returns-clause-ok : goal.returns-clause-ok
+returns-clause-ok c =
+    IfOk-weaker c.read_wanted.result _ _ (λ library h. subst (Spells c.args.bytes.now) (sym (h.2 ∙ every_kept h.0)) h.1) c.read_wanted.ensures.ok
 
-pub returns-in-Ok-clause-only : goal.returns-in-Ok-clause-only
-returns-in-Ok-clause-only c = λ value s. one_value c.args.bytes.now _ (contents_of c.in-Ok.library) value c.in-Ok.ensures.found s
-
-pub returns-in-Err-clause-only : goal.returns-in-Err-clause-only
-returns-in-Err-clause-only c = λ value s. c.error_of.ensures ∙ only_memory c.args.bytes.now c.in-Err.stop value c.in-Err.ensures.refused s
-
-pub returns-in-Err-clause-refused : goal.returns-in-Err-clause-refused
-returns-in-Err-clause-refused c =
-    let few : length c.args.bytes.now < 2 ^ 64 = omega arith in
-    subst (IsRefused c.args.bytes.now) (sym c.error_of.ensures) (is_refused c.args.bytes.now c.in-Err.stop c.in-Err.ensures.refused few)
-
-pub returns-in-Ok-clause-exact : goal.returns-in-Ok-clause-exact
-returns-in-Ok-clause-exact c = λ e fault.
-    let few : length c.args.bytes.now < 2 ^ 64 = omega arith in
-    no_fault_told c.args.bytes.now e (contents_of c.in-Ok.library) few (spells c.args.bytes.now _ (contents_of c.in-Ok.library) c.in-Ok.ensures.found) fault
-
-pub returns-in-Err-clause-exact : goal.returns-in-Err-clause-exact
-returns-in-Err-clause-exact c = λ e fault.
-    let few : length c.args.bytes.now < 2 ^ 64 = omega arith in
-    let Told : LibraryError → Type 0 = λ told. (told ≡ Memory) ⊎ (told ≡ e) in
-    subst Told (sym c.error_of.ensures) (told c.args.bytes.now c.in-Err.stop e few c.in-Err.ensures.refused fault)
+pub returns-clause-only : goal.returns-clause-only
+returns-clause-only c = λ value s.
+    subst (λ (x : Contents). MatchResult c.read_wanted.result (λ (library : Library). contents_of library ≡ x) (λ (e : LibraryError). e ≡ Memory)) (every_kept value) (c.read_wanted.ensures.only value s)

@@ -5,12 +5,13 @@ use Rattle.fill_region.specs.Squares.{covered}
 use Rattle.gds_shape.specs.Paths.{in_bounds}
 use Rattle.gds_shape.proofs.Faults.{refusal_is}
 use Rattle.gds_shape.proofs.Spread.{still_all, still_squares}
+use Rattle.gds_grammar.specs.Values.{wire_of}
 use Rattle.gds_shape.proofs.path.path_region.Goals as goal
 
 pub returns-in_err-segments-clause-refused : goal.returns-in_err-segments-clause-refused
 returns-in_err-segments-clause-refused c =
     let p = err_from_is_err_and c.from_residual.result c.from_residual.ensures.1 in
-    rw (p.1, p.2) (refusal_is c.args.path.now c.in_err-segments.field-0.0 c.in_err-segments.ensures.is)
+    rw (p.1, p.2) (refusal_is (wire_of c.args.path.now) c.in_err-segments.field-0.0 c.in_err-segments.ensures.is)
 
 pub put_bounds-requires : goal.put_bounds-requires
 put_bounds-requires c = rw (still_all c.deref-2.result.now, c.deref-2.ensures.value) (rw c.deref.ensures.value at (c.are_in_range.ensures.0 c.if-not-are_in_range.false))

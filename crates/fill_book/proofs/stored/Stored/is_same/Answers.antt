@@ -1,9 +1,15 @@
-use Rattle.std.proofs.Common.{sym, ◌∙◌}
+use Rattle.std.proofs.Common.{◌≡◌, ap, sym, refl, ◌∙◌, pos}
+use Rattle.fill_region.specs.Bands.{holds}
+use Rattle.fill_raster.specs.Lattice.{tiles}
 use Rattle.fill_text.specs.ValuesOfRules.{values_of}
-use Rattle.fill_job.specs.Basis.{read_by}
+use Rattle.fill_job.specs.Basis.{layers_in, read_by, windows_in}
+use Rattle.fill_job.specs.Plans.{plan_of}
+use Rattle.fill_job.specs.ReadSets.{read_set}
 use Rattle.fill_core.specs.Boxes.{no_places}
 use Rattle.fill_book.specs.Keeping.{state_by}
+use Rattle.fill_book.specs.Pieces.{IsPiece}
 use Rattle.fill_book.proofs.Answering.{other_version, same_reads}
+use Rattle.fill_book.proofs.HaloMetal.{below, piece_at}
 use Rattle.fill_book.proofs.stored.Stored.is_same.Goals as goal
 
 pub returns-then-version-self : goal.returns-then-version-self
@@ -12,5 +18,12 @@ returns-then-version-self c =
 
 pub returns : goal.returns
 returns c =
-    same_reads (values_of c.args.rules.now) (state_by no_places c.args.self.now) c.args.proposal.now.version c.version.result c.args.proposal.now.tile (read_by c.args.proposal.now.basis) (read_by c.in_ok-job.job.basis) c.matches.result
-    c.version.ensures c.if-version-self.false (rw c.tile-tile.ensures at (sym c.has.ensures ∙ c.if-has.false)) (rw c.tile-tile.ensures at c.in_ok-job.ensures.read) c.matches.ensures
+    let rules = values_of c.args.rules.now in let s = c.args.self.now in let p = c.args.proposal.now in let plan = plan_of rules in
+    let end : c.tiles.result ≡ tiles plan.raster = c.tiles.ensures ∙ ap tiles c.raster.ensures.raster in
+    let t = c.tile-tile.result in let lt = below _ _ _ c.if-tile-tiles.false end in
+    let at : IsPiece plan.raster plan.spacing (holds s.metal) t c.index.result.now = piece_at plan.raster plan.spacing (holds s.metal) s.pieces.items t c.index.result.now c.index.result.now c.requires.pieces lt c.index.ensures in
+    let metal : IsPiece plan.raster plan.spacing (holds s.metal) p.tile c.metal-metal.result.now = rw (c.metal-metal.ensures, sym c.tile-tile.ensures) at in
+    let on : IsPiece plan.raster (pos 0) (holds s.keep) t c.index-2.result.now = piece_at plan.raster (pos 0) (holds s.keep) s.keep_pieces.items t c.index-2.result.now c.index-2.result.now c.requires.keep_pieces lt c.index-2.ensures in
+    let keep : IsPiece plan.raster (pos 0) (holds s.keep) p.tile c.metal-keep.result.now = rw (c.metal-keep.ensures, sym c.tile-tile.ensures) on in
+    same_reads rules (state_by no_places s) p.version c.version.result p.tile (read_by p.basis) (read_set rules (layers_in s.metal s.keep) (windows_in s.low) p.tile) c.matches.result
+    c.version.ensures c.if-version-self.false (rw c.tile-tile.ensures at (sym c.has.ensures ∙ c.if-has.false)) refl (c.matches.ensures (layers_in s.metal s.keep) metal keep)

@@ -1,10 +1,9 @@
 use Rattle.std.proofs.Common.{◌≡◌, refl, ap, sym, ◌∙◌, pos, ◌+ℤ◌, false, length}
 use Rattle.fill_base.proofs.Between.{is_between_true}
 use Rattle.fill_base.proofs.Signed.{read, read_is, is_lt}
-use Rattle.fill_region.specs.Bands.{holds}
 use Rattle.fill_raster.specs.Marks.{is_marked}
-use Rattle.fill_job.specs.Basis.{plan_by, windows_in}
-use Rattle.fill_job.specs.Plans.{conflicts, is_suitable}
+use Rattle.fill_job.specs.Basis.{layers_in, plan_by, windows_in}
+use Rattle.fill_job.specs.Plans.{is_suitable, is_taken}
 use Rattle.fill_job.proofs.Reaching.{no_index, index_within, index_place, index_fits, next_index}
 use Rattle.fill_job.proofs.Marking.{row_begins, column_marked, column_passed, row_ends, next_within, first_within, next_fits, not_lt}
 use Rattle.fill_job.proofs.basis.Basis.mark_row.Goals as goal
@@ -12,7 +11,7 @@ use Rattle.fill_job.proofs.basis.Basis.mark_row.Goals.{then-is_suitable, else-is
 
 pub loop-i-init : goal.loop-i-init
 loop-i-init c =
-    let s = is_suitable (plan_by c.args.self.now) (holds c.args.self.now.metal) (windows_in c.args.self.now.low) in
+    let s = is_suitable (plan_by c.args.self.now) (layers_in c.args.self.now.metal c.args.self.now.keep) (windows_in c.args.self.now.low) in
     let at = first_within c.args.left c.args.right in
     rw (read_is c.args.left c.ranges.left, read_is c.args.right c.ranges.right) (record {
       from = at.0;
@@ -22,11 +21,11 @@ loop-i-init c =
       marked = λ k m. row_begins (is_marked c.args.marks.now) s c.args.left (read c.args.j) k m;
     })
 
-pub bounds-near-index : goal.bounds-near-index
-bounds-near-index c =
+pub bounds-taken-index : goal.bounds-taken-index
+bounds-taken-index c =
     let lt = is_lt c.loop-i.i c.args.right (rw (c.loop-i.i-is, read_is c.args.right c.ranges.right) at c.loop-i-test.true) in
     let index = rw (c.loop-i.i-is, read_is c.args.left c.ranges.left) at c.loop-i.invariant.index in
-    index_within c.args.left c.args.right c.loop-i.i c.loop-i.index (length c.args.near.now) index lt c.requires.count
+    index_within c.args.left c.args.right c.loop-i.i c.loop-i.index (length c.args.taken.now) index lt c.requires.count
 
 pub is_suitable-requires-clause-raster : goal.is_suitable-requires-clause-raster
 is_suitable-requires-clause-raster c =
@@ -34,14 +33,14 @@ is_suitable-requires-clause-raster c =
     let lt = is_lt c.loop-i.i c.args.right (rw (c.loop-i.i-is, read_is c.args.right c.ranges.right) at c.loop-i-test.true) in
     rw (c.loop-i.i-is, read_is c.args.j c.ranges.j) (c.requires.places c.loop-i.i (is_between_true c.args.left c.args.right c.loop-i.i from lt))
 
-pub is_suitable-requires-clause-near : goal.is_suitable-requires-clause-near
-is_suitable-requires-clause-near c =
+pub is_suitable-requires-clause-taken : goal.is_suitable-requires-clause-taken
+is_suitable-requires-clause-taken c =
     let p = plan_by c.args.self.now in
     let lt = is_lt c.loop-i.i c.args.right (rw (c.loop-i.i-is, read_is c.args.right c.ranges.right) at c.loop-i-test.true) in
     let index = rw (c.loop-i.i-is, read_is c.args.left c.ranges.left) at c.loop-i.invariant.index in
-    let within = index_within c.args.left c.args.right c.loop-i.i c.loop-i.index (length c.args.near.now) index lt c.requires.count in
+    let within = index_within c.args.left c.args.right c.loop-i.i c.loop-i.index (length c.args.taken.now) index lt c.requires.count in
     rw (c.loop-i.i-is, read_is c.args.j c.ranges.j)
-    (c.requires.near c.loop-i.index false within ∙ ap (λ x. conflicts p (holds c.args.self.now.metal) x c.args.j) (index_place c.args.left c.loop-i.i c.loop-i.index index))
+    (c.requires.taken c.loop-i.index false within ∙ ap (λ x. is_taken p (layers_in c.args.self.now.metal c.args.self.now.keep) x c.args.j) (index_place c.args.left c.loop-i.i c.loop-i.index index))
 
 pub overflow_add-index : goal.overflow_add-index
 overflow_add-index c =
@@ -57,7 +56,7 @@ set-requires c =
 
 pub loop-i-preserved : goal.loop-i-preserved
 loop-i-preserved c =
-    let s = is_suitable (plan_by c.args.self.now) (holds c.args.self.now.metal) (windows_in c.args.self.now.low) in
+    let s = is_suitable (plan_by c.args.self.now) (layers_in c.args.self.now.metal c.args.self.now.keep) (windows_in c.args.self.now.low) in
     let o = is_marked c.args.marks.now in
     let b = is_marked c.loop-i.marks in
     let i = c.loop-i.i in let j = read c.args.j in
@@ -82,7 +81,7 @@ loop-i-preserved c =
 
 pub returns : goal.returns
 returns c =
-    let s = is_suitable (plan_by c.args.self.now) (holds c.args.self.now.metal) (windows_in c.args.self.now.low) in
+    let s = is_suitable (plan_by c.args.self.now) (layers_in c.args.self.now.metal c.args.self.now.keep) (windows_in c.args.self.now.low) in
     let inv = rw (c.loop-i.i-is, read_is c.args.left c.ranges.left, read_is c.args.right c.ranges.right, read_is c.args.j c.ranges.j) at c.loop-i.invariant in
     let past = not_lt c.loop-i.i c.args.right (rw (c.loop-i.i-is, read_is c.args.right c.ranges.right) at c.loop-i-test.false) in
     record { block = inv.block; marked = row_ends (is_marked c.args.marks.now) (is_marked c.loop-i.marks) s c.args.left c.args.right c.loop-i.i c.args.j inv.from inv.to past inv.marked }

@@ -1,5 +1,4 @@
 use Rattle.std.proofs.Common.{◌≡◌, pos, ◌+ℤ◌}
-use Rattle.fill_base.specs.Limits.{IsSpacing}
 use Rattle.fill_base.proofs.Between.{is_between_true}
 use Rattle.fill_base.proofs.Signed.{read, read_is, is_lt}
 use Rattle.fill_job.specs.Basis.{plan_by}
@@ -15,29 +14,27 @@ box_of-rect-requires c =
 
 pub overflow_sub-x1 : goal.overflow_sub-x1
 overflow_sub-x1 c =
-    let range : IsSpacing c.spacing-spacing.result = record { least = c.spacing-spacing.ensures.range.0; most = c.spacing-spacing.ensures.range.1 } in
-    columns_fit c.box_of-rect.result c.spacing-spacing.result c.x1.result range c.x1.ensures
+    columns_fit c.box_of-rect.result c.args.distance c.x1.result c.requires.distance c.x1.ensures
 
 pub loop-i-preserved : goal.loop-i-preserved
 loop-i-preserved c =
     let p = plan_by c.args.self.now in
     let i = c.loop-i.i in
-    let range : IsSpacing c.spacing-spacing.result = record { least = c.spacing-spacing.ensures.range.0; most = c.spacing-spacing.ensures.range.1 } in
-    let is : IsSpacing p.spacing = rw c.spacing-spacing.ensures.value at range in
-    let inv = rw (c.loop-i.i-is, read_is c.args.left c.ranges.left, read_is c.args.right c.ranges.right) at c.loop-i.invariant in
+    let distance = read_is c.args.distance c.ranges.distance in
+    let inv = rw (c.loop-i.i-is, read_is c.args.left c.ranges.left, read_is c.args.right c.ranges.right, distance) at c.loop-i.invariant in
     let lt = is_lt i c.args.right (rw (c.loop-i.i-is, read_is c.args.right c.ranges.right) at c.loop-i-test.true) in
     let step = next_within c.args.left c.args.right i inv.from lt in
     let next : read (i +ℤ pos 1) ≡ i +ℤ pos 1 = read_is (i +ℤ pos 1) (next_fits c.args.left c.args.right i c.ranges.left c.ranges.right inv.from lt) in
     let left = rw (c.raster.ensures.raster, c.loop-i.i-is) at c.box_of-rect.ensures.left in
     let right = rw (c.raster.ensures.raster, c.loop-i.i-is) at c.box_of-rect.ensures.right in
-    rw (c.loop-i.i-is, read_is c.args.left c.ranges.left, read_is c.args.right c.ranges.right, next) (record {
+    rw (c.loop-i.i-is, read_is c.args.left c.ranges.left, read_is c.args.right c.ranges.right, distance, next) (record {
       from = step.0;
       to = step.1;
-      are = reach_more p c.args.left i c.loop-i.reaches.items c.push.new.self.items c.box_of-rect.result c.spacing-spacing.result c.x1.result c.x2.result inv.are inv.from c.spacing-spacing.ensures.value is left right c.x1.ensures c.x2.ensures c.in_ok-push.ensures.items;
+      are = reach_more p.raster c.args.left i c.loop-i.reaches.items c.push.new.self.items c.box_of-rect.result c.args.distance c.x1.result c.x2.result inv.are inv.from c.requires.distance left right c.x1.ensures c.x2.ensures c.in_ok-push.ensures.items;
     })
 
 pub returns : goal.returns
 returns c =
-    let inv = rw (c.loop-i.i-is, read_is c.args.left c.ranges.left, read_is c.args.right c.ranges.right) at c.loop-i.invariant in
+    let inv = rw (c.loop-i.i-is, read_is c.args.left c.ranges.left, read_is c.args.right c.ranges.right, read_is c.args.distance c.ranges.distance) at c.loop-i.invariant in
     let past = not_lt c.loop-i.i c.args.right (rw (c.loop-i.i-is, read_is c.args.right c.ranges.right) at c.loop-i-test.false) in
-    reaches_all (plan_by c.args.self.now) c.args.left c.args.right c.loop-i.i c.loop-i.reaches.items c.requires.some inv.to past inv.are
+    reaches_all (plan_by c.args.self.now).raster c.args.distance c.args.left c.args.right c.loop-i.i c.loop-i.reaches.items c.requires.some inv.to past inv.are

@@ -9,5 +9,5 @@ abbrev pub invariant-loop-i : goal.invariant-loop-i
 invariant-loop-i l = record {
   from : l.left ≤ℤ l.i;
   to : l.i ≤ℤ int_max l.left l.right;
-  are : AreReaches (plan_by l.self) l.left l.i l.reaches.items;
+  are : AreReaches (plan_by l.self).raster l.distance l.left l.i l.reaches.items;
 }

@@ -29,7 +29,7 @@ returns-clause-steps c = rw (← c.self.view_is) (rw (read_is _ (end c).fits, re
   begins = search rules;
   tall = (end c).above;
   within = (end c).within;
-  squares = row_squares c.self.inside.bands.now _ _ _ c.self.inside.next c.index-self-self.result c.self.invariant (below c) c.if-self-2.false (line c);
+  squares = rw c.spans-spans.ensures (row_squares c.self.inside.bands.now _ _ _ c.self.inside.next c.index-self-self.result c.self.invariant (below c) c.if-self-2.false (line c));
   goes_on = search rules;
 }))
 

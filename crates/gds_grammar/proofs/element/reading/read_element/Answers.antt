@@ -1,11 +1,12 @@
-use Rattle.std.proofs.Common.{◌≡◌, List, [], ◌++◌, map, sym, ap, subst, ◌∙◌}
+use Rattle.std.proofs.Common.{◌≡◌, List, ◌++◌, map, ap, ◌∙◌}
 use Rattle.std.proofs.lemmas.Result.{err_from_is_err_and}
 use Rattle.gds_record.specs.declared.records.Record.{Record}
 use Rattle.gds_record.specs.Records.{view}
-use Rattle.gds_grammar.specs.Values.{Shape}
 use Rattle.gds_grammar.specs.Elements.{has_string, shapes_in}
-use Rattle.gds_grammar.specs.Machine.{Body, Tail, Within, behind_xy}
-use Rattle.gds_grammar.specs.steps.Reading.{Reaches, shapes_of}
+use Rattle.gds_grammar.specs.Machine.{Tail, Within, behind_xy}
+use Rattle.gds_grammar.specs.steps.Reading.{shapes_of}
+use Rattle.gds_grammar.specs.Layers.{kept_shapes}
+use Rattle.gds_grammar.specs.steps.Keeping.{keeps}
 use Rattle.gds_grammar.proofs.Paths.{and_then, fails_after}
 use Rattle.gds_grammar.proofs.element.reading.read_element.Goals as goal
 
@@ -25,9 +26,13 @@ returns-in_err-rest-clause-refused c =
     fails_after c.args.bytes.now c.in_ok-tail.tail.now _ (Tail l n (sh ++ made)) _ front (c.in_err-rest.ensures.refused l n (sh ++ made)))
 
 pub returns-clause-found : goal.returns-clause-found
-returns-clause-found c = λ l n sh.
+returns-clause-found c =
     let made = shapes_in c.args.element (map view c.read_body.new.before.items) c.in_ok-body.body.xy.now in
-    let front = and_then c.args.bytes.now c.in_ok-body.body.rest.now c.in_ok-tail.tail.now _ (behind_xy (has_string c.args.element) l n (sh ++ made)) (Tail l n (sh ++ made)) (c.in_ok-body.ensures.found l n sh) (c.in_ok-tail.ensures.found l n (sh ++ made)) in
-    let whole = and_then c.args.bytes.now c.in_ok-tail.tail.now c.in_ok-rest.rest.now _ (Tail l n (sh ++ made)) (Within l n (sh ++ made)) front (c.in_ok-rest.ensures.found l n (sh ++ made)) in
-    let same : shapes_of c.in_ok-made.made ≡ made = c.in_ok-made.ensures ∙ ap (λ (rs : List Record). shapes_in c.args.element (map view rs) c.in_ok-body.body.xy.now) c.deref.ensures.value in
-    subst (λ (x : List Shape). Reaches c.args.bytes.now (Body l n sh c.args.element []) c.in_ok-rest.rest.now (Within l n (sh ++ x))) (sym same) whole
+    let same : shapes_of c.in_ok-made.made ≡ kept_shapes (keeps c.args.wanted) made =
+    c.in_ok-made.ensures ∙ ap (λ (rs : List Record). kept_shapes (keeps c.args.wanted) (shapes_in c.args.element (map view rs) c.in_ok-body.body.xy.now)) c.deref.ensures.value in (
+      made,
+      same,
+      λ l n sh.
+          let front = and_then c.args.bytes.now c.in_ok-body.body.rest.now c.in_ok-tail.tail.now _ (behind_xy (has_string c.args.element) l n (sh ++ made)) (Tail l n (sh ++ made)) (c.in_ok-body.ensures.found l n sh) (c.in_ok-tail.ensures.found l n (sh ++ made)) in
+          and_then c.args.bytes.now c.in_ok-tail.tail.now c.in_ok-rest.rest.now _ (Tail l n (sh ++ made)) (Within l n (sh ++ made)) front (c.in_ok-rest.ensures.found l n (sh ++ made)),
+    )

@@ -1,5 +1,0 @@
-use Rattle.fill_book.proofs.Accounted.{at_view, keeping}
-use Rattle.fill_book.proofs.book.PlainBookFillBook.audit.Goals as goal
-
-pub returns-clause-keeping : goal.returns-clause-keeping
-returns-clause-keeping g c = keeping (at_view c.self.invariant c.self.view_is)

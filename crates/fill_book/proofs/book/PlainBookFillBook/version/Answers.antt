@@ -1,7 +1,0 @@
-use Rattle.std.proofs.Common.{ap, sym}
-use Rattle.fill_core.specs.Machine.{State}
-use Rattle.fill_book.proofs.Accounted.{at_view}
-use Rattle.fill_book.proofs.book.PlainBookFillBook.version.Goals as goal
-
-pub returns : goal.returns
-returns g c = sym (ap (λ (s : State). s.version) (at_view c.self.invariant c.self.view_is).state)

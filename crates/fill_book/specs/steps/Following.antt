@@ -1,0 +1,41 @@
+-- What the boxes of places take of windows: of a place, of the places of a row between two columns, and of rows.
+use Rattle.std.specs.Prelude.{ℕ, ℤ, false, cond, ◌&&◌, not}
+use Rattle.fill_base.specs.Counts.{sum_between}
+use Rattle.fill_area.specs.Density.{window_area}
+use Rattle.fill_area.specs.Grid.{Grid}
+use Rattle.fill_raster.specs.Lattice.{Lattice, box_squares}
+use Rattle.fill_raster.specs.Marks.{is_marked}
+use Rattle.fill_base.specs.Squares.{squares}
+use Rattle.fill_sums.specs.declared.moving.Way.{Way}
+use Rattle.fill_sums.specs.declared.moving.Way.TheVariants.{Up, Down}
+use Rattle.fill_text.specs.declared.script.Edit.{Edit}
+use Rattle.fill_text.specs.declared.script.Edit.TheVariants.{Add, Cut, Keep}
+use Rattle.fill_job.specs.Plans.{PointSet}
+use Rattle.fill_book.specs.Filling.{in_places, is_filled}
+use Rattle.fill_book.specs.declared.running.Moved.{Moved}
+use Rattle.fill_book.specs.declared.running.Moved.TheVariants.{New, Out}
+
+-- the box of the place comes or goes
+abbrev pub is_moved : Moved → PointSet
+is_moved (New filled marks) = λ i j. is_marked marks.now i j && not (is_filled filled.now i j)
+is_moved (Out filled places) = λ i j. is_filled filled.now i j && in_places places.now i j
+
+abbrev pub taken_at : Lattice → PointSet → Grid → ℤ → ℤ → ℕ → ℕ → ℕ
+taken_at r fill g i j a b = cond (fill i j) (window_area (box_squares r i j) g a b) 0
+
+abbrev pub taken_of_row : Lattice → PointSet → Grid → ℤ → ℤ → ℤ → ℕ → ℕ → ℕ
+taken_of_row r fill g left right j a b = sum_between (λ i. taken_at r fill g i j a b) left right
+
+abbrev pub taken_of_rows : Lattice → PointSet → Grid → ℤ → ℤ → ℤ → ℤ → ℕ → ℕ → ℕ
+taken_of_rows r fill g left right bottom top a b = sum_between (λ j. taken_of_row r fill g left right j a b) bottom top
+
+-- whether metal comes or goes, and which
+abbrev pub way_of : Edit → Way
+way_of (Add r) = Up
+way_of (Cut r) = Down
+way_of (Keep r) = Up
+
+abbrev pub part_by : Edit → PointSet → PointSet
+part_by (Add r) metal x y = squares r x y && not (metal x y && squares r x y)
+part_by (Cut r) metal x y = metal x y && squares r x y
+part_by (Keep r) metal x y = false

@@ -1,0 +1,135 @@
+//! Rules and metal that jobs and books hold together.
+ghost use Rattle.std.specs.Arc.{arc_value};
+ghost use Rattle.std.specs.Prelude.{◌≡◌, List, ℤ, IfOk};
+ghost use Rattle.fill_region.specs.Bands.{Band};
+ghost use Rattle.fill_raster.specs.Lattice.{KeepsPitch};
+ghost use Rattle.fill_text.specs.Rules as spec;
+ghost use Rattle.fill_text.specs.Keys.{IsWithin};
+ghost use Rattle.fill_text.specs.Rules.{Values, value_of};
+ghost use Rattle.fill_text.specs.ValuesOfRules.{values_of};
+ghost use Rattle.fill_text.specs.declared.keys.NumberKey.TheVariants as NumberKey;
+
+use fill_area::Windows;
+use fill_raster::Raster;
+use fill_region::Region;
+use fill_text::Rules;
+use std::alloc::{AllocError, Global};
+use std::marker::Model;
+use std::sync::Arc;
+
+/// Rules that several may hold together.
+#[derive(Drop)]
+pub struct SharedRules {
+    rules: Arc<Rules>,
+}
+
+impl Model for SharedRules {
+    ghost use Rattle.std.specs.Arc.{arc_value};
+    ghost use Rattle.fill_text.specs.Rules.{Values};
+    ghost use Rattle.fill_text.specs.ValuesOfRules.{values_of};
+
+    ghost Value = { Values };
+
+    ghost view = { λ r. values_of (arc_value r.rules) };
+}
+
+impl SharedRules {
+    /// Rules with one holder.
+    ///
+    /// # Errors
+    /// `AllocError` where memory is refused.
+    pub fn new(alloc: Global, rules: Rules) -> Result<SharedRules, AllocError>
+        ensures { IfOk result (λ r. r ≡ values_of rules) }
+    {
+        let rules = Arc::new(alloc, rules)?;
+        Ok(SharedRules { rules })
+    }
+
+    /// The same rules, with one holder more.
+    ///
+    /// # Errors
+    /// `AllocError` where their count is at its end.
+    pub fn share(&self) -> Result<SharedRules, AllocError>
+        ensures { IfOk result (λ r. r ≡ self.now) }
+    {
+        let rules = Arc::try_clone(&self.rules)?;
+        Ok(SharedRules { rules })
+    }
+
+    /// The rules.
+    pub fn rules(&self) -> &Rules
+        ensures { values_of result.now ≡ self.now }
+    {
+        &self.rules
+    }
+
+    /// The density windows.
+    pub(crate) fn windows(&self) -> Windows
+        ensures { result ≡ spec.windows_of self.now }
+    {
+        self.rules.windows()
+    }
+
+    /// The places where a fill box may stand, and their tiles.
+    pub(crate) fn raster(&self) -> Raster
+        ensures raster { result ≡ spec.raster_of self.now.numbers }
+        ensures pitch { KeepsPitch result (value_of self.now NumberKey.FillSpacing) }
+    {
+        self.rules.raster()
+    }
+
+    /// The least gap between a fill box and metal.
+    pub(crate) fn spacing(&self) -> i64
+        ensures value { result ≡ value_of self.now NumberKey.Spacing }
+        ensures range { IsWithin NumberKey.Spacing result }
+    {
+        self.rules.spacing()
+    }
+}
+
+/// Metal in the halo of a tile, that several may hold together.
+#[derive(Drop)]
+pub struct Piece {
+    metal: Arc<Region>,
+}
+
+impl Model for Piece {
+    ghost use Rattle.std.specs.Prelude.{List};
+    ghost use Rattle.std.specs.Arc.{arc_value};
+    ghost use Rattle.fill_region.specs.Bands.{Band};
+
+    ghost Value = { List Band };
+
+    ghost view = { λ p. arc_value p.metal };
+}
+
+impl Piece {
+    /// A piece with one holder.
+    ///
+    /// # Errors
+    /// `AllocError` where memory is refused.
+    pub fn new(alloc: Global, metal: Region) -> Result<Piece, AllocError>
+        ensures { IfOk result (λ p. p ≡ metal) }
+    {
+        let metal = Arc::new(alloc, metal)?;
+        Ok(Piece { metal })
+    }
+
+    /// The same piece, with one holder more.
+    ///
+    /// # Errors
+    /// `AllocError` where their count is at its end.
+    pub fn share(&self) -> Result<Piece, AllocError>
+        ensures { IfOk result (λ p. p ≡ self.now) }
+    {
+        let metal = Arc::try_clone(&self.metal)?;
+        Ok(Piece { metal })
+    }
+
+    /// The metal.
+    pub fn metal(&self) -> &Region
+        ensures { result.now ≡ self.now }
+    {
+        &self.metal
+    }
+}

@@ -1,0 +1,9 @@
+pub mod PieceLaws
+pub mod Times
+pub mod Lists
+pub mod Stacking
+pub mod RowPieces
+pub mod Finding
+pub mod Folds
+pub mod Bounds
+pub mod Longest

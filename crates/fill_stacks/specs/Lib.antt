@@ -1,0 +1,5 @@
+pub mod Runs
+pub mod Places
+pub mod Stacks
+pub mod Counting
+pub mod Laws

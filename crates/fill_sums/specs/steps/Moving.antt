@@ -1,0 +1,19 @@
+-- Numbers of which some have moved.
+use Rattle.std.specs.Prelude.{◌≡◌, ℕ, ℤ, pos, ◌≤ℤ◌, Bool, cond, List, length}
+use Rattle.fill_area.specs.Density.{window_area}
+use Rattle.fill_area.specs.Grid.{Grid}
+use Rattle.fill_area.specs.Sharing.{IsWindow}
+use Rattle.fill_sums.specs.declared.moving.Way.{Way}
+use Rattle.fill_sums.specs.Numbers.{moved, number_at, window_size}
+
+-- the number of this window may move
+pub record CanMove (way : Way) (p : ℤ → ℤ → Bool) (g : Grid) (numbers : List ℤ) (a b : ℕ) : Type 0 where
+  pub least : pos 0 ≤ℤ number_at g numbers a b
+  pub most : number_at g numbers a b ≤ℤ window_size g
+  pub stays_least : pos 0 ≤ℤ moved way (number_at g numbers a b) (window_area p g a b)
+  pub stays_most : moved way (number_at g numbers a b) (window_area p g a b) ≤ℤ window_size g
+
+-- the numbers of some windows have moved, the others are as they were
+pub record IsMovedAt (done : ℕ → ℕ → Bool) (way : Way) (p : ℤ → ℤ → Bool) (g : Grid) (old new : List ℤ) : Type 0 where
+  pub count : length new ≡ length old
+  pub each : (a b : ℕ) → IsWindow g a b → number_at g new a b ≡ cond (done a b) (moved way (number_at g old a b) (window_area p g a b)) (number_at g old a b)

@@ -1,0 +1,123 @@
+//! Numbers, one for each window, that rise or fall by the area of a set.
+ghost use Rattle.std.specs.Prelude.{◌≡◌, ◌<◌, ◌≤◌, ◌*◌, ◌==◌, ◌&&◌, ℕ, ℤ, pos, true, length};
+ghost use Rattle.fill_base.specs.Squares.{squares};
+ghost use Rattle.fill_area.specs.Density.{IsArea};
+ghost use Rattle.fill_area.specs.Grid.{IsGrid};
+ghost use Rattle.fill_area.specs.Sharing.{IsWindow};
+ghost use Rattle.fill_sums.specs.Numbers.{AreNumbers, IsMoved, StaysWithin, in_range, moved};
+ghost use Rattle.fill_sums.specs.steps.Moving.{CanMove, IsMovedAt};
+ghost use Rattle.fill_sums.specs.steps.Shapes.{squares_of};
+
+use crate::shape::Shape;
+use fill_area::Windows;
+use fill_base::Rect;
+
+/// Whether numbers rise or fall.
+#[derive(Clone, Copy)]
+pub enum Way {
+    /// They rise.
+    Up,
+    /// They fall.
+    Down,
+}
+
+/// The number of a window after the area of what comes or goes.
+fn moved_by(way: Way, number: i64, area: i64) -> i64
+    requires number { IsArea number }
+    requires area { IsArea area }
+    ensures { (n : ℕ) → area ≡ pos n → result ≡ moved way number n }
+{
+    match way {
+        Way::Up => number + area,
+        Way::Down => number - area,
+    }
+}
+
+/// Moves the number of the window in column `a` and row `b`.
+fn move_window(windows: &Windows, numbers: &mut [i64], way: Way, shape: Shape<'_>, a: u32, b: u32)
+    requires grid { IsGrid windows.now }
+    requires window { IsWindow windows.now a b }
+    requires count { length numbers.old ≡ windows.now.across.count * windows.now.up.count }
+    requires moves { CanMove way (squares_of shape) windows.now numbers.old a b }
+    ensures { IsMovedAt (λ c d. (c == a) && (d == b)) way (squares_of shape.entry) windows.now numbers.old numbers.new }
+{
+    let area = shape.counted_in(windows, a, b);
+    let k = b as usize * windows.columns() as usize + a as usize;
+    numbers[k] = moved_by(way, numbers[k], area);
+}
+
+/// Moves the numbers of the windows of a row, from one column on and before another.
+fn move_row(
+    windows: &Windows,
+    numbers: &mut [i64],
+    way: Way,
+    shape: Shape<'_>,
+    left: u32,
+    right: u32,
+    b: u32,
+)
+    requires grid { IsGrid windows.now }
+    requires ordered { left ≤ right }
+    requires columns { right ≤ windows.now.across.count }
+    requires row { b < windows.now.up.count }
+    requires count { length numbers.old ≡ windows.now.across.count * windows.now.up.count }
+    requires moves { (a : ℕ) → in_range left right a ≡ true → CanMove way (squares_of shape) windows.now numbers.old a b }
+    ensures { IsMovedAt (λ c d. in_range left right c && (d == b)) way (squares_of shape.entry) windows.now numbers.old numbers.new }
+{
+    for a in left..right {
+        move_window(windows, numbers, way, shape, a, b);
+    }
+}
+
+/// Moves the numbers of the windows of some rows, between the same columns each.
+fn move_rows(
+    windows: &Windows,
+    numbers: &mut [i64],
+    way: Way,
+    shape: Shape<'_>,
+    left: u32,
+    right: u32,
+    bottom: u32,
+    top: u32,
+)
+    requires grid { IsGrid windows.now }
+    requires ordered { left ≤ right }
+    requires columns { right ≤ windows.now.across.count }
+    requires upwards { bottom ≤ top }
+    requires rows { top ≤ windows.now.up.count }
+    requires count { length numbers.old ≡ windows.now.across.count * windows.now.up.count }
+    requires moves { (a b : ℕ) → in_range left right a ≡ true → in_range bottom top b ≡ true → CanMove way (squares_of shape) windows.now numbers.old a b }
+    ensures { IsMovedAt (λ c d. in_range left right c && in_range bottom top d) way (squares_of shape.entry) windows.now numbers.old numbers.new }
+{
+    for b in bottom..top {
+        move_row(windows, numbers, way, shape, left, right, b);
+    }
+}
+
+/// Moves the number of each window by the area in it of a set of squares that lies within a rectangle: no window is visited that
+/// shares no square with the rectangle.
+pub(crate) fn move_all(
+    windows: &Windows,
+    numbers: &mut [i64],
+    way: Way,
+    shape: Shape<'_>,
+    within: &Rect,
+)
+    requires numbers { AreNumbers windows.now numbers.old }
+    requires stays { StaysWithin way (squares_of shape) windows.now numbers.old }
+    requires within { (x y : ℤ) → squares_of shape x y ≡ true → squares within.now x y ≡ true }
+    ensures moved { IsMoved way (squares_of shape.entry) windows.now numbers.old numbers.new }
+    ensures numbers { AreNumbers windows.now numbers.new }
+{
+    let (columns, rows) = windows.touching(within);
+    move_rows(
+        windows,
+        numbers,
+        way,
+        shape,
+        columns.start,
+        columns.end,
+        rows.start,
+        rows.end,
+    );
+}

@@ -1,0 +1,44 @@
+//! What comes or goes.
+ghost use Rattle.std.specs.Prelude.{◌≡◌, ◌<◌, pos, ◌+ℤ◌, ℤ};
+ghost use Rattle.fill_base.specs.Squares.{area_of};
+ghost use Rattle.fill_area.specs.Density.{window_area};
+
+use fill_area::{Windows, area_in};
+use fill_base::Rect;
+use fill_cells::shared_area;
+use fill_region::Region;
+
+/// A set of squares.
+#[derive(Clone, Copy)]
+pub(crate) enum Shape<'a> {
+    /// Those of a box.
+    Box(&'a Rect),
+    /// Those of a region.
+    Metal(&'a Region),
+}
+
+impl<'a> Shape<'a> {
+    ghost use Rattle.fill_sums.specs.steps.Shapes.{squares_of};
+
+    /// How many squares of a rectangle are in the set.
+    fn area_in(self, window: &Rect) -> i64
+        ensures { result ≡ pos (area_of (squares_of self.entry) window.now) }
+    {
+        match self {
+            Shape::Box(rect) => shared_area(rect, window),
+            Shape::Metal(region) => area_in(region, window),
+        }
+    }
+
+    /// How many squares that count of the window in column `a` and row `b` are in the set.
+    pub(crate) fn counted_in(self, windows: &Windows, a: u32, b: u32) -> i64
+        requires column { a < windows.now.across.count }
+        requires row { b < windows.now.up.count }
+        ensures { result ≡ pos (window_area (squares_of self.entry) windows.now a b) }
+    {
+        match windows.part(a, b) {
+            Some(part) => self.area_in(&part),
+            None => 0,
+        }
+    }
+}

@@ -1,0 +1,13 @@
+use Rattle.std.proofs.Common.{map, take}
+use Rattle.std.specs.List.{flat_map}
+use Rattle.std.specs.Vec.{vec_items}
+use Rattle.gds_flatten.specs.Copies.{own_copy}
+use Rattle.gds_flatten.specs.steps.Built.{own_of}
+use Rattle.gds_flatten.specs.steps.Framing.{IsFineIf, IsRight}
+use Rattle.gds_flatten.proofs.extents.own_extent.Given as goal
+
+abbrev pub invariant-runs : goal.invariant-runs
+invariant-runs l = record {
+  fine : IsFineIf l.extent;
+  right : IsRight (map own_copy (own_of (flat_map vec_items (take l.run-index l.runs)))) l.extent;
+}
