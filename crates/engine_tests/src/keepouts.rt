@@ -1,4 +1,4 @@
-//! Fills with keep-outs, and windows of which only the part in the frame counts.
+//! Fills with keep-outs.
 ghost use Rattle.std.specs.Prelude.{◌<◌, ◌≤◌};
 
 use crate::fills::{FILLED_LINES, NO_BOX, fill_of};
@@ -12,19 +12,19 @@ use std::test::Fail;
 use std::thread::Threads;
 
 /// What ends a library: the last records of its one cell and its own.
-const END: usize = 8;
+pub(crate) const END: usize = 8;
 
 /// The rules with keep-outs on layer 8.
-const KEEP: &str = "keep_layer,8\nkeep_datatype,0\n";
+pub(crate) const KEEP: &str = "keep_layer,8\nkeep_datatype,0\n";
 
 /// A shape: the length of its XY record, and its points.
-struct Outline {
-    length: u8,
-    points: &'static [(i32, i32)],
+pub(crate) struct Outline {
+    pub(crate) length: u8,
+    pub(crate) points: &'static [(i32, i32)],
 }
 
 /// A square that holds the box of the place (5, 5) alone.
-const SQUARE: &Outline = &Outline {
+pub(crate) const SQUARE: &Outline = &Outline {
     length: 44,
     points: &[(50, 50), (50, 60), (60, 60), (60, 50), (50, 50)],
 };
@@ -48,7 +48,11 @@ const FAR: &Outline = &Outline {
 };
 
 /// Appends a boundary on a layer.
-fn put_boundary(bytes: &mut Vec<u8>, layer: u8, outline: &Outline) -> Result<(), AllocError> {
+pub(crate) fn put_boundary(
+    bytes: &mut Vec<u8>,
+    layer: u8,
+    outline: &Outline,
+) -> Result<(), AllocError> {
     bytes.extend_from_slice(&[0, 4, 8, 0, 0, 6, 13, 2, 0, layer, 0, 6, 14, 2, 0, 0])?;
     bytes.extend_from_slice(&[0, outline.length, 16, 3])?;
     for (x, y) in outline.points {
@@ -59,7 +63,7 @@ fn put_boundary(bytes: &mut Vec<u8>, layer: u8, outline: &Outline) -> Result<(),
 }
 
 /// A design whose top draws these shapes, each on its layer.
-fn design_with(alloc: Global, shapes: &[(u8, &Outline)]) -> Result<Vec<u8>, AllocError> {
+pub(crate) fn design_with(alloc: Global, shapes: &[(u8, &Outline)]) -> Result<Vec<u8>, AllocError> {
     let (front, back) = EMPTY.split_at(EMPTY.len().saturating_sub(END));
     let mut bytes = Vec::from_slice(alloc, front)?;
     for (layer, outline) in shapes {
@@ -70,14 +74,14 @@ fn design_with(alloc: Global, shapes: &[(u8, &Outline)]) -> Result<Vec<u8>, Allo
 }
 
 /// The rules with other lines behind them.
-fn rules_with(alloc: Global, more: &str) -> Result<Vec<u8>, AllocError> {
+pub(crate) fn rules_with(alloc: Global, more: &str) -> Result<Vec<u8>, AllocError> {
     let mut rules = Vec::from_slice(alloc, RULES)?;
     rules.extend_from_slice(more.as_bytes())?;
     Ok(rules)
 }
 
 /// The report of a fill of a design, and how long its library is, by one worker.
-fn filled(
+pub(crate) fn filled(
     rt: &(impl Threads + Wait + Sync),
     alloc: Global,
     rules: &[u8],
@@ -89,7 +93,7 @@ fn filled(
 }
 
 /// The report of the metal of a design.
-fn checked(
+pub(crate) fn checked(
     rt: &(impl Threads + Sync),
     alloc: Global,
     rules: &[u8],
@@ -107,7 +111,7 @@ fn checked(
 }
 
 /// One box is left out: 400 squares less 16 in the four windows that hold it.
-const ONE_LEFT_OUT: &str = "0,0,0,0,50,50,0,400,400,160000,LOW
+pub(crate) const ONE_LEFT_OUT: &str = "0,0,0,0,50,50,0,400,400,160000,LOW
 1,0,25,0,75,50,0,400,400,160000,LOW
 2,0,50,0,100,50,0,400,400,160000,LOW
 0,1,0,25,50,75,0,400,400,160000,LOW
@@ -119,7 +123,7 @@ const ONE_LEFT_OUT: &str = "0,0,0,0,50,50,0,400,400,160000,LOW
 ";
 
 /// Two are.
-const TWO_LEFT_OUT: &str = "0,0,0,0,50,50,0,400,400,160000,LOW
+pub(crate) const TWO_LEFT_OUT: &str = "0,0,0,0,50,50,0,400,400,160000,LOW
 1,0,25,0,75,50,0,400,400,160000,LOW
 2,0,50,0,100,50,0,400,400,160000,LOW
 0,1,0,25,50,75,0,400,400,160000,LOW
@@ -246,97 +250,6 @@ fn rectangles_are_reported_without_keep_outs(rt: HostRuntime) -> Result<(), Fail
             texts.push(written)?;
         }
         assert!(rt; texts.get(0) == texts.get(1));
-    }
-    Ok(())
-}
-
-/// The rules with so many columns and rows of windows, another minimum, and padding as it is told.
-fn windows_rules(
-    alloc: Global,
-    count: u32,
-    min: u32,
-    padding: &str,
-) -> Result<Vec<u8>, AllocError> {
-    let mut rules = Vec::new(alloc);
-    let many = format!(in alloc; "win_nx,{count}\nwin_ny,{count}\nmin,{min}\npadding,{padding}\n")?;
-    for line in RULES.split(|byte| *byte == b'\n') {
-        let replaced = line.starts_with(b"win_nx")
-            || line.starts_with(b"win_ny")
-            || line.starts_with(b"min");
-        if !replaced {
-            rules.extend_from_slice(line)?;
-            rules.push(b'\n')?;
-        }
-    }
-    rules.extend_from_slice(many.as_bytes())?;
-    Ok(rules)
-}
-
-/// Whether the report has the line.
-fn has_line(report: &[u8], want: &str) -> bool {
-    report
-        .split(|byte| *byte == b'\n')
-        .any(|line| line == want.as_bytes())
-}
-
-/// Of windows beside the frame only the part in it counts, or all; an empty part is neither low nor high.
-#[test]
-fn padding_counts_or_is_ignored(rt: HostRuntime) -> Result<(), Fail> {
-    let alloc = rt.alloc();
-    let rules = windows_rules(alloc, 5, 300_000, "ignore")?;
-    let (_, report) = filled(&rt, alloc, &rules, EMPTY, b"")?;
-    for line in [
-        "3,0,75,0,125,50,0,200,200,160000,LOW",
-        "3,3,75,75,125,125,0,100,100,160000,LOW",
-        "4,0,100,0,150,50,0,0,0,0,OK",
-    ] {
-        assert!(rt; has_line(&report, line), "{line}");
-    }
-    let rules = windows_rules(alloc, 5, 300_000, "zero")?;
-    let (_, report) = filled(&rt, alloc, &rules, EMPTY, b"")?;
-    for line in [
-        "3,0,75,0,125,50,0,200,200,80000,LOW",
-        "3,3,75,75,125,125,0,100,100,40000,LOW",
-        "4,0,100,0,150,50,0,0,0,0,LOW",
-    ] {
-        assert!(rt; has_line(&report, line), "{line}");
-    }
-    Ok(())
-}
-
-/// By its part in the frame each window has its sixteenth of boxes.
-#[test]
-fn each_part_may_reach_the_minimum(rt: HostRuntime) -> Result<(), Fail> {
-    let alloc = rt.alloc();
-    let rules = windows_rules(alloc, 4, 160_000, "ignore")?;
-    let (_, report) = filled(&rt, alloc, &rules, EMPTY, b"")?;
-    let lines = report.split(|byte| *byte == b'\n');
-    assert_eq!(rt;
-        lines.filter(|line| line.ends_with(b"160000,OK")).count(),
-        16
-    );
-    Ok(())
-}
-
-/// Metal beside the frame counts only where padding does.
-#[test]
-fn metal_beside_the_frame_counts_with_padding(rt: HostRuntime) -> Result<(), Fail> {
-    let alloc = rt.alloc();
-    for (padding, want) in [
-        ("ignore", "3,0,75,0,125,50,500,0,500,400000,OK"),
-        ("zero", "3,0,75,0,125,50,1500,0,1500,600000,OK"),
-    ] {
-        let rules = windows_rules(alloc, 4, 300_000, padding)?;
-        let mut written = Vec::new(alloc);
-        let done = rects(
-            &rt,
-            alloc,
-            &mut Tap::new(rules.as_slice()),
-            &mut Tap::new(b"add,90,0,120,50\n".as_slice()),
-            &mut Tap::new(&mut written),
-        );
-        assert_eq!(rt; done, Ok(()));
-        assert!(rt; has_line(&written, want));
     }
     Ok(())
 }

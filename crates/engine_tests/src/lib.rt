@@ -4,6 +4,8 @@
 #[cfg(test)]
 mod devices;
 #[cfg(test)]
+mod drawings;
+#[cfg(test)]
 mod fills;
 #[cfg(test)]
 mod inputs;
@@ -13,5 +15,7 @@ mod keepouts;
 mod line;
 #[cfg(test)]
 mod metal;
+#[cfg(test)]
+mod padding;
 #[cfg(test)]
 mod reports;
