@@ -4,22 +4,46 @@
 usage: plans.py LAYER FOLDER        writes FOLDER/SPACING-ACROSS.csv for spacings of no and of twenty tracks, and for 32 by 32
                                     and 130 by 130 windows that overlap by half
 
-The raster is that of bench/job, in tiles of 64 by 64 places.
+The raster has 1,000 by 1,000 boxes of 400 units over the layer, in tiles of 64 by 64 places.
 """
-import os
+import array
 import sys
+from pathlib import Path
 
-sys.dont_write_bytecode = True
-sys.path.insert(0, os.path.join(os.path.dirname(os.path.abspath(__file__)), "..", "job"))
-from rules import TRACK, rules, side_of, write
+TRACK = 100         # from one track of the layer to the next
+LONGEST = 1 << 20   # the greatest step and size
 
 
-def main():
-    layer, folder = sys.argv[1:]
-    side = side_of(layer)
+def side_of(layer: Path) -> int:
+    """The greatest right edge of a layer's rectangles."""
+    edges = array.array("i")
+    edges.frombytes(layer.read_bytes())
+    if sys.byteorder == "big":
+        edges.byteswap()
+    return max(edges[2::4])
+
+
+def rules(side: int, spacing: int, across: int) -> dict[str, int | str]:
+    """The rules of a layer `side` wide, with `across` by `across` windows."""
+    step, window = side // 1000, min(side // across, LONGEST // 2)
+    return {
+        "frame_x1": 0, "frame_y1": 0, "frame_x2": 1000 * step, "frame_y2": 1000 * step,
+        "box_w": 400, "box_h": 400, "step_x": step, "step_y": step, "origin_x": 0, "origin_y": 0,
+        "spacing": spacing, "fill_spacing": 100, "tile_nx": 64, "tile_ny": 64,
+        "win_w": 2 * window, "win_h": 2 * window, "win_step_x": window, "win_step_y": window,
+        "win_x": 0, "win_y": 0, "win_nx": across, "win_ny": across, "min": 500000, "max": 1000000,
+        "layer": 31, "datatype": 0, "fill_layer": 131, "fill_datatype": 0,
+        "top": "TOP", "fill_lib": "FILL", "fill_cell": "BOX", "fill_top": "FILLTOP",
+    }
+
+
+def main(layer: str, folder: str) -> None:
+    side = side_of(Path(layer))
     for spacing in (0, 20 * TRACK):
         for across in (32, 130):
-            write(os.path.join(folder, f"{spacing}-{across}.csv"), rules(side, spacing, 64, across))
+            lines = (f"{key},{value}\n" for key, value in rules(side, spacing, across).items())
+            (Path(folder) / f"{spacing}-{across}.csv").write_text("".join(lines))
 
 
-main()
+if __name__ == "__main__":
+    main(sys.argv[1], sys.argv[2])
