@@ -18,6 +18,7 @@ use crate::refusal::{DesignError, InputFault};
 use fill_base::Rect;
 use fill_device::{InputError, Tap, read_input};
 use fill_region::Region;
+use fill_strips::region_of_rects;
 use fill_text::{Edit, RuleError, Rules, ScriptError, read_rules, read_script};
 use gds_flatten::laws::layers_suffice;
 use gds_flatten::{FlattenError, flatten_parts};
@@ -110,16 +111,20 @@ fn region_on(
     ensures refused { IfErr result (λ e. IsRefused (contents_of library.now).cells (values_of rules.now).top layer.layer layer.data_type e) }
 {
     let lists = drawn_on(rt, alloc, library, rules, layer)?;
-    let region = region_of(alloc, &lists)?;
+    let region = region_of(rt, alloc, &lists)?;
     Ok(region)
 }
 
 /// The region of the squares that some rectangle of some list holds.
-fn region_of(alloc: Global, lists: &[Vec<Rect>]) -> Result<Region, AllocError>
+fn region_of(
+    rt: &(impl Threads + Sync),
+    alloc: Global,
+    lists: &[Vec<Rect>],
+) -> Result<Region, AllocError>
     ensures { IfOk result (λ r. covered (flat_map vec_items lists.now) ≡ holds r) }
 {
     let rects = lists.concat(alloc)?;
-    Region::from_rects(alloc, &rects)
+    region_of_rects(rt, alloc, &rects)
 }
 
 /// What the library's top draws on the layer of the keep-outs, if there is one: no square without.
