@@ -11,6 +11,8 @@ mod large;
 #[cfg(test)]
 mod layers;
 #[cfg(test)]
+mod names;
+#[cfg(test)]
 mod placements;
 #[cfg(test)]
 mod random;

@@ -118,7 +118,7 @@ fn wrong_frames(alloc: Global, dice: &mut Dice, frames: u32) -> Result<u32, Fail
 fn frames_of_random_designs(rt: HostRuntime) -> Result<(), Fail> {
     let mut dice = Dice { state: 1 };
     for _ in 0..12u32 {
-        assert_eq!(rt; wrong_frames(rt.alloc(), &mut dice, 25)?, 0);
+        assert_eq!(rt; wrong_frames(rt.alloc(), &mut dice, 200)?, 0);
     }
     Ok(())
 }

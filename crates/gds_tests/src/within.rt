@@ -237,3 +237,46 @@ fn part_of_too_many(rt: HostRuntime) -> Result<(), Fail> {
     assert_eq!(rt; rects.len(), 10);
     Ok(())
 }
+
+/// A boundary that covers nothing: a line, which a frame meets that goes on at both of its sides.
+const LINE: &[(i32, i32)] = &[(0, 0), (1, 0), (0, 0), (0, 0)];
+
+/// 4,000,001 lines: a frame that meets all of them is refused, one that meets all but one is not. Copies of a line are counted, and
+/// give no rectangles.
+#[test]
+fn parts_that_meet_too_many(rt: HostRuntime) -> Result<(), Fail> {
+    let alloc = rt.alloc();
+    let top = [
+        Draft::Array(1, (2000, 2000), &[(0, 0), (20_000, 0), (0, 20_000)]),
+        Draft::Ref(1, (0, -10)),
+    ];
+    let line = [Draft::Boundary(METAL, LINE)];
+    let bytes = design(alloc, &[(0, &top), (1, &line)])?;
+    let library = read_library(alloc, &bytes)?;
+    let all = Rect::new(-5, -15, 20_000, 20_000)?;
+    let refused = flatten_within(alloc, &library, &name_of(0), METAL, 0, &all).err();
+    assert_eq!(rt; refused, Some(FlattenError::TooManyShapes));
+    let most = Rect::new(-5, -5, 20_000, 20_000)?;
+    let rects = flatten_within(alloc, &library, &name_of(0), METAL, 0, &most)?;
+    assert_eq!(rt; rects.len(), 0);
+    Ok(())
+}
+
+/// A cell of a line and 20,000 references to cells that draw nothing, of which one has a path without a width: placed 4,000,000 times, they
+/// are not passed over in each copy.
+#[test]
+fn parts_with_idle_references(rt: HostRuntime) -> Result<(), Fail> {
+    let alloc = rt.alloc();
+    let top = [Draft::Array(1, (2000, 2000), &[(0, 0), (20_000, 0), (0, 20_000)])];
+    let mut middle = Vec::from_elem(alloc, Draft::Ref(2, (0, 0)), 20_000)?;
+    middle.push(Draft::Boundary(METAL, LINE))?;
+    middle.push(Draft::Ref(3, (0, 0)))?;
+    let thin = [Draft::Thin(SQUARE)];
+    let cells: [(u16, &[Draft<'_>]); 4] = [(0, &top), (1, &middle), (2, &[]), (3, &thin)];
+    let bytes = design(alloc, &cells)?;
+    let library = read_library(alloc, &bytes)?;
+    let frame = Rect::new(-5, -5, 20_000, 20_000)?;
+    let rects = flatten_within(alloc, &library, &name_of(0), METAL, 0, &frame)?;
+    assert_eq!(rt; rects.len(), 0);
+    Ok(())
+}
