@@ -4,6 +4,7 @@ use Rattle.std.specs.Global.{Vec}
 use Rattle.fill_base.specs.declared.place.Point.{Point}
 use Rattle.gds_grammar.specs.Points.{points_of}
 use Rattle.gds_grammar.specs.declared.element.Path as paths
+use Rattle.gds_grammar.specs.declared.element.Ref as references
 use Rattle.gds_grammar.specs.declared.element.points.Points.{Points}
 use Rattle.gds_grammar.specs.declared.element.Transform.{Transform}
 use Rattle.gds_grammar.specs.declared.element.Element.{Element}
@@ -45,10 +46,16 @@ wire_of p = record {
   points = points_in p.points;
 }
 
+abbrev pub shape_of_path : paths.Path → Shape
+shape_of_path p = path p.layer p.data_type (wire_of p)
+
+abbrev pub shape_of_reference : references.Ref → Shape
+shape_of_reference r = reference r.cell.now r.transform r.origin
+
 abbrev pub shape_of : Element → Shape
 shape_of (elements.Boundary b) = boundary b.layer b.data_type (points_in b.points)
-shape_of (elements.Path p) = path p.layer p.data_type (wire_of p)
-shape_of (elements.Ref r) = reference r.cell.now r.transform r.origin
+shape_of (elements.Path p) = shape_of_path p.value
+shape_of (elements.Ref r) = shape_of_reference r.value
 shape_of (elements.Array a) =
     array a.value.cell.now a.value.transform a.value.columns a.value.rows a.value.points
 

@@ -91,12 +91,12 @@ pub struct Array<'a> {
 pub enum Element<'a> {
     /// A filled polygon.
     Boundary(Boundary<'a>),
-    /// A wire along a chain of points.
-    Path(Path<'a>),
+    /// A wire along a chain of points, boxed, as references and arrays are, so that boundaries, of which
+    /// there are more, take less memory.
+    Path(Box<Path<'a>>),
     /// A reference to a cell.
-    Ref(Ref<'a>),
-    /// An array of references to a cell, boxed so that the other elements, of which there are more, take
-    /// less memory.
+    Ref(Box<Ref<'a>>),
+    /// An array of references to a cell.
     Array(Box<Array<'a>>),
 }
 

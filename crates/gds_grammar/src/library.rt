@@ -5,7 +5,7 @@ ghost use Rattle.gds_grammar.specs.Values.{cell_of, shape_of, Contents, contents
 ghost use Rattle.gds_grammar.specs.Layers.{kept, of_layers};
 ghost use Rattle.gds_grammar.specs.Grammar.{has_name};
 ghost use Rattle.gds_grammar.specs.Machine.{Start, Between, Opened, Done};
-ghost use Rattle.gds_grammar.specs.steps.Reading.{Reaches, Fails, after_cell, left_of, error_of};
+ghost use Rattle.gds_grammar.specs.steps.Reading.{Fails, after_cell, left_of, error_of};
 ghost use Rattle.gds_grammar.specs.steps.Keeping.{keeps, Leads};
 ghost use Rattle.gds_grammar.specs.Outcomes.{Spells, IsFault, IsRefused};
 

@@ -204,15 +204,21 @@ fn boundary_if<'a>(wanted: Wanted<'_>, before: &[Record<'a>], xy: &'a [u8]) -> O
 }
 
 /// The path with these records before its points, if it is kept.
-fn path_if<'a>(wanted: Wanted<'_>, before: &[Record<'a>], xy: &'a [u8]) -> Option<Element<'a>>
+fn path_if<'a>(
+    alloc: Global,
+    wanted: Wanted<'_>,
+    before: &[Record<'a>],
+    xy: &'a [u8],
+) -> Result<Option<Element<'a>>, AllocError>
     requires well { AllByRecursion IsWell (map view before.now) }
     requires body { IsBody ElementKind.Path (map view before.now) xy.now }
-    ensures { shapes_of result ≡ kept_shapes (keeps wanted.entry) (shapes_in ElementKind.Path (map view before.now) xy.now) }
+    ensures { IfOk result (λ e. shapes_of e ≡ kept_shapes (keeps wanted.entry) (shapes_in ElementKind.Path (map view before.now) xy.now)) }
 {
     if !is_kept(wanted, before) {
-        return None;
+        return Ok(None);
     }
-    Some(Element::Path(path_of(before, xy)))
+    let path = path_of(before, xy);
+    Ok(Some(Element::Path(Box::new(alloc, path)?)))
 }
 
 /// The element with these records before its points, if it is kept. Texts, nodes and boxes are none.
@@ -229,8 +235,11 @@ pub fn element_of<'a>(
 {
     match element {
         ElementKind::Boundary => Ok(boundary_if(wanted, before, xy)),
-        ElementKind::Path => Ok(path_if(wanted, before, xy)),
-        ElementKind::Reference => Ok(Some(Element::Ref(ref_of(before, xy)))),
+        ElementKind::Path => path_if(alloc, wanted, before, xy),
+        ElementKind::Reference => {
+            let reference = ref_of(before, xy);
+            Ok(Some(Element::Ref(Box::new(alloc, reference)?)))
+        }
         ElementKind::Array => {
             let array = array_element_of(before, xy);
             Ok(Some(Element::Array(Box::new(alloc, array)?)))
