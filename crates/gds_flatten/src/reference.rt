@@ -5,7 +5,7 @@
 ghost use Rattle.std.specs.Prelude.{◌≡◌, ◌*◌, ◌≤◌, ◌<◌, ◌-ℤ◌, pos, true, false, None, Some, IfOk, IfErr, IfSome, IfNone, unsigned_abs};
 ghost use Rattle.std.specs.Int.{int_div_euclid};
 ghost use Rattle.gds_record.specs.Numbers.{IsStored};
-ghost use Rattle.gds_grammar.specs.Values.{shape_of};
+ghost use Rattle.gds_grammar.specs.Values.{shape_of_reference};
 ghost use Rattle.gds_flatten.specs.References.{turns_in, is_magnified, is_reflected, has_absolute_angle, is_bad_transform, placement_of, is_count, is_whole, has_steps, step_of, array_placements, array_fault, placements_of, reference_fault};
 ghost use Rattle.gds_flatten.specs.Links.{stepped, single, singles};
 ghost use Rattle.gds_flatten.specs.steps.Ranges.{IsWithin};
@@ -14,7 +14,7 @@ use crate::error::FlattenError;
 use crate::link::Link;
 use crate::placement::Placement;
 use fill_base::Point;
-use gds_grammar::{Array, Element, Ref, Transform};
+use gds_grammar::{Array, Ref, Transform};
 use gds_record::{quarter_turns, unit_mag};
 
 /// A number, and so many steps of two kinds behind it.
@@ -108,9 +108,9 @@ const NO_STEP: Point = Point { x: 0, y: 0 };
 /// # Errors
 /// `BadTransform` where the angle is absolute or no quarter turns, or the magnification isn't 1.
 pub fn reference_link(cell: usize, reference: &Ref<'_>) -> Result<Link, FlattenError>
-    ensures ok { IfOk result (λ l. (reference_fault (shape_of (Element.Ref reference.now)) ≡ None) × (l.cell ≡ cell)
-        × (singles l ≡ placements_of (shape_of (Element.Ref reference.now)))) }
-    ensures refused { IfErr result (λ e. reference_fault (shape_of (Element.Ref reference.now)) ≡ Some e) }
+    ensures ok { IfOk result (λ l. (reference_fault (shape_of_reference reference.now) ≡ None) × (l.cell ≡ cell)
+        × (singles l ≡ placements_of (shape_of_reference reference.now))) }
+    ensures refused { IfErr result (λ e. reference_fault (shape_of_reference reference.now) ≡ Some e) }
 {
     let placement = placement_of(&reference.transform, reference.origin)?;
     Ok(Link {

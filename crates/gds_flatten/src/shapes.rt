@@ -5,7 +5,7 @@ ghost use Rattle.fill_base.specs.Squares.{squares};
 ghost use Rattle.fill_region.specs.Squares.{covered};
 ghost use Rattle.gds_shape.specs.Paths.{AreInRange};
 ghost use Rattle.gds_shape.specs.Extents.{IsNear};
-ghost use Rattle.gds_grammar.specs.Values.{shape_of};
+ghost use Rattle.gds_grammar.specs.Values.{shape_of, shape_of_path};
 ghost use Rattle.gds_flatten.specs.Placements.{carried, carried_bounds, composed};
 ghost use Rattle.gds_flatten.specs.Shapes.{is_shape, covers_of, shape_fault, refusal_of, StaysInRange};
 ghost use Rattle.gds_flatten.specs.steps.Prepared.{edges_of, way_back};
@@ -81,7 +81,7 @@ fn path_shape<'a, 'b>(
     element: &'a Element<'b>,
     path: &Path<'_>,
 ) -> Result<Shape<'a, 'b>, FlattenError>
-    requires is { element.now ≡ Element.Path path.now }
+    requires is { shape_of element.now ≡ shape_of_path path.now }
     requires empty { rects.old.items ≡ [] }
     ensures empty { IfOk result (λ s. rects.new.items ≡ []) }
     ensures fine { IfOk result (λ s. shape_fault (shape_of element.now) ≡ None) }
