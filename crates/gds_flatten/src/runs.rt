@@ -1,7 +1,7 @@
 //! Runs of a cell's elements: their shapes filled and their references resolved.
 
 ghost use Rattle.std.specs.Prelude.{◌≡◌, ◌⊎◌, ℕ, List, [], ◌∷◌, ◌++◌, length, None, Some, true, is_some, IfOk, IfErr, IfSome, IfNone, OnOk, map};
-ghost use Rattle.gds_grammar.specs.Values.{cell_of, shape_of, Shape};
+ghost use Rattle.gds_grammar.specs.Values.{shape_of, Shape};
 ghost use Rattle.gds_flatten.specs.Designs.{Entry, index_of, targets, element_fault, AreFine};
 ghost use Rattle.gds_flatten.specs.Links.{singles};
 ghost use Rattle.gds_flatten.specs.References.{placements_of, name_of, reference_fault};
