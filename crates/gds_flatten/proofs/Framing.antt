@@ -11,7 +11,7 @@ use Rattle.gds_flatten.specs.Flattening.{HasTop, IsSound, copies_of, IsCountable
 use Rattle.gds_flatten.specs.steps.Searches.{State, IsOrdered}
 use Rattle.gds_flatten.specs.steps.Surveys.{IsSurveyed}
 use Rattle.gds_flatten.specs.steps.Built.{AreBuilt}
-use Rattle.gds_flatten.specs.steps.Counting.{IsTied, IsCount, AreCounted}
+use Rattle.gds_flatten.specs.steps.Counting.{IsTied}
 use Rattle.gds_flatten.specs.steps.Framing.{IsDrawnOn, IsFound, IsRefusalOn, AreHeld, IsTight, IsExtentOf, extent_at}
 use Rattle.gds_flatten.specs.steps.Walks.{hierarchy}
 use Rattle.gds_flatten.specs.declared.found.Found.{Found}
@@ -20,8 +20,8 @@ use Rattle.fill_base.specs.Squares.{squares}
 use Rattle.fill_region.specs.Squares.{covered}
 use Rattle.gds_flatten.specs.declared.error.FlattenError.{FlattenError}
 use Rattle.gds_flatten.specs.declared.error.FlattenError.TheVariants.{Memory, NoTop, MissingCell, Cycle, TooDeep, BadTransform, BadArray, NotManhattan, RoundEnd, OddWidth, DoublesBack, BadExtension, TooManyShapes, OutOfRange}
-use Rattle.gds_flatten.proofs.Agreeing.{agree, tied, shallow, top_held, top_tight, top_counted}
-use Rattle.gds_flatten.proofs.Flattened.{sound, long, counts_right}
+use Rattle.gds_flatten.proofs.Agreeing.{agree, tied, shallow, top_held, top_tight}
+use Rattle.gds_flatten.proofs.Flattened.{sound, long}
 
 pub record IsFramed (entries : List Entry) (top : List ℕ) (layer data_type t : ℕ) (cells : List Cell) (extents : List (Option Bounds)) : Type 0 where
   pub sound : IsSound entries top
@@ -61,18 +61,6 @@ framed_told entries top layer data_type t s cells xs steps ys extents has at sur
         (subst (λ zs. (g : Graph) → IsOrdered g ys → ((q : ℕ) → q < length ys → IsTied g zs (item ys q))
         → (q : ℕ) → q < length ys → IsExtentOf g zs (item ys q) (extent_at extents (item ys q))) same right)
         (graph_of entries) surveyed.ordered (tied entries layer data_type (index_of entries top) s surveyed cells built)
-
-pub counted_told : (entries : List Entry) (top : List ℕ) (layer data_type t : ℕ) (s : State) (cells xs : List Cell) (steps ys counts : List ℕ)
-    → t ≡ index_of entries top → IsSurveyed (graph_of entries) (index_of entries top) s
-    → steps ≡ s.steps → AreBuilt entries layer data_type steps (length entries) cells → xs ≡ cells → ys ≡ s.order
-    → ((g : Graph) → IsOrdered g ys → ((q : ℕ) → q < length ys → IsTied g xs (item ys q))
-    → (q : ℕ) → q < length ys → IsCount g xs (item ys q) (item counts (item ys q)))
-    → AreCounted cells counts 256 t
-counted_told entries top layer data_type t s cells xs steps ys counts at surveyed same_steps made same order right =
-    let built = subst (λ zs. AreBuilt entries layer data_type zs (length entries) cells) same_steps made in
-    subst (λ i. AreCounted cells counts 256 i) (sym at)
-    (top_counted entries layer data_type (index_of entries top) s surveyed cells built counts
-    (counts_right entries layer data_type (index_of entries top) s surveyed cells built xs ys counts same order right) (index_of entries top) (0, refl))
 
 -- chains are too short for an extent that is too far
 pub far_told : (entries : List Entry) (top : List ℕ) (layer data_type : ℕ) (s : State) (cells xs : List Cell) (steps ys : List ℕ) (e : FlattenError)

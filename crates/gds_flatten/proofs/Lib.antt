@@ -15,6 +15,7 @@ pub mod Beside
 pub mod Missed
 pub mod Inside
 pub mod Busy
+pub mod Sparse
 pub mod Turns
 pub mod Arrays
 pub mod Wholes

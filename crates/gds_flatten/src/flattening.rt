@@ -11,6 +11,7 @@ ghost use Rattle.gds_flatten.specs.Designs.{index_of, AllFine};
 ghost use Rattle.gds_flatten.specs.Flattening.{HasTop, copies_of, IsSound, IsCountable, IsCountableOn, IsRefused, IsRefusedOn};
 ghost use Rattle.gds_flatten.specs.steps.Counting.{AreCounted};
 ghost use Rattle.gds_flatten.specs.steps.Framing.{IsFineIf, IsTight, AreHeld, extent_at};
+ghost use Rattle.gds_flatten.specs.steps.Idle.{AreBut};
 ghost use Rattle.gds_flatten.specs.steps.Walks.{top_copies};
 ghost use Rattle.fill_base.specs.Squares.{squares};
 
@@ -24,7 +25,7 @@ use crate::extents::extents_of;
 use crate::found::Found;
 use crate::framed::{carry_cell_on, clipped, extent_at};
 use crate::graph::{graph_of, index_of};
-use crate::idle::drop_idle;
+use crate::idle::drop_unseen;
 use crate::placement::Placement;
 use crate::search::number_at;
 use crate::survey::survey;
@@ -119,39 +120,34 @@ struct Framed<'a, 'b> {
     cells: Vec<Cell<'a, 'b>>,
     /// How far what each cell draws goes.
     extents: Vec<Option<Bounds>>,
-    /// How many copies each cell draws, at most 4,000,001.
-    counts: Vec<usize>,
     /// The index of the top.
     top: usize,
 }
 
 impl Framed<'_, '_> {
-    /// The cells without the links to cells that draw nothing, which the walk would pass over copy by copy.
-    fn without_idle(self) -> Self
-        requires counted { AreCounted self.cells.items self.counts.items 256 self.top }
-        requires held { AreHeld self.cells.items self.extents.items 256 self.top }
+    /// The cells without the links to cells that have no extent, which the walk would pass over copy by copy.
+    fn without_unseen(self) -> Self
+        requires { AreHeld self.cells.items self.extents.items 256 self.top }
         ensures held { AreHeld result.cells.items result.extents.items 256 result.top }
-        ensures same { top_copies result.cells.items result.top ≡ top_copies self.entry.cells.items self.entry.top }
+        ensures but { AreBut (top_copies result.cells.items result.top) (top_copies self.entry.cells.items self.entry.top) }
         ensures extents { result.extents.items ≡ self.entry.extents.items }
         ensures top { result.top ≡ self.entry.top }
     {
         let Framed {
             mut cells,
             extents,
-            counts,
             top,
         } = self;
-        drop_idle(&mut cells, &counts);
+        drop_unseen(&mut cells, &extents);
         Framed {
             cells,
             extents,
-            counts,
             top,
         }
     }
 }
 
-/// The cells of the top on the layer, with their extents and counts.
+/// The cells of the top on the layer, with their extents.
 fn extended_of<'a, 'b>(
     alloc: Global,
     library: &'a Library<'b>,
@@ -164,7 +160,6 @@ fn extended_of<'a, 'b>(
     ensures extents { IfOk result (λ d. All IsFineIf d.extents.items) }
     ensures held { IfOk result (λ d. AreHeld d.cells.items d.extents.items 256 d.top) }
     ensures tight { IfOk result (λ d. IsTight (top_copies d.cells.items d.top) (extent_at d.extents.items d.top)) }
-    ensures counted { IfOk result (λ d. AreCounted d.cells.items d.counts.items 256 d.top) }
     ensures same { IfOk result (λ d. top_copies d.cells.items d.top
         ≡ copies_of (contents_of library.now).cells top.now layer data_type) }
     ensures refused { IfErr result (λ e. (frame : Rect) → IsRefusedOn (contents_of library.now).cells top.now layer data_type frame e) }
@@ -175,16 +170,14 @@ fn extended_of<'a, 'b>(
     let found = survey(alloc, &graph, top)?;
     let built = cells_of(&Alone, alloc, cells, &graph, &found.steps, layer, data_type)?;
     let extents = extents_of(alloc, &built, &found.order)?;
-    let counts = counts_of(alloc, &built, &found.order)?;
     Ok(Framed {
         cells: built,
         extents,
-        counts,
         top,
     })
 }
 
-/// The same, without links to cells that draw nothing.
+/// The same, without links to cells that have no extent, and so without copies whose shapes have no parts.
 fn framed_of<'a, 'b>(
     alloc: Global,
     library: &'a Library<'b>,
@@ -196,13 +189,13 @@ fn framed_of<'a, 'b>(
     ensures fine { IfOk result (λ d. AllFine (contents_of library.now).cells (index_of (contents_of library.now).cells top.now) layer data_type) }
     ensures extents { IfOk result (λ d. All IsFineIf d.extents.items) }
     ensures held { IfOk result (λ d. AreHeld d.cells.items d.extents.items 256 d.top) }
-    ensures tight { IfOk result (λ d. IsTight (top_copies d.cells.items d.top) (extent_at d.extents.items d.top)) }
-    ensures same { IfOk result (λ d. top_copies d.cells.items d.top
-        ≡ copies_of (contents_of library.now).cells top.now layer data_type) }
+    ensures tight { IfOk result (λ d. IsTight (copies_of (contents_of library.now).cells top.now layer data_type) (extent_at d.extents.items d.top)) }
+    ensures but { IfOk result (λ d. AreBut (top_copies d.cells.items d.top)
+        (copies_of (contents_of library.now).cells top.now layer data_type)) }
     ensures refused { IfErr result (λ e. (frame : Rect) → IsRefusedOn (contents_of library.now).cells top.now layer data_type frame e) }
 {
     let framed = extended_of(alloc, library, top, layer, data_type)?;
-    Ok(framed.without_idle())
+    Ok(framed.without_unseen())
 }
 
 /// Whether the extent lies within the coordinates.

@@ -8,7 +8,7 @@ use Rattle.gds_flatten.specs.steps.Rows.{rows, state_of}
 use Rattle.gds_flatten.specs.steps.Surveys.{IsUnsound}
 use Rattle.gds_flatten.proofs.Agreeing.{whole}
 use Rattle.gds_flatten.proofs.Flattened.{unsound_told, told_surveyed, fault_refused, fault_early}
-use Rattle.gds_flatten.proofs.Framing.{counted_told, framed_told, far_told, told_on}
+use Rattle.gds_flatten.proofs.Framing.{framed_told, far_told, told_on}
 use Rattle.gds_flatten.proofs.flattening.extended_of.Goals as goal
 
 pub survey-requires-clause-whole : goal.survey-requires-clause-whole
@@ -100,12 +100,3 @@ returns-in_err-extents-clause-refused c =
     rw (p.1, p.2) (far_told (map cell_of c.args.library.now.cells.entries) c.args.top.now c.args.layer c.args.data_type (state_of c.in_ok-found.found) c.in_ok-built.built.items c.deref-4.result.now
     c.deref-3.result.now c.deref-5.result.now c.in_err-extents.field-0.0 c.in_ok-top.ensures.found.0 surveyed c.deref-3.ensures.value c.in_ok-built.ensures.built c.deref-4.ensures.value
     c.deref-5.ensures.value c.in_err-extents.ensures.refused)
-
-pub returns-clause-counted : goal.returns-clause-counted
-returns-clause-counted c =
-    let at = c.in_ok-top.ensures.found.1 in
-    let is = ap rows c.deref.ensures.value ∙ c.in_ok-graph.ensures in
-    let surveyed = told_surveyed (map cell_of c.args.library.now.cells.entries) c.args.top.now c.in_ok-top.top (rows c.deref.result.now) (state_of c.in_ok-found.found) at is c.in_ok-found.ensures.surveyed in
-    counted_told (map cell_of c.args.library.now.cells.entries) c.args.top.now c.args.layer c.args.data_type c.in_ok-top.top (state_of c.in_ok-found.found) c.in_ok-built.built.items c.deref-6.result.now
-    c.deref-3.result.now c.deref-7.result.now c.in_ok-counts.counts.items at surveyed c.deref-3.ensures.value c.in_ok-built.ensures.built c.deref-6.ensures.value
-    c.deref-7.ensures.value c.in_ok-counts.ensures.right
