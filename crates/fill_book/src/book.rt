@@ -14,7 +14,6 @@ use crate::areas::Totals;
 use crate::stored::{Stored, answer};
 use fill_base::Place;
 use fill_core::{BookError, Books, Entry, Event, FillBook, History, Pass, Reply};
-use fill_job::laws::rules_make_a_plan;
 use fill_job::{Job, Piece, Proposal, SharedRules};
 use fill_measure::measure_region;
 use fill_raster::Marks;
@@ -36,8 +35,7 @@ pub type Book<C, P, W> = BookOf<Sums, C, P, W>;
 #[derive(Drop)]
 pub struct BookOf<T: Totals, C: Ledger, P: Ledger, W: Ledger> {
     books: Books<C, P, W>,
-    rules: Rules,
-    shared: SharedRules,
+    rules: SharedRules,
     opening: Piece,
     opening_keep: Piece,
     stored: Stored,
@@ -49,9 +47,9 @@ pub struct BookOf<T: Totals, C: Ledger, P: Ledger, W: Ledger> {
 impl<T: Totals, C: Ledger, P: Ledger, W: Ledger> Model for BookOf<T, C, P, W> {
     ghost Value = { Account };
 
-    ghost view = { λ b. record { rules = values_of b.rules; opening = b.opening; keep = b.opening_keep; history = entries_of b.history; most = b.most } };
+    ghost view = { λ b. record { rules = b.rules; opening = b.opening; keep = b.opening_keep; history = entries_of b.history; most = b.most } };
 
-    ghost invariant = { λ b. (Keeps (record { rules = values_of b.rules; opening = b.opening; keep = b.opening_keep; history = entries_of b.history; most = b.most }) b.books b.stored) × T.stand_for b.totals (windows_of (values_of b.rules)) (holds b.stored.metal) (squares_in b.stored) × (b.shared ≡ values_of b.rules) };
+    ghost invariant = { λ b. (Keeps (record { rules = b.rules; opening = b.opening; keep = b.opening_keep; history = entries_of b.history; most = b.most }) b.books b.stored) × T.stand_for b.totals (windows_of b.rules) (holds b.stored.metal) (squares_in b.stored) };
 }
 
 impl<T: Totals, C: Ledger, P: Ledger, W: Ledger> BookOf<T, C, P, W> {
@@ -78,11 +76,11 @@ impl<T: Totals, C: Ledger, P: Ledger, W: Ledger> BookOf<T, C, P, W> {
         ensures book { IfOk result (λ r. r.0 ≡ record { rules = values_of rules; opening = metal; keep = keep; history = []; most = max_events }) }
         ensures pass { IfOk result (λ r. r.1 ≡ nothing_with 1024) }
     {
-        rules_make_a_plan(&rules);
+        let rules = SharedRules::new(alloc, rules)?;
+        rules.make_a_plan();
         let windows = rules.windows();
         let opening = Piece::new(alloc, metal.copy(alloc)?)?;
         let opening_keep = Piece::new(alloc, keep.copy(alloc)?)?;
-        let shared = SharedRules::new(alloc, rules.copy(alloc)?)?;
         let areas = measure_region(rt, alloc, &metal, &windows)?;
         let stored = Stored::open(alloc, metal, keep, &rules, &areas)?;
         let totals = T::of(alloc, &stored.metal, &windows, areas)?;
@@ -90,7 +88,6 @@ impl<T: Totals, C: Ledger, P: Ledger, W: Ledger> BookOf<T, C, P, W> {
         let book = BookOf {
             books,
             rules,
-            shared,
             opening,
             opening_keep,
             stored,
@@ -125,7 +122,7 @@ impl<T: Totals, C: Ledger + Send + Sync, P: Ledger + Send + Sync, W: Ledger + Se
 
     fn job(&self, alloc: Global, tile: u32) -> Result<Job, AllocError> {
         let stored = &self.stored;
-        let rules = self.shared.share()?;
+        let rules = self.rules.share()?;
         let metal = stored.pieces[tile as usize].share()?;
         let keep = stored.keep_pieces[tile as usize].share()?;
         Job::new(alloc, stored.version, tile, rules, metal, keep, &stored.low)
@@ -215,7 +212,7 @@ impl<T: Totals, C: Ledger + Send + Sync, P: Ledger + Send + Sync, W: Ledger + Se
     }
 
     fn rules(&self) -> &Rules {
-        &self.rules
+        self.rules.rules()
     }
 
     fn opening(&self) -> &Region {
@@ -227,7 +224,7 @@ impl<T: Totals, C: Ledger + Send + Sync, P: Ledger + Send + Sync, W: Ledger + Se
     }
 
     fn share_rules(&self) -> Result<SharedRules, AllocError> {
-        self.shared.share()
+        self.rules.share()
     }
 
     fn share_opening(&self) -> Result<(Piece, Piece), AllocError> {

@@ -4,15 +4,14 @@ ghost use Rattle.fill_base.specs.Coordinates.{IsInRange};
 ghost use Rattle.fill_base.specs.Limits.{IsSpacing};
 ghost use Rattle.fill_region.specs.Bands.{holds};
 ghost use Rattle.fill_raster.specs.Lattice.{tiles};
-ghost use Rattle.fill_text.specs.ValuesOfRules.{values_of};
 ghost use Rattle.fill_job.specs.Plans.{PointSet, plan_of};
 ghost use Rattle.fill_core.specs.Machine.{keep_after, metal_after};
 ghost use Rattle.fill_book.specs.Pieces.{ArePieces, IsPiece};
 
-use fill_job::Piece;
+use fill_job::{Piece, SharedRules};
 use fill_raster::Raster;
 use fill_region::Region;
-use fill_text::{Edit, Rules};
+use fill_text::Edit;
 use std::alloc::{AllocError, Global};
 
 /// The squares of a region lie within the coordinates, which its rows tell.
@@ -63,10 +62,10 @@ fn pieces_of(
 /// `AllocError` where memory is refused.
 pub(crate) fn metal_pieces(
     alloc: Global,
-    rules: &Rules,
+    rules: &SharedRules,
     metal: &Region,
 ) -> Result<Vec<Piece>, AllocError>
-    ensures { let plan = plan_of (values_of rules.now) in IfOk result (λ v. ArePieces plan.raster plan.spacing (holds metal.now) v.items) }
+    ensures { let plan = plan_of rules.now in IfOk result (λ v. ArePieces plan.raster plan.spacing (holds metal.now) v.items) }
 {
     pieces_of(alloc, &rules.raster(), rules.spacing(), metal)
 }
@@ -77,10 +76,10 @@ pub(crate) fn metal_pieces(
 /// `AllocError` where memory is refused.
 pub(crate) fn keep_pieces(
     alloc: Global,
-    rules: &Rules,
+    rules: &SharedRules,
     keep: &Region,
 ) -> Result<Vec<Piece>, AllocError>
-    ensures { let plan = plan_of (values_of rules.now) in IfOk result (λ v. ArePieces plan.raster (pos 0) (holds keep.now) v.items) }
+    ensures { let plan = plan_of rules.now in IfOk result (λ v. ArePieces plan.raster (pos 0) (holds keep.now) v.items) }
 {
     pieces_of(alloc, &rules.raster(), 0, keep)
 }
@@ -141,13 +140,13 @@ fn pieces_after(
 /// `AllocError` where memory is refused.
 pub(crate) fn metal_pieces_after(
     alloc: Global,
-    rules: &Rules,
+    rules: &SharedRules,
     was: &Region,
     pieces: &[Piece],
     edit: Edit,
 ) -> Result<Vec<Piece>, AllocError>
-    requires { let plan = plan_of (values_of rules.now) in ArePieces plan.raster plan.spacing (holds was.now) pieces.now }
-    ensures { let plan = plan_of (values_of rules.now) in IfOk result (λ v. ArePieces plan.raster plan.spacing (metal_after edit (holds was.now)) v.items) }
+    requires { let plan = plan_of rules.now in ArePieces plan.raster plan.spacing (holds was.now) pieces.now }
+    ensures { let plan = plan_of rules.now in IfOk result (λ v. ArePieces plan.raster plan.spacing (metal_after edit (holds was.now)) v.items) }
 {
     pieces_after(alloc, &rules.raster(), rules.spacing(), was, pieces, edit)
 }
@@ -168,13 +167,13 @@ fn as_metal(edit: Edit) -> Edit
 /// `AllocError` where memory is refused.
 pub(crate) fn keep_pieces_after(
     alloc: Global,
-    rules: &Rules,
+    rules: &SharedRules,
     was: &Region,
     pieces: &[Piece],
     edit: Edit,
 ) -> Result<Vec<Piece>, AllocError>
-    requires { let plan = plan_of (values_of rules.now) in ArePieces plan.raster (pos 0) (holds was.now) pieces.now }
-    ensures { let plan = plan_of (values_of rules.now) in IfOk result (λ v. ArePieces plan.raster (pos 0) (keep_after edit (holds was.now)) v.items) }
+    requires { let plan = plan_of rules.now in ArePieces plan.raster (pos 0) (holds was.now) pieces.now }
+    ensures { let plan = plan_of rules.now in IfOk result (λ v. ArePieces plan.raster (pos 0) (keep_after edit (holds was.now)) v.items) }
 {
     let edit = as_metal(edit);
     pieces_after(alloc, &rules.raster(), 0, was, pieces, edit)

@@ -4,7 +4,6 @@ ghost use Rattle.fill_region.specs.Bands.{holds};
 ghost use Rattle.fill_area.specs.Density.{AreMeasured, IsArea};
 ghost use Rattle.fill_raster.specs.Lattice.{in_raster, in_tile, tiles};
 ghost use Rattle.fill_raster.specs.Marks.{is_marked};
-ghost use Rattle.fill_text.specs.ValuesOfRules.{values_of};
 ghost use Rattle.fill_job.specs.Basis.{layers_in, read_by, windows_in};
 ghost use Rattle.fill_job.specs.Plans.{Plan, PointSet, low_windows, plan_of};
 ghost use Rattle.fill_core.specs.Accounts.{IsSame};
@@ -25,11 +24,10 @@ use crate::places::Places;
 use crate::tiles::TileSet;
 use fill_area::Windows;
 use fill_core::Reply;
-use fill_job::laws::rules_make_a_plan;
-use fill_job::{Piece, Proposal};
+use fill_job::{Piece, Proposal, SharedRules};
 use fill_raster::{Marks, Raster};
 use fill_region::Region;
-use fill_text::{Edit, Rules};
+use fill_text::Edit;
 use std::alloc::{AllocError, Global};
 
 /// The metal and the keep-outs, and what of them each tile depends on, the filled places, the version with its low windows, and the
@@ -80,12 +78,12 @@ fn kept_out(alloc: Global, keep: &Region, edit: Edit) -> Result<Region, AllocErr
 }
 
 /// The places whose boxes come too near to the metal by an edit, or share a square with a keep-out by it.
-fn too_near(rules: &Rules, edit: Edit) -> Places
+fn too_near(rules: &SharedRules, edit: Edit) -> Places
     ensures ordered { (result.columns.start ≤ℤ result.columns.end) × (result.rows.start ≤ℤ result.rows.end) }
-    ensures on { (i j : ℤ) → in_places result i j ≡ true → in_raster (plan_of (values_of rules.now)).raster i j ≡ true }
-    ensures near { (fill : PointSet) → ((i j : ℤ) → fill i j ≡ true → in_raster (plan_of (values_of rules.now)).raster i j ≡ true) → (i j : ℤ) → fill_after (plan_of (values_of rules.now)) edit fill i j ≡ fill i j && not (in_places result i j) }
+    ensures on { (i j : ℤ) → in_places result i j ≡ true → in_raster (plan_of rules.now).raster i j ≡ true }
+    ensures near { (fill : PointSet) → ((i j : ℤ) → fill i j ≡ true → in_raster (plan_of rules.now).raster i j ≡ true) → (i j : ℤ) → fill_after (plan_of rules.now) edit fill i j ≡ fill i j && not (in_places result i j) }
 {
-    rules_make_a_plan(rules);
+    rules.make_a_plan();
     match edit {
         Edit::Add(rect) => {
             let (columns, rows) = rules.raster().near(&rect, rules.spacing());
@@ -116,15 +114,15 @@ impl Stored {
         alloc: Global,
         metal: Region,
         keep: Region,
-        rules: &Rules,
+        rules: &SharedRules,
         areas: &[i64],
     ) -> Result<Stored, AllocError>
-        requires measured { AreMeasured (holds metal) (plan_of (values_of rules.now)).windows areas.now }
+        requires measured { AreMeasured (holds metal) (plan_of rules.now).windows areas.now }
         requires bounded { All IsArea areas.now }
-        ensures state { IfOk result (λ s. state_by no_places s ≡ opening (plan_of (values_of rules.now)) (layers_in metal keep)) }
-        ensures fits { IfOk result (λ s. Fits (plan_of (values_of rules.now)) s) }
+        ensures state { IfOk result (λ s. state_by no_places s ≡ opening (plan_of rules.now) (layers_in metal keep)) }
+        ensures fits { IfOk result (λ s. Fits (plan_of rules.now) s) }
     {
-        rules_make_a_plan(rules);
+        rules.make_a_plan();
         let (raster, windows) = (rules.raster(), rules.windows());
         Ok(Stored {
             pieces: metal_pieces(alloc, rules, &metal)?,
@@ -140,9 +138,9 @@ impl Stored {
 
     /// Whether a proposal is of this version, its tile isn't in, and what was read for it is what there is to read now. Takes no
     /// memory.
-    pub(crate) fn is_same(&self, rules: &Rules, proposal: &Proposal) -> bool
-        requires { Fits (plan_of (values_of rules.now)) self.now }
-        ensures { let p = proposal.now in IsSame (values_of rules.now) (state_by no_places self.now) p.version p.tile (read_by p.basis) result }
+    pub(crate) fn is_same(&self, rules: &SharedRules, proposal: &Proposal) -> bool
+        requires { Fits (plan_of rules.now) self.now }
+        ensures { let p = proposal.now in IsSame rules.now (state_by no_places self.now) p.version p.tile (read_by p.basis) result }
     {
         if proposal.version() != self.version {
             return false;
@@ -153,7 +151,7 @@ impl Stored {
         }
         let metal = self.pieces[tile as usize].metal();
         let keep = self.keep_pieces[tile as usize].metal();
-        proposal.matches(rules, metal, keep, &self.low)
+        proposal.matches(rules.rules(), metal, keep, &self.low)
     }
 
     /// The answer to a commit that isn't the same.
@@ -215,22 +213,22 @@ impl Stored {
     pub(crate) fn change_by<T: Totals>(
         &self,
         alloc: Global,
-        rules: &Rules,
+        rules: &SharedRules,
         totals: &T,
         edit: Edit,
     ) -> Result<(Change, T), AllocError>
-        requires fits { Fits (plan_of (values_of rules.now)) self.now }
-        requires stands { T.stand_for totals.now (plan_of (values_of rules.now)).windows (holds self.now.metal) (squares_in self.now) }
+        requires fits { Fits (plan_of rules.now) self.now }
+        requires stands { T.stand_for totals.now (plan_of rules.now).windows (holds self.now.metal) (squares_in self.now) }
         requires clear_now { KeepsClear self.now.filled.raster (is_filled self.now.filled) (holds self.now.metal) }
-        requires clear { KeepsClear (plan_of (values_of rules.now)).raster (fill_after (plan_of (values_of rules.now)) edit (is_filled self.now.filled)) (metal_after edit (holds self.now.metal)) }
+        requires clear { KeepsClear (plan_of rules.now).raster (fill_after (plan_of rules.now) edit (is_filled self.now.filled)) (metal_after edit (holds self.now.metal)) }
         ensures metal { IfOk result (λ c. (x y : ℤ) → holds c.0.metal x y ≡ metal_after edit (holds self.now.metal) x y) }
         ensures keep { IfOk result (λ c. (x y : ℤ) → holds c.0.keep x y ≡ keep_after edit (holds self.now.keep) x y) }
         ensures on { IfOk result (λ c. (i j : ℤ) → in_places c.0.out i j ≡ true → in_raster self.now.filled.raster i j ≡ true) }
-        ensures left { IfOk result (λ c. (i j : ℤ) → left_by self.now.filled c.0.out i j ≡ fill_after (plan_of (values_of rules.now)) edit (is_filled self.now.filled) i j) }
-        ensures low { let plan = plan_of (values_of rules.now) in IfOk result (λ c. (a b : ℕ) → windows_in c.0.low a b ≡ low_windows plan (with_boxes plan (metal_after edit (holds self.now.metal)) (fill_after plan edit (is_filled self.now.filled))) a b) }
-        ensures pieces { let plan = plan_of (values_of rules.now) in IfOk result (λ c. ArePieces plan.raster plan.spacing (metal_after edit (holds self.now.metal)) c.0.pieces.items) }
-        ensures keep_pieces { let plan = plan_of (values_of rules.now) in IfOk result (λ c. ArePieces plan.raster (pos 0) (keep_after edit (holds self.now.keep)) c.0.keep_pieces.items) }
-        ensures stands { let plan = plan_of (values_of rules.now) in IfOk result (λ c. T.stand_for c.1 plan.windows (holds c.0.metal) (metal_or_box self.now.filled.raster (left_by self.now.filled c.0.out) (holds c.0.metal))) }
+        ensures left { IfOk result (λ c. (i j : ℤ) → left_by self.now.filled c.0.out i j ≡ fill_after (plan_of rules.now) edit (is_filled self.now.filled) i j) }
+        ensures low { let plan = plan_of rules.now in IfOk result (λ c. (a b : ℕ) → windows_in c.0.low a b ≡ low_windows plan (with_boxes plan (metal_after edit (holds self.now.metal)) (fill_after plan edit (is_filled self.now.filled))) a b) }
+        ensures pieces { let plan = plan_of rules.now in IfOk result (λ c. ArePieces plan.raster plan.spacing (metal_after edit (holds self.now.metal)) c.0.pieces.items) }
+        ensures keep_pieces { let plan = plan_of rules.now in IfOk result (λ c. ArePieces plan.raster (pos 0) (keep_after edit (holds self.now.keep)) c.0.keep_pieces.items) }
+        ensures stands { let plan = plan_of rules.now in IfOk result (λ c. T.stand_for c.1 plan.windows (holds c.0.metal) (metal_or_box self.now.filled.raster (left_by self.now.filled c.0.out) (holds c.0.metal))) }
     {
         let metal = edited(alloc, &self.metal, edit)?;
         let keep = kept_out(alloc, &self.keep, edit)?;

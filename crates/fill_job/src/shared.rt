@@ -1,6 +1,6 @@
 //! Rules and metal that jobs and books hold together.
 ghost use Rattle.std.specs.Arc.{arc_value};
-ghost use Rattle.std.specs.Prelude.{◌≡◌, List, ℤ, IfOk};
+ghost use Rattle.std.specs.Prelude.{◌≡◌, List, IfOk};
 ghost use Rattle.fill_region.specs.Bands.{Band};
 ghost use Rattle.fill_raster.specs.Lattice.{KeepsPitch};
 ghost use Rattle.fill_text.specs.Rules as spec;
@@ -8,7 +8,9 @@ ghost use Rattle.fill_text.specs.Keys.{IsWithin};
 ghost use Rattle.fill_text.specs.Rules.{Values, value_of};
 ghost use Rattle.fill_text.specs.ValuesOfRules.{values_of};
 ghost use Rattle.fill_text.specs.declared.keys.NumberKey.TheVariants as NumberKey;
+ghost use Rattle.fill_job.specs.Plans.{IsPlan, plan_of};
 
+use crate::laws::rules_make_a_plan;
 use fill_area::Windows;
 use fill_raster::Raster;
 use fill_region::Region;
@@ -64,14 +66,14 @@ impl SharedRules {
     }
 
     /// The density windows.
-    pub(crate) fn windows(&self) -> Windows
+    pub fn windows(&self) -> Windows
         ensures { result ≡ spec.windows_of self.now }
     {
         self.rules.windows()
     }
 
     /// The places where a fill box may stand, and their tiles.
-    pub(crate) fn raster(&self) -> Raster
+    pub fn raster(&self) -> Raster
         ensures raster { result ≡ spec.raster_of self.now.numbers }
         ensures pitch { KeepsPitch result (value_of self.now NumberKey.FillSpacing) }
     {
@@ -79,11 +81,26 @@ impl SharedRules {
     }
 
     /// The least gap between a fill box and metal.
-    pub(crate) fn spacing(&self) -> i64
+    pub fn spacing(&self) -> i64
         ensures value { result ≡ value_of self.now NumberKey.Spacing }
         ensures range { IsWithin NumberKey.Spacing result }
     {
         self.rules.spacing()
+    }
+
+    /// The least density, in millionths.
+    pub fn min(&self) -> i64
+        ensures value { result ≡ value_of self.now NumberKey.Min }
+        ensures range { IsWithin NumberKey.Min result }
+    {
+        self.rules.min()
+    }
+
+    /// Tells what rules keep: they make a plan. Does nothing at run time.
+    pub fn make_a_plan(&self)
+        ensures { IsPlan (plan_of self.now) }
+    {
+        rules_make_a_plan(self.rules());
     }
 }
 

@@ -1,5 +1,4 @@
 use Rattle.std.proofs.Common.{ap, sym, ◌∙◌, ℕ, ◌<◌, ◌^◌, List, [], ◌∷◌, ◌++◌, rules}
-use Rattle.fill_text.specs.ValuesOfRules.{values_of}
 use Rattle.fill_job.specs.Plans.{plan_of}
 use Rattle.fill_core.specs.Accounts.{Account, with_entry}
 use Rattle.fill_core.specs.Shares.{counted, moved_by}
@@ -21,7 +20,7 @@ note-requires-clause-withdrawn g c = let few : c.from.result < 2 ^ 32 = search r
 
 pub invariant_of-self-2 : goal.invariant_of-self-2
 invariant_of-self-2 g c =
-    let plan = plan_of (values_of c.self.inside.rules) in
+    let plan = plan_of c.self.inside.rules in
     let of : IsOf plan c.self.inside.stored c.args.edit c.in_ok-change.change = record { metal = c.in_ok-change.ensures.metal; keep = c.in_ok-change.ensures.keep; pieces = c.in_ok-change.ensures.pieces; keep_pieces = c.in_ok-change.ensures.keep_pieces; filled = c.in_ok-change.ensures.left; low = c.in_ok-change.ensures.low } in
     let made = c.change-withdrawn.ensures in
     let is : IsChanged c.self.inside.stored c.change-withdrawn.new.self c.in_ok-change.change c.change-withdrawn.result =
@@ -30,7 +29,6 @@ invariant_of-self-2 g c =
       rw history (keeps_edit c.self.invariant.0 c.note.new.self c.change-withdrawn.new.self c.args.edit c.in_ok-change.change c.change-withdrawn.result
           (not_full c.self.view_is c.is_full.result c.is_full.ensures c.if-is_full.false) of is (c.note.ensures.books ∙ ap (λ (n : ℕ). counted c.self.inside.books 0 n) c.from.ensures)),
       changed_stands (g.T.Totals.stand_for c.in_ok-change.totals plan.windows) c.self.inside.stored c.change-withdrawn.new.self c.in_ok-change.change c.change-withdrawn.result is c.in_ok-change.ensures.stands,
-      c.self.invariant.2,
     )
 
 pub change_by-requires-clause-clear_now : goal.change_by-requires-clause-clear_now
@@ -38,7 +36,7 @@ change_by-requires-clause-clear_now g c = clear_stored c.self.invariant.0
 
 pub returns-clause-written : goal.returns-clause-written
 returns-clause-written g c =
-    let plan = plan_of (values_of c.self.inside.rules) in
+    let plan = plan_of c.self.inside.rules in
     let of : IsOf plan c.self.inside.stored c.args.edit c.in_ok-change.change = record { metal = c.in_ok-change.ensures.metal; keep = c.in_ok-change.ensures.keep; pieces = c.in_ok-change.ensures.pieces; keep_pieces = c.in_ok-change.ensures.keep_pieces; filled = c.in_ok-change.ensures.left; low = c.in_ok-change.ensures.low } in
     let made = c.change-withdrawn.ensures in
     let is : IsChanged c.self.inside.stored c.change-withdrawn.new.self c.in_ok-change.change c.change-withdrawn.result =
@@ -46,7 +44,7 @@ returns-clause-written g c =
     let history = c.push.ensures ∙ ap (λ (h : List Entry). h ++ record { event = event.Edit c.args.edit; reply = Withdrawn c.change-withdrawn.result } ∷ []) c.reserve.ensures.same in
     record {
       answer = rw (sym c.self.view_is) (edit_answer c.self.invariant.0 c.change-withdrawn.new.self c.args.edit c.in_ok-change.change c.change-withdrawn.result of is);
-      written = ap (λ (h : List Entry). record { rules = values_of c.self.inside.rules; opening = c.self.inside.opening; keep = c.self.inside.opening_keep; history = h; most = c.self.inside.most }) history
+      written = ap (λ (h : List Entry). record { rules = c.self.inside.rules; opening = c.self.inside.opening; keep = c.self.inside.opening_keep; history = h; most = c.self.inside.most }) history
           ∙ ap (λ (a : Account). with_entry a (event.Edit c.args.edit) (Withdrawn c.change-withdrawn.result)) c.self.view_is;
       shares = c.note.ensures.pass ∙ ap (λ (n : ℕ). moved_by c.args.pass.now 0 n) c.from.ensures;
     }

@@ -1,7 +1,6 @@
 use Rattle.std.proofs.Common.{◌∙◌}
 use Rattle.fill_base.proofs.Signed.{read_is}
 use Rattle.fill_region.specs.Bands.{holds}
-use Rattle.fill_text.specs.ValuesOfRules.{values_of}
 use Rattle.fill_job.specs.Plans.{plan_of}
 use Rattle.fill_core.specs.Boxes.{with_boxes}
 use Rattle.fill_core.specs.Machine.{fill_after, metal_after}
@@ -11,7 +10,7 @@ use Rattle.fill_book.proofs.stored.Stored.change_by.Goals as goal
 
 pub after-requires-clause-clear_after : goal.after-requires-clause-clear_after
 after-requires-clause-clear_after g c =
-    let plan = plan_of (values_of c.args.rules.now) in
+    let plan = plan_of c.args.rules.now in
     clear_same plan.raster c.args.self.now.filled.raster (fill_after plan c.args.edit (is_filled c.args.self.now.filled)) (left_by c.args.self.now.filled c.too_near-out.result) (metal_after c.args.edit (holds c.args.self.now.metal)) (holds c.in_ok-metal.metal)
     c.requires.fits.raster (left_after plan c.args.self.now.filled c.too_near-out.result c.args.edit c.requires.fits.raster c.too_near-out.ensures.near) c.in_ok-metal.ensures c.requires.clear
 
@@ -22,11 +21,11 @@ pub returns-clause-on : goal.returns-clause-on
 returns-clause-on g c = rw c.requires.fits.raster c.too_near-out.ensures.on
 
 pub returns-clause-left : goal.returns-clause-left
-returns-clause-left g c = left_after (plan_of (values_of c.args.rules.now)) c.args.self.now.filled c.too_near-out.result c.args.edit c.requires.fits.raster c.too_near-out.ensures.near
+returns-clause-left g c = left_after (plan_of c.args.rules.now) c.args.self.now.filled c.too_near-out.result c.args.edit c.requires.fits.raster c.too_near-out.ensures.near
 
 pub returns-clause-low : goal.returns-clause-low
 returns-clause-low g c = λ a b.
-    let plan = plan_of (values_of c.args.rules.now) in
+    let plan = plan_of c.args.rules.now in
     let edit = c.args.edit in
     let filled = is_filled c.args.self.now.filled in
     let metal = holds c.args.self.now.metal in
