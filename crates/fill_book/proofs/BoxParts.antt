@@ -1,6 +1,6 @@
 -- The boxes of some places, as sets of squares of which one is part of the other.
 use Rattle.std.proofs.Common.{◌≡◌, refl, ap, sym, subst, ◌∙◌, ℕ, ◌+◌, ℤ, ◌≤ℤ◌, arith, inl, inr, List, Bool, true, false, cond, ◌&&◌, ◌||◌}
-use Rattle.std.specs.Prelude.{not}
+use Rattle.std.specs.Prelude.{not, ◌==◌}
 use Rattle.std.proofs.Math.Path.{fun_ext}
 use Rattle.std.proofs.lemmas.Bool.{and_from, and_parts, cases_Bool}
 use Rattle.fill_base.specs.Counts.{is_between, span_len}
@@ -10,7 +10,7 @@ use Rattle.fill_area.specs.Density.{AreMeasured, window_area}
 use Rattle.fill_area.specs.Grid.{Grid, IsGrid, parts_across, parts_up, window_left, window_right, window_bottom, window_top}
 use Rattle.fill_area.specs.Parts.{part_begin, part_end}
 use Rattle.fill_raster.specs.Axes.{first, past, is_on}
-use Rattle.fill_raster.specs.Lattice.{Lattice, IsLattice, box_squares, in_raster}
+use Rattle.fill_raster.specs.Lattice.{Lattice, IsLattice, box_squares, in_raster, in_tile, tile_of}
 use Rattle.fill_raster.proofs.Ranges.{both, first_past, on_range}
 use Rattle.fill_raster.specs.Marks.{Marked, is_marked}
 use Rattle.fill_sums.specs.declared.moving.Way.TheVariants.{Up, Down}
@@ -225,6 +225,22 @@ marks_come f m metal from to bottom top is wide tall within on clear = record {
     no true true h k = let e : false ≡ true = k in cc
     no true false h k = let e : false ≡ true = k in cc
     no false b h k = let e : false ≡ true = h in cc
+
+-- the same, told by the marks of the tile that the places are of
+pub tile_marks_come : (f : Filling) (of m : Marked) (metal : PointSet) (tile : ℕ) (from to bottom top : ℤ) → IsFilling f → from ≤ℤ to → bottom ≤ℤ top → ((i j : ℤ) → is_between from to i && is_between bottom top j ≡ in_tile f.raster tile i j)
+    → ((i j : ℤ) → is_marked of i j ≡ in_tile f.raster tile i j && is_filled f i j) → ((i j : ℤ) → is_marked m i j ≡ true → in_tile f.raster tile i j ≡ true) → KeepsClear f.raster (λ i j. is_filled f i j || is_marked m i j) metal
+    → AreMovedIn f.raster (λ i j. is_filled f i j || is_marked m i j) (is_filled f) (λ i j. is_marked m i j && not (is_marked of i j)) metal from to bottom top
+tile_marks_come f of m metal tile from to bottom top is wide tall places marked within clear =
+    let new : PointSet = λ i j. is_marked m i j && not (is_marked of i j) in
+    let old : PointSet = λ i j. is_marked m i j && not (is_filled f i j) in
+    let same : new ≡ old = fun_ext (λ i. fun_ext (λ j. ap (λ b. is_marked m i j && not b) (marked i j) ∙ here (is_marked m i j) (in_tile f.raster tile i j) (is_filled f i j) (within i j))) in
+    subst (λ (p : PointSet). AreMovedIn f.raster (λ i j. is_filled f i j || is_marked m i j) (is_filled f) p metal from to bottom top) (sym same)
+    (marks_come f m metal from to bottom top is wide tall (λ i j h. places i j ∙ within i j h) (λ i j h. (and_parts (in_raster f.raster i j) (tile_of f.raster i j == tile) (within i j h)).0) clear)
+  where
+    here : (m t f : Bool) → (m ≡ true → t ≡ true) → m && not (t && f) ≡ m && not f
+    here true true f h = refl
+    here true false f h = let e : false ≡ true = h refl in cc
+    here false t f h = refl
 
 -- filled places that go
 pub places_go : (f : Filling) (p : Places) (metal : PointSet) → IsFilling f → p.columns.start ≤ℤ p.columns.end → p.rows.start ≤ℤ p.rows.end → KeepsClear f.raster (is_filled f) metal

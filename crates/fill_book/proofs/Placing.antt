@@ -2,10 +2,10 @@
 use Rattle.std.proofs.Common.{◌≡◌, refl, sym, ap, ◌∙◌, ℕ, ◌<◌, ℤ, inl, inr, arith, subst, length, Bool, true, false, ◌&&◌, ◌||◌, not, slice_set}
 use Rattle.std.specs.Prelude.{◌==◌, get_or}
 use Rattle.std.specs.Ordering.{int_eq}
-use Rattle.std.proofs.lemmas.Bool.{and_parts, cases_eq}
+use Rattle.std.proofs.lemmas.Bool.{and_parts, cases_eq, eqb-true}
 use Rattle.std.proofs.lemmas.Bool.Decides.{Decides-int_eq}
 use Rattle.std.proofs.lemmas.List.{get_or_default, get_or-set_same, get_or-set_other, length-set}
-use Rattle.fill_raster.specs.Lattice.{Lattice, in_raster, tile_of, tiles}
+use Rattle.fill_raster.specs.Lattice.{Lattice, in_raster, in_tile, tile_of, tiles}
 use Rattle.fill_raster.specs.Marks.{Marked, in_block, is_marked}
 use Rattle.fill_raster.proofs.Tiling.{tile_of_below}
 use Rattle.fill_book.specs.Filling.{Filling, IsFilling, is_filled, marks_of}
@@ -110,6 +110,13 @@ place_cleared f i j m is on marked k l =
     elsewhere o true h = absurd (h refl)
     elsewhere true false h = refl
     elsewhere false false h = refl
+
+-- a place of a tile is on the raster, and the tile is its
+pub on_tile : (f g : Filling) (t : ℕ) (i j : ℤ) → f ≡ g → in_tile g.raster t i j ≡ true → (in_raster g.raster i j ≡ true) × (t ≡ tile_of f.raster i j)
+on_tile f g t i j same on =
+    let parts = and_parts (in_raster g.raster i j) (tile_of g.raster i j == t) on in
+    let e : tile_of g.raster i j ≡ t = eqb-true _ _ parts.1 in
+    (parts.0, sym (ap (λ (h : Filling). tile_of h.raster i j) same ∙ e))
 
 -- the marks that a call gives out, and what is left with others in their place
 pub record AreOf (f : Filling) (i j : ℤ) (t : ℕ) (m : Marked) : Type 0 where

@@ -20,6 +20,7 @@ use fill_raster::{Marks, Raster};
 use fill_region::Region;
 use std::alloc::{AllocError, Global};
 use std::marker::Model;
+use std::ops::Range;
 
 /// A raster, and the filled places of each of its tiles, with their number.
 #[derive(Drop)]
@@ -95,14 +96,15 @@ impl Filled {
         self.count
     }
 
-    /// Fills a place.
-    pub(crate) fn set(&mut self, place: Place)
-        requires { in_raster self.old.raster place.i place.j ≡ true }
+    /// Fills a place of a tile.
+    fn set(&mut self, tile: u32, place: Place)
+        requires tile { tile < tiles self.old.raster }
+        requires place { in_tile self.old.raster tile place.i place.j ≡ true }
         ensures raster { self.new.raster ≡ self.old.raster }
         ensures filled { (i j : ℤ) → is_filled self.new i j ≡ is_filled self.old i j || (int_eq i place.i && int_eq j place.j) }
     {
-        if !self.has(place) {
-            let tile = self.raster.tile_of(place) as usize;
+        let tile = tile as usize;
+        if !self.tiles[tile].has(place) {
             self.tiles[tile].set(place);
             self.count += 1;
         }
@@ -121,28 +123,30 @@ impl Filled {
         }
     }
 
-    /// Fills the marked places of a row, from one column on and before another.
-    fn fill_row(&mut self, marks: &Marks, left: i64, right: i64, j: i64)
-        requires { (i : ℤ) → is_between left right i ≡ true → in_raster self.old.raster i j ≡ true }
+    /// Fills the marked places of a row of a tile, in some columns.
+    fn fill_row(&mut self, tile: u32, marks: &Marks, columns: &Range<i64>, j: i64)
+        requires tile { tile < tiles self.old.raster }
+        requires places { (i : ℤ) → is_between columns.now.start columns.now.end i ≡ true → in_tile self.old.raster tile i j ≡ true }
         ensures raster { self.new.raster ≡ self.old.raster }
-        ensures filled { (k m : ℤ) → is_filled self.new k m ≡ is_filled self.old k m || (int_eq m j && (is_between left right k && is_marked marks.now k m)) }
+        ensures filled { (k m : ℤ) → is_filled self.new k m ≡ is_filled self.old k m || (int_eq m j && (is_between columns.now.start columns.now.end k && is_marked marks.now k m)) }
     {
-        for i in left..right {
+        for i in columns.start..columns.end {
             let place = Place { i, j };
             if marks.has(place) {
-                self.set(place);
+                self.set(tile, place);
             }
         }
     }
 
-    /// Fills the marked places of some rows, between the same columns each.
-    fn fill_rows(&mut self, marks: &Marks, left: i64, right: i64, bottom: i64, top: i64)
-        requires { (i j : ℤ) → is_between left right i && is_between bottom top j ≡ true → in_raster self.old.raster i j ≡ true }
+    /// Fills the marked places of a tile that are some of these.
+    fn fill_rows(&mut self, tile: u32, marks: &Marks, places: &Places)
+        requires tile { tile < tiles self.old.raster }
+        requires places { (i j : ℤ) → in_places places.now i j ≡ true → in_tile self.old.raster tile i j ≡ true }
         ensures raster { self.new.raster ≡ self.old.raster }
-        ensures filled { (k m : ℤ) → is_filled self.new k m ≡ is_filled self.old k m || (is_between bottom top m && (is_between left right k && is_marked marks.now k m)) }
+        ensures filled { (k m : ℤ) → is_filled self.new k m ≡ is_filled self.old k m || (is_between places.now.rows.start places.now.rows.end m && (is_between places.now.columns.start places.now.columns.end k && is_marked marks.now k m)) }
     {
-        for j in bottom..top {
-            self.fill_row(marks, left, right, j);
+        for j in places.rows.start..places.rows.end {
+            self.fill_row(tile, marks, &places.columns, j);
         }
     }
 
@@ -154,7 +158,7 @@ impl Filled {
         ensures filled { (i j : ℤ) → is_filled self.new i j ≡ is_filled self.old i j || is_marked marks.now i j }
     {
         let (columns, rows) = self.raster.places(tile);
-        self.fill_rows(marks, columns.start, columns.end, rows.start, rows.end);
+        self.fill_rows(tile, marks, &Places { columns, rows });
     }
 
     /// Empties the places of a row, from one column on and before another.

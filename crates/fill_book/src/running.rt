@@ -1,10 +1,10 @@
 //! Areas that are kept as running sums.
-ghost use Rattle.std.specs.Prelude.{◌≡◌, ◌≤ℤ◌, ◌&&◌, ℤ, true, IfOk};
+ghost use Rattle.std.specs.Prelude.{◌≡◌, ◌≤ℤ◌, ℤ, true, IfOk};
 ghost use Rattle.fill_base.specs.Counts.{is_between};
 ghost use Rattle.fill_base.specs.Squares.{squares};
 ghost use Rattle.fill_region.specs.Bands.{holds};
 ghost use Rattle.fill_raster.specs.Lattice.{in_raster};
-ghost use Rattle.fill_sums.specs.Numbers.{AreNumbers, IsMovedBy, StaysBy};
+ghost use Rattle.fill_sums.specs.Numbers.{AreNumbers, AreSums, IsMovedBy, StaysBy};
 ghost use Rattle.fill_book.specs.Filling.{KeepsClear, in_places, is_filled, left_by, metal_or_box};
 ghost use Rattle.fill_book.specs.Standing.{StandFor, squares_in};
 ghost use Rattle.fill_book.specs.steps.Following.{is_moved, part_by, taken_of_row, taken_of_rows, way_of};
@@ -20,12 +20,13 @@ use fill_region::Region;
 use fill_sums::{Sums, Way};
 use fill_text::Edit;
 use std::alloc::{AllocError, Global};
+use std::ops::Range;
 
 /// Places whose boxes come or go.
 #[derive(Clone, Copy)]
 enum Moved<'a> {
-    /// The marked places that aren't filled yet.
-    New(&'a Filled, &'a Marks),
+    /// Of the places of a tile, with its filled ones first, the marked places that aren't filled yet.
+    New(&'a Marks, &'a Marks),
     /// The filled places among some.
     Out(&'a Filled, &'a Places),
 }
@@ -42,55 +43,53 @@ impl<'a> Moved<'a> {
     }
 }
 
-/// Moves the sums by the boxes of a row, from one column on and before another.
-fn move_row(
-    sums: &mut Sums,
+/// Boxes of places of a raster that come or go.
+#[derive(Drop)]
+struct Boxes<'a> {
     way: Way,
-    moved: Moved<'_>,
     raster: Raster,
-    left: i64,
-    right: i64,
-    j: i64,
-)
-    requires ordered { left ≤ℤ right }
-    requires places { (i : ℤ) → is_between left right i ≡ true → in_raster raster i j ≡ true }
+    moved: Moved<'a>,
+}
+
+/// Moves the sums by the boxes of a row, in some columns.
+fn move_row(sums: &mut Sums, boxes: &Boxes<'_>, columns: &Range<i64>, j: i64)
+    requires ordered { columns.now.start ≤ℤ columns.now.end }
+    requires places { (i : ℤ) → is_between columns.now.start columns.now.end i ≡ true → in_raster boxes.now.raster i j ≡ true }
     requires numbers { AreNumbers sums.old.windows sums.old.total }
-    requires stays { StaysBy way (taken_of_row raster (is_moved moved) sums.old.windows left right j) sums.old.windows sums.old.total }
+    requires stays { StaysBy boxes.now.way (taken_of_row boxes.now.raster (is_moved boxes.now.moved) sums.old.windows columns.now.start columns.now.end j) sums.old.windows sums.old.total }
     ensures windows { sums.new.windows ≡ sums.old.windows }
     ensures drawn { sums.new.drawn ≡ sums.old.drawn }
-    ensures total { IsMovedBy way (taken_of_row raster (is_moved moved.entry) sums.old.windows left right j) sums.old.windows sums.old.total sums.new.total }
+    ensures total { IsMovedBy boxes.now.way (taken_of_row boxes.now.raster (is_moved boxes.now.moved) sums.old.windows columns.now.start columns.now.end j) sums.old.windows sums.old.total sums.new.total }
 {
-    for i in left..right {
+    for i in columns.start..columns.end {
         let place = Place { i, j };
-        if moved.has(place) {
-            sums.move_box(way, &raster.box_of(place));
+        if boxes.moved.has(place) {
+            sums.move_box(boxes.way, &boxes.raster.box_of(place));
         }
     }
 }
 
-/// Moves the sums by the boxes of some rows, between the same columns each.
-fn move_rows(
-    sums: &mut Sums,
-    way: Way,
-    moved: Moved<'_>,
-    raster: Raster,
-    left: i64,
-    right: i64,
-    bottom: i64,
-    top: i64,
-)
-    requires ordered { left ≤ℤ right }
-    requires upwards { bottom ≤ℤ top }
-    requires places { (i j : ℤ) → is_between left right i && is_between bottom top j ≡ true → in_raster raster i j ≡ true }
+/// Moves the sums by the boxes of some places.
+fn move_rows(sums: &mut Sums, boxes: &Boxes<'_>, places: &Places)
+    requires ordered { places.now.columns.start ≤ℤ places.now.columns.end }
+    requires upwards { places.now.rows.start ≤ℤ places.now.rows.end }
+    requires places { (i j : ℤ) → in_places places.now i j ≡ true → in_raster boxes.now.raster i j ≡ true }
     requires numbers { AreNumbers sums.old.windows sums.old.total }
-    requires stays { StaysBy way (taken_of_rows raster (is_moved moved) sums.old.windows left right bottom top) sums.old.windows sums.old.total }
+    requires stays { StaysBy boxes.now.way (taken_of_rows boxes.now.raster (is_moved boxes.now.moved) sums.old.windows places.now.columns.start places.now.columns.end places.now.rows.start places.now.rows.end) sums.old.windows sums.old.total }
     ensures windows { sums.new.windows ≡ sums.old.windows }
     ensures drawn { sums.new.drawn ≡ sums.old.drawn }
-    ensures total { IsMovedBy way (taken_of_rows raster (is_moved moved.entry) sums.old.windows left right bottom top) sums.old.windows sums.old.total sums.new.total }
+    ensures total { IsMovedBy boxes.now.way (taken_of_rows boxes.now.raster (is_moved boxes.now.moved) sums.old.windows places.now.columns.start places.now.columns.end places.now.rows.start places.now.rows.end) sums.old.windows sums.old.total sums.new.total }
 {
-    for j in bottom..top {
-        move_row(sums, way, moved, raster, left, right, j);
+    for j in places.rows.start..places.rows.end {
+        move_row(sums, boxes, &places.columns, j);
     }
+}
+
+/// Tells what sums keep: a number for each window, within it. Does nothing at run time.
+fn keep_within(sums: &Sums)
+    ensures { AreSums sums.now }
+{
+    let _ = sums.totals();
 }
 
 /// The sums without the boxes of some places.
@@ -111,19 +110,15 @@ fn without_boxes(
     ensures { IfOk result (λ s. StandFor s _windows.now (holds stored.now.metal) (metal_or_box stored.now.filled.raster (left_by stored.now.filled out.now) (holds stored.now.metal))) }
 {
     let mut left = sums.copy(alloc)?;
-    let _ = sums.totals();
+    keep_within(sums);
     let filled = &stored.filled;
     filled.keeps_apart();
-    move_rows(
-        &mut left,
-        Way::Down,
-        Moved::Out(filled, out),
-        filled.raster(),
-        out.columns.start,
-        out.columns.end,
-        out.rows.start,
-        out.rows.end,
-    );
+    let boxes = Boxes {
+        way: Way::Down,
+        raster: filled.raster(),
+        moved: Moved::Out(filled, out),
+    };
+    move_rows(&mut left, &boxes, out);
     Ok(left)
 }
 
@@ -184,21 +179,16 @@ impl Totals for Sums {
     }
 
     fn take_in(&mut self, stored: &Stored, _windows: &Windows, tile: u32, marks: &Marks) {
-        let _ = self.totals();
-        let filled = &stored.filled;
-        filled.keeps_apart();
-        let raster = filled.raster();
+        keep_within(self);
+        stored.filled.keeps_apart();
+        let raster = stored.filled.raster();
         let (columns, rows) = raster.places(tile);
-        move_rows(
-            self,
-            Way::Up,
-            Moved::New(filled, marks),
+        let boxes = Boxes {
+            way: Way::Up,
             raster,
-            columns.start,
-            columns.end,
-            rows.start,
-            rows.end,
-        );
+            moved: Moved::New(stored.filled.marks(tile), marks),
+        };
+        move_rows(self, &boxes, &Places { columns, rows });
     }
 
     fn after(

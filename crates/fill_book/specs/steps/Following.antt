@@ -17,7 +17,7 @@ use Rattle.fill_book.specs.declared.running.Moved.TheVariants.{New, Out}
 
 -- the box of the place comes or goes
 abbrev pub is_moved : Moved → PointSet
-is_moved (New filled marks) = λ i j. is_marked marks.now i j && not (is_filled filled.now i j)
+is_moved (New filled marks) = λ i j. is_marked marks.now i j && not (is_marked filled.now i j)
 is_moved (Out filled places) = λ i j. is_filled filled.now i j && in_places places.now i j
 
 abbrev pub taken_at : Lattice → PointSet → Grid → ℤ → ℤ → ℕ → ℕ → ℕ

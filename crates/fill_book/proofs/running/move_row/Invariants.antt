@@ -6,9 +6,9 @@ use Rattle.fill_book.proofs.running.move_row.Given as goal
 
 abbrev pub invariant-loop-i : goal.invariant-loop-i
 invariant-loop-i l = record {
-  from : l.left ≤ℤ l.i;
-  to : l.i ≤ℤ l.right;
+  from : l.columns.start ≤ℤ l.i;
+  to : l.i ≤ℤ l.columns.end;
   windows : l.sums.windows ≡ l.fn.sums.windows;
   drawn : l.sums.drawn ≡ l.fn.sums.drawn;
-  total : IsMovedBy l.way (taken_of_row l.raster (is_moved l.moved) l.fn.sums.windows l.left l.i l.j) l.fn.sums.windows l.fn.sums.total l.sums.total;
+  total : IsMovedBy l.boxes.way (taken_of_row l.boxes.raster (is_moved l.boxes.moved) l.fn.sums.windows l.columns.start l.i l.j) l.fn.sums.windows l.fn.sums.total l.sums.total;
 }

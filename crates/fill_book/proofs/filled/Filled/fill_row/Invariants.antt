@@ -9,8 +9,8 @@ use Rattle.fill_book.proofs.filled.Filled.fill_row.Given as goal
 
 abbrev pub invariant-loop-i : goal.invariant-loop-i
 invariant-loop-i l = record {
-  from : l.left ≤ℤ l.i;
-  to : l.i ≤ℤ int_max l.left l.right;
+  from : l.columns.start ≤ℤ l.i;
+  to : l.i ≤ℤ int_max l.columns.start l.columns.end;
   raster : l.self.raster ≡ l.fn.self.raster;
-  filled : (k m : ℤ) → is_filled l.self k m ≡ (is_filled l.fn.self k m || (int_eq m l.j && (is_between l.left l.i k && is_marked l.marks k m)));
+  filled : (k m : ℤ) → is_filled l.self k m ≡ (is_filled l.fn.self k m || (int_eq m l.j && (is_between l.columns.start l.i k && is_marked l.marks k m)));
 }

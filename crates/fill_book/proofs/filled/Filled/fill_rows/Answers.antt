@@ -1,4 +1,4 @@
-use Rattle.std.proofs.Common.{◌≡◌, refl, ◌∙◌, pos, ◌+ℤ◌, ◌&&◌, ℤ}
+use Rattle.std.proofs.Common.{◌≡◌, refl, ◌∙◌, pos, ◌+ℤ◌, ◌&&◌, ℤ, rules, FitsSigned, w64}
 use Rattle.std.proofs.lemmas.Bool.{and_from}
 use Rattle.fill_base.specs.Counts.{is_between}
 use Rattle.fill_base.proofs.Between.{is_between_true}
@@ -11,39 +11,51 @@ use Rattle.fill_book.proofs.filled.Filled.fill_rows.Goals as goal
 
 pub loop-j-init : goal.loop-j-init
 loop-j-init c =
-    let at = first_within c.args.bottom c.args.top in
-    rw (read_is c.args.bottom c.ranges.bottom, read_is c.args.top c.ranges.top) (record {
+    let p = c.args.places.now in
+    let at = first_within p.rows.start p.rows.end in
+    let bottom : FitsSigned w64 p.rows.start = search rules in
+    rw (read_is p.rows.start bottom) (record {
       from = at.0;
       to = at.1;
       raster = refl;
-      filled = λ k m. rows_begin (is_filled c.args.self.now) (λ k m. is_between (read c.args.left) (read c.args.right) k && is_marked c.args.marks.now k m) c.args.bottom k m;
+      filled = λ k m. rows_begin (is_filled c.args.self.now) (λ k m. is_between p.columns.start p.columns.end k && is_marked c.args.marks.now k m) p.rows.start k m;
     })
 
-pub fill_row-requires : goal.fill_row-requires
-fill_row-requires c =
-    let from = rw (c.loop-j.j-is, read_is c.args.bottom c.ranges.bottom) at c.loop-j.invariant.from in
-    let lt = is_lt c.loop-j.j c.args.top (rw (c.loop-j.j-is, read_is c.args.top c.ranges.top) at c.loop-j-test.true) in
-    rw (c.loop-j.j-is, read_is c.args.left c.ranges.left, read_is c.args.right c.ranges.right, c.loop-j.invariant.raster)
-    (λ i inside. c.requires i c.loop-j.j (and_from _ _ inside (is_between_true c.args.bottom c.args.top c.loop-j.j from lt)))
+pub fill_row-requires-clause-tile : goal.fill_row-requires-clause-tile
+fill_row-requires-clause-tile c = rw c.loop-j.invariant.raster c.requires.tile
+
+pub fill_row-requires-clause-places : goal.fill_row-requires-clause-places
+fill_row-requires-clause-places c =
+    let p = c.args.places.now in
+    let top : FitsSigned w64 p.rows.end = search rules in
+    let from = rw c.loop-j.j-is at c.loop-j.invariant.from in
+    let lt = is_lt c.loop-j.j p.rows.end (rw (c.loop-j.j-is, read_is p.rows.end top) at c.loop-j-test.true) in
+    rw (c.loop-j.j-is, c.loop-j.invariant.raster)
+    (λ i inside. c.requires.places i c.loop-j.j (and_from _ _ inside (is_between_true p.rows.start p.rows.end c.loop-j.j from lt)))
 
 pub loop-j-preserved : goal.loop-j-preserved
 loop-j-preserved c =
+    let p = c.args.places.now in
+    let bottom : FitsSigned w64 p.rows.start = search rules in
+    let top : FitsSigned w64 p.rows.end = search rules in
     let j = c.loop-j.j in
-    let x = λ (k m : ℤ). is_between (read c.args.left) (read c.args.right) k && is_marked c.args.marks.now k m in
-    let inv = rw (c.loop-j.j-is, read_is c.args.bottom c.ranges.bottom, read_is c.args.top c.ranges.top) at c.loop-j.invariant in
-    let lt = is_lt j c.args.top (rw (c.loop-j.j-is, read_is c.args.top c.ranges.top) at c.loop-j-test.true) in
-    let step = next_within c.args.bottom c.args.top j inv.from lt in
-    let next : read (j +ℤ pos 1) ≡ j +ℤ pos 1 = read_is (j +ℤ pos 1) (next_fits c.args.bottom c.args.top j c.ranges.bottom c.ranges.top inv.from lt) in
-    rw (c.loop-j.j-is, read_is c.args.bottom c.ranges.bottom, read_is c.args.top c.ranges.top, next) (record {
+    let x = λ (k m : ℤ). is_between p.columns.start p.columns.end k && is_marked c.args.marks.now k m in
+    let inv = rw c.loop-j.j-is at c.loop-j.invariant in
+    let lt = is_lt j p.rows.end (rw (c.loop-j.j-is, read_is p.rows.end top) at c.loop-j-test.true) in
+    let step = next_within p.rows.start p.rows.end j inv.from lt in
+    let next : read (j +ℤ pos 1) ≡ j +ℤ pos 1 = read_is (j +ℤ pos 1) (next_fits p.rows.start p.rows.end j bottom top inv.from lt) in
+    rw (c.loop-j.j-is, next) (record {
       from = step.0;
       to = step.1;
       raster = c.fill_row.ensures.raster ∙ inv.raster;
-      filled = rows_more (is_filled c.args.self.now) (is_filled c.loop-j.self) (is_filled c.fill_row.new.self) x c.args.bottom j inv.from inv.filled (rw c.loop-j.j-is at c.fill_row.ensures.filled);
+      filled = rows_more (is_filled c.args.self.now) (is_filled c.loop-j.self) (is_filled c.fill_row.new.self) x p.rows.start j inv.from inv.filled (rw c.loop-j.j-is at c.fill_row.ensures.filled);
     })
 
 pub returns : goal.returns
 returns c =
-    let x = λ (k m : ℤ). is_between c.args.left c.args.right k && is_marked c.args.marks.now k m in
-    let inv = rw (c.loop-j.j-is, read_is c.args.left c.ranges.left, read_is c.args.right c.ranges.right, read_is c.args.bottom c.ranges.bottom, read_is c.args.top c.ranges.top) at c.loop-j.invariant in
-    let past = not_lt c.loop-j.j c.args.top (rw (c.loop-j.j-is, read_is c.args.top c.ranges.top) at c.loop-j-test.false) in
-    record { raster = inv.raster; filled = rows_end (is_filled c.args.self.now) (is_filled c.loop-j.self) x c.args.bottom c.args.top c.loop-j.j inv.from inv.to past inv.filled }
+    let p = c.args.places.now in
+    let top : FitsSigned w64 p.rows.end = search rules in
+    let x = λ (k m : ℤ). is_between p.columns.start p.columns.end k && is_marked c.args.marks.now k m in
+    let inv = rw c.loop-j.j-is at c.loop-j.invariant in
+    let past = not_lt c.loop-j.j p.rows.end (rw (c.loop-j.j-is, read_is p.rows.end top) at c.loop-j-test.false) in
+    record { raster = inv.raster; filled = rows_end (is_filled c.args.self.now) (is_filled c.loop-j.self) x p.rows.start p.rows.end c.loop-j.j inv.from inv.to past inv.filled }

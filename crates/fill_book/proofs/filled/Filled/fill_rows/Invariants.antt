@@ -8,8 +8,8 @@ use Rattle.fill_book.proofs.filled.Filled.fill_rows.Given as goal
 
 abbrev pub invariant-loop-j : goal.invariant-loop-j
 invariant-loop-j l = record {
-  from : l.bottom ≤ℤ l.j;
-  to : l.j ≤ℤ int_max l.bottom l.top;
+  from : l.places.rows.start ≤ℤ l.j;
+  to : l.j ≤ℤ int_max l.places.rows.start l.places.rows.end;
   raster : l.self.raster ≡ l.fn.self.raster;
-  filled : (k m : ℤ) → is_filled l.self k m ≡ (is_filled l.fn.self k m || (is_between l.bottom l.j m && (is_between l.left l.right k && is_marked l.marks k m)));
+  filled : (k m : ℤ) → is_filled l.self k m ≡ (is_filled l.fn.self k m || (is_between l.places.rows.start l.j m && (is_between l.places.columns.start l.places.columns.end k && is_marked l.marks k m)));
 }

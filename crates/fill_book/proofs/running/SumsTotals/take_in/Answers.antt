@@ -1,7 +1,7 @@
-use Rattle.std.proofs.Common.{sym, subst, ◌∙◌, ℤ, ◌&&◌, ◌||◌, rules, FitsSigned, w64}
+use Rattle.std.proofs.Common.{sym, subst, ◌∙◌, ℤ, ◌&&◌, ◌||◌}
 use Rattle.std.specs.Prelude.{not, ◌==◌}
 use Rattle.std.proofs.lemmas.Bool.{and_parts}
-use Rattle.fill_base.proofs.Signed.{lt_le, read_is}
+use Rattle.fill_base.proofs.Signed.{lt_le}
 use Rattle.fill_region.specs.Bands.{holds}
 use Rattle.fill_area.specs.Grid.{Grid}
 use Rattle.fill_raster.specs.Lattice.{in_raster, tile_of}
@@ -10,53 +10,34 @@ use Rattle.fill_sums.specs.declared.moving.Way.TheVariants.{Up}
 use Rattle.fill_sums.specs.Numbers.{IsMovedBy, StaysBy}
 use Rattle.fill_book.specs.Filling.{is_filled}
 use Rattle.fill_book.specs.steps.Following.{taken_of_rows}
-use Rattle.fill_book.proofs.BoxParts.{AreMovedIn, marks_come, rows_come, rows_come_measured}
+use Rattle.fill_book.proofs.BoxParts.{rows_come, rows_come_measured, tile_marks_come}
 use Rattle.fill_book.proofs.running.SumsTotals.take_in.Goals as goal
-
-come : (c : goal.After-struct_told-4-1) → AreMovedIn c.args.stored.now.filled.raster (λ i j. is_filled c.args.stored.now.filled i j || is_marked c.args.marks.now i j) (is_filled c.args.stored.now.filled) (λ i j. is_marked c.args.marks.now i j && not (is_filled c.args.stored.now.filled i j))
-    (holds c.args.stored.now.metal) c.places.result.0.start c.places.result.0.end c.places.result.1.start c.places.result.1.end
-come c =
-    let f = c.args.stored.now.filled in
-    let places = rw c.raster-raster.ensures at c.places.ensures.places in
-    marks_come f c.args.marks.now (holds c.args.stored.now.metal) _ _ _ _ c.keeps_apart.ensures (lt_le _ _ c.places.ensures.columns) (lt_le _ _ c.places.ensures.rows)
-    (λ i j h. places i j ∙ c.requires.marked i j h) (λ i j h. (and_parts (in_raster f.raster i j) (tile_of f.raster i j == c.args.tile) (c.requires.marked i j h)).0) c.requires.clear
 
 pub move_rows-requires-clause-places : goal.move_rows-requires-clause-places
 move_rows-requires-clause-places c =
-    let left : FitsSigned w64 c.places.result.0.start = search rules in
-    let right : FitsSigned w64 c.places.result.0.end = search rules in
-    let bottom : FitsSigned w64 c.places.result.1.start = search rules in
-    let top : FitsSigned w64 c.places.result.1.end = search rules in
     let r = c.raster-raster.result in
-    rw (read_is _ left, read_is _ right, read_is _ bottom, read_is _ top) (λ i j h. (and_parts (in_raster r i j) (tile_of r i j == c.args.tile) (sym (c.places.ensures.places i j) ∙ h)).0)
+    λ i j h. (and_parts (in_raster r i j) (tile_of r i j == c.args.tile) (sym (c.places.ensures.places i j) ∙ h)).0
 
 pub move_rows-requires-clause-stays : goal.move_rows-requires-clause-stays
 move_rows-requires-clause-stays c =
-    let left : FitsSigned w64 c.places.result.0.start = search rules in
-    let right : FitsSigned w64 c.places.result.0.end = search rules in
-    let bottom : FitsSigned w64 c.places.result.1.start = search rules in
-    let top : FitsSigned w64 c.places.result.1.end = search rules in
-    let f = c.args.stored.now.filled in
-    let new = (λ (i j : ℤ). is_marked c.args.marks.now i j && not (is_filled f i j)) in
-    rw (read_is _ left, read_is _ right, read_is _ bottom, read_is _ top, c.raster-raster.ensures)
+    let f = c.args.stored.now.filled in let of = c.marks.result.now in let m = c.args.marks.now in
+    let new = (λ (i j : ℤ). is_marked m i j && not (is_marked of i j)) in
+    let places = rw c.raster-raster.ensures at c.places.ensures.places in
+    let come = tile_marks_come f of m (holds c.args.stored.now.metal) c.args.tile _ _ _ _ c.keeps_apart.ensures (lt_le _ _ c.places.ensures.columns) (lt_le _ _ c.places.ensures.rows) places c.marks.ensures.marked c.requires.marked c.requires.clear in
+    rw c.raster-raster.ensures
     (subst (λ (w : Grid). StaysBy Up (taken_of_rows f.raster new w c.places.result.0.start c.places.result.0.end c.places.result.1.start c.places.result.1.end) w c.args.self.now.total) (sym c.requires.stands.windows)
-    (rows_come f.raster (λ i j. is_filled f i j || is_marked c.args.marks.now i j) (is_filled f) new (holds c.args.stored.now.metal) _ _ _ _ c.args._windows.now c.args.self.now.total (come c) c.requires.stands.total))
+    (rows_come f.raster (λ i j. is_filled f i j || is_marked m i j) (is_filled f) new (holds c.args.stored.now.metal) _ _ _ _ c.args._windows.now c.args.self.now.total come c.requires.stands.total))
 
 pub returns : goal.returns
 returns c =
-    let left : FitsSigned w64 c.places.result.0.start = search rules in
-    let right : FitsSigned w64 c.places.result.0.end = search rules in
-    let bottom : FitsSigned w64 c.places.result.1.start = search rules in
-    let top : FitsSigned w64 c.places.result.1.end = search rules in
-    let f = c.args.stored.now.filled in
-    let new = (λ (i j : ℤ). is_marked c.args.marks.now i j && not (is_filled f i j)) in
+    let f = c.args.stored.now.filled in let of = c.marks.result.now in let m = c.args.marks.now in
+    let new = (λ (i j : ℤ). is_marked m i j && not (is_marked of i j)) in
     let places = rw c.raster-raster.ensures at c.places.ensures.places in
-    let come = marks_come f c.args.marks.now (holds c.args.stored.now.metal) _ _ _ _ c.keeps_apart.ensures (lt_le _ _ c.places.ensures.columns) (lt_le _ _ c.places.ensures.rows)
-    (λ i j h. places i j ∙ c.requires.marked i j h) (λ i j h. (and_parts (in_raster f.raster i j) (tile_of f.raster i j == c.args.tile) (c.requires.marked i j h)).0) c.requires.clear in
-    let total = rw (read_is _ left, read_is _ right, read_is _ bottom, read_is _ top, c.raster-raster.ensures) at c.move_rows.ensures.total in
+    let come = tile_marks_come f of m (holds c.args.stored.now.metal) c.args.tile _ _ _ _ c.keeps_apart.ensures (lt_le _ _ c.places.ensures.columns) (lt_le _ _ c.places.ensures.rows) places c.marks.ensures.marked c.requires.marked c.requires.clear in
+    let total = rw c.raster-raster.ensures at c.move_rows.ensures.total in
     record {
       windows = c.move_rows.ensures.windows ∙ c.requires.stands.windows;
       drawn = rw c.move_rows.ensures.drawn c.requires.stands.drawn;
-      total = rows_come_measured f.raster (λ i j. is_filled f i j || is_marked c.args.marks.now i j) (is_filled f) new (holds c.args.stored.now.metal) _ _ _ _ c.args._windows.now c.args.self.now.total c.move_rows.new.sums.total come c.requires.stands.total
+      total = rows_come_measured f.raster (λ i j. is_filled f i j || is_marked m i j) (is_filled f) new (holds c.args.stored.now.metal) _ _ _ _ c.args._windows.now c.args.self.now.total c.move_rows.new.sums.total come c.requires.stands.total
           (subst (λ (w : Grid). IsMovedBy Up (taken_of_rows f.raster new w c.places.result.0.start c.places.result.0.end c.places.result.1.start c.places.result.1.end) w c.args.self.now.total c.move_rows.new.sums.total) c.requires.stands.windows total);
     }
