@@ -22,3 +22,4 @@ pub mod SumsMoved
 pub mod BoxParts
 pub mod MetalParts
 pub mod HaloMetal
+pub mod TilePieces

@@ -1,5 +1,5 @@
 //! What tells the areas of windows.
-ghost use Rattle.std.specs.Prelude.{◌≡◌, ◌<◌, ◌||◌, not, ◌≤ℤ◌, ℤ, pos, true, All, IfOk};
+ghost use Rattle.std.specs.Prelude.{◌≡◌, ◌<◌, ◌||◌, ◌≤ℤ◌, ℤ, pos, true, All, IfOk};
 ghost use Rattle.fill_region.specs.Bands.{holds};
 ghost use Rattle.fill_area.specs.Density.{AreMeasured, IsArea, window_area};
 ghost use Rattle.fill_area.specs.Grid.{Grid};

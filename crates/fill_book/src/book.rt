@@ -82,7 +82,7 @@ impl<T: Totals, C: Ledger, P: Ledger, W: Ledger> BookOf<T, C, P, W> {
         let opening = Piece::new(alloc, metal.copy(alloc)?)?;
         let opening_keep = Piece::new(alloc, keep.copy(alloc)?)?;
         let areas = measure_region(rt, alloc, &metal, &windows)?;
-        let stored = Stored::open(alloc, metal, keep, &rules, &areas)?;
+        let stored = Stored::open(rt, alloc, metal, keep, &rules, &areas)?;
         let totals = T::of(alloc, &stored.metal, &windows, areas)?;
         let (books, pass) = Books::open(calls, placed, withdrawn);
         let book = BookOf {

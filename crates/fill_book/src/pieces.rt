@@ -12,7 +12,9 @@ use fill_job::{Piece, SharedRules};
 use fill_raster::Raster;
 use fill_region::Region;
 use fill_text::Edit;
+use rayon::prelude::*;
 use std::alloc::{AllocError, Global};
+use std::thread::Threads;
 
 /// The squares of a region lie within the coordinates, which its rows tell.
 fn stay_in_range(region: &Region)
@@ -39,8 +41,9 @@ fn piece_of(
     Piece::new(alloc, clipped)
 }
 
-/// Those of each tile.
+/// Those of each tile, made by as many threads as there are processors.
 fn pieces_of(
+    rt: &(impl Threads + Sync),
     alloc: Global,
     raster: &Raster,
     distance: i64,
@@ -49,11 +52,17 @@ fn pieces_of(
     requires { IsSpacing distance }
     ensures { IfOk result (λ v. ArePieces raster.now distance (holds region.now) v.items) }
 {
-    let mut pieces = Vec::new(alloc);
-    for tile in 0..raster.tiles() {
-        pieces.push(piece_of(alloc, raster, distance, region, tile)?)?;
-    }
-    Ok(pieces)
+    (0..raster.tiles())
+        .into_par_iter()
+        .with_min_len(1)
+        .map(
+            |tile: u32| -> Result<Piece, AllocError>
+                requires tile { tile < tiles raster.now }
+                requires distance { IsSpacing distance }
+                ensures { IfOk result (IsPiece raster.entry.now distance (holds region.entry.now) tile) }
+            { piece_of(alloc, raster, distance, region, tile) },
+        )
+        .collect::<Result<Vec<Piece>, AllocError>>(rt, alloc)?
 }
 
 /// The metal in the halo of each tile.
@@ -61,13 +70,14 @@ fn pieces_of(
 /// # Errors
 /// `AllocError` where memory is refused.
 pub(crate) fn metal_pieces(
+    rt: &(impl Threads + Sync),
     alloc: Global,
     rules: &SharedRules,
     metal: &Region,
 ) -> Result<Vec<Piece>, AllocError>
     ensures { let plan = plan_of rules.now in IfOk result (λ v. ArePieces plan.raster plan.spacing (holds metal.now) v.items) }
 {
-    pieces_of(alloc, &rules.raster(), rules.spacing(), metal)
+    pieces_of(rt, alloc, &rules.raster(), rules.spacing(), metal)
 }
 
 /// The keep-outs in the bounding rectangle of each tile's boxes.
@@ -75,13 +85,14 @@ pub(crate) fn metal_pieces(
 /// # Errors
 /// `AllocError` where memory is refused.
 pub(crate) fn keep_pieces(
+    rt: &(impl Threads + Sync),
     alloc: Global,
     rules: &SharedRules,
     keep: &Region,
 ) -> Result<Vec<Piece>, AllocError>
     ensures { let plan = plan_of rules.now in IfOk result (λ v. ArePieces plan.raster (pos 0) (holds keep.now) v.items) }
 {
-    pieces_of(alloc, &rules.raster(), 0, keep)
+    pieces_of(rt, alloc, &rules.raster(), 0, keep)
 }
 
 /// The piece of a tile after an edit of the metal that it is of: the same one where the halo shares no square with the edit's rectangle.

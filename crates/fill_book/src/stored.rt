@@ -29,6 +29,7 @@ use fill_raster::{Marks, Raster};
 use fill_region::Region;
 use fill_text::Edit;
 use std::alloc::{AllocError, Global};
+use std::thread::Threads;
 
 /// The metal and the keep-outs, and what of them each tile depends on, the filled places, the version with its low windows, and the
 /// tiles that are in.
@@ -111,6 +112,7 @@ impl Stored {
     /// # Errors
     /// `AllocError` where memory is refused.
     pub(crate) fn open(
+        rt: &(impl Threads + Sync),
         alloc: Global,
         metal: Region,
         keep: Region,
@@ -125,8 +127,8 @@ impl Stored {
         rules.make_a_plan();
         let (raster, windows) = (rules.raster(), rules.windows());
         Ok(Stored {
-            pieces: metal_pieces(alloc, rules, &metal)?,
-            keep_pieces: keep_pieces(alloc, rules, &keep)?,
+            pieces: metal_pieces(rt, alloc, rules, &metal)?,
+            keep_pieces: keep_pieces(rt, alloc, rules, &keep)?,
             low: low_windows(alloc, &windows, rules.min(), areas)?,
             filled: Filled::none(alloc, raster)?,
             tiles: TileSet::none(alloc, raster.tiles())?,

@@ -4,7 +4,7 @@ use Rattle.fill_job.specs.Plans.{plan_of}
 use Rattle.fill_book.proofs.pieces.metal_pieces.Goals as goal
 
 pub returns : goal.returns
-returns c =
+returns g c =
     let p = plan_of c.args.rules.now in
     let range : IsSpacing c.spacing.result = record { least = c.spacing.ensures.range.0; most = c.spacing.ensures.range.1 } in
     let is : IsSpacing p.spacing = rw c.spacing.ensures.value at range in

@@ -31,4 +31,4 @@ of-requires g c =
     subst (λ (p : PointSet). AreMeasured p c.windows-windows.result c.in_ok-areas.areas.items) (sym opened.0) c.in_ok-areas.ensures.areas
 
 pub open-requires-clause-measured : goal.open-requires-clause-measured
-open-requires-clause-measured g c = rw (← c.windows-windows.ensures, c.deref.ensures.value) c.in_ok-areas.ensures.areas
+open-requires-clause-measured g c κs within = rw (← c.windows-windows.ensures, c.deref.ensures.value) c.in_ok-areas.ensures.areas

@@ -8,10 +8,10 @@ use Rattle.fill_book.proofs.Measured.{opened, pitch_kept}
 use Rattle.fill_book.proofs.stored.Stored.open.Goals as goal
 
 pub none-requires : goal.none-requires
-none-requires c = subst (λ (r : Lattice). KeepsPitch r (pos 0)) (sym c.raster-raster.ensures.raster) (pitch_kept (plan_of c.args.rules.now) c.make_a_plan.ensures)
+none-requires g c = subst (λ (r : Lattice). KeepsPitch r (pos 0)) (sym c.raster-raster.ensures.raster) (pitch_kept (plan_of c.args.rules.now) c.make_a_plan.ensures)
 
 pub returns-clause-state : goal.returns-clause-state
-returns-clause-state c =
+returns-clause-state g c =
     let plan = plan_of c.args.rules.now in
     let low = rw (c.windows-windows.ensures, read_is c.min.result (record { sfits = c.min.type_inv }), c.min.ensures.value) at c.in_ok-low_windows.ensures in
     let low_is : (a b : ℕ) → windows_in c.in_ok-low_windows.field-0 a b ≡ low_by plan.windows plan.least c.args.areas.now a b = low in
