@@ -115,7 +115,7 @@ pub trait FillBook: Drop {
     fn total(&self, a: u32, b: u32) -> i64
         requires column { a < (plan_of (account self.now).rules).windows.across.count }
         requires row { b < (plan_of (account self.now).rules).windows.up.count }
-        ensures { let k = account self.now in let s = state_of k in result ≡ pos (total_in (plan_of k.rules) s.layers.metal s.fill a b) };
+        ensures exact { let k = account self.now in let s = state_of k in result ≡ pos (total_in (plan_of k.rules) s.layers.metal s.fill a b) };
 
     /// The area of the metal alone in the window of column `a` and row `b`.
     fn drawn(&self, a: u32, b: u32) -> i64
