@@ -1,7 +1,8 @@
 -- The corners of boxes, as they are reckoned and written.
-use Rattle.std.proofs.Common.{◌≡◌, refl, ap, sym, subst, unsigned_abs, ◌∙◌, ℕ, zero, suc, ◌<◌, ℤ, pos, negsuc, ◌+ℤ◌, ◌*ℤ◌, ◌≤ℤ◌, ◌<ℤ◌, arith, true, false, ◌&&◌, ◌==◌, w64, FitsSigned, List, [], ◌∷◌, map}
+use Rattle.std.proofs.Common.{◌≡◌, refl, ap, sym, subst, unsigned_abs, ◌∙◌, ℕ, zero, suc, ◌*◌, ◌≤◌, ◌<◌, le_of_lt, ℤ, pos, negsuc, ◌+ℤ◌, ◌*ℤ◌, ◌≤ℤ◌, ◌<ℤ◌, arith, true, false, ◌&&◌, ◌==◌, w64, FitsSigned, List, [], ◌∷◌, map}
 use Rattle.std.specs.List.{All}
 use Rattle.std.proofs.lemmas.Int.{ints}
+use Rattle.std.proofs.Math.Nat.{mul-le-mul}
 use Rattle.fill_base.specs.Coordinates.{lowest, highest}
 use Rattle.fill_base.specs.Limits.{IsLength}
 use Rattle.fill_base.specs.declared.place.Point.{Point}
@@ -18,7 +19,7 @@ use Rattle.std.proofs.Math.IntN.{zero-*ℤ}
 use Rattle.std.proofs.lemmas.Bool.{and_from}
 use Rattle.fill_raster.proofs.Reading.{length_read, box_range, BoxRange}
 use Rattle.gds_out.specs.FillText.{coordinates, points_bytes, box_corners, reference_records, array_records, stack_records}
-use Rattle.gds_out.specs.steps.Ranges.{at, IsArray, IsStackOf}
+use Rattle.gds_out.specs.steps.Ranges.{at, three_points, IsArray, IsStackOf}
 
 pub all_three : (a b c : Point) → IsStored a → IsStored b → IsStored c → All IsStored (a ∷ b ∷ c ∷ [])
 all_three a b c ha hb hc zero d lt = ha
@@ -40,43 +41,61 @@ stored_fits z low high = omega (arith, ints)
 pub stored_read : (z : ℤ) → negsuc 2147483647 ≤ℤ z → z ≤ℤ pos 2147483647 → read z ≡ z
 stored_read z low high = read_is z (stored_fits z low high)
 
-far_fits : (x q : ℤ) → negsuc 2147483647 ≤ℤ x → x ≤ℤ pos 2147483647 → negsuc 2147483647 ≤ℤ (x +ℤ q) → (x +ℤ q) ≤ℤ pos 2147483647 → FitsSigned w64 q
-far_fits x q l h m k = omega (arith, ints)
+-- so many steps are fewer than 2^37
+steps_near : (n k : ℕ) → n < 65536 → k ≤ 1048576 → n * k ≤ 68719476736
+steps_near n k few short = let m = mul-le-mul (le_of_lt few) short in omega (arith, m)
 
--- so many steps further
-far_is : (x s : ℤ) (n : ℕ) (m : ℤ) → IsLength s → negsuc 2147483647 ≤ℤ x → x ≤ℤ pos 2147483647 → negsuc 2147483647 ≤ℤ (x +ℤ (pos n *ℤ s)) → (x +ℤ (pos n *ℤ s)) ≤ℤ pos 2147483647 → n < 65536 → m ≡ pos n
-    → read (read x +ℤ read (read m *ℤ read s)) ≡ x +ℤ (pos n *ℤ s)
-far_is x s n m length low high far_low far_high few m_is =
+way_fits : (n : ℕ) (s : ℤ) → IsLength s → n < 65536 → FitsSigned w64 (pos n *ℤ s)
+way_fits n (pos k) length few =
+    let most = length.most in
+    let near = steps_near n k few (omega (arith, ints, most)) in
+    omega (arith, ints, near)
+way_fits n (negsuc k) length few = let least = length.least in absurd (omega (arith, ints, least))
+
+far_fits : (x : ℤ) (n : ℕ) (s : ℤ) → IsLength s → negsuc 2147483647 ≤ℤ x → x ≤ℤ pos 2147483647 → n < 65536 → FitsSigned w64 (x +ℤ (pos n *ℤ s))
+far_fits x n (pos k) length low high few =
+    let most = length.most in
+    let near = steps_near n k few (omega (arith, ints, most)) in
+    omega (arith, ints, near, low, high)
+far_fits x n (negsuc k) length low high few = let least = length.least in absurd (omega (arith, ints, least))
+
+-- so many steps further, and that it fits
+pub far_is : (x s : ℤ) (n : ℕ) (m : ℤ) → IsLength s → negsuc 2147483647 ≤ℤ x → x ≤ℤ pos 2147483647 → n < 65536 → m ≡ pos n
+    → (read (read x +ℤ read (read m *ℤ read s)) ≡ x +ℤ (pos n *ℤ s)) × FitsSigned w64 (read x +ℤ read (read m *ℤ read s))
+far_is x s n m length low high few m_is =
     let rx = stored_read x low high in
     let count : read m ≡ pos n = ap read m_is ∙ read_is (pos n) (pos_fits n (omega (arith, few))) in
     let rs = length_read s length in
-    let far : read (pos n *ℤ s) ≡ pos n *ℤ s = read_is _ (far_fits x (pos n *ℤ s) low high far_low far_high) in
-    let sum : read (x +ℤ (pos n *ℤ s)) ≡ x +ℤ (pos n *ℤ s) = stored_read _ far_low far_high in
-    rw (rx, count, rs, far, sum) refl
+    let far : read (pos n *ℤ s) ≡ pos n *ℤ s = read_is _ (way_fits n s length few) in
+    let fits = far_fits x n s length low high few in
+    let sum : read (x +ℤ (pos n *ℤ s)) ≡ x +ℤ (pos n *ℤ s) = read_is _ fits in
+    (rw (rx, count, rs, far, sum) refl, rw (rx, count, rs, far) fits)
 
--- the same sum fits
-pub far_sum_fits : (x s : ℤ) (n : ℕ) (m : ℤ) → IsLength s → negsuc 2147483647 ≤ℤ x → x ≤ℤ pos 2147483647 → negsuc 2147483647 ≤ℤ (x +ℤ (pos n *ℤ s)) → (x +ℤ (pos n *ℤ s)) ≤ℤ pos 2147483647 → n < 65536 → m ≡ pos n
-    → FitsSigned w64 (read x +ℤ read (read m *ℤ read s))
-far_sum_fits x s n m length low high far_low far_high few m_is =
-    let rx = stored_read x low high in
-    let count : read m ≡ pos n = ap read m_is ∙ read_is (pos n) (pos_fits n (omega (arith, few))) in
-    let rs = length_read s length in
-    let far : read (pos n *ℤ s) ≡ pos n *ℤ s = read_is _ (far_fits x (pos n *ℤ s) low high far_low far_high) in
-    rw (rx, count, rs, far) (stored_fits _ far_low far_high)
+-- the three points of an array, as they are reckoned
+pub array_is : (p step : Point) (n k : ℕ) (u v : ℤ) → IsArray p step n k → u ≡ read p.x +ℤ (pos n *ℤ read step.x) → v ≡ read p.y +ℤ (pos k *ℤ read step.y)
+    → (p ∷ at (read u) (read p.y) ∷ at (read p.x) (read v) ∷ []) ≡ three_points p step n k
+array_is p step n k u v is u_is v_is = rw (right, up, x, y) refl where
+  x : read p.x ≡ p.x
+  x = stored_read p.x is.corner.left is.corner.right
 
-pub behind_is : (p step : Point) (n k : ℕ) (m : ℤ) → IsArray p step n k → n < 65536 → m ≡ pos n
-    → at (read (read p.x +ℤ read (read m *ℤ read step.x))) (read p.y) ≡ at (p.x +ℤ (pos n *ℤ step.x)) p.y
-behind_is p step n k m is few m_is =
-    let x = far_is p.x step.x n m is.wide is.corner.left is.corner.right is.behind.left is.behind.right few m_is in
-    let y = stored_read p.y is.corner.low is.corner.high in
-    rw (x, y) refl
+  y : read p.y ≡ p.y
+  y = stored_read p.y is.corner.low is.corner.high
 
-pub above_is : (p step : Point) (n k : ℕ) (m : ℤ) → IsArray p step n k → k < 65536 → m ≡ pos k
-    → at (read p.x) (read (read p.y +ℤ read (read m *ℤ read step.y))) ≡ at p.x (p.y +ℤ (pos k *ℤ step.y))
-above_is p step n k m is few m_is =
-    let x = stored_read p.x is.corner.left is.corner.right in
-    let y = far_is p.y step.y k m is.tall is.corner.low is.corner.high is.above.low is.above.high few m_is in
-    rw (x, y) refl
+  sum_right : u ≡ p.x +ℤ (pos n *ℤ step.x)
+  sum_right = u_is ∙ rw (x, length_read step.x is.wide) refl
+
+  sum_up : v ≡ p.y +ℤ (pos k *ℤ step.y)
+  sum_up = v_is ∙ rw (y, length_read step.y is.tall) refl
+
+  right : read u ≡ p.x +ℤ (pos n *ℤ step.x)
+  right = ap read sum_right ∙ stored_read (p.x +ℤ (pos n *ℤ step.x)) is.behind.left is.behind.right
+
+  up : read v ≡ p.y +ℤ (pos k *ℤ step.y)
+  up = ap read sum_up ∙ stored_read (p.y +ℤ (pos k *ℤ step.y)) is.above.low is.above.high
+
+-- they fit
+pub array_fits : (p step : Point) (n k : ℕ) → IsArray p step n k → All IsStored (three_points p step n k)
+array_fits p step n k is = all_three _ _ _ is.corner is.behind is.above
 
 -- a place between the least and the greatest is on the axis
 pub on_axis : (a : Axis) (i : ℤ) → IsAxis a → first a ≤ℤ i → i <ℤ past a → is_on a i ≡ true
@@ -196,13 +215,6 @@ stack_one cell cell' r s p one cells is = rw (cells, is, one) refl
 pub stack_many : (cell cell' : List ℕ) (r : Lattice) (s : Stack) (p q : Point) → ((s.columns == 1) && (s.rows == 1)) ≡ false → cell ≡ cell' → p ≡ at (box_begin r.across s.column) (box_begin r.up s.row) → q ≡ at r.across.step r.up.step
     → array_records cell s.columns s.rows q.x q.y p.x p.y ≡ stack_records cell' r s
 stack_many cell cell' r s p q many cells is step = rw (cells, is, step, many) refl
-
-pub array_bytes : (p step : Point) (n k : ℕ) (m l : ℤ) → IsArray p step n k → n < 65536 → m ≡ pos n → k < 65536 → l ≡ pos k
-    → points_bytes (map coordinates (p ∷ at (read (read p.x +ℤ read (read m *ℤ read step.x))) (read p.y) ∷ at (read p.x) (read (read p.y +ℤ read (read l *ℤ read step.y))) ∷ []))
-    ≡ points_bytes ((p.x, p.y) ∷ (p.x +ℤ (pos n *ℤ step.x), p.y) ∷ (p.x, p.y +ℤ (pos k *ℤ step.y)) ∷ [])
-array_bytes p step n k m l is few m_is small l_is =
-    ap (λ (q : Point). points_bytes (map coordinates (p ∷ q ∷ at (read p.x) (read (read p.y +ℤ read (read l *ℤ read step.y))) ∷ []))) (behind_is p step n k m is few m_is)
-    ∙ ap (λ (q : Point). points_bytes (map coordinates (p ∷ at (p.x +ℤ (pos n *ℤ step.x)) p.y ∷ q ∷ []))) (above_is p step n k l is small l_is)
 
 -- the corners of the one box
 pub size_read : (v n : ℤ) → v ≡ n → pos 1 ≤ℤ v → v ≤ℤ pos 1048576 → read v ≡ n

@@ -1,11 +1,12 @@
 //! The elements of a fill library: the boundary of one box, and references to its cell.
 
-ghost use Rattle.std.specs.Prelude.{◌≡◌, ◌≤◌, ◌≤ℤ◌, ◌==◌, ◌&&◌, pos, unsigned_abs, length, OnOk};
+ghost use Rattle.std.specs.Prelude.{◌≡◌, ◌≤◌, ◌≤ℤ◌, ◌+ℤ◌, ◌*ℤ◌, ◌==◌, ◌&&◌, pos, negsuc, unsigned_abs, length, OnOk};
+ghost use Rattle.fill_base.specs.Limits.{IsLength};
 ghost use Rattle.gds_record.specs.Numbers.{IsStored};
 ghost use Rattle.fill_text.specs.Rules.{raster_of};
 ghost use Rattle.fill_text.specs.ValuesOfRules.{values_of};
 ghost use Rattle.gds_out.specs.FillText.{cell_records, reference_records, array_records, stack_records};
-ghost use Rattle.gds_out.specs.steps.Ranges.{IsArray, IsStackOf};
+ghost use Rattle.gds_out.specs.steps.Ranges.{three_points, IsArray, IsStackOf};
 ghost use Rattle.gds_out.specs.steps.Writing.{Adds};
 
 use crate::writer::Writer;
@@ -29,6 +30,32 @@ fn put_reference(writer: &mut Writer, cell: &[u8], corner: Point) -> Result<(), 
     Ok(())
 }
 
+/// A number, and so many steps behind it.
+fn moved(from: i64, step: i64, count: u16) -> i64
+    requires low { negsuc 2147483647 ≤ℤ from }
+    requires high { from ≤ℤ pos 2147483647 }
+    requires step { IsLength step }
+    ensures { result ≡ from +ℤ (pos count *ℤ step) }
+{
+    from + i64::from(count) * step
+}
+
+/// The three points of an array: the first corner, the one behind the last column, the one above the last row.
+fn array_points(corner: Point, step: Point, stack: Stack) -> [Point; 3]
+    requires { IsArray corner step stack.columns stack.rows }
+    ensures { result ≡ three_points corner step stack.columns stack.rows }
+{
+    let behind = Point {
+        x: moved(corner.x, step.x, stack.columns),
+        y: corner.y,
+    };
+    let above = Point {
+        x: corner.x,
+        y: moved(corner.y, step.y, stack.rows),
+    };
+    [corner, behind, above]
+}
+
 /// Writes an array of references to a cell, of the stack's columns and rows: the first moved to a point, each further one a step to
 /// the right, and each further row a step up.
 fn put_array(
@@ -42,18 +69,10 @@ fn put_array(
     requires array { IsArray corner step stack.columns stack.rows }
     ensures { OnOk result (Adds writer.old writer.new (array_records cell.now stack.columns stack.rows step.x step.y corner.x corner.y)) }
 {
-    let behind = Point {
-        x: corner.x + i64::from(stack.columns) * step.x,
-        y: corner.y,
-    };
-    let above = Point {
-        x: corner.x,
-        y: corner.y + i64::from(stack.rows) * step.y,
-    };
     writer.put(kind::AREF, form::NONE, &[])?;
     writer.put_name(kind::SNAME, cell)?;
     writer.put_words(kind::COLROW, stack.columns, stack.rows)?;
-    writer.put_points(&[corner, behind, above])?;
+    writer.put_points(&array_points(corner, step, stack))?;
     writer.put(kind::ENDEL, form::NONE, &[])?;
     Ok(())
 }

@@ -1,5 +1,5 @@
 -- Ranges of the numbers that are written.
-use Rattle.std.specs.Prelude.{ℕ, ◌<◌, ℤ, pos, ◌+ℤ◌, ◌*ℤ◌, ◌≤ℤ◌}
+use Rattle.std.specs.Prelude.{ℕ, ◌<◌, ℤ, pos, ◌+ℤ◌, ◌*ℤ◌, ◌≤ℤ◌, List, [], ◌∷◌}
 use Rattle.fill_base.specs.Limits.{IsLength}
 use Rattle.fill_base.specs.declared.place.Point.{Point}
 use Rattle.fill_raster.specs.Axes.{first, past}
@@ -10,7 +10,12 @@ use Rattle.gds_record.specs.Numbers.{IsStored}
 abbrev pub at : ℤ → ℤ → Point
 at x y = record { x = x; y = y }
 
--- the three points of an array of so many columns and rows fit four bytes each
+-- the points of an array: its corner, the corner moved by all columns, the corner moved by all rows
+abbrev pub three_points : Point → Point → ℕ → ℕ → List Point
+three_points p step columns rows =
+    p ∷ at (p.x +ℤ (pos columns *ℤ step.x)) p.y ∷ at p.x (p.y +ℤ (pos rows *ℤ step.y)) ∷ []
+
+-- they fit four bytes each
 pub record IsArray (p step : Point) (columns rows : ℕ) : Type 0 where
   pub wide : IsLength step.x
   pub tall : IsLength step.y
