@@ -23,3 +23,4 @@ pub mod BoxParts
 pub mod MetalParts
 pub mod HaloMetal
 pub mod TilePieces
+pub mod EditParts

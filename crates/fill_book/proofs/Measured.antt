@@ -7,7 +7,6 @@ use Rattle.std.proofs.lemmas.Bool.Decides.{nat_tests}
 use Rattle.std.proofs.lemmas.Int.{ints}
 use Rattle.fill_region.specs.Bands.{Band, holds}
 use Rattle.fill_area.specs.Density.{AreMeasured}
-use Rattle.fill_area.specs.Grid.{Grid}
 use Rattle.fill_raster.specs.Axes.{first, past}
 use Rattle.fill_raster.specs.Lattice.{Lattice, box_squares, in_raster, KeepsPitch}
 use Rattle.fill_raster.proofs.Ranges.{first_past}
@@ -129,9 +128,8 @@ all_left f p none = fun_ext (λ i. fun_ext (λ j. ap (λ b. is_filled f i j && n
 
 -- ---- the same sets, told otherwise
 
-pub measured_same : (plan : Plan) (r : Lattice) (w : Grid) (f g m n : PointSet) (totals : List ℤ) → r ≡ plan.raster → w ≡ plan.windows → ((i j : ℤ) → f i j ≡ g i j) → ((x y : ℤ) → m x y ≡ n x y)
-    → AreMeasured (metal_or_box r f m) w totals → AreMeasured (with_boxes plan n g) plan.windows totals
-measured_same plan r w f g m n totals raster windows fill metal are = rw (raster, same_set f g fill, same_set m n metal, windows) at are
+pub squares_same : (plan : Plan) (r : Lattice) (f g m n : PointSet) → r ≡ plan.raster → ((i j : ℤ) → f i j ≡ g i j) → ((x y : ℤ) → m x y ≡ n x y) → metal_or_box r f m ≡ with_boxes plan n g
+squares_same plan r f g m n raster fill metal = rw (raster, same_set f g fill, same_set m n metal) refl
 
 -- the places left by an edit, where each filled place is on the raster
 pub left_after : (plan : Plan) (f : Filling) (out : Places) (edit : Edit) → f.raster ≡ plan.raster

@@ -10,7 +10,7 @@ use Rattle.fill_sums.proofs.Following.{AreParts, down_measured, down_stays, up_m
 use Rattle.fill_text.specs.declared.script.Edit.{Edit}
 use Rattle.fill_text.specs.declared.script.Edit.TheVariants.{Add, Cut, Keep}
 use Rattle.fill_core.specs.Machine.{metal_after}
-use Rattle.fill_book.specs.steps.Following.{part_by, way_of}
+use Rattle.fill_book.specs.steps.Following.{opposite_of, part_by, way_of}
 use Rattle.fill_job.specs.Plans.{PointSet}
 
 -- what is added and was no metal
@@ -102,3 +102,14 @@ pub edit_measured : (edit : Edit) (way : Way) (was is part : PointSet) (g : Grid
 edit_measured (Add rect) way was is part g old new e parts measured moved = up_measured is was part g old new measured parts (rw e at moved)
 edit_measured (Cut rect) way was is part g old new e parts measured moved = down_measured was is part g old new measured parts (rw e at moved)
 edit_measured (Keep rect) way was is part g old new e parts measured moved = up_measured is was part g old new measured parts (rw e at moved)
+
+-- and the way back
+pub back_stays : (edit : Edit) (way : Way) (was is part : PointSet) (g : Grid) (numbers : List ℤ) → way ≡ opposite_of edit → PartsBy edit was is part → AreMeasured is g numbers → StaysWithin way part g numbers
+back_stays (Add rect) way was is part g numbers e parts measured = rw e (down_stays is was part g numbers measured parts)
+back_stays (Cut rect) way was is part g numbers e parts measured = rw e (up_stays was is part g numbers measured parts)
+back_stays (Keep rect) way was is part g numbers e parts measured = rw e (down_stays is was part g numbers measured parts)
+
+pub back_measured : (edit : Edit) (way : Way) (was is part : PointSet) (g : Grid) (old new : List ℤ) → way ≡ opposite_of edit → PartsBy edit was is part → AreMeasured is g old → IsMoved way part g old new → AreMeasured was g new
+back_measured (Add rect) way was is part g old new e parts measured moved = down_measured is was part g old new measured parts (rw e at moved)
+back_measured (Cut rect) way was is part g old new e parts measured moved = up_measured was is part g old new measured parts (rw e at moved)
+back_measured (Keep rect) way was is part g old new e parts measured moved = down_measured is was part g old new measured parts (rw e at moved)

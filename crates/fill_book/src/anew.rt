@@ -1,11 +1,13 @@
 //! Areas that are measured whenever they are asked for.
 use crate::areas::Totals;
+use crate::edited::Edited;
+use crate::low::low_windows;
 use crate::places::Places;
 use crate::stored::Stored;
 use fill_area::{Windows, area_in};
+use fill_job::SharedRules;
 use fill_raster::Marks;
 use fill_region::Region;
-use fill_text::Edit;
 use std::alloc::{AllocError, Global};
 
 /// No areas: each is measured whenever it is asked for.
@@ -42,16 +44,21 @@ impl Totals for Measured {
 
     fn take_in(&mut self, _stored: &Stored, _windows: &Windows, _tile: u32, _marks: &Marks) {}
 
-    fn after(
+    fn follow(&mut self, _stored: &Stored, _windows: &Windows, _edited: &Edited) {}
+
+    fn turn_back(&mut self, _stored: &Stored, _windows: &Windows, _edited: &Edited) {}
+
+    fn low(
         &self,
         alloc: Global,
         stored: &Stored,
-        windows: &Windows,
-        _edit: Edit,
-        metal: &Region,
-        out: &Places,
-    ) -> Result<(Measured, Vec<i64>), AllocError> {
-        let totals = stored.filled.totals(alloc, metal, out, windows)?;
-        Ok((Measured, totals))
+        rules: &SharedRules,
+        edited: &Edited,
+    ) -> Result<Region, AllocError> {
+        let windows = rules.windows();
+        let totals = stored
+            .filled
+            .totals(alloc, &edited.metal, &edited.out, &windows)?;
+        low_windows(alloc, &windows, rules.min(), &totals)
     }
 }

@@ -1,21 +1,21 @@
 //! What tells the areas of windows.
-ghost use Rattle.std.specs.Prelude.{◌≡◌, ◌<◌, ◌||◌, ◌≤ℤ◌, ℤ, pos, true, All, IfOk};
+ghost use Rattle.std.specs.Prelude.{◌≡◌, ◌<◌, ◌||◌, ℕ, ℤ, pos, true, IfOk};
 ghost use Rattle.fill_region.specs.Bands.{holds};
-ghost use Rattle.fill_area.specs.Density.{AreMeasured, IsArea, window_area};
+ghost use Rattle.fill_area.specs.Density.{AreMeasured, window_area};
 ghost use Rattle.fill_area.specs.Grid.{Grid};
-ghost use Rattle.fill_raster.specs.Lattice.{in_raster, in_tile, tiles};
+ghost use Rattle.fill_raster.specs.Lattice.{in_tile, tiles};
 ghost use Rattle.fill_raster.specs.Marks.{is_marked};
-ghost use Rattle.fill_job.specs.Plans.{PointSet};
-ghost use Rattle.fill_core.specs.Machine.{metal_after};
-ghost use Rattle.fill_book.specs.Filling.{KeepsClear, in_places, is_filled, left_by, metal_or_box};
-ghost use Rattle.fill_book.specs.Standing.{squares_in};
+ghost use Rattle.fill_job.specs.Basis.{windows_in};
+ghost use Rattle.fill_job.specs.Plans.{PointSet, low_windows, plan_of};
+ghost use Rattle.fill_book.specs.Filling.{KeepsClear, is_filled, metal_or_box};
+ghost use Rattle.fill_book.specs.Standing.{IsEdited, squares_in, squares_left};
 
-use crate::places::Places;
+use crate::edited::Edited;
 use crate::stored::Stored;
 use fill_area::Windows;
+use fill_job::SharedRules;
 use fill_raster::Marks;
 use fill_region::Region;
-use fill_text::Edit;
 use std::alloc::{AllocError, Global};
 
 /// What tells for each window of a grid the area of the metal, and that of metal and boxes, as they are stored.
@@ -59,27 +59,31 @@ pub trait Totals: Drop {
         requires clear { KeepsClear stored.now.filled.raster (λ i j. is_filled stored.now.filled i j || is_marked marks.now i j) (holds stored.now.metal) }
         ensures { stand_for self.new windows.now (holds stored.now.metal) (metal_or_box stored.now.filled.raster (λ i j. is_filled stored.now.filled i j || is_marked marks.now i j) (holds stored.now.metal)) };
 
-    /// The totals after an edit that leaves this metal and takes the boxes of these places out, and the area of metal and boxes
-    /// in each window then, row by row.
+    /// Follows an edit, before it is made of what is stored. Takes no memory.
+    fn follow(&mut self, stored: &Stored, windows: &Windows, edited: &Edited)
+        requires stands { stand_for self.old windows.now (holds stored.now.metal) (squares_in stored.now) }
+        requires edited { IsEdited stored.now edited.now }
+        ensures { stand_for self.new windows.now (holds edited.now.metal) (squares_left stored.now edited.now) };
+
+    /// Turns back from an edit that was followed and isn't made. Takes no memory.
+    fn turn_back(&mut self, stored: &Stored, windows: &Windows, edited: &Edited)
+        requires stands { stand_for self.old windows.now (holds edited.now.metal) (squares_left stored.now edited.now) }
+        requires edited { IsEdited stored.now edited.now }
+        ensures { stand_for self.new windows.now (holds stored.now.metal) (squares_in stored.now) };
+
+    /// The low windows, of metal and boxes, after an edit that was followed: the window in column `a` and row `b` as the square
+    /// `(a, b)`.
     ///
     /// # Errors
     /// `AllocError` where memory is refused.
-    fn after(
+    fn low(
         &self,
         alloc: Global,
         stored: &Stored,
-        windows: &Windows,
-        edit: Edit,
-        metal: &Region,
-        out: &Places,
-    ) -> Result<(Self, Vec<i64>), AllocError>
-        requires stands { stand_for self.now windows.now (holds stored.now.metal) (squares_in stored.now) }
-        requires metal { (x y : ℤ) → holds metal.now x y ≡ metal_after edit (holds stored.now.metal) x y }
-        requires on { (i j : ℤ) → in_places out.now i j ≡ true → in_raster stored.now.filled.raster i j ≡ true }
-        requires ordered { (out.now.columns.start ≤ℤ out.now.columns.end) × (out.now.rows.start ≤ℤ out.now.rows.end) }
-        requires clear { KeepsClear stored.now.filled.raster (is_filled stored.now.filled) (holds stored.now.metal) }
-        requires clear_after { KeepsClear stored.now.filled.raster (left_by stored.now.filled out.now) (holds metal.now) }
-        ensures stands { IfOk result (λ r. stand_for r.0 windows.now (holds metal.now) (metal_or_box stored.now.filled.raster (left_by stored.now.filled out.now) (holds metal.now))) }
-        ensures areas { IfOk result (λ r. AreMeasured (metal_or_box stored.now.filled.raster (left_by stored.now.filled out.now) (holds metal.now)) windows.now r.1.items) }
-        ensures bounded { IfOk result (λ r. All IsArea r.1.items) };
+        rules: &SharedRules,
+        edited: &Edited,
+    ) -> Result<Region, AllocError>
+        requires stands { stand_for self.now (plan_of rules.now).windows (holds edited.now.metal) (squares_left stored.now edited.now) }
+        requires edited { IsEdited stored.now edited.now }
+        ensures { IfOk result (λ r. (a b : ℕ) → windows_in r a b ≡ low_windows (plan_of rules.now) (squares_left stored.now edited.now) a b) };
 }

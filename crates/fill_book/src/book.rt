@@ -166,12 +166,11 @@ impl<T: Totals, C: Ledger + Send + Sync, P: Ledger + Send + Sync, W: Ledger + Se
         if self.is_full() {
             return Err(BookError::HistoryFull);
         }
-        let (change, totals) = self
-            .stored
-            .change_by(alloc, &self.rules, &self.totals, edit)?;
         self.history.reserve()?;
+        let change = self
+            .stored
+            .change_by(alloc, &self.rules, &mut self.totals, edit)?;
         let withdrawn = self.stored.change(change);
-        self.totals = totals;
         let reply = Reply::Withdrawn(withdrawn);
         self.books.note(pass, 0, u64::from(withdrawn));
         let event = Event::Edit(edit);

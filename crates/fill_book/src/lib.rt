@@ -5,6 +5,7 @@
 mod anew;
 mod areas;
 mod book;
+mod edited;
 mod filled;
 mod low;
 mod pieces;

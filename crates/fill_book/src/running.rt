@@ -1,24 +1,25 @@
 //! Areas that are kept as running sums.
-ghost use Rattle.std.specs.Prelude.{◌≡◌, ◌≤ℤ◌, ℤ, true, IfOk};
+ghost use Rattle.std.specs.Prelude.{◌≡◌, ◌≤ℤ◌, ℤ, true};
 ghost use Rattle.fill_base.specs.Counts.{is_between};
-ghost use Rattle.fill_base.specs.Squares.{squares};
 ghost use Rattle.fill_region.specs.Bands.{holds};
 ghost use Rattle.fill_raster.specs.Lattice.{in_raster};
 ghost use Rattle.fill_sums.specs.Numbers.{AreNumbers, AreSums, IsMovedBy, StaysBy};
-ghost use Rattle.fill_book.specs.Filling.{KeepsClear, in_places, is_filled, left_by, metal_or_box};
-ghost use Rattle.fill_book.specs.Standing.{StandFor, squares_in};
-ghost use Rattle.fill_book.specs.steps.Following.{is_moved, part_by, taken_of_row, taken_of_rows, way_of};
+ghost use Rattle.fill_book.specs.Filling.{in_places, left_by, metal_or_box};
+ghost use Rattle.fill_book.specs.Standing.{IsEdited, StandFor, squares_in};
+ghost use Rattle.fill_book.specs.steps.Following.{is_moved, taken_of_row, taken_of_rows, taken_out};
 
 use crate::areas::Totals;
+use crate::edited::Edited;
 use crate::filled::Filled;
+use crate::low::low_windows;
 use crate::places::Places;
 use crate::stored::Stored;
 use fill_area::Windows;
-use fill_base::{Place, Rect};
+use fill_base::Place;
+use fill_job::SharedRules;
 use fill_raster::{Marks, Raster};
 use fill_region::Region;
 use fill_sums::{Sums, Way};
-use fill_text::Edit;
 use std::alloc::{AllocError, Global};
 use std::ops::Range;
 
@@ -92,70 +93,43 @@ fn keep_within(sums: &Sums)
     let _ = sums.totals();
 }
 
-/// The sums without the boxes of some places.
-///
-/// # Errors
-/// `AllocError` where memory is refused.
-fn without_boxes(
-    alloc: Global,
-    sums: &Sums,
-    stored: &Stored,
-    _windows: &Windows,
-    out: &Places,
-) -> Result<Sums, AllocError>
-    requires stands { StandFor sums.now _windows.now (holds stored.now.metal) (squares_in stored.now) }
+/// Moves the sums by the boxes of the filled places among those that an edit takes out.
+fn move_out(sums: &mut Sums, way: Way, stored: &Stored, out: &Places)
     requires on { (i j : ℤ) → in_places out.now i j ≡ true → in_raster stored.now.filled.raster i j ≡ true }
-    requires ordered { (out.now.columns.start ≤ℤ out.now.columns.end) × (out.now.rows.start ≤ℤ out.now.rows.end) }
-    requires clear { KeepsClear stored.now.filled.raster (is_filled stored.now.filled) (holds stored.now.metal) }
-    ensures { IfOk result (λ s. StandFor s _windows.now (holds stored.now.metal) (metal_or_box stored.now.filled.raster (left_by stored.now.filled out.now) (holds stored.now.metal))) }
+    requires columns { out.now.columns.start ≤ℤ out.now.columns.end }
+    requires rows { out.now.rows.start ≤ℤ out.now.rows.end }
+    requires stays { StaysBy way (taken_out stored.now out.now sums.old.windows) sums.old.windows sums.old.total }
+    ensures windows { sums.new.windows ≡ sums.old.windows }
+    ensures drawn { sums.new.drawn ≡ sums.old.drawn }
+    ensures total { IsMovedBy way (taken_out stored.now out.now sums.old.windows) sums.old.windows sums.old.total sums.new.total }
 {
-    let mut left = sums.copy(alloc)?;
     keep_within(sums);
-    let filled = &stored.filled;
-    filled.keeps_apart();
     let boxes = Boxes {
-        way: Way::Down,
-        raster: filled.raster(),
-        moved: Moved::Out(filled, out),
+        way,
+        raster: stored.filled.raster(),
+        moved: Moved::Out(&stored.filled, out),
     };
-    move_rows(&mut left, &boxes, out);
-    Ok(left)
+    move_rows(sums, &boxes, out);
 }
 
-/// Metal that comes or goes, within a rectangle.
-#[derive(Drop)]
-struct Part {
-    way: Way,
-    metal: Region,
-    within: Rect,
-}
-
-/// The part of an edit's rectangle that was no metal and is added, or that was metal and is cut: nothing of a keep-out.
-///
-/// # Errors
-/// `AllocError` where memory is refused.
-fn part_of(alloc: Global, metal: &Region, edit: Edit) -> Result<Part, AllocError>
-    ensures way { IfOk result (λ p. p.way ≡ way_of edit) }
-    ensures metal { IfOk result (λ p. (x y : ℤ) → holds p.metal x y ≡ part_by edit (holds metal.now) x y) }
-    ensures within { IfOk result (λ p. (x y : ℤ) → holds p.metal x y ≡ true → squares p.within x y ≡ true) }
+/// Takes the boxes out that an edit takes out.
+fn take_out(sums: &mut Sums, stored: &Stored, _windows: &Windows, edited: &Edited)
+    requires stands { StandFor sums.old _windows.now (holds stored.now.metal) (squares_in stored.now) }
+    requires edited { IsEdited stored.now edited.now }
+    ensures { StandFor sums.new _windows.now (holds stored.now.metal) (metal_or_box stored.now.filled.raster (left_by stored.now.filled edited.now.out) (holds stored.now.metal)) }
 {
-    match edit {
-        Edit::Add(rect) => Ok(Part {
-            way: Way::Up,
-            metal: Region::one(alloc, &rect)?.minus(alloc, &metal.clip(alloc, &rect)?)?,
-            within: rect,
-        }),
-        Edit::Cut(rect) => Ok(Part {
-            way: Way::Down,
-            metal: metal.clip(alloc, &rect)?,
-            within: rect,
-        }),
-        Edit::Keep(rect) => Ok(Part {
-            way: Way::Up,
-            metal: Region::empty(alloc),
-            within: rect,
-        }),
-    }
+    stored.filled.keeps_apart();
+    move_out(sums, Way::Down, stored, &edited.out);
+}
+
+/// Puts them back.
+fn put_back(sums: &mut Sums, stored: &Stored, _windows: &Windows, edited: &Edited)
+    requires stands { StandFor sums.old _windows.now (holds stored.now.metal) (metal_or_box stored.now.filled.raster (left_by stored.now.filled edited.now.out) (holds stored.now.metal)) }
+    requires edited { IsEdited stored.now edited.now }
+    ensures { StandFor sums.new _windows.now (holds stored.now.metal) (squares_in stored.now) }
+{
+    stored.filled.keeps_apart();
+    move_out(sums, Way::Up, stored, &edited.out);
 }
 
 impl Totals for Sums {
@@ -191,20 +165,27 @@ impl Totals for Sums {
         move_rows(self, &boxes, &Places { columns, rows });
     }
 
-    fn after(
+    fn follow(&mut self, stored: &Stored, windows: &Windows, edited: &Edited) {
+        take_out(self, stored, windows, edited);
+        stored.filled.keeps_apart();
+        let part = &edited.part;
+        self.move_metal(part.way, &part.metal, &part.within);
+    }
+
+    fn turn_back(&mut self, stored: &Stored, windows: &Windows, edited: &Edited) {
+        stored.filled.keeps_apart();
+        let part = &edited.part;
+        self.move_metal(part.back, &part.metal, &part.within);
+        put_back(self, stored, windows, edited);
+    }
+
+    fn low(
         &self,
         alloc: Global,
-        stored: &Stored,
-        windows: &Windows,
-        edit: Edit,
-        _metal: &Region,
-        out: &Places,
-    ) -> Result<(Sums, Vec<i64>), AllocError> {
-        let mut sums = without_boxes(alloc, self, stored, windows, out)?;
-        stored.filled.keeps_apart();
-        let part = part_of(alloc, &stored.metal, edit)?;
-        sums.move_metal(part.way, &part.metal, &part.within);
-        let areas = Vec::from_slice(alloc, sums.totals())?;
-        Ok((sums, areas))
+        _stored: &Stored,
+        rules: &SharedRules,
+        _edited: &Edited,
+    ) -> Result<Region, AllocError> {
+        low_windows(alloc, &rules.windows(), rules.min(), self.totals())
     }
 }

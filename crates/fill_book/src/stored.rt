@@ -1,5 +1,5 @@
 //! What a book stores of its state, and what each event makes of it.
-ghost use Rattle.std.specs.Prelude.{◌≡◌, cond, not, ◌+◌, ◌<◌, ◌==◌, ◌&&◌, ◌||◌, ◌^◌, ◌≤ℤ◌, ℤ, ℕ, pos, true, false, All, IfOk, length};
+ghost use Rattle.std.specs.Prelude.{◌≡◌, cond, not, ◌+◌, ◌<◌, ◌==◌, ◌&&◌, ◌||◌, ◌^◌, ◌≤ℤ◌, ℤ, ℕ, pos, true, false, All, IfOk, OnErr, OnOk, length};
 ghost use Rattle.fill_region.specs.Bands.{holds};
 ghost use Rattle.fill_area.specs.Density.{AreMeasured, IsArea};
 ghost use Rattle.fill_raster.specs.Lattice.{in_raster, in_tile, tiles};
@@ -13,10 +13,11 @@ ghost use Rattle.fill_core.specs.declared.event.Reply.TheVariants.{Placed};
 ghost use Rattle.fill_book.specs.Filling.{KeepsClear, in_places, is_filled, left_by, metal_or_box};
 ghost use Rattle.fill_book.specs.Keeping.{Fits, state_by};
 ghost use Rattle.fill_book.specs.Pieces.{ArePieces};
-ghost use Rattle.fill_book.specs.Standing.{squares_in};
+ghost use Rattle.fill_book.specs.Standing.{IsEdited, squares_in, squares_left};
 ghost use Rattle.fill_book.specs.Tiles.{is_in};
 
 use crate::areas::Totals;
+use crate::edited::{Edited, metal_edited, part_of};
 use crate::filled::Filled;
 use crate::low::low_windows;
 use crate::pieces::{keep_pieces, keep_pieces_after, metal_pieces, metal_pieces_after};
@@ -55,17 +56,6 @@ pub(crate) struct Change {
     pub(crate) out: Places,
     pub(crate) pieces: Vec<Piece>,
     pub(crate) keep_pieces: Vec<Piece>,
-}
-
-/// The metal after an edit.
-fn edited(alloc: Global, metal: &Region, edit: Edit) -> Result<Region, AllocError>
-    ensures { IfOk result (λ r. (x y : ℤ) → holds r x y ≡ metal_after edit (holds metal.now) x y) }
-{
-    match edit {
-        Edit::Add(rect) => metal.with_rect(alloc, &rect),
-        Edit::Cut(rect) => metal.without_rect(alloc, &rect),
-        Edit::Keep(_) => metal.copy(alloc),
-    }
 }
 
 /// The keep-outs after an edit.
@@ -207,48 +197,93 @@ impl Stored {
         self.filled.count() - before
     }
 
-    /// What an edit makes of the state, and of what tells its areas. Takes all the memory that the edit needs, and changes nothing
-    /// yet.
+    /// What an edit makes of the metal, what of it comes or goes, and the places whose boxes it takes out.
     ///
     /// # Errors
     /// `AllocError` where memory is refused.
+    fn edited(&self, alloc: Global, rules: &SharedRules, edit: Edit) -> Result<Edited, AllocError>
+        requires raster { self.now.filled.raster ≡ (plan_of rules.now).raster }
+        requires clear_now { KeepsClear self.now.filled.raster (is_filled self.now.filled) (holds self.now.metal) }
+        requires clear { KeepsClear (plan_of rules.now).raster (fill_after (plan_of rules.now) edit (is_filled self.now.filled)) (metal_after edit (holds self.now.metal)) }
+        ensures edit { IfOk result (λ e. e.edit ≡ edit) }
+        ensures edited { IfOk result (λ e. IsEdited self.now e) }
+        ensures left { IfOk result (λ e. (i j : ℤ) → left_by self.now.filled e.out i j ≡ fill_after (plan_of rules.now) edit (is_filled self.now.filled) i j) }
+    {
+        Ok(Edited {
+            edit,
+            metal: metal_edited(alloc, &self.metal, edit)?,
+            part: part_of(alloc, &self.metal, edit)?,
+            out: too_near(rules, edit),
+        })
+    }
+
+    /// The low windows after an edit, which what tells the areas follows. Where memory is refused, it turns back from it.
+    ///
+    /// # Errors
+    /// `AllocError` where memory is refused.
+    fn low_after<T: Totals>(
+        &self,
+        alloc: Global,
+        rules: &SharedRules,
+        totals: &mut T,
+        edited: &Edited,
+    ) -> Result<Region, AllocError>
+        requires stands { T.stand_for totals.old (plan_of rules.now).windows (holds self.now.metal) (squares_in self.now) }
+        requires edited { IsEdited self.now edited.now }
+        ensures low { IfOk result (λ r. (a b : ℕ) → windows_in r a b ≡ low_windows (plan_of rules.now) (squares_left self.now edited.now) a b) }
+        ensures stands { OnOk result (T.stand_for totals.new (plan_of rules.now).windows (holds edited.now.metal) (squares_left self.now edited.now)) }
+        ensures back { OnErr result (T.stand_for totals.new (plan_of rules.now).windows (holds self.now.metal) (squares_in self.now)) }
+    {
+        let windows = rules.windows();
+        totals.follow(self, &windows, edited);
+        match totals.low(alloc, self, rules, edited) {
+            Ok(low) => Ok(low),
+            Err(error) => {
+                totals.turn_back(self, &windows, edited);
+                Err(error)
+            }
+        }
+    }
+
+    /// What an edit makes of the state, which what tells its areas follows. Takes all the memory that the edit needs, and changes
+    /// nothing else yet.
+    ///
+    /// # Errors
+    /// `AllocError` where memory is refused; what tells the areas then stands for what it did.
     pub(crate) fn change_by<T: Totals>(
         &self,
         alloc: Global,
         rules: &SharedRules,
-        totals: &T,
+        totals: &mut T,
         edit: Edit,
-    ) -> Result<(Change, T), AllocError>
+    ) -> Result<Change, AllocError>
         requires fits { Fits (plan_of rules.now) self.now }
-        requires stands { T.stand_for totals.now (plan_of rules.now).windows (holds self.now.metal) (squares_in self.now) }
+        requires stands { T.stand_for totals.old (plan_of rules.now).windows (holds self.now.metal) (squares_in self.now) }
         requires clear_now { KeepsClear self.now.filled.raster (is_filled self.now.filled) (holds self.now.metal) }
         requires clear { KeepsClear (plan_of rules.now).raster (fill_after (plan_of rules.now) edit (is_filled self.now.filled)) (metal_after edit (holds self.now.metal)) }
-        ensures metal { IfOk result (λ c. (x y : ℤ) → holds c.0.metal x y ≡ metal_after edit (holds self.now.metal) x y) }
-        ensures keep { IfOk result (λ c. (x y : ℤ) → holds c.0.keep x y ≡ keep_after edit (holds self.now.keep) x y) }
-        ensures on { IfOk result (λ c. (i j : ℤ) → in_places c.0.out i j ≡ true → in_raster self.now.filled.raster i j ≡ true) }
-        ensures left { IfOk result (λ c. (i j : ℤ) → left_by self.now.filled c.0.out i j ≡ fill_after (plan_of rules.now) edit (is_filled self.now.filled) i j) }
-        ensures low { let plan = plan_of rules.now in IfOk result (λ c. (a b : ℕ) → windows_in c.0.low a b ≡ low_windows plan (with_boxes plan (metal_after edit (holds self.now.metal)) (fill_after plan edit (is_filled self.now.filled))) a b) }
-        ensures pieces { let plan = plan_of rules.now in IfOk result (λ c. ArePieces plan.raster plan.spacing (metal_after edit (holds self.now.metal)) c.0.pieces.items) }
-        ensures keep_pieces { let plan = plan_of rules.now in IfOk result (λ c. ArePieces plan.raster (pos 0) (keep_after edit (holds self.now.keep)) c.0.keep_pieces.items) }
-        ensures stands { let plan = plan_of rules.now in IfOk result (λ c. T.stand_for c.1 plan.windows (holds c.0.metal) (metal_or_box self.now.filled.raster (left_by self.now.filled c.0.out) (holds c.0.metal))) }
+        ensures metal { IfOk result (λ c. (x y : ℤ) → holds c.metal x y ≡ metal_after edit (holds self.now.metal) x y) }
+        ensures keep { IfOk result (λ c. (x y : ℤ) → holds c.keep x y ≡ keep_after edit (holds self.now.keep) x y) }
+        ensures on { IfOk result (λ c. (i j : ℤ) → in_places c.out i j ≡ true → in_raster self.now.filled.raster i j ≡ true) }
+        ensures left { IfOk result (λ c. (i j : ℤ) → left_by self.now.filled c.out i j ≡ fill_after (plan_of rules.now) edit (is_filled self.now.filled) i j) }
+        ensures low { let plan = plan_of rules.now in IfOk result (λ c. (a b : ℕ) → windows_in c.low a b ≡ low_windows plan (with_boxes plan (metal_after edit (holds self.now.metal)) (fill_after plan edit (is_filled self.now.filled))) a b) }
+        ensures pieces { let plan = plan_of rules.now in IfOk result (λ c. ArePieces plan.raster plan.spacing (metal_after edit (holds self.now.metal)) c.pieces.items) }
+        ensures keep_pieces { let plan = plan_of rules.now in IfOk result (λ c. ArePieces plan.raster (pos 0) (keep_after edit (holds self.now.keep)) c.keep_pieces.items) }
+        ensures stands { let plan = plan_of rules.now in IfOk result (λ c. T.stand_for totals.new plan.windows (holds c.metal) (metal_or_box self.now.filled.raster (left_by self.now.filled c.out) (holds c.metal))) }
+        ensures back { OnErr result (T.stand_for totals.new (plan_of rules.now).windows (holds self.now.metal) (squares_in self.now)) }
     {
-        let metal = edited(alloc, &self.metal, edit)?;
+        let edited = self.edited(alloc, rules, edit)?;
         let keep = kept_out(alloc, &self.keep, edit)?;
-        let out = too_near(rules, edit);
-        let windows = rules.windows();
-        let (after, areas) = totals.after(alloc, self, &windows, edit, &metal, &out)?;
-        let low = low_windows(alloc, &windows, rules.min(), &areas)?;
         let pieces = metal_pieces_after(alloc, rules, &self.metal, &self.pieces, edit)?;
         let keep_pieces = keep_pieces_after(alloc, rules, &self.keep, &self.keep_pieces, edit)?;
-        let change = Change {
-            metal,
+        let low = self.low_after(alloc, rules, totals, &edited)?;
+        Ok(Change {
+            metal: edited.metal,
             keep,
             low,
-            out,
+            out: edited.out,
             pieces,
             keep_pieces,
-        };
-        Ok((change, after))
+        })
     }
 
     /// Makes a change, which opens the next version. Tells how many boxes are taken out. Takes no memory.

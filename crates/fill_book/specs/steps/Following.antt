@@ -12,6 +12,8 @@ use Rattle.fill_text.specs.declared.script.Edit.{Edit}
 use Rattle.fill_text.specs.declared.script.Edit.TheVariants.{Add, Cut, Keep}
 use Rattle.fill_job.specs.Plans.{PointSet}
 use Rattle.fill_book.specs.Filling.{in_places, is_filled}
+use Rattle.fill_book.specs.declared.places.Places.{Places}
+use Rattle.fill_book.specs.declared.stored.Stored.{Stored}
 use Rattle.fill_book.specs.declared.running.Moved.{Moved}
 use Rattle.fill_book.specs.declared.running.Moved.TheVariants.{New, Out}
 
@@ -29,11 +31,21 @@ taken_of_row r fill g left right j a b = sum_between (λ i. taken_at r fill g i 
 abbrev pub taken_of_rows : Lattice → PointSet → Grid → ℤ → ℤ → ℤ → ℤ → ℕ → ℕ → ℕ
 taken_of_rows r fill g left right bottom top a b = sum_between (λ j. taken_of_row r fill g left right j a b) bottom top
 
+-- what the boxes take of the filled places among some
+abbrev pub taken_out : Stored → Places → Grid → ℕ → ℕ → ℕ
+taken_out s p g = taken_of_rows s.filled.raster (λ i j. is_filled s.filled i j && in_places p i j) g p.columns.start p.columns.end p.rows.start p.rows.end
+
 -- whether metal comes or goes, and which
 abbrev pub way_of : Edit → Way
 way_of (Add r) = Up
 way_of (Cut r) = Down
 way_of (Keep r) = Up
+
+-- and the way back
+abbrev pub opposite_of : Edit → Way
+opposite_of (Add r) = Down
+opposite_of (Cut r) = Up
+opposite_of (Keep r) = Down
 
 abbrev pub part_by : Edit → PointSet → PointSet
 part_by (Add r) metal x y = squares r x y && not (metal x y && squares r x y)

@@ -17,12 +17,12 @@ loop-i-init c =
     let p = c.args.columns.now in
     let left : FitsSigned w64 p.start = search rules in
     rw (read_is p.start left, read_is c.args.j c.ranges.j) (record {
-  from = same_le p.start;
-  to = c.requires.ordered;
-  windows = refl;
-  drawn = refl;
-  total = none_moved c.args.boxes.now.way (λ i. taken_at c.args.boxes.now.raster (is_moved c.args.boxes.now.moved) c.args.sums.now.windows i c.args.j) c.args.sums.now.windows p.start c.args.sums.now.total;
-})
+      from = same_le p.start;
+      to = c.requires.ordered;
+      windows = refl;
+      drawn = refl;
+      total = none_moved c.args.boxes.now.way (λ i. taken_at c.args.boxes.now.raster (is_moved c.args.boxes.now.moved) c.args.sums.now.windows i c.args.j) c.args.sums.now.windows p.start c.args.sums.now.total;
+    })
 
 pub box_of-requires : goal.box_of-requires
 box_of-requires c =

@@ -15,12 +15,12 @@ loop-j-init c =
     let p = c.args.places.now in
     let bottom : FitsSigned w64 p.rows.start = search rules in
     rw (read_is p.rows.start bottom) (record {
-  from = same_le p.rows.start;
-  to = c.requires.upwards;
-  windows = refl;
-  drawn = refl;
-  total = none_moved c.args.boxes.now.way (λ j. taken_of_row c.args.boxes.now.raster (is_moved c.args.boxes.now.moved) c.args.sums.now.windows p.columns.start p.columns.end j) c.args.sums.now.windows p.rows.start c.args.sums.now.total;
-})
+      from = same_le p.rows.start;
+      to = c.requires.upwards;
+      windows = refl;
+      drawn = refl;
+      total = none_moved c.args.boxes.now.way (λ j. taken_of_row c.args.boxes.now.raster (is_moved c.args.boxes.now.moved) c.args.sums.now.windows p.columns.start p.columns.end j) c.args.sums.now.windows p.rows.start c.args.sums.now.total;
+    })
 
 pub move_row-requires-clause-places : goal.move_row-requires-clause-places
 move_row-requires-clause-places c =

@@ -18,6 +18,9 @@ note-requires-clause-placed g c = placed_room c.self.invariant.0 0 none_few
 pub note-requires-clause-withdrawn : goal.note-requires-clause-withdrawn
 note-requires-clause-withdrawn g c = let few : c.from.result < 2 ^ 32 = search rules in withdrawn_room c.self.invariant.0 c.from.result few
 
+pub invariant_of-self : goal.invariant_of-self
+invariant_of-self g c = rw c.reserve.ensures.same c.self.invariant
+
 pub invariant_of-self-2 : goal.invariant_of-self-2
 invariant_of-self-2 g c =
     let plan = plan_of c.self.inside.rules in
@@ -28,7 +31,7 @@ invariant_of-self-2 g c =
     let history = c.push.ensures ∙ ap (λ (h : List Entry). h ++ record { event = event.Edit c.args.edit; reply = Withdrawn c.change-withdrawn.result } ∷ []) c.reserve.ensures.same in (
       rw history (keeps_edit c.self.invariant.0 c.note.new.self c.change-withdrawn.new.self c.args.edit c.in_ok-change.change c.change-withdrawn.result
           (not_full c.self.view_is c.is_full.result c.is_full.ensures c.if-is_full.false) of is (c.note.ensures.books ∙ ap (λ (n : ℕ). counted c.self.inside.books 0 n) c.from.ensures)),
-      changed_stands (g.T.Totals.stand_for c.in_ok-change.totals plan.windows) c.self.inside.stored c.change-withdrawn.new.self c.in_ok-change.change c.change-withdrawn.result is c.in_ok-change.ensures.stands,
+      changed_stands (g.T.Totals.stand_for c.change_by.new.totals plan.windows) c.self.inside.stored c.change-withdrawn.new.self c.in_ok-change.change c.change-withdrawn.result is c.in_ok-change.ensures.stands,
     )
 
 pub change_by-requires-clause-clear_now : goal.change_by-requires-clause-clear_now

@@ -1,0 +1,26 @@
+use Rattle.fill_region.specs.Bands.{holds}
+use Rattle.fill_job.specs.Plans.{plan_of}
+use Rattle.fill_core.specs.Machine.{fill_after, metal_after}
+use Rattle.fill_book.specs.Filling.{is_filled, left_by}
+use Rattle.fill_book.proofs.Measured.{clear_same, left_after}
+use Rattle.fill_book.proofs.stored.Stored.edited.Goals as goal
+
+pub returns-clause-edited : goal.returns-clause-edited
+returns-clause-edited c =
+    let plan = plan_of c.args.rules.now in let f = c.args.self.now.filled in let out = c.too_near.result in
+    let left = left_after plan f out c.args.edit c.requires.raster c.too_near.ensures.near in
+    record {
+      metal = c.in_ok-metal_edited.ensures;
+      part = c.in_ok-part_of.ensures.metal;
+      within = c.in_ok-part_of.ensures.within;
+      way = c.in_ok-part_of.ensures.way;
+      back = c.in_ok-part_of.ensures.back;
+      on = rw c.requires.raster c.too_near.ensures.on;
+      columns = c.too_near.ensures.ordered.0;
+      rows = c.too_near.ensures.ordered.1;
+      clear = c.requires.clear_now;
+      clear_left = clear_same plan.raster f.raster (fill_after plan c.args.edit (is_filled f)) (left_by f out) (metal_after c.args.edit (holds c.args.self.now.metal)) (holds c.in_ok-metal_edited.field-0) c.requires.raster left c.in_ok-metal_edited.ensures c.requires.clear;
+    }
+
+pub returns-clause-left : goal.returns-clause-left
+returns-clause-left c = left_after (plan_of c.args.rules.now) c.args.self.now.filled c.too_near.result c.args.edit c.requires.raster c.too_near.ensures.near
