@@ -5,6 +5,7 @@ use crate::records::{begin_cell, finished, head, name_of, put, put_points};
 use fill_base::Point;
 use gds_grammar::{Element, Layer, Library, read_layers};
 use std::alloc::Global;
+use std::mem;
 use std::test::*;
 
 /// Appends a boundary of one square, or a path along its sides.
@@ -48,6 +49,13 @@ fn told(element: &Element<'_>) -> (u8, (u16, u16)) {
         Element::Ref(_) => (10, (0, 0)),
         Element::Array(_) => (11, (0, 0)),
     }
+}
+
+/// Elements take no more than this, whatever they are: flat designs have millions of boundaries.
+#[test]
+fn size_of_an_element(rt: HostRuntime) -> Result<(), Fail> {
+    assert_eq!(rt; mem::size_of::<Element<'static>>(), 32);
+    Ok(())
 }
 
 /// What the elements of cell 0 are.

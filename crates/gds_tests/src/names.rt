@@ -38,7 +38,10 @@ fn longest_names(rt: HostRuntime) -> Result<(), Fail> {
     let mut name = Vec::from_elem(alloc, b'N', LONGEST)?;
     let bytes = named(alloc, &name)?;
     let library = read_layers(alloc, &bytes, LAYERS)?;
-    assert!(rt; library.cells.contains_key(name.as_slice()), "no cell of the name");
+    assert!(rt;
+        library.cells.contains_key(name.as_slice()),
+        "no cell of the name"
+    );
     for (top, corner) in [(name.as_slice(), (0, 0)), (&name_of(0), (30, 40))] {
         let rects = flatten_rects(alloc, &library, top, METAL, 0)?;
         assert_eq!(rt; rects.len(), 1);

@@ -262,15 +262,17 @@ fn parts_that_meet_too_many(rt: HostRuntime) -> Result<(), Fail> {
     Ok(())
 }
 
-/// A cell of a line and 20,000 references to cells that draw nothing, of which one has a path without a width: placed 4,000,000 times, they
-/// are not passed over in each copy.
+/// A cell of a line, 10,000 references to a cell without shapes and 10,000 to one of a path without a width: placed 4,000,000 times, they are
+/// not passed over in each copy.
 #[test]
 fn parts_with_idle_references(rt: HostRuntime) -> Result<(), Fail> {
     let alloc = rt.alloc();
     let top = [Draft::Array(1, (2000, 2000), &[(0, 0), (20_000, 0), (0, 20_000)])];
-    let mut middle = Vec::from_elem(alloc, Draft::Ref(2, (0, 0)), 20_000)?;
+    let mut middle = Vec::from_elem(alloc, Draft::Ref(2, (0, 0)), 10_000)?;
+    for _ in 0..10_000u32 {
+        middle.push(Draft::Ref(3, (0, 0)))?;
+    }
     middle.push(Draft::Boundary(METAL, LINE))?;
-    middle.push(Draft::Ref(3, (0, 0)))?;
     let thin = [Draft::Thin(SQUARE)];
     let cells: [(u16, &[Draft<'_>]); 4] = [(0, &top), (1, &middle), (2, &[]), (3, &thin)];
     let bytes = design(alloc, &cells)?;
