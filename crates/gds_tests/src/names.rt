@@ -16,6 +16,15 @@ const LAYERS: &[Layer] = &[Layer {
 /// How many bytes the longest name has: the length of its record is 65,534, the last even one.
 const LONGEST: usize = 65_530;
 
+/// A name of so many bytes.
+fn name_of_length(alloc: Global, length: usize) -> Result<Vec<u8>, Fail> {
+    let mut name = Vec::new(alloc);
+    for _ in 0..length {
+        name.push(b'N')?;
+    }
+    Ok(name)
+}
+
 /// The bytes of a library whose cell 0 refers to a cell of this name, which is a square.
 fn named(alloc: Global, name: &[u8]) -> Result<Vec<u8>, Fail> {
     let mut bytes = head(alloc)?;
@@ -35,7 +44,7 @@ fn named(alloc: Global, name: &[u8]) -> Result<Vec<u8>, Fail> {
 #[test]
 fn longest_names(rt: HostRuntime) -> Result<(), Fail> {
     let alloc = rt.alloc();
-    let mut name = Vec::from_elem(alloc, b'N', LONGEST)?;
+    let mut name = name_of_length(alloc, LONGEST)?;
     let bytes = named(alloc, &name)?;
     let library = read_layers(alloc, &bytes, LAYERS)?;
     assert!(rt;
