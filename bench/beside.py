@@ -1,9 +1,9 @@
 #!/usr/bin/env python3
 """Times two builds of densfill side by side on generated designs, in turn, and prints one table of medians.
 
-usage: bench/beside.py BEFORE NOW [--rounds N] [ROW ..]     (needs python3 and taskset; a ROW is a name of ROWS, without any all are run)
+usage: bench/beside.py [--rounds N] BEFORE NOW [ROW ..]     (needs python3 and taskset; a ROW is a name of ROWS, without any all are run)
 
-BEFORE and NOW are two programs, as bin/densfill of two commits. Seconds are of the wall, then of all processors; the peak is that of
+BEFORE and NOW are two programs, as bin/densfill of two commits; with `-` for BEFORE only NOW is run. Seconds are of the wall, then of all processors; the peak is that of
 the whole process. A row whose reports differ between the two is marked.
 """
 import argparse
@@ -124,21 +124,20 @@ def cell(costs: list[Cost]) -> str:
     return f"{wall:.3f} ({processors:.3f}), {peak:.0f} MB"
 
 
-def lines_of(name: str, row: Row, programs: dict[str, str], rounds: int) -> Iterator[str]:
-    """A line of the table for each crew."""
-    with tempfile.TemporaryDirectory() as path:
-        folder = Path(path)
-        draw(row, folder)
-        for crew in row.crews:
-            costs: dict[str, list[Cost]] = {"before": [], "now": []}
-            for _ in range(rounds):
-                for state, program in programs.items():
-                    if state == "now" or not row.now_only:
-                        costs[state].append(run(program, row, folder, state, crew))
-            differs = not row.now_only and (folder / "before.csv").read_bytes() != (folder / "now.csv").read_bytes()
-            sizes = [f"{(folder / f'{state}.gds').stat().st_size:,}" for state in costs if (folder / f"{state}.gds").exists()]
-            note = ", ".join(filter(None, ["reports differ" if differs else "", "library of " + " and ".join(sizes) + " bytes" if sizes else ""]))
-            yield f"| {name} | {crew} | {cell(costs['before'])} | {cell(costs['now'])} | {note} |"
+def lines_of(name: str, folder: Path, programs: dict[str, str], rounds: int) -> Iterator[str]:
+    """A line of the table for each crew, of the design that the folder has."""
+    row = ROWS[name]
+    for crew in row.crews:
+        costs: dict[str, list[Cost]] = {"before": [], "now": []}
+        for _ in range(rounds):
+            for state, program in programs.items():
+                if state == "now" or not (row.now_only or program == "-"):
+                    costs[state].append(run(program, row, folder, state, crew))
+        differs = costs["before"] and (folder / "before.csv").read_bytes() != (folder / "now.csv").read_bytes()
+        libraries = [folder / f"{state}.gds" for state in costs if costs[state] and row.command == "fill"]
+        sizes = " and ".join(f"{path.stat().st_size:,}" for path in libraries)
+        notes = ["reports differ"] * bool(differs) + [f"library of {sizes} bytes"] * bool(sizes)
+        yield f"| {name} | {crew} | {cell(costs['before'])} | {cell(costs['now'])} | {', '.join(notes)} |"
 
 
 def main() -> None:
@@ -148,10 +147,15 @@ def main() -> None:
     parser.add_argument("--rounds", type=int, default=5)
     parser.add_argument("rows", nargs="*", metavar="ROW")
     args = parser.parse_args()
-    print("| What | Processors or workers | Before: s (all processors), peak | Now | |\n|---|---|---|---|---|")
-    for name in args.rows or ROWS:
-        for line in lines_of(name, ROWS[name], {"before": args.before, "now": args.now}, args.rounds):
-            print(line, flush=True)
+    with tempfile.TemporaryDirectory() as path:
+        folders = {name: Path(path) / name for name in args.rows or ROWS}
+        for name, folder in folders.items():
+            folder.mkdir()
+            draw(ROWS[name], folder)
+        print("| What | Processors or workers | Before: s (all processors), peak | Now | |\n|---|---|---|---|---|", flush=True)
+        for name, folder in folders.items():
+            for line in lines_of(name, folder, {"before": args.before, "now": args.now}, args.rounds):
+                print(line, flush=True)
 
 
 if __name__ == "__main__":
