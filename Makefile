@@ -39,4 +39,3 @@ bench: build
 	bench/check/gains.sh
 	bench/fill/run.sh
 	bench/fill/late.sh
-	bench/book/run.sh
