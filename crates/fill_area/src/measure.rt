@@ -1,5 +1,5 @@
 //! All windows of a grid, measured in parallel.
-ghost use Rattle.std.specs.Prelude.{◌≡◌, ◌/◌, ◌%◌, ◌*◌, ◌+◌, ◌<◌, ◌≤◌, IfOk, All, pos, length, get_or, ℕ, ℤ};
+ghost use Rattle.std.specs.Prelude.{◌≡◌, ◌/◌, ◌%◌, ◌*◌, ◌+◌, ◌<◌, ◌≤◌, IfOk, All, length, get_or, ℕ, ℤ};
 ghost use Rattle.fill_region.specs.Bands.{holds};
 ghost use Rattle.fill_area.specs.Density.{AreMeasured, IsArea};
 ghost use Rattle.fill_area.specs.steps.Whole.{AreWhole, whole_at};

@@ -1,7 +1,5 @@
 //! The density reports: of the metal that a script leaves of nothing, and of the metal that a design draws, from bytes to bytes.
-ghost use Rattle.std.specs.Prelude.{◌≡◌, ◌↔◌, ◌⊎◌, ℕ, List, true, false, take, IfErr, IfOk, IfSome, IsOk, IsOkAnd, OnErr, OnOk};
-ghost use Rattle.std.specs.List.{flat_map};
-ghost use Rattle.std.specs.Vec.{vec_items};
+ghost use Rattle.std.specs.Prelude.{◌≡◌, ◌↔◌, ◌⊎◌, ℕ, List, true, false, take, IfErr, IfSome, IsOk, IsOkAnd, OnErr, OnOk};
 ghost use Rattle.std.specs.Io.KnownBytes.{Appends};
 ghost use Rattle.fill_device.specs.Taps.{has_failed, under};
 ghost use Rattle.fill_report.specs.RulesReport.{metal_report};

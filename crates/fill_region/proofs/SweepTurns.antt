@@ -1,5 +1,5 @@
 -- One turn of the sweep over bands, as the code's calls describe it.
-use Rattle.std.proofs.Common.{◌≡◌, ℕ, ◌+◌, ◌-◌, ◌≤◌, ◌<◌, ℤ, pos, ◌+ℤ◌, ◌≤ℤ◌, ◌<ℤ◌, Bool, false, List, length, take, refl, ap, sym, ◌∙◌, arith, ◌⊎◌, inl, inr, w32, FitsSigned, [], ◌∷◌, ◌++◌}
+use Rattle.std.proofs.Common.{◌≡◌, ℕ, zero, suc, ◌+◌, ◌-◌, ◌≤◌, ◌<◌, ℤ, pos, ◌+ℤ◌, ◌≤ℤ◌, ◌<ℤ◌, Bool, false, List, length, take, refl, ap, sym, ◌∙◌, arith, ◌⊎◌, inl, inr, w32, FitsSigned, [], ◌∷◌, ◌++◌}
 use Rattle.std.specs.Int.{int_min}
 use Rattle.std.proofs.lemmas.Int.{ints, clamps, by_lt_z}
 use Rattle.fill_base.proofs.Signed.{read32, read32_is}
@@ -130,3 +130,22 @@ beside_turn op a i b j out new at row is same pushed = record {
   made = rw (same, is.nothing) (record { canonical = is.canonical; members = λ x. sym (is.keeps (inside (last_row [] (take i a)) x)) });
   put = inr (rw same is.other, pushed);
 }
+
+-- a row put that isn't the last one
+pub row_put : (at : ℤ) (kept row : List ℤ) (out new : List Band) → (last_row [] out ≡ kept → ⊥) → row ≡ kept → new ≡ out ++ (at, row) ∷ [] → RowPut at kept out new
+row_put at kept row out new other same pushed = inr (other, rw same at pushed)
+
+-- where the first list has no row, the operation may keep that of the second
+pub kept_second : (op : Operation) (a b : List Band) (i j : ℕ) (out new : List Band) (at : ℤ) → IsRegion b → 0 < j → j ≤ length b → last_row [] (take i a) ≡ [] → ((x : Bool) → applied op false x ≡ x)
+    → RowPut at (last_row [] (take j b)) out new → IsTurn op (last_row [] (take i a)) (last_row [] (take j b)) at out new
+kept_second op a b i j out new at region some within nothing keeps put = record {
+  row = last_row [] (take j b);
+  made = rw nothing (record { canonical = canonical j some within; members = λ x. sym (keeps (inside (last_row [] (take j b)) x)) });
+  put = put;
+}
+  where
+    canonical : (j : ℕ) → 0 < j → j ≤ length b → IsCanonical (last_row [] (take j b))
+    canonical zero some within = absurd (omega (arith, some))
+    canonical (suc k) some within =
+        let e : suc k ≡ k + 1 = omega arith in
+        rw e ((band_differs b k region (omega (arith, within))).0)

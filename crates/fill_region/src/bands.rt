@@ -1,5 +1,5 @@
 //! Lists of bands: looking up a line, putting a row on top, and merging two lists.
-ghost use Rattle.std.specs.Prelude.{◌≡◌, ◌↔◌, ◌≤◌, length, take, [], ◌∷◌, ℤ, Bool, true, false, IsTrue, IfOk, OnOk};
+ghost use Rattle.std.specs.Prelude.{◌≡◌, ◌↔◌, ◌<◌, ◌≤◌, length, take, [], ◌∷◌, ℤ, Bool, true, false, IsTrue, IfOk, OnOk};
 ghost use Rattle.fill_spans.specs.Operations.{applied};
 ghost use Rattle.fill_region.specs.Bands.{holds, last_row, next_bottom, IsRegion};
 ghost use Rattle.fill_region.specs.steps.FirstAbove.{IsFirstAbove};
@@ -104,6 +104,16 @@ fn keeps_first(operation: Operation) -> bool
     }
 }
 
+/// Whether the operation keeps the second set as it is where the first has nothing.
+fn keeps_second(operation: Operation) -> bool
+    ensures { result ≡ true → (b : Bool) → applied operation false b ≡ b }
+{
+    match operation {
+        Operation::Union => true,
+        Operation::Minus | Operation::Meet => false,
+    }
+}
+
 /// Whether the row of the band before `k` has no member, or there is no such band.
 fn has_no_row(alloc: Global, bands: &[(i32, SharedRow)], k: usize) -> bool
     requires { k ≤ length bands.now }
@@ -113,8 +123,27 @@ fn has_no_row(alloc: Global, bands: &[(i32, SharedRow)], k: usize) -> bool
     row_before(bands, k, &nothing).is_empty()
 }
 
-/// Appends what a turn of the sweep makes of the row before `i` in `a` and the one before `j` in `b`. Beside all rows of `b` that
-/// is the row of `a`, which both then hold together.
+/// Appends a band at `at` with the row before `k`, which both then hold together, unless the last band has it already.
+fn put_shared(
+    alloc: Global,
+    bands: &[(i32, SharedRow)],
+    k: usize,
+    out: &mut Vec<(i32, SharedRow)>,
+    at: i32,
+) -> Result<(), AllocError>
+    requires some { 0 < k }
+    requires within { k ≤ length bands.now }
+    ensures { OnOk result (RowPut at (last_row [] (take k bands.now)) out.old.items out.new.items) }
+{
+    let same = &bands[k - 1].1;
+    if !is_top(alloc, out, same.spans()) {
+        out.push((at, same.share()?))?;
+    }
+    Ok(())
+}
+
+/// Appends what a turn of the sweep makes of the row before `i` in `a` and the one before `j` in `b`. Beside all rows of the other
+/// that is the row of one of them, which both then hold together.
 fn put_turn(
     alloc: Global,
     operation: Operation,
@@ -128,12 +157,15 @@ fn put_turn(
 ) -> Result<(), AllocError>
     requires first { i ≤ length a.now }
     requires second { j ≤ length b.now }
+    requires region { IsRegion b.now }
     requires beside { beside ≡ true → IsBeside operation a.now i b.now j out.old.items }
     ensures { OnOk result (IsTurn operation (last_row [] (take i a.now)) (last_row [] (take j b.now)) at out.old.items out.new.items) }
 {
     if beside {
         let row = a[i - 1].1.share()?;
         out.push((at, row))?;
+    } else if (j > 0) & keeps_second(operation) & has_no_row(alloc, a, i) {
+        put_shared(alloc, b, j, out, at)?;
     } else {
         let row = combined_row(alloc, operation, a, i, b, j)?;
         put_row(alloc, out, at, row)?;

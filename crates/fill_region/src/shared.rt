@@ -1,10 +1,9 @@
 //! Rows that regions share.
-ghost use Rattle.std.specs.Prelude.{◌≡◌, ◌↔◌, ℤ, IsTrue, IfOk, List, []};
+ghost use Rattle.std.specs.Prelude.{◌≡◌, ℤ, IfOk, List};
 ghost use Rattle.std.specs.Ordering.{int_eq};
 ghost use Rattle.std.specs.Cmp.Lexicographic.{pointwise, lists_per};
 ghost use Rattle.std.specs.Cmp.{int_eq_equiv, partial_equiv_from_equiv};
 ghost use Rattle.std.specs.Arc.{arc_value};
-ghost use Rattle.fill_spans.specs.Spans.{inside};
 
 use fill_spans::Spans;
 use std::alloc::{AllocError, Global};

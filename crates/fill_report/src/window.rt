@@ -1,5 +1,5 @@
 //! The line of one window: where it lies, its areas, its share and its word.
-ghost use Rattle.std.specs.Prelude.{◌≡◌, ◌++◌, ◌*◌, ◌/◌, ◌%◌, ◌<◌, ℕ, List, pos, Some, OnOk};
+ghost use Rattle.std.specs.Prelude.{◌≡◌, ◌++◌, ◌*◌, ◌/◌, ◌%◌, ◌<◌, ℕ, List, Some, OnOk};
 ghost use Rattle.fill_area.specs.Density.{IsArea, IsShare};
 ghost use Rattle.fill_report.specs.Report.{density_of, share_of, window_line};
 ghost use Rattle.fill_report.specs.Writing.{IsReady, written};

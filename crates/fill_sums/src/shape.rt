@@ -1,5 +1,5 @@
 //! What comes or goes.
-ghost use Rattle.std.specs.Prelude.{◌≡◌, ◌<◌, pos, ◌+ℤ◌, ℤ};
+ghost use Rattle.std.specs.Prelude.{◌≡◌, ◌<◌, pos, ◌+ℤ◌};
 ghost use Rattle.fill_base.specs.Squares.{area_of};
 ghost use Rattle.fill_area.specs.Density.{window_area};
 

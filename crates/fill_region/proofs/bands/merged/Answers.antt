@@ -1,4 +1,4 @@
-use Rattle.std.proofs.Common.{◌≡◌, ◌≤◌, ◌&&◌, ◌==◌, length, inl, inr}
+use Rattle.std.proofs.Common.{◌&&◌, ◌==◌, inl, inr}
 use Rattle.std.proofs.lemmas.Bool.{and_parts, eqb-true}
 use Rattle.fill_region.proofs.SweepTurns.{Stands, beside_all, stands, turn_keeps, turn_within, turn_smaller}
 use Rattle.fill_region.proofs.Sweeping.{merged_start, merged_region}
