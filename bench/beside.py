@@ -38,6 +38,7 @@ ROWS = {
     "check-flat-1000000": Row(("generate", "1000000", "flat")),
     "check-flat-3900000": Row(("generate", "3900000", "flat")),
     "check-12-layers": Row(("layers", "3900000")),
+    "check-idle-references": Row(("idle", "1000000", "2000"), now_only=True),
     "check-part-of-windows": Row(("generate", "1000000", "deep"), rules={"padding": "ignore"}, now_only=True),
     "fill-flat-1000000": Row(("generate", "1000000", "flat"), "fill", FILLED),
     "fill-deep-3900000": Row(("generate", "3900000", "deep"), "fill", FILLED),
@@ -79,8 +80,8 @@ def open_area(folder: Path, places: int) -> None:
 def draw(row: Row, folder: Path) -> None:
     """Writes the row's design, rules and script."""
     kind, *words = row.design
-    if kind == "layers":
-        tool(str(HERE / "check/layers.py"), *words, str(folder))
+    if kind in ("layers", "idle"):
+        tool(str(HERE / f"check/{kind}.py"), *words, str(folder))
     else:
         tool(str(HERE / "check/generate.py"), *(["1000", "flat"] if kind == "open" else words), str(folder))
     (folder / "script.csv").touch()
