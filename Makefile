@@ -1,13 +1,15 @@
 # make demo               runs check, fill and rects on examples/ and tells how many windows are low or high (by bin/densfill
 #                         where it stands, else unproved, by rt try)
 # make build              proves the program and leaves it, optimized, at bin/densfill
+# make install PREFIX=..  installs the built program and its manual page below PREFIX (by default /usr/local)
 # make check CRATE=name   proves one crate over what earlier runs kept: for work on it
 # make test               the gate: every proof from nothing, the must-fail edits, the tests, the programs
 # make bench              times the program on generated input and prints tables
-.PHONY: demo build check test bench
+.PHONY: demo build install check test bench
 
 EXAMPLES := $(CURDIR)/examples
 OUT := $(EXAMPLES)/out
+PREFIX ?= /usr/local
 RUN := $(if $(wildcard bin/densfill),$(CURDIR)/bin/densfill,cd crates/densfill && rt try --)
 
 demo:
@@ -24,6 +26,10 @@ build:
 	mkdir -p bin
 	cd crates/densfill && rt run -- rects $(EXAMPLES)/rules.csv $(EXAMPLES)/script.csv > ../../bin/build.log
 	cp crates/densfill/out/densfill bin/densfill
+
+install: $(if $(wildcard bin/densfill),,build)
+	install -D -m 755 bin/densfill $(DESTDIR)$(PREFIX)/bin/densfill
+	install -D -m 644 docs/densfill.1 $(DESTDIR)$(PREFIX)/share/man/man1/densfill.1
 
 check:
 	cd crates/$(CRATE) && rt check

@@ -18,6 +18,7 @@ from dataclasses import dataclass, field
 from pathlib import Path
 
 HERE = Path(__file__).resolve().parent
+LONGEST = 1 << 20   # the greatest size of a window
 
 
 @dataclass
@@ -27,6 +28,7 @@ class Row:
     command: str = "check"
     crews: tuple[int, ...] = (1, 4)
     edits: int = 0
+    windows: tuple[int, int] = (0, 0)
     rules: dict[str, str] = field(default_factory=dict)
     now_only: bool = False
 
@@ -40,10 +42,12 @@ ROWS = {
     "check-12-layers": Row(("layers", "3900000")),
     "check-idle-references": Row(("idle", "1000000", "2000"), now_only=True),
     "check-part-of-windows": Row(("generate", "1000000", "deep"), rules={"padding": "ignore"}, now_only=True),
-    "fill-flat-1000000": Row(("generate", "1000000", "flat"), "fill", FILLED),
-    "fill-deep-3900000": Row(("generate", "3900000", "deep"), "fill", FILLED),
-    "late-flat-100000": Row(("generate", "100000", "flat"), "fill", CHECKED, edits=1000),
-    "late-flat-1000000": Row(("generate", "1000000", "flat"), "fill", CHECKED, edits=1000, now_only=True),
+    "fill-flat-1000000-windows-17000": Row(("generate", "1000000", "flat"), "fill", FILLED, windows=(130, 2)),
+    "fill-flat-1000000-windows-70000": Row(("generate", "1000000", "flat"), "fill", FILLED, windows=(265, 1)),
+    "fill-deep-3900000-windows-17000": Row(("generate", "3900000", "deep"), "fill", FILLED, windows=(130, 2)),
+    "fill-deep-3900000-windows-70000": Row(("generate", "3900000", "deep"), "fill", FILLED, windows=(265, 1)),
+    "late-flat-100000": Row(("generate", "100000", "flat"), "fill", CHECKED, edits=1000, windows=(130, 2)),
+    "late-flat-1000000": Row(("generate", "1000000", "flat"), "fill", CHECKED, edits=1000, windows=(130, 2), now_only=True),
     "fill-4000000-places": Row(("open", "4000000"), "fill", (1,)),
 }
 
@@ -64,6 +68,15 @@ def rewrite(path: Path, changes: dict[str, str]) -> None:
     """Gives keys of a rule file other values, and adds those that it hasn't."""
     rules = dict(line.split(",", 1) for line in path.read_text().splitlines())
     path.write_text("".join(f"{key},{value}\n" for key, value in (rules | changes).items()))
+
+
+def lay_windows(path: Path, count: int, overlap: int) -> None:
+    """So many windows each way over the frame, each as long as `overlap` steps, which are even."""
+    rules = dict(line.split(",", 1) for line in path.read_text().splitlines())
+    width, height = int(rules["frame_x2"]), int(rules["frame_y2"])
+    across, up = (min(side // (count + overlap - 1), LONGEST // overlap) // 2 * 2 for side in (width, height))
+    rewrite(path, {"win_w": str(overlap * across), "win_h": str(overlap * up), "win_step_x": str(across), "win_step_y": str(up),
+                   "win_nx": str(count), "win_ny": str(count)})
 
 
 def open_area(folder: Path, places: int) -> None:
@@ -88,6 +101,8 @@ def draw(row: Row, folder: Path) -> None:
     tool(str(HERE / "fill/rules.py"), str(folder))
     if kind == "open":
         open_area(folder, int(words[0]))
+    if row.windows[0]:
+        lay_windows(folder / "fill.csv", *row.windows)
     if row.edits:
         tool(str(HERE / "fill/edits.py"), str(folder), str(row.edits))
     rewrite(folder / "rules.csv", row.rules)

@@ -1,0 +1,270 @@
+#!/usr/bin/env python3
+"""Runs the built program as a user does and looks at what no clause can say: which file a path names, what stands in OUT, what is on
+which stream, and the exit status.
+
+usage: test_program.py [PROGRAM]     (by default bin/densfill, else what the gate left in crates/densfill/out; needs python3)
+"""
+import os
+import resource
+import shutil
+import struct
+import subprocess
+import sys
+import tempfile
+import unittest
+from dataclasses import dataclass
+from pathlib import Path
+
+ROOT = Path(__file__).resolve().parent.parent
+BUILT = (ROOT / "bin/densfill", ROOT / "crates/densfill/out/densfill")
+NOBODY = 65534
+
+DATES = bytes(range(24))
+UNITS = bytes.fromhex("3e4189374bc6a7f0" "3944b82fa09b5a54")
+
+
+def record(kind: int, form: int, data: bytes = b"") -> bytes:
+    """A record of a stream: its length, its kind, the form of its data, and the data."""
+    return struct.pack(">HBB", len(data) + 4, kind, form) + data
+
+
+def words(kind: int, *numbers: int) -> bytes:
+    return record(kind, 2, struct.pack(f">{len(numbers)}h", *numbers))
+
+
+def points(*numbers: int) -> bytes:
+    return record(0x10, 3, struct.pack(f">{len(numbers)}i", *numbers))
+
+
+def text(kind: int, value: str) -> bytes:
+    data = value.encode()
+    return record(kind, 6, data + b"\0" * (len(data) % 2))
+
+
+END = record(0x11, 0)
+
+
+def library(name: str, *structures: bytes) -> bytes:
+    head = words(0x00, 600) + record(0x01, 2, DATES) + text(0x02, name) + record(0x03, 5, UNITS)
+    return head + b"".join(structures) + record(0x04, 0)
+
+
+def structure(name: str, *elements: bytes) -> bytes:
+    return record(0x05, 2, DATES) + text(0x06, name) + b"".join(elements) + record(0x07, 0)
+
+
+def boundary(layer: int, x1: int, y1: int, x2: int, y2: int) -> bytes:
+    return record(0x08, 0) + words(0x0D, layer) + words(0x0E, 0) + points(x1, y1, x1, y2, x2, y2, x2, y1, x1, y1) + END
+
+
+# A frame of 20 by 20 with one window over it, and four places for boxes of 4 by 4, at 2 and 10 each way; a square of metal in the
+# lower left corner is too near to the first.
+RULES = {
+    "frame_x1": 0, "frame_y1": 0, "frame_x2": 20, "frame_y2": 20, "box_w": 4, "box_h": 4, "step_x": 8, "step_y": 8, "origin_x": 2,
+    "origin_y": 2, "spacing": 1, "fill_spacing": 2, "tile_nx": 4, "tile_ny": 4, "win_w": 20, "win_h": 20, "win_step_x": 20,
+    "win_step_y": 20, "win_x": 0, "win_y": 0, "win_nx": 1, "win_ny": 1, "min": 500000, "max": 900000, "layer": 31, "datatype": 0,
+    "fill_layer": 131, "fill_datatype": 0, "top": "TOP", "fill_lib": "FILL", "fill_cell": "BOX", "fill_top": "ALL"}
+DESIGN = library("DESIGN", structure("TOP", boundary(31, 0, 0, 2, 2)))
+DRAWN = "0,0,0,0,20,20,4,0,4,10000,LOW\n"
+FILLED = "0,0,0,0,20,20,4,48,52,130000,LOW\n"
+BOX = structure("BOX", boundary(131, 0, 0, 4, 4))
+ALONE = record(0x0A, 0) + text(0x12, "BOX") + points(10, 2) + END
+PAIR = record(0x0B, 0) + text(0x12, "BOX") + words(0x13, 2, 1) + points(2, 10, 18, 10, 2, 18) + END
+FILL = library("FILL", BOX, structure("ALL", ALONE, PAIR))
+
+
+@dataclass
+class Ended:
+    """What a run left."""
+    status: int
+    out: str
+    err: str
+
+
+class Case(unittest.TestCase):
+    """A folder with good inputs, and a copy of the program that anyone may run."""
+    program: Path
+
+    def setUp(self) -> None:
+        folder = tempfile.TemporaryDirectory()
+        self.addCleanup(folder.cleanup)
+        self.folder = Path(folder.name)
+        self.folder.chmod(0o777)
+        shutil.copy(self.program, self.folder / "densfill")
+        (self.folder / "rules.csv").write_text("".join(f"{key},{value}\n" for key, value in RULES.items()))
+        (self.folder / "design.gds").write_bytes(DESIGN)
+        (self.folder / "script.csv").touch()
+
+    def run_words(self, *given: str | bytes, **how: object) -> Ended:
+        """A run in the folder, by one who has no rights beyond those of a file."""
+        user = {"user": NOBODY} if os.geteuid() == 0 else {}
+        done = subprocess.run([str(self.folder / "densfill"), *given], cwd=self.folder, capture_output=True, stdin=subprocess.DEVNULL,
+                              check=False, **user, **how)
+        return Ended(done.returncode, done.stdout.decode(), done.stderr.decode(errors="replace"))
+
+    def fill(self, *options: str, **how: object) -> Ended:
+        return self.run_words("fill", "rules.csv", "design.gds", "script.csv", "out.gds", *options, **how)
+
+    def assert_fault(self, ended: Ended, status: int, line: str) -> None:
+        self.assertEqual((ended.status, ended.out, ended.err), (status, "", f"densfill: {line}\n"))
+
+    def assert_usage(self, ended: Ended) -> None:
+        self.assertEqual((ended.status, ended.out), (1, ""))
+        self.assertNotEqual(ended.err, "")
+
+    def assert_no_out(self) -> None:
+        self.assertFalse((self.folder / "out.gds").exists())
+
+
+class Done(Case):
+    """Runs that end well."""
+
+    def test_reports_of_metal(self) -> None:
+        self.assertEqual(self.run_words("check", "rules.csv", "design.gds"), Ended(0, DRAWN, ""))
+        (self.folder / "script.csv").write_text("add,0,0,2,2\n")
+        self.assertEqual(self.run_words("rects", "rules.csv", "script.csv"), Ended(0, DRAWN, ""))
+
+    def test_out_has_the_library_and_nothing_else(self) -> None:
+        for workers in "1", "2", "8", "64":
+            self.assertEqual(self.fill("--workers", workers), Ended(0, FILLED, ""))
+            self.assertEqual((self.folder / "out.gds").read_bytes(), FILL)
+
+    def test_an_old_out_is_replaced_whole(self) -> None:
+        (self.folder / "out.gds").write_bytes(b"x" * 100_000)
+        (self.folder / "out.gds").chmod(0o666)
+        self.assertEqual(self.fill().status, 0)
+        self.assertEqual((self.folder / "out.gds").read_bytes(), FILL)
+
+    def test_inputs_are_as_before(self) -> None:
+        names = ("rules.csv", "design.gds", "script.csv")
+        before = [(self.folder / name).read_bytes() for name in names]
+        for name in names:
+            (self.folder / name).chmod(0o666)
+        self.assertEqual(self.fill().status, 0)
+        self.assertEqual([(self.folder / name).read_bytes() for name in names], before)
+
+    def test_options_stand_anywhere(self) -> None:
+        paths = ("rules.csv", "design.gds", "script.csv", "out.gds")
+        for line in (("--workers=8", *paths), ("--workers", "8", *paths), (*paths, "--workers=8"), (*paths[:2], "--limit", "9", *paths[2:]),
+                     ("--limit=9", *paths, "--workers", "2")):
+            self.assertEqual(self.run_words("fill", *line), Ended(0, FILLED, ""))
+
+    def test_a_path_may_end_in_a_blank(self) -> None:
+        (self.folder / "rules.csv").rename(self.folder / "rules ")
+        self.assertEqual(self.run_words("check", "rules ", "design.gds"), Ended(0, DRAWN, ""))
+        self.assert_fault(self.run_words("check", "rules", "design.gds"), 4, "rules: 30 Device")
+
+
+class Files(Case):
+    """Paths that lead to no file that can be read or written."""
+
+    PARTS = {"rules": "rules.csv", "design": "design.gds", "script": "script.csv"}
+
+    def test_an_input_is_missing(self) -> None:
+        for part, name in self.PARTS.items():
+            (self.folder / name).rename(self.folder / "away")
+            self.assert_fault(self.fill(), 4, f"{part}: 30 Device")
+            self.assert_no_out()
+            (self.folder / "away").rename(self.folder / name)
+
+    def test_an_input_is_a_folder(self) -> None:
+        for part, name in self.PARTS.items():
+            (self.folder / name).rename(self.folder / "away")
+            (self.folder / name).mkdir()
+            self.assert_fault(self.fill(), 4, f"{part}: 30 Device")
+            self.assert_no_out()
+            (self.folder / name).rmdir()
+            (self.folder / "away").rename(self.folder / name)
+
+    def test_an_input_may_not_be_read(self) -> None:
+        for part, name in self.PARTS.items():
+            (self.folder / name).chmod(0)
+            self.assert_fault(self.fill(), 4, f"{part}: 30 Device")
+            self.assert_no_out()
+            (self.folder / name).chmod(0o644)
+
+    def test_the_first_missing_input_is_told(self) -> None:
+        for names, part in ((("rules.csv", "design.gds", "script.csv"), "rules"), (("design.gds", "script.csv"), "design")):
+            for name in names:
+                (self.folder / name).unlink(missing_ok=True)
+            self.assert_fault(self.fill(), 4, f"{part}: 30 Device")
+            (self.folder / "rules.csv").write_text("".join(f"{key},{value}\n" for key, value in RULES.items()))
+
+    def test_out_cannot_be_created(self) -> None:
+        for out in "none/out.gds", ".":
+            ended = self.run_words("fill", "rules.csv", "design.gds", "script.csv", out)
+            self.assert_fault(ended, 4, "out: 30 Device")
+
+    def test_out_may_not_be_written(self) -> None:
+        (self.folder / "out.gds").write_bytes(b"before")
+        (self.folder / "out.gds").chmod(0o444)
+        self.assert_fault(self.fill(), 4, "out: 30 Device")
+        self.assertEqual((self.folder / "out.gds").read_bytes(), b"before")
+
+    def test_out_takes_nothing(self) -> None:
+        self.assert_fault(self.run_words("fill", "rules.csv", "design.gds", "script.csv", "/dev/full"), 4, "out: 30 Device")
+
+    def test_one_path_for_two_inputs(self) -> None:
+        for line, want in ((("rules.csv", "rules.csv", "script.csv"), "design: 2 BadLength"),
+                           (("rules.csv", "design.gds", "rules.csv"), "script: 21 BadRow line 1"),
+                           (("script.csv", "design.gds", "script.csv"), "rules: 23 BadRule key frame_x1")):
+            self.assert_fault(self.run_words("fill", *line, "out.gds"), 2, want)
+            self.assert_no_out()
+
+
+class Refused(Case):
+    """Each exit status but 0."""
+
+    def test_lines_of_no_program(self) -> None:
+        paths = ("rules.csv", "design.gds", "script.csv", "out.gds")
+        for line in ((), ("fill",), ("fill", *paths, "more"), ("fill", *paths, "--workers", "0"), ("fill", *paths, "--workers", "65"),
+                     ("fill", *paths, "--workers"), ("fill", *paths, "--limit", "4294967296"), ("fill", *paths, "--limit", "-1"),
+                     ("check", "rules.csv"), ("rects", *paths[:2], "--workers", "2"), ("measure", *paths[:2]), ("--help",)):
+            self.assert_usage(self.run_words(*line))
+            self.assert_no_out()
+
+    def test_a_word_that_is_no_text(self) -> None:
+        self.assert_usage(self.run_words("check", "rules.csv", b"\xff\xfe.gds"))
+
+    def test_an_input_is_refused(self) -> None:
+        (self.folder / "script.csv").write_text("add,5,0,5,9\n")
+        self.assert_fault(self.fill(), 2, "script: 21 BadRow line 1")
+        (self.folder / "design.gds").write_bytes(DESIGN[:-1])
+        self.assert_fault(self.fill(), 2, "design: 1 Truncated")
+        self.assert_no_out()
+
+    def test_memory_is_refused(self) -> None:
+        (self.folder / "script.csv").write_text("add,0,0,2,2\n" * 100_000)
+
+        def few() -> None:
+            resource.setrlimit(resource.RLIMIT_DATA, (4 << 20, 4 << 20))
+
+        ended = self.fill(preexec_fn=few)
+        self.assertEqual((ended.status, ended.out), (3, ""))
+        self.assertRegex(ended.err, r"\Adensfill: (rules|design|script|run): 31 Memory\n\Z")
+        self.assert_no_out()
+
+    def test_a_fill_is_unfinished(self) -> None:
+        for workers in "1", "2":
+            self.assert_fault(self.fill("--limit", "0", "--workers", workers), 5, "run: 34 Unfinished")
+            self.assert_no_out()
+
+    def test_standard_output_takes_nothing(self) -> None:
+        for line in (("check", "rules.csv", "design.gds"), ("fill", "rules.csv", "design.gds", "script.csv", "out.gds")):
+            with open("/dev/full", "wb") as full:
+                done = subprocess.run([self.program, *line], cwd=self.folder, stdout=full, stderr=subprocess.PIPE, check=False)
+            self.assertEqual((done.returncode, done.stderr), (4, b"densfill: report: 30 Device\n"))
+        self.assertEqual((self.folder / "out.gds").read_bytes(), FILL)
+
+    def test_standard_output_is_closed(self) -> None:
+        closed = subprocess.run(["sh", "-c", 'exec "$0" check rules.csv design.gds >&-', str(self.program)], cwd=self.folder,
+                                capture_output=True, check=False)
+        self.assertEqual((closed.returncode, closed.stderr), (4, b"densfill: report: 30 Device\n"))
+
+
+if __name__ == "__main__":
+    given = sys.argv[1:2] or [str(path) for path in BUILT if path.exists()][:1]
+    if not given:
+        sys.exit("no program is built: make build")
+    Case.program = Path(given[0]).resolve()
+    unittest.main(argv=sys.argv[:1])
