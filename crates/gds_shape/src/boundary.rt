@@ -1,7 +1,7 @@
 //! Boundaries: closed chains of points. A square is covered where the upright edges to its right
 //! that span its row, those upwards counted as 1 and those downwards as -1, don't add up to 0.
 
-ghost use Rattle.std.specs.Prelude.{◌≡◌, ◌↔◌, ◌||◌, ◌<◌, ◌-ℤ◌, ℤ, length, map, All, IsTrue, Err, IfOk, OnOk};
+ghost use Rattle.std.specs.Prelude.{◌≡◌, ◌↔◌, ◌||◌, ◌<◌, ◌-ℤ◌, ◌⊎◌, ℤ, length, map, All, IsTrue, Err, IfErr, IfOk, OnOk};
 ghost use Rattle.fill_region.specs.Bands.{holds, IsRegion};
 ghost use Rattle.fill_region.specs.Squares.{covered};
 ghost use Rattle.gds_shape.specs.Winding.{covers, IsAligned, IsManhattan, IsClosed, IsPoint};
@@ -159,6 +159,7 @@ pub fn boundary_region(alloc: Global, points: &[Point]) -> Result<Region, ShapeE
     ensures not_manhattan { (result ≡ Err ShapeError.NotManhattan) ↔ ¬ IsManhattan points.now }
     ensures out_of_range { (result ≡ Err ShapeError.OutOfRange)
         ↔ (IsManhattan points.now × (¬ All IsPoint points.now)) }
+    ensures refused { IfErr result (λ e. (e ≡ ShapeError.NotManhattan) ⊎ (e ≡ ShapeError.OutOfRange) ⊎ (e ≡ ShapeError.Memory)) }
     ensures region { IfOk result IsRegion }
     ensures squares { IfOk result (λ r. (x y : ℤ) → holds r x y ≡ covers points.now x y) }
 {
