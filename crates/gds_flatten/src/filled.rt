@@ -1,26 +1,20 @@
 //! What a shape covers, and how far it goes.
 
-ghost use Rattle.std.specs.Prelude.{◌≡◌, [], ◌∷◌, Some, IfOk, IfSome};
-ghost use Rattle.gds_flatten.specs.steps.Filled.{extent_at, extent_in, rects_in};
+ghost use Rattle.std.specs.Prelude.{◌≡◌, [], IfOk, IfSome};
+ghost use Rattle.gds_flatten.specs.steps.Filled.{extent_in, rects_in};
 
+use crate::one_rect::OneRect;
 use fill_base::Rect;
 use gds_shape::Bounds;
 use std::alloc::{AllocError, Global};
-use std::{mem, slice};
+use std::mem;
 
 /// The rectangles that a shape covers, moved so that its extent begins at the least coordinates, and that extent. Most shapes are
 /// one rectangle, which takes no memory of its own: millions of them are kept at once.
 #[derive(Debug, Drop)]
 pub enum Filled {
     /// One rectangle that goes as far as the extent.
-    Whole {
-        /// The rectangle.
-        rect: Rect,
-        /// The left edge of the extent, in database units.
-        left: i32,
-        /// Its lower edge, in database units.
-        bottom: i32,
-    },
+    Whole(OneRect),
     /// Any rectangles.
     Parts(Box<Parts>),
 }
@@ -59,22 +53,12 @@ impl Filled {
         Ok(Filled::Parts(Box::new(alloc, parts)?))
     }
 
-    /// The rectangles, in order.
-    pub fn rects(&self) -> &[Rect]
-        ensures { result.now ≡ rects_in self.now }
-    {
-        match self {
-            Filled::Whole { rect, .. } => slice::from_ref(rect),
-            Filled::Parts(parts) => parts.rects.as_slice(),
-        }
-    }
-
     /// The extent.
     pub fn extent(&self) -> Option<Bounds>
         ensures { result ≡ extent_in self.now }
     {
         match self {
-            Filled::Whole { rect, left, bottom } => Some(extent_at(rect, *left, *bottom)),
+            Filled::Whole(one) => Some(one.extent()),
             Filled::Parts(parts) => parts.extent,
         }
     }
@@ -89,36 +73,5 @@ fn whole_of(rects: &[Rect], extent: Option<Bounds>) -> Option<Filled>
     let [rect] = rects else {
         return None;
     };
-    whole_at(rect, extent)
-}
-
-/// The rectangle, where it goes as far as the extent.
-fn whole_at(rect: &Rect, extent: Bounds) -> Option<Filled>
-    ensures rects { IfSome result (λ f. rects_in f ≡ rect.now ∷ []) }
-    ensures extent { IfSome result (λ f. extent_in f ≡ Some extent) }
-{
-    let (Ok(left), Ok(bottom)) = (i32::try_from(extent.left), i32::try_from(extent.bottom)) else {
-        return None;
-    };
-    if extent_at(rect, left, bottom) != extent {
-        return None;
-    }
-    Some(Filled::Whole {
-        rect: *rect,
-        left,
-        bottom,
-    })
-}
-
-/// The extent that begins there and is as large as the rectangle.
-fn extent_at(rect: &Rect, left: i32, bottom: i32) -> Bounds
-    ensures { result ≡ extent_at rect.now left bottom }
-{
-    let (left, bottom) = (i64::from(left), i64::from(bottom));
-    Bounds {
-        left,
-        bottom,
-        right: left + (rect.x2() - rect.x1()),
-        top: bottom + (rect.y2() - rect.y1()),
-    }
+    Some(Filled::Whole(OneRect::of(rect, &extent)?))
 }

@@ -20,6 +20,7 @@ mod heights;
 mod idle;
 pub mod laws;
 mod link;
+mod one_rect;
 mod placement;
 mod reference;
 mod runs;

@@ -8,6 +8,7 @@ ghost use Rattle.gds_shape.specs.Extents.{IsNear};
 ghost use Rattle.gds_grammar.specs.Values.{shape_of, shape_of_path};
 ghost use Rattle.gds_flatten.specs.Placements.{carried, carried_bounds, composed};
 ghost use Rattle.gds_flatten.specs.Shapes.{is_shape, covers_of, shape_fault, refusal_of, StaysInRange};
+ghost use Rattle.gds_flatten.specs.steps.Filled.{rects_in};
 ghost use Rattle.gds_flatten.specs.steps.Prepared.{edges_of, way_back};
 ghost use Rattle.gds_flatten.specs.steps.Ranges.{IsWithin};
 
@@ -22,6 +23,7 @@ use gds_shape::{
     Bounds, ShapeError, is_in_range, is_manhattan, put_boundary_at_corner, put_path_at_corner,
 };
 use std::alloc::{AllocError, Global};
+use std::slice;
 
 impl From<ShapeError> for FlattenError {
     ghost from_gives = { λ error refusal. refusal ≡ refusal_of error };
@@ -185,6 +187,19 @@ fn carry_pieces(pieces: &[Rect], at: &Placement, out: &mut Vec<Rect>) -> Result<
     Ok(())
 }
 
+/// The same of the rectangles that a shape covers.
+fn carry_filled(filled: &Filled, at: &Placement, out: &mut Vec<Rect>) -> Result<(), AllocError>
+    requires within { IsWithin 258 at.now }
+    requires inside { All (λ r. AreInRange (carried_bounds at.now (edges_of r))) (rects_in filled.now) }
+    ensures { OnOk result ((x y : ℤ) → covered out.new.items x y
+        ≡ (covered out.old.items x y || carried at.now (covered (rects_in filled.now)) x y)) }
+{
+    match filled {
+        Filled::Whole(one) => carry_pieces(slice::from_ref(&one.rect()), at, out),
+        Filled::Parts(parts) => carry_pieces(&parts.rects, at, out),
+    }
+}
+
 /// How pieces at the corner are carried where the shape is carried so.
 fn from_corner(at: &Placement, extent: &Bounds) -> Placement
     requires within { IsWithin 257 at.now }
@@ -218,6 +233,6 @@ pub fn carry_shape(
     if !is_in_range(&carried_bounds(at, &extent)) {
         return Err(FlattenError::OutOfRange);
     }
-    carry_pieces(shape.filled.rects(), &from_corner(at, &extent), out)?;
+    carry_filled(&shape.filled, &from_corner(at, &extent), out)?;
     Ok(())
 }

@@ -20,12 +20,12 @@ returns-then-not-is_in_range-clause-refused c =
           false≢true (sym c.if-not-is_in_range.true ∙ c.is_in_range.ensures.1 range),
     )
 
-pub carry_pieces-requires-clause-inside : goal.carry_pieces-requires-clause-inside
-carry_pieces-requires-clause-inside c =
+pub carry_filled-requires-clause-inside : goal.carry_filled-requires-clause-inside
+carry_filled-requires-clause-inside c =
     let s = c.args.shape.now in
     let drawn : IsDrawn (shape_of s.element.now) (rects_in s.filled) c.in-Some.extent = s.prepared.drawn c.in-Some.extent (sym c.extent.ensures ∙ c.in-Some.is) in
     let range : AreInRange (carried_bounds c.args.at.now c.in-Some.extent) = rw c.carried_bounds.ensures at (c.is_in_range.ensures.0 c.if-not-is_in_range.false) in
-    rw (c.rects.ensures, c.from_corner.ensures.is) (pieces_stay c.args.at.now (shape_of s.element.now) (rects_in s.filled) c.in-Some.extent drawn range)
+    rw c.from_corner.ensures.is (pieces_stay c.args.at.now (shape_of s.element.now) (rects_in s.filled) c.in-Some.extent drawn range)
 
 pub returns-clause-inside : goal.returns-clause-inside
 returns-clause-inside c =
@@ -40,5 +40,5 @@ returns-clause-added c = λ x y.
     let drawn : IsDrawn (shape_of s.element.now) (rects_in s.filled) c.in-Some.extent = s.prepared.drawn c.in-Some.extent (sym c.extent.ensures ∙ c.in-Some.is) in
     let range : AreInRange (carried_bounds c.args.at.now c.in-Some.extent) = rw c.carried_bounds.ensures at (c.is_in_range.ensures.0 c.if-not-is_in_range.false) in
     let narrow = range_narrow c.args.at.now c.in-Some.extent drawn.near range in
-    let put = rw (c.rects.ensures, c.from_corner.ensures.is) at (c.in_ok-carry_pieces.ensures x y) in
+    let put = rw c.from_corner.ensures.is at (c.in_ok-carry_filled.ensures x y) in
     put ∙ ap (λ b. covered c.args.out.now.items x y || b) (shape_back c.args.at.now (shape_of s.element.now) (rects_in s.filled) c.in-Some.extent x y drawn narrow)
