@@ -1,10 +1,10 @@
 -- A row that goes on from tile to tile.
-use Rattle.std.proofs.Common.{◌≡◌, refl, ap, sym, subst, ◌∙◌, ℕ, ◌<◌, ℤ, pos, negsuc, w64, FitsSigned, ◌-ℤ◌, ◌≤ℤ◌, ◌<ℤ◌, arith, Bool, true, false, ◌&&◌, ◌⊎◌, inl, inr, List, length, get_or, Bor, Some}
+use Rattle.std.proofs.Common.{◌≡◌, refl, ap, sym, subst, ◌∙◌, ℕ, ◌<◌, ℤ, pos, negsuc, w64, FitsSigned, ◌-ℤ◌, ◌≤ℤ◌, ◌<ℤ◌, arith, Bool, true, false, ◌&&◌, ◌⊎◌, inl, inr, List, length, get_or, Bor, Option, Some, None, IfSome}
 use Rattle.std.specs.Prelude.{not, slice_get, ◌==◌}
 use Rattle.std.proofs.lemmas.Bool.{and_parts, and_from, cases_Bool, cases_eq, eqb-true, eq-eqb}
 use Rattle.std.proofs.lemmas.Int.{ints}
 use Rattle.std.proofs.lemmas.List.Folds.{list_any_none, list_any_at}
-use Rattle.std.proofs.lemmas.Option.{slice_get-get_or, get_or_from_slice_get}
+use Rattle.std.proofs.lemmas.Option.{slice_get-get_or, slice_get_within, get_or_from_slice_get}
 use Rattle.fill_base.specs.Counts.{span_len, is_between}
 use Rattle.fill_base.proofs.Between.{is_between_true, is_between_bounds}
 use Rattle.fill_raster.specs.Axes.{first, past, is_on}
@@ -12,6 +12,7 @@ use Rattle.fill_raster.specs.Lattice.{Lattice, IsLattice, in_raster, in_tile, ti
 use Rattle.fill_raster.specs.Marks.{Marked, in_block, is_marked}
 use Rattle.fill_raster.specs.declared.block.Block.{Block}
 use Rattle.fill_raster.proofs.Ranges.{on_range}
+use Rattle.fill_raster.proofs.Searching.{here, none_between}
 use Rattle.gds_out.specs.Places.{AreOfTiles, marked_by}
 use Rattle.gds_out.specs.steps.Columns.{IsNext}
 
@@ -90,6 +91,16 @@ found_here r marks t m start i j k wanted is are here below from before inside i
       ];
       found = λ _. tile_marks r marks t m k j are here below k_in ∙ marked;
     }
+
+-- what a search in one tile finds is what was asked for
+pub found_in_tile : (r : Lattice) (marks : List (Bor Marked)) (t : ℕ) (m : Bor Marked) (i j : ℤ) (wanted : Bool) (o : Option ℤ) → IsLattice r → AreOfTiles r marks → slice_get marks t ≡ Some m → in_block m.now.block i j ≡ true
+    → IfSome o (λ k. i ≤ℤ k × (in_block m.now.block k j ≡ true) × (is_marked m.now k j ≡ wanted))
+    → IfSome o (λ k. (n : ℤ) → i ≤ℤ n → n <ℤ k → is_marked m.now n j ≡ not wanted)
+    → IfSome o (IsNext r (marked_by marks) i j wanted)
+found_in_tile r marks t m i j wanted None is are there inside found between = tt
+found_in_tile r marks t m i j wanted (Some k) is are there inside found between =
+    found_here r marks t m i i j k wanted is are there (slice_get_within marks t m there) (here i) (none_between (λ n. marked_by marks n j) wanted i)
+    (sym (are.places t m there i j) ∙ inside) found.0 found.1 found.2 between
 
 -- none stands in this tile
 pub record IsPassed (r : Lattice) (marks : List (Bor Marked)) (start i j e : ℤ) (wanted : Bool) : Type 0 where

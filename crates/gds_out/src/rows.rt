@@ -53,10 +53,11 @@ fn pieces_of_row(
 {
     let mut list = Vec::new(alloc);
     let columns = raster.columns();
+    let mut tile = 0;
     let mut i = columns.start;
     while i < columns.end {
-        let start = next_column(raster, marks, Place { i, j }, true);
-        let end = next_column(raster, marks, Place { i: start, j }, false);
+        let start = next_column(raster, marks, &mut tile, Place { i, j }, true);
+        let end = next_column(raster, marks, &mut tile, Place { i: start, j }, false);
         push_pieces(&mut list, start, (end - start) as u32)?;
         i = end;
     }

@@ -1,4 +1,4 @@
-use Rattle.std.proofs.Common.{subst, sym, ap, [], ◌∷◌, ◌++◌, pos, ◌+ℤ◌, ◌*ℤ◌, List, map, ◌∙◌}
+use Rattle.std.proofs.Common.{subst, sym, ap, [], ◌∷◌, ◌++◌, pos, ◌+ℤ◌, ◌*ℤ◌, List, map}
 use Rattle.std.specs.List.{All}
 use Rattle.fill_base.specs.declared.place.Point.{Point}
 use Rattle.gds_record.specs.Numbers.{IsStored}

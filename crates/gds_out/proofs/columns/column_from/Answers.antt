@@ -9,7 +9,7 @@ use Rattle.fill_raster.proofs.Searching.{here, none_between}
 use Rattle.gds_out.specs.Places.{marked_by}
 use Rattle.gds_out.proofs.Corners.{on_axis}
 use Rattle.gds_out.proofs.Along.{of_its_tile, found_here, tile_passed, IsPassed, shorter, row_ends}
-use Rattle.gds_out.proofs.columns.next_column.Goals as goal
+use Rattle.gds_out.proofs.columns.column_from.Goals as goal
 
 pub tile_of-tile-requires : goal.tile_of-tile-requires
 tile_of-tile-requires c =

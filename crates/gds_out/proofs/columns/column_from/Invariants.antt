@@ -4,7 +4,7 @@ use Rattle.std.specs.Prelude.{not}
 use Rattle.fill_base.specs.Counts.{span_len}
 use Rattle.fill_raster.specs.Axes.{past}
 use Rattle.gds_out.specs.Places.{marked_by}
-use Rattle.gds_out.proofs.columns.next_column.Given as goal
+use Rattle.gds_out.proofs.columns.column_from.Given as goal
 
 abbrev pub invariant-loop-i : goal.invariant-loop-i
 invariant-loop-i l = record {
