@@ -205,7 +205,7 @@ class Files(Case):
         self.assert_fault(self.run_words("fill", "rules.csv", "design.gds", "script.csv", "/dev/full"), 4, "out: 30 Device")
 
     def test_one_path_for_two_inputs(self) -> None:
-        for line, want in ((("rules.csv", "rules.csv", "script.csv"), "design: 2 BadLength"),
+        for line, want in ((("rules.csv", "rules.csv", "script.csv"), "design: 1 Truncated"),
                            (("rules.csv", "design.gds", "rules.csv"), "script: 21 BadRow line 1"),
                            (("script.csv", "design.gds", "script.csv"), "rules: 23 BadRule key frame_x1")):
             self.assert_fault(self.run_words("fill", *line, "out.gds"), 2, want)
