@@ -16,3 +16,4 @@ pub mod Grown
 pub mod Cornering
 pub mod Inside
 pub mod Near
+pub mod Bends

@@ -10,6 +10,7 @@ mod edge;
 mod edges;
 mod error;
 mod extent;
+pub mod laws;
 mod lines;
 mod path;
 mod segments;
