@@ -11,16 +11,18 @@ use Rattle.fill_text.specs.declared.script.Edit.{Edit}
 use Rattle.fill_job.specs.Plans.{Layers, Plan, plan_of}
 use Rattle.fill_job.specs.ReadSets.{ReadSet, read_set, wanted_of}
 use Rattle.fill_job.proofs.ReadSets.{same_wanted}
+use Rattle.fill_core.specs.Accounts.{Account, state_of, with_entry}
 use Rattle.fill_core.specs.Boxes.{total_in}
 use Rattle.fill_core.specs.Callers.{Job, Proposal, World, Step, IsMarked, Moves, Runs, commit_of, events_by, events_of, job_on, proposal_of, start}
 use Rattle.fill_core.specs.Callers.Step.{Look, Propose, Bring, Commit, Change, Ask}
 use Rattle.fill_core.specs.Machine.{State, is_accepted, opening, replay_from, step}
-use Rattle.fill_core.specs.RunLaws.{AcceptedMarksAreWanted, OwnProposalIsPlaced, RefusedCommitChangesNothing, RunIsAReplay, RunIsSound, StaleChangesNothing}
+use Rattle.fill_core.specs.RunLaws.{AcceptedMarksAreWanted, CommitIsAStep, EditIsAStep, OwnProposalIsPlaced, RefusedCommitChangesNothing, RunIsAReplay, RunIsSound, StaleChangesNothing}
 use Rattle.fill_core.specs.Soundness.{IsSound}
 use Rattle.fill_core.specs.declared.event.Event.{Event}
 use Rattle.fill_core.specs.declared.event.Event.TheVariants as event
 use Rattle.fill_core.proofs.Replays.{refused_nothing}
 use Rattle.fill_core.proofs.Sound.{replay_sound}
+use Rattle.fill_core.proofs.Written.{state_with}
 
 -- ---- the state is a replay
 
@@ -208,3 +210,17 @@ accepted_wanted rules layers steps w v p is r m =
     let marked : IsMarked p = All-contains IsMarked w.proposals p all.marks m.0 in
     let equal : p.job.read ≡ read_set rules w.state.layers w.state.low p.job.tile = (m.1.0 refl).2 in
     marked ∙ (ap (λ (read : ReadSet). wanted_of read p.job.tile) equal ∙ same_wanted rules w.state.layers w.state.low p.job.tile is)
+
+-- ---- what a call writes is a step
+
+pub commit_step_of : CommitIsAStep
+commit_step_of old new held after p reply jobs proposals is_there is =
+    let e = commit_of p.job is.same in
+    let state : state_of new ≡ step (plan_of old.rules) (state_of old) e = ap state_of is.writes.written ∙ state_with old e reply in
+    (is.same, is.writes.written, (is_there, is.is_same, ap (λ (s : State). record { state = s; jobs = jobs; proposals = proposals }) state))
+
+pub edit_step_of : EditIsAStep
+edit_step_of old new held after caller edit reply jobs proposals is =
+    let e = event.Edit edit in
+    let state : state_of new ≡ step (plan_of old.rules) (state_of old) e = ap state_of is.written ∙ state_with old e reply in
+    (is.written, ap (λ (s : State). record { state = s; jobs = jobs; proposals = proposals }) state)

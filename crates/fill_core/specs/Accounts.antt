@@ -11,6 +11,7 @@ use Rattle.fill_core.specs.Histories.{events_in, replies_in}
 use Rattle.fill_core.specs.Machine.{State, replay, replies, reply_of}
 use Rattle.fill_core.specs.Shares.{Held, moved, totals_of}
 use Rattle.fill_core.specs.Soundness.{IsSound}
+use Rattle.fill_core.specs.Terms.{Terms}
 use Rattle.fill_core.specs.declared.event.Entry.{Entry}
 use Rattle.fill_core.specs.declared.event.Event.{Event}
 use Rattle.fill_core.specs.declared.event.Event.TheVariants as event
@@ -22,6 +23,10 @@ pub record Account : Type 0 where
   pub keep : List Band
   pub history : List Entry
   pub most : ℕ
+
+-- what the book was opened with
+abbrev pub terms_of : Account → Terms
+terms_of a = record { rules = a.rules; opening = a.opening; keep = a.keep; most = a.most }
 
 -- the metal and the keep-outs that the book opened on
 abbrev pub opening_of : Account → Layers

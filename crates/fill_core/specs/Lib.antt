@@ -2,6 +2,7 @@ pub mod Boxes
 pub mod Machine
 pub mod Soundness
 pub mod Histories
+pub mod Terms
 pub mod Accounts
 pub mod Shares
 pub mod Tiles

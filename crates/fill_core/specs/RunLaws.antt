@@ -1,13 +1,18 @@
 -- What holds in every interleaving of callers' steps.
-use Rattle.std.specs.Prelude.{◌≡◌, Bool, true, false, List}
+use Rattle.std.specs.Prelude.{◌≡◌, ℕ, Bool, true, false, List, Contains}
 use Rattle.fill_text.specs.Rules.{Values}
+use Rattle.fill_text.specs.declared.script.Edit.{Edit}
 use Rattle.fill_job.specs.Plans.{IsPlan, Layers, plan_of, wanted}
+use Rattle.fill_core.specs.Accounts.{Account, IsCommitted, IsEdited, state_of, with_entry}
 use Rattle.fill_core.specs.Boxes.{total_in}
-use Rattle.fill_core.specs.Callers.{Proposal, Step, World, Moves, Runs, start, commit_of, events_of}
-use Rattle.fill_core.specs.Callers.Step.{Commit}
+use Rattle.fill_core.specs.Callers.{Job, Proposal, Step, World, Moves, Runs, start, commit_of, events_of}
+use Rattle.fill_core.specs.Callers.Step.{Commit, Change}
 use Rattle.fill_core.specs.Laws.{IsRefusal}
 use Rattle.fill_core.specs.Machine.{newly_placed, replay, reply_of, with_tile}
+use Rattle.fill_core.specs.Shares.{Held}
 use Rattle.fill_core.specs.Soundness.{IsSound}
+use Rattle.fill_core.specs.declared.event.Event.TheVariants as event
+use Rattle.fill_core.specs.declared.event.Reply.{Reply}
 use Rattle.fill_core.specs.declared.event.Reply.TheVariants.{Placed, Stale}
 
 -- the state is the replay of the commits and edits, so all that holds of every replay holds here
@@ -38,3 +43,20 @@ OwnProposalIsPlaced = (rules : Values) (layers : Layers) (steps : List Step) (w 
 abbrev pub AcceptedMarksAreWanted : Type 0
 AcceptedMarksAreWanted = (rules : Values) (layers : Layers) (steps : List Step) (w v : World) (p : Proposal) → IsPlan (plan_of rules) → Runs rules (start rules layers) steps w → Moves rules w (Commit p true) v
     → p.marks ≡ wanted (plan_of rules) w.state.layers w.state.low p.job.tile
+
+-- ---- what a call writes is a step
+
+-- the state of a book, among callers that hold these
+abbrev pub world_at : Account → List Job → List Proposal → World
+world_at a jobs proposals = record { state = state_of a; jobs = jobs; proposals = proposals }
+
+-- a commit that a book wrote is a step of its caller, by the event that stands last in the history now
+abbrev pub CommitIsAStep : Type 0
+CommitIsAStep = (old new : Account) (held after : Held) (p : Proposal) (reply : Reply) (jobs : List Job) (proposals : List Proposal) → Contains proposals p
+    → IsCommitted old new held after p.job.version p.job.tile p.job.read reply
+    → (same : Bool) × (new ≡ with_entry old (commit_of p.job same) reply) × Moves old.rules (world_at old jobs proposals) (Commit p same) (world_at new jobs proposals)
+
+-- and so is an edit
+abbrev pub EditIsAStep : Type 0
+EditIsAStep = (old new : Account) (held after : Held) (caller : ℕ) (edit : Edit) (reply : Reply) (jobs : List Job) (proposals : List Proposal) → IsEdited old new held after edit reply
+    → (new ≡ with_entry old (event.Edit edit) reply) × Moves old.rules (world_at old jobs proposals) (Change caller edit) (world_at new jobs proposals)

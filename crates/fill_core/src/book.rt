@@ -7,7 +7,7 @@ ghost use Rattle.fill_text.specs.ValuesOfRules.{values_of};
 ghost use Rattle.fill_job.specs.Basis.{read_by};
 ghost use Rattle.fill_job.specs.Plans.{allowed, in_window_of, low_windows, plan_of};
 ghost use Rattle.fill_job.specs.ReadSets.{read_set};
-ghost use Rattle.fill_core.specs.Accounts.{Account, IsCommitted, IsEdited, IsKeeping, state_of};
+ghost use Rattle.fill_core.specs.Accounts.{Account, IsCommitted, IsEdited, IsKeeping, state_of, terms_of};
 ghost use Rattle.fill_core.specs.Boxes.{count_places, total_in, with_boxes};
 ghost use Rattle.fill_core.specs.Histories.{entries_of};
 ghost use Rattle.fill_core.specs.Machine.{IsComplete};
@@ -17,9 +17,10 @@ ghost use Rattle.fill_core.specs.declared.book.BookError.TheVariants.{Memory};
 
 use crate::event::Reply;
 use crate::history::History;
+use crate::opened::Opened;
 use crate::pass::Pass;
 use fill_base::Place;
-use fill_job::{Job, Piece, Proposal, SharedRules};
+use fill_job::{Job, Proposal};
 use fill_raster::Marks;
 use fill_region::Region;
 use fill_text::{Edit, Rules};
@@ -53,8 +54,8 @@ impl From<AllocError> for BookError {
 /// Tiles, windows (columns and rows of the rules' windows) and places are those of the book's rules. Lengths are in database
 /// units, areas in unit squares. Calls without `alloc` take no memory.
 pub trait FillBook: Drop {
-    /// The ledger of calls.
-    type Calls: Ledger + Send + Sync;
+    /// The ledger of calls, which knows what the book was opened with.
+    type Calls: Opened + Send + Sync;
     /// The ledger of filled places.
     type Placed: Ledger + Send + Sync;
     /// The ledger of places that were taken out.
@@ -164,26 +165,12 @@ pub trait FillBook: Drop {
     fn opening_keep(&self) -> &Region
         ensures { result.now ≡ (account self.now).keep };
 
-    /// The rules of the fill, held together with the book.
-    ///
-    /// # Errors
-    /// `AllocError` where the count of their holders is at its end.
-    fn share_rules(&self) -> Result<SharedRules, AllocError>
-        ensures { IfOk result (λ r. r ≡ (account self.now).rules) };
-
-    /// The metal and the keep-outs that the book opened on, held together with the book.
-    ///
-    /// # Errors
-    /// `AllocError` where the count of their holders is at its end.
-    fn share_opening(&self) -> Result<(Piece, Piece), AllocError>
-        ensures metal { IfOk result (λ p. p.0 ≡ (account self.now).opening) }
-        ensures keep { IfOk result (λ p. p.1 ≡ (account self.now).keep) };
-
     /// Tells what every book keeps, and how the numbers of a pass stand to those of the history. Does nothing at run time.
     fn audit(&mut self, pass: &mut Pass<Self::Calls, Self::Placed, Self::Withdrawn>)
         requires { AllParts Self.Calls.parts Self.Placed.parts Self.Withdrawn.parts }
         ensures same { (account self.new ≡ account self.old) × (pass.new ≡ pass.old) }
         ensures keeping { IsKeeping (account self.old) }
+        ensures terms { terms_of (account self.old) ≡ Self.Calls.terms }
         ensures parts { pass.old.parts ≤ 1024 }
         ensures within { IsWithin pass.old (totals_of (account self.old).history) }
         ensures whole { pass.old.parts ≡ 1024 → IsWhole pass.old (totals_of (account self.old).history) };

@@ -1,6 +1,6 @@
 //! What holds of every fill, whatever events came. Each function's contract is the law.
 ghost use Rattle.fill_core.specs.Laws.{AnswersStayLegal, BoxesAreOfPlaces, BoxesKeepTheFillSpacing, CompleteFill, CompleteFillWithoutEdits, CountIsPlacedLessWithdrawn, CountedInABlock, CountedInAPart, EntryIsAStep, FillIsThatOfItsTiles, FilledPlacesAreAllowed, LegalAccountsKeep, LowIsThatOfTheOpening, NextTileIsFirst, NoNextTileWhereAllAreIn, OpeningIsLowOfTheMetal, RefusedChangesNothing, ReplayIsSound, SumsAreBounded, VersionCountsEdits};
-ghost use Rattle.fill_core.specs.RunLaws.{AcceptedMarksAreWanted, OwnProposalIsPlaced, RefusedCommitChangesNothing, RunIsAReplay, RunIsSound, StaleChangesNothing};
+ghost use Rattle.fill_core.specs.RunLaws.{AcceptedMarksAreWanted, CommitIsAStep, EditIsAStep, OwnProposalIsPlaced, RefusedCommitChangesNothing, RunIsAReplay, RunIsSound, StaleChangesNothing};
 
 /// After any events each filled place is on the raster and its box keeps the spacing to the metal.
 pub fn filled_places_are_allowed()
@@ -133,4 +133,14 @@ pub fn no_next_tile_where_all_are_in()
 /// The places of one tile may be counted over the tile's columns and rows, as `Marks::count` does.
 pub fn counted_in_a_block()
     ensures { CountedInABlock }
+{}
+
+/// The commit that a book writes is a step of its caller, between the states of the account before and after it.
+pub fn commit_is_a_step()
+    ensures { CommitIsAStep }
+{}
+
+/// So is an edit.
+pub fn edit_is_a_step()
+    ensures { EditIsAStep }
 {}

@@ -7,10 +7,12 @@ mod book;
 mod event;
 mod history;
 pub mod laws;
+mod opened;
 mod pass;
 
 pub use book::{BookError, FillBook};
 pub use event::{Entry, Event, Reply};
 pub use fill_text::Edit;
 pub use history::History;
+pub use opened::Opened;
 pub use pass::{Books, Pass};
