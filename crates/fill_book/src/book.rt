@@ -11,10 +11,11 @@ ghost use Rattle.fill_book.specs.Standing.{squares_in};
 
 use crate::anew::Measured;
 use crate::areas::Totals;
+use crate::origin::Origin;
 use crate::stored::{Stored, answer};
 use fill_base::Place;
-use fill_core::{BookError, Books, Entry, Event, FillBook, History, Pass, Reply};
-use fill_job::{Job, Piece, Proposal, SharedRules};
+use fill_core::{BookError, Books, Entry, Event, FillBook, History, Opened, Pass, Reply};
+use fill_job::{Job, Proposal};
 use fill_measure::measure_region;
 use fill_raster::Marks;
 use fill_region::Region;
@@ -33,28 +34,25 @@ pub type Book<C, P, W> = BookOf<Sums, C, P, W>;
 
 /// The book of a fill, whose areas are told by `T`. What it is to its callers is said by `FillBook`.
 #[derive(Drop)]
-pub struct BookOf<T: Totals, C: Ledger, P: Ledger, W: Ledger> {
+pub struct BookOf<T: Totals, C: Opened, P: Ledger, W: Ledger> {
     books: Books<C, P, W>,
-    rules: SharedRules,
-    opening: Piece,
-    opening_keep: Piece,
+    origin: Origin<C>,
     stored: Stored,
     totals: T,
     history: History,
-    most: u64,
 }
 
-impl<T: Totals, C: Ledger, P: Ledger, W: Ledger> Model for BookOf<T, C, P, W> {
+impl<T: Totals, C: Opened, P: Ledger, W: Ledger> Model for BookOf<T, C, P, W> {
     ghost Value = { Account };
 
-    ghost view = { λ b. record { rules = b.rules; opening = b.opening; keep = b.opening_keep; history = entries_of b.history; most = b.most } };
+    ghost view = { λ b. record { rules = b.origin.rules; opening = b.origin.opening; keep = b.origin.keep; history = entries_of b.history; most = b.origin.most } };
 
-    ghost invariant = { λ b. (Keeps (record { rules = b.rules; opening = b.opening; keep = b.opening_keep; history = entries_of b.history; most = b.most }) b.books b.stored) × T.stand_for b.totals (windows_of b.rules) (holds b.stored.metal) (squares_in b.stored) };
+    ghost invariant = { λ b. (Keeps (record { rules = b.origin.rules; opening = b.origin.opening; keep = b.origin.keep; history = entries_of b.history; most = b.origin.most }) b.books b.stored) × T.stand_for b.totals (windows_of b.origin.rules) (holds b.stored.metal) (squares_in b.stored) };
 }
 
-impl<T: Totals, C: Ledger, P: Ledger, W: Ledger> BookOf<T, C, P, W> {
+impl<T: Totals, C: Opened, P: Ledger, W: Ledger> BookOf<T, C, P, W> {
     /// Opens a book on the drawn metal and the keep-outs, at version 0: no place is filled and no tile is in. Its history will have at most
-    /// `max_events` events. The pass holds all parts of the three ledgers.
+    /// `max_events` events. These are the terms of the ledger of calls. The pass holds all parts of the three ledgers.
     ///
     /// # Errors
     /// `AllocError` where memory is refused.
@@ -73,27 +71,23 @@ impl<T: Totals, C: Ledger, P: Ledger, W: Ledger> BookOf<T, C, P, W> {
         requires parts { (calls.parts ≡ C.parts) × (placed.parts ≡ P.parts) × (withdrawn.parts ≡ W.parts) }
         requires all { AllParts C.parts P.parts W.parts }
         requires most { max_events ≤ 2 ^ 32 }
+        requires terms { record { rules = values_of rules; opening = metal; keep = keep; most = max_events } ≡ C.terms }
         ensures book { IfOk result (λ r. r.0 ≡ record { rules = values_of rules; opening = metal; keep = keep; history = []; most = max_events }) }
         ensures pass { IfOk result (λ r. r.1 ≡ nothing_with 1024) }
     {
-        let rules = SharedRules::new(alloc, rules)?;
-        rules.make_a_plan();
-        let windows = rules.windows();
-        let opening = Piece::new(alloc, metal.copy(alloc)?)?;
-        let opening_keep = Piece::new(alloc, keep.copy(alloc)?)?;
+        let origin = Origin::new(alloc, rules, &metal, &keep, max_events)?;
+        origin.rules.make_a_plan();
+        let windows = origin.rules.windows();
         let areas = measure_region(rt, alloc, &metal, &windows)?;
-        let stored = Stored::open(rt, alloc, metal, keep, &rules, &areas)?;
+        let stored = Stored::open(rt, alloc, metal, keep, &origin.rules, &areas)?;
         let totals = T::of(alloc, &stored.metal, &windows, areas)?;
         let (books, pass) = Books::open(calls, placed, withdrawn);
         let book = BookOf {
             books,
-            rules,
-            opening,
-            opening_keep,
+            origin,
             stored,
             totals,
             history: History::new(alloc),
-            most: max_events,
         };
         Ok((book, pass))
     }
@@ -102,11 +96,11 @@ impl<T: Totals, C: Ledger, P: Ledger, W: Ledger> BookOf<T, C, P, W> {
     fn is_full(&self) -> bool
         ensures { IsTrue result ↔ (length self.now.history ≡ self.now.most) }
     {
-        self.history.len() == self.most
+        self.history.len() == self.origin.most
     }
 }
 
-impl<T: Totals, C: Ledger + Send + Sync, P: Ledger + Send + Sync, W: Ledger + Send + Sync> FillBook
+impl<T: Totals, C: Opened + Send + Sync, P: Ledger + Send + Sync, W: Ledger + Send + Sync> FillBook
     for BookOf<T, C, P, W> {
     type Calls = C;
 
@@ -117,12 +111,14 @@ impl<T: Totals, C: Ledger + Send + Sync, P: Ledger + Send + Sync, W: Ledger + Se
     ghost account = { λ b. b };
 
     fn next(&self, from: u32) -> Option<u32> {
-        self.stored.tiles.next(self.rules.raster().tiles(), from)
+        self.stored
+            .tiles
+            .next(self.origin.rules.raster().tiles(), from)
     }
 
     fn job(&self, alloc: Global, tile: u32) -> Result<Job, AllocError> {
         let stored = &self.stored;
-        let rules = self.rules.share()?;
+        let rules = self.origin.rules.share()?;
         let metal = stored.pieces[tile as usize].share()?;
         let keep = stored.keep_pieces[tile as usize].share()?;
         Job::new(alloc, stored.version, tile, rules, metal, keep, &stored.low)
@@ -138,10 +134,10 @@ impl<T: Totals, C: Ledger + Send + Sync, P: Ledger + Send + Sync, W: Ledger + Se
         if self.is_full() {
             return Err(BookError::HistoryFull);
         }
-        let same = self.stored.is_same(&self.rules, proposal);
+        let same = self.stored.is_same(&self.origin.rules, proposal);
         let refusal = self.stored.refusal(version, tile);
         self.history.reserve()?;
-        let windows = self.rules.windows();
+        let windows = self.origin.rules.windows();
         let marks = proposal.marks();
         let placed = self
             .stored
@@ -169,7 +165,7 @@ impl<T: Totals, C: Ledger + Send + Sync, P: Ledger + Send + Sync, W: Ledger + Se
         self.history.reserve()?;
         let change = self
             .stored
-            .change_by(alloc, &self.rules, &mut self.totals, edit)?;
+            .change_by(alloc, &self.origin.rules, &mut self.totals, edit)?;
         let withdrawn = self.stored.change(change);
         let reply = Reply::Withdrawn(withdrawn);
         self.books.note(pass, 0, u64::from(withdrawn));
@@ -179,11 +175,13 @@ impl<T: Totals, C: Ledger + Send + Sync, P: Ledger + Send + Sync, W: Ledger + Se
     }
 
     fn total(&self, a: u32, b: u32) -> i64 {
-        self.totals.total(&self.stored, &self.rules.windows(), a, b)
+        self.totals
+            .total(&self.stored, &self.origin.rules.windows(), a, b)
     }
 
     fn drawn(&self, a: u32, b: u32) -> i64 {
-        self.totals.drawn(&self.stored, &self.rules.windows(), a, b)
+        self.totals
+            .drawn(&self.stored, &self.origin.rules.windows(), a, b)
     }
 
     fn version(&self) -> u64 {
@@ -191,7 +189,9 @@ impl<T: Totals, C: Ledger + Send + Sync, P: Ledger + Send + Sync, W: Ledger + Se
     }
 
     fn is_complete(&self) -> bool {
-        self.stored.tiles.is_complete(self.rules.raster().tiles())
+        self.stored
+            .tiles
+            .is_complete(self.origin.rules.raster().tiles())
     }
 
     fn has(&self, place: Place) -> bool {
@@ -211,25 +211,15 @@ impl<T: Totals, C: Ledger + Send + Sync, P: Ledger + Send + Sync, W: Ledger + Se
     }
 
     fn rules(&self) -> &Rules {
-        self.rules.rules()
+        self.origin.rules.rules()
     }
 
     fn opening(&self) -> &Region {
-        self.opening.metal()
+        &self.origin.opening
     }
 
     fn opening_keep(&self) -> &Region {
-        self.opening_keep.metal()
-    }
-
-    fn share_rules(&self) -> Result<SharedRules, AllocError> {
-        self.rules.share()
-    }
-
-    fn share_opening(&self) -> Result<(Piece, Piece), AllocError> {
-        let metal = self.opening.share()?;
-        let keep = self.opening_keep.share()?;
-        Ok((metal, keep))
+        &self.origin.keep
     }
 
     fn audit(&mut self, pass: &mut Pass<C, P, W>) {

@@ -8,6 +8,7 @@ mod book;
 mod edited;
 mod filled;
 mod low;
+mod origin;
 mod pieces;
 mod places;
 mod running;

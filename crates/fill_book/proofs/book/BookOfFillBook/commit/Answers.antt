@@ -26,7 +26,7 @@ returns-then-is_full-clause-err g c = (refl, refl)
 pub returns-then-is_full-clause-seen : goal.returns-then-is_full-clause-seen
 returns-then-is_full-clause-seen g c = tt
 
-done : (g : given.Over) (c : goal.After-push g) → IsDone (record { rules = c.self.inside.rules; opening = c.self.inside.opening; keep = c.self.inside.opening_keep; history = entries_of c.self.inside.history; most = c.self.inside.most })
+done : (g : given.Over) (c : goal.After-push g) → IsDone (record { rules = c.self.inside.origin.rules; opening = c.self.inside.origin.opening; keep = c.self.inside.origin.keep; history = entries_of c.self.inside.history; most = c.self.inside.origin.most })
     c.self.inside.stored c.take_in-placed.new.self c.version-version.result c.tile-tile.result (read_by c.args.proposal.now.basis) c.is_same-same.result c.marks-marks.result.now c.take_in-placed.result c.answer-reply.result
 done g c =
     let p = c.args.proposal.now in let made = c.take_in-placed.ensures in
@@ -39,9 +39,9 @@ pub take_in-placed-requires-clause-marked : goal.take_in-placed-requires-clause-
 take_in-placed-requires-clause-marked g c =
     let v = c.version-version.result in let t = c.tile-tile.result in let p = c.args.proposal.now in let same = c.is_same-same.result in
     let m = c.marks-marks.result.now in let s = c.self.inside.stored in
-    let is : IsBrought c.self.inside.rules s v t (read_by p.basis) same m =
+    let is : IsBrought c.self.inside.origin.rules s v t (read_by p.basis) same m =
     rw (c.version-version.ensures, c.tile-tile.ensures) (record { is_same = c.is_same-same.ensures; marked = λ i j. ap (λ (q : Marked). is_marked q i j) c.marks-marks.ensures ∙ p.marked i j }) in
-    marks_in_tile c.self.inside.rules s v t (read_by p.basis) same m c.self.invariant.0.fits is
+    marks_in_tile c.self.inside.origin.rules s v t (read_by p.basis) same m c.self.invariant.0.fits is
 
 pub note-requires-clause-placed : goal.note-requires-clause-placed
 note-requires-clause-placed g c = let few : c.from.result < 2 ^ 32 = search rules in placed_room c.self.invariant.0 c.from.result few
@@ -81,7 +81,7 @@ returns-clause-written g c =
       is_same = same_now c.self.invariant.0 c.self.view_is v t (read_by c.args.proposal.now.basis) same d.brought.is_same;
       writes = record {
         answer = subst (λ (a : Account). reply ≡ reply_of (plan_of a.rules) (state_of a) (event.Commit v t same)) c.self.view_is d.answer;
-        written = ap (λ (h : List Entry). record { rules = c.self.inside.rules; opening = c.self.inside.opening; keep = c.self.inside.opening_keep; history = h; most = c.self.inside.most }) history
+        written = ap (λ (h : List Entry). record { rules = c.self.inside.origin.rules; opening = c.self.inside.origin.opening; keep = c.self.inside.origin.keep; history = h; most = c.self.inside.origin.most }) history
             ∙ ap (λ (a : Account). with_entry a (event.Commit v t same) reply) c.self.view_is;
         shares = moved_as c.args.pass.now c.note.new.pass c.from.result (placed_by reply) 0 (withdrawn_by reply) c.note.ensures.pass (c.from.ensures ∙ d.counts.0) d.counts.1;
       };

@@ -14,8 +14,8 @@ use Rattle.fill_book.proofs.book.BookOfFillBook.job.Goals as goal
 pub returns-clause-read : goal.returns-clause-read
 returns-clause-read g c =
     let s = c.self.inside.stored in let t = c.args.tile in
-    let rules_is : c.in_ok-rules.rules ≡ c.self.inside.rules = c.in_ok-rules.ensures in
-    let plan = plan_of c.self.inside.rules in
+    let rules_is : c.in_ok-rules.rules ≡ c.self.inside.origin.rules = c.in_ok-rules.ensures in
+    let plan = plan_of c.self.inside.origin.rules in
     let lt = subst (λ (a : Account). t < tiles (plan_of a.rules).raster) (sym c.self.view_is) c.requires in
     let at : IsPiece plan.raster plan.spacing (holds s.metal) t c.index.result.now = piece_at plan.raster plan.spacing (holds s.metal) s.pieces.items t c.index.result.now c.index.result.now c.self.invariant.0.fits.pieces lt c.index.ensures in
     let metal : IsPiece (plan_of c.in_ok-rules.rules).raster (plan_of c.in_ok-rules.rules).spacing (holds s.metal) t c.in_ok-metal.metal =

@@ -13,7 +13,7 @@ total-requires-clause-clear g c = clear_stored c.self.invariant.0
 
 pub returns : goal.returns
 returns g c =
-    let rules_is : c.self.inside.rules ≡ c.args.self.now.rules = ap (λ (a : Account). a.rules) c.self.view_is in
+    let rules_is : c.self.inside.origin.rules ≡ c.args.self.now.rules = ap (λ (a : Account). a.rules) c.self.view_is in
     let windows_is : c.windows.result ≡ windows_of c.args.self.now.rules = c.windows.ensures ∙ ap (λ (v : Values). windows_of v) rules_is in
     record {
       exact = read_is c.total.result (record { sfits = c.total.type_inv }) ∙ (c.total.ensures ∙ ap pos (ap (λ (w : Grid). window_area (squares_in c.self.inside.stored) w c.args.a c.args.b) windows_is
