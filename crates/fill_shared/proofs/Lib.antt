@@ -1,4 +1,5 @@
 pub mod Points
+pub mod Turning
 pub mod Sums
 pub mod Rounds
 pub mod Edited

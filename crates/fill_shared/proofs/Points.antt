@@ -8,42 +8,44 @@ use Rattle.fill_raster.proofs.Tiling.{tiles_few}
 use Rattle.fill_text.specs.declared.script.Edit.{Edit}
 use Rattle.fill_job.specs.Plans.{plan_of}
 use Rattle.fill_job.specs.declared.job.Job.{Job}
-use Rattle.fill_core.specs.Accounts.{Account, IsEdited, IsKeeping, state_of}
+use Rattle.fill_core.specs.Accounts.{Account, IsEdited, IsKeeping, state_of, terms_of}
 use Rattle.fill_core.specs.Boxes.{count_places, total_in}
 use Rattle.fill_core.specs.Shares.{Held, IsWhole, IsWithin, totals_of}
+use Rattle.fill_core.specs.Terms.{Terms}
 use Rattle.fill_core.specs.Tiles.{next_tile}
 use Rattle.fill_core.specs.declared.book.BookError.{BookError}
 use Rattle.fill_core.specs.declared.event.Reply.{Reply}
 use Rattle.fill_core.proofs.Searched.{next_first, next_none}
 use Rattle.fill_shared.specs.Passes.{HasCounted}
 use Rattle.fill_shared.specs.Sharing.{AtSomePoint, IsCompleteAt, IsFull, IsLook, IsSeen}
-use Rattle.fill_shared.specs.Working.{Ends, GoesOn}
-use Rattle.fill_shared.specs.declared.worker.WorkEnd.TheVariants.{Full}
+use Rattle.fill_shared.specs.Working.{Ends, IsNext, Stops}
+use Rattle.fill_shared.specs.declared.worker.WorkEnd.TheVariants.{Done, Full, Memory}
 use Rattle.fill_shared.specs.declared.shared.Look.TheVariants.{Work}
 
 -- the book before the call keeps what every book keeps, and has at least the caller's events
-pub record IsPoint (a : Account) (held : Held) : Type 0 where
+pub record IsPoint (t : Terms) (a : Account) (held : Held) : Type 0 where
   pub keeping : IsKeeping a
+  pub under : terms_of a ≡ t
   pub within : IsWithin held (totals_of a.history)
 
-pub edited_at : (r : Result Reply BookError) (a b d : Account) (h k m : Held) (edit : Edit) → IsPoint a h → (b ≡ a) × (k ≡ h) → IfOk r (λ reply. IsEdited b d k m edit reply)
-    → IfOk r (λ reply. AtSomePoint h.calls (λ x. (y : Account) × IsEdited x y h m edit reply))
-edited_at r a b d h k m edit at same written =
-    IfOk-weaker r _ _ (λ reply w. (a, at.keeping, at.within.calls, (d, subst (λ (z : Account). IsEdited z d h m edit reply) same.0 (subst (λ (z : Held). IsEdited b d z m edit reply) same.1 w)))) written
+pub edited_at : (t : Terms) (r : Result Reply BookError) (a b d : Account) (h k m : Held) (edit : Edit) → IsPoint t a h → (b ≡ a) × (k ≡ h) → IfOk r (λ reply. IsEdited b d k m edit reply)
+    → IfOk r (λ reply. AtSomePoint t h.calls (λ x. (y : Account) × IsEdited x y h m edit reply))
+edited_at t r a b d h k m edit at same written =
+    IfOk-weaker r _ _ (λ reply w. (a, at.keeping, at.under, at.within.calls, (d, subst (λ (z : Account). IsEdited z d h m edit reply) same.0 (subst (λ (z : Held). IsEdited b d z m edit reply) same.1 w)))) written
 
-pub complete_at : (a b : Account) (h : Held) (from version : ℕ) (r : Option ℕ) → IsPoint a h → b ≡ a → r ≡ next_tile (tiles (plan_of b.rules).raster) (state_of b).tiles_in from → r ≡ None → version ≡ (state_of b).version
-    → AtSomePoint h.calls (IsCompleteAt version)
-complete_at a b h from version r at same first none is =
-    (a, at.keeping, at.within.calls, subst (IsCompleteAt version) same ((next_none (tiles (plan_of b.rules).raster) (state_of b).tiles_in from).0 (sym first ∙ none), is))
+pub complete_at : (t : Terms) (a b : Account) (h : Held) (from version : ℕ) (r : Option ℕ) → IsPoint t a h → b ≡ a → r ≡ next_tile (tiles (plan_of b.rules).raster) (state_of b).tiles_in from → r ≡ None → version ≡ (state_of b).version
+    → AtSomePoint t h.calls (IsCompleteAt version)
+complete_at t a b h from version r at same first none is =
+    (a, at.keeping, at.under, at.within.calls, subst (IsCompleteAt version) same ((next_none (tiles (plan_of b.rules).raster) (state_of b).tiles_in from).0 (sym first ∙ none), is))
 
 -- the total of a window that the book's rules have
-pub seen_at : (a b : Account) (h : Held) (m n : ℕ) (windows : Grid) (columns rows version events : ℕ) (total : ℤ) → IsPoint a h → b ≡ a → windows ≡ (plan_of b.rules).windows → columns ≡ windows.across.count → rows ≡ windows.up.count → m < columns → n < rows
+pub seen_at : (t : Terms) (a b : Account) (h : Held) (m n : ℕ) (windows : Grid) (columns rows version events : ℕ) (total : ℤ) → IsPoint t a h → b ≡ a → windows ≡ (plan_of b.rules).windows → columns ≡ windows.across.count → rows ≡ windows.up.count → m < columns → n < rows
     → version ≡ (state_of b).version → events ≡ length b.history → total ≡ pos (total_in (plan_of b.rules) (state_of b).layers.metal (state_of b).fill m n)
-    → AtSomePoint h.calls (λ k. IsSeen k m n (Some (record { version = version; events = events; total = total })))
-seen_at a b h m n windows columns rows version events total at same windows_is columns_is rows_is column row version_is events_is total_is =
+    → AtSomePoint t h.calls (λ k. IsSeen k m n (Some (record { version = version; events = events; total = total })))
+seen_at t a b h m n windows columns rows version events total at same windows_is columns_is rows_is column row version_is events_is total_is =
     let across : m < (plan_of b.rules).windows.across.count = subst (λ (w : Grid). m < w.across.count) windows_is (rw columns_is at column) in
     let up : n < (plan_of b.rules).windows.up.count = subst (λ (w : Grid). n < w.up.count) windows_is (rw rows_is at row) in
-    (a, at.keeping, at.within.calls, subst (λ (k : Account). IsSeen k m n (Some (record { version = version; events = events; total = total }))) same ((across, up), version_is, events_is, total_is))
+    (a, at.keeping, at.under, at.within.calls, subst (λ (k : Account). IsSeen k m n (Some (record { version = version; events = events; total = total }))) same ((across, up), version_is, events_is, total_is))
 
 -- a pass with all parts has counted all that happened
 pub counted_all : (a b : Account) (pass : Held) → IsKeeping a → b ≡ a → pass.parts ≡ 1024 → (pass.parts ≡ 1024 → IsWhole pass (totals_of a.history)) → HasCounted b pass
@@ -58,19 +60,28 @@ few_tiles a from tile keeping next =
     let exists : tile < tiles (plan_of a.rules).raster = (next_first (tiles (plan_of a.rules).raster) (state_of a).tiles_in from tile next).exists in
     omega arith
 
-pub job_few : (held from t : ℕ) (job : Job) → t ≡ job.tile → AtSomePoint held (λ a. IsLook a from (Work job)) → t + 1 < 2 ^ 32
-job_few held from t job is p =
-    let few : p.3.0 + 1 < 2 ^ 32 = few_tiles p.0 from p.3.0 p.1 p.3.1 in
-    let e : t ≡ p.3.0 = is ∙ p.3.2.tile_is in
+pub job_few : (t : Terms) (held from n : ℕ) (job : Job) → n ≡ job.tile → AtSomePoint t held (λ a. IsLook a from (Work job)) → n + 1 < 2 ^ 32
+job_few t held from n job is p =
+    let few : p.4.0 + 1 < 2 ^ 32 = few_tiles p.0 from p.4.0 p.1 p.4.1 in
+    let e : n ≡ p.4.0 = is ∙ p.4.2.tile_is in
     omega arith
 
--- a turn goes on behind the tile that was looked up
-pub goes_on : (held from t : ℕ) (job : Job) → t ≡ job.tile → AtSomePoint held (λ a. IsLook a from (Work job)) → AtSomePoint held (GoesOn from (t + 1))
-goes_on held from t job is p = (p.0, p.1, p.2, (p.3.0, p.3.1, ap (λ (n : ℕ). n + 1) (is ∙ p.3.2.tile_is)))
-
--- a turn into a full history is no call
-pub full_turn : (h k m : Held) → k ≡ h → m ≡ k → AtSomePoint k.calls IsFull → (m ≡ h) × Ends 1 h m Full
-full_turn h k m e f p =
+-- a turn into a full history is no call, and found a tile
+pub full_turn : (t : Terms) (from : ℕ) (job : Job) (h k m : Held) → k ≡ h → m ≡ k → AtSomePoint t h.calls (λ a. IsLook a from (Work job)) → AtSomePoint t k.calls IsFull → (m ≡ h) × Ends t 1 h m Full × Stops t from h Full
+full_turn t from job h k m e f look p =
     let s : m ≡ h = f ∙ e in
     let n : m.calls ≡ h.calls = ap (λ (x : Held). x.calls) s in
-    (s, ((omega arith, omega arith), subst (λ (x : Held). AtSomePoint x.calls IsFull) (sym f) p))
+    let next : AtSomePoint t h.calls (IsNext from look.4.0) = (look.0, look.1, look.2, look.3, look.4.1) in
+    (s, ((omega arith, omega arith), subst (λ (x : Held). AtSomePoint t x.calls IsFull) (sym f) p), ((look.4.0, next), subst (λ (x : Held). AtSomePoint t x.calls IsFull) e p))
+
+-- a turn that finds every tile in is no call
+pub done_turn : (t : Terms) (from version : ℕ) (h m : Held) → m ≡ h → AtSomePoint t h.calls (IsCompleteAt version) → (m ≡ h) × Ends t 1 h m (Done version) × Stops t from h (Done version)
+done_turn t from version h m e p =
+    let n : m.calls ≡ h.calls = ap (λ (x : Held). x.calls) e in
+    (e, ((omega arith, omega arith), subst (λ (x : Held). AtSomePoint t x.calls (IsCompleteAt version)) (sym e) p), p)
+
+-- nor is one for want of memory
+pub lost_turn : (t : Terms) (from : ℕ) (h m : Held) → m ≡ h → (m ≡ h) × Ends t 1 h m Memory × Stops t from h Memory
+lost_turn t from h m e =
+    let n : m.calls ≡ h.calls = ap (λ (x : Held). x.calls) e in
+    (e, (omega arith, omega arith), tt)

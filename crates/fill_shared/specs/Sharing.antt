@@ -1,4 +1,4 @@
--- What a call on a shared book tells: something of the book at some point of its history.
+-- What a call on a shared book tells: something of a book that was opened so, at some point of a history.
 use Rattle.std.specs.Prelude.{◌≡◌, ℕ, ◌<◌, ◌≤◌, pos, Option, Some, None, length}
 use Rattle.fill_area.specs.Grid.{Grid}
 use Rattle.fill_raster.specs.Lattice.{tiles}
@@ -6,17 +6,18 @@ use Rattle.fill_job.specs.Basis.{read_by}
 use Rattle.fill_job.specs.Plans.{plan_of}
 use Rattle.fill_job.specs.ReadSets.{read_set}
 use Rattle.fill_job.specs.declared.job.Job.{Job}
-use Rattle.fill_core.specs.Accounts.{Account, IsKeeping, state_of}
+use Rattle.fill_core.specs.Accounts.{Account, IsKeeping, state_of, terms_of}
 use Rattle.fill_core.specs.Boxes.{total_in}
 use Rattle.fill_core.specs.Machine.{IsComplete}
+use Rattle.fill_core.specs.Terms.{Terms}
 use Rattle.fill_core.specs.Tiles.{next_tile}
 use Rattle.fill_shared.specs.declared.shared.Look.{Look}
 use Rattle.fill_shared.specs.declared.shared.Look.TheVariants.{Work, Complete}
 use Rattle.fill_shared.specs.declared.shared.Seen.{Seen}
 
--- it is so of a book with a legal history of at least so many events, which keeps all that every book keeps
-abbrev pub AtSomePoint : ℕ → (Account → Type 0) → Type 0
-AtSomePoint events Holds = (a : Account) × IsKeeping a × (events ≤ length a.history) × Holds a
+-- it is so of a book that was opened so, with a legal history of at least so many events, which keeps all that every book keeps
+abbrev pub AtSomePoint : Terms → ℕ → (Account → Type 0) → Type 0
+AtSomePoint terms events Holds = (a : Account) × IsKeeping a × (terms_of a ≡ terms) × (events ≤ length a.history) × Holds a
 
 -- the history has all the events that it may have
 abbrev pub IsFull : Account → Type 0

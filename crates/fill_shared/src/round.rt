@@ -1,9 +1,11 @@
 //! Rounds of a run: workers side by side, with the editor or without.
-ghost use Rattle.std.specs.Prelude.{◌≡◌, ◌+◌, ◌*◌, ◌/◌, ◌<◌, ◌≤◌, ℕ, IfOk, length, slice_index_or, sum_by};
-ghost use Rattle.fill_core.specs.Accounts.{IsKeeping};
+ghost use Rattle.std.specs.Prelude.{◌≡◌, ◌≢◌, ◌+◌, ◌*◌, ◌/◌, ◌<◌, ◌≤◌, ℕ, IfOk, length, map, slice_index_or, sum_by};
+ghost use Rattle.std.specs.List.{All};
+ghost use Rattle.fill_core.specs.Accounts.{IsKeeping, terms_of};
 ghost use Rattle.fill_core.specs.Shares.{AllParts};
-ghost use Rattle.fill_shared.specs.Passes.{HasCounted, calls_of, parts_of};
-ghost use Rattle.fill_shared.specs.steps.Rounds.{HasEdited, HasWorked};
+ghost use Rattle.fill_shared.specs.Passes.{HasCounted, calls_of, parts_of, together};
+ghost use Rattle.fill_shared.specs.Rounds.{HasEdited, HasRested, HasRun, IsRound, IsRoundWithEditor};
+ghost use Rattle.fill_shared.specs.steps.Rounds.{AreBeside, HasWorked, SeatsEnded};
 
 use crate::gate::Gate;
 use crate::shared::{PassOf, Shared};
@@ -60,6 +62,7 @@ fn seats_for<B: FillBook>(
     tiles: u32,
 ) -> Result<Vec<Seat<B>>, AllocError>
     requires { length passes.items ≤ 64 }
+    ensures kept { IfOk result (λ seats. map (λ s. s.pass) seats.items ≡ passes.items) }
     ensures count { IfOk result (λ seats. length seats.items ≡ length passes.items) }
     ensures parts { IfOk result (λ seats. sum_by (λ s. s.pass.parts) seats.items ≡ parts_of passes.items) }
     ensures calls { IfOk result (λ seats. sum_by (λ s. s.pass.calls) seats.items ≡ calls_of passes.items) }
@@ -87,14 +90,14 @@ fn worked<B: FillBook + Send, G: Gate + Sync, R: Threads + Wait + Sync>(
 ) -> Result<Vec<Rested<B>>, AllocError>
     requires { AllParts B.Calls.parts B.Placed.parts B.Withdrawn.parts }
     ensures count { IfOk result (λ all. length all.items ≡ length seats.items) }
-    ensures each { IfOk result (λ all. (k : ℕ) (d e : _) → k < length seats.items → HasWorked limit (slice_index_or seats.items k d).pass (slice_index_or all.items k e).pass) }
+    ensures each { IfOk result (λ all. (k : ℕ) (d e : _) → k < length seats.items → HasRested B.Calls.terms limit (slice_index_or seats.items k d).from (slice_index_or seats.items k d).pass (slice_index_or all.items k e).pass (slice_index_or all.items k e).end) }
 {
     thread::map_vec(
         rt,
         seats,
         &|seat: Seat<B>| -> Rested<B>
             requires { AllParts B.Calls.parts B.Placed.parts B.Withdrawn.parts }
-            ensures { HasWorked limit seat.pass result.pass }
+            ensures { HasRested B.Calls.terms limit seat.from seat.pass result.pass result.end }
         {
             let Seat {
                 worker,
@@ -109,8 +112,8 @@ fn worked<B: FillBook + Send, G: Gate + Sync, R: Threads + Wait + Sync>(
 
 /// The passes of workers after their turns.
 fn passes_of<B: FillBook>(alloc: Global, all: Vec<Rested<B>>) -> Result<Vec<PassOf<B>>, RoundLost>
-    ensures parts { IfOk result (λ passes. parts_of passes.items ≡ sum_by (λ w. w.pass.parts) all.items) }
-    ensures calls { IfOk result (λ passes. calls_of passes.items ≡ sum_by (λ w. w.pass.calls) all.items) }
+    ensures kept { IfOk result (λ passes. passes.items ≡ map (λ w. w.pass) all.items) }
+    ensures ended { IfOk result (λ _. All (λ w. w.end ≢ WorkEnd.Memory) all.items) }
 {
     let mut passes = Vec::with_capacity(alloc, all.len())?;
     for Rested { pass, end } in all {
@@ -134,6 +137,7 @@ fn work_all<B: FillBook + Send, G: Gate + Sync, R: Threads + Wait + Sync>(
     requires { AllParts B.Calls.parts B.Placed.parts B.Withdrawn.parts }
     ensures parts { IfOk result (λ passes. parts_of passes.items ≡ sum_by (λ s. s.pass.parts) seats.items) }
     ensures calls { IfOk result (λ passes. calls_of passes.items ≤ sum_by (λ s. s.pass.calls) seats.items + length seats.items * limit) }
+    ensures ended { IfOk result (λ passes. SeatsEnded (λ s. s.from) (λ s. s.pass) B.Calls.terms limit seats.items passes.items) }
 {
     let all = worked(rt, alloc, shared, seats, gate, limit)?;
     passes_of(alloc, all)
@@ -150,7 +154,7 @@ fn edit_all<B: FillBook, G: Gate, R: Wait>(
 ) -> Result<PassOf<B>, RoundLost>
     requires { AllParts B.Calls.parts B.Placed.parts B.Withdrawn.parts }
     ensures worked { IfOk result (λ after. HasWorked (length edits.now) pass after) }
-    ensures edited { IfOk result (λ after. HasEdited edits.now pass after) }
+    ensures edited { IfOk result (λ after. HasEdited B.Calls.terms edits.now pass after) }
 {
     for k in 0..edits.len() {
         gate.edit(k as u64);
@@ -177,6 +181,7 @@ fn work_beside<B: FillBook + Send, G: Gate + Sync, R: Threads + Wait + Sync>(
     requires { AllParts B.Calls.parts B.Placed.parts B.Withdrawn.parts }
     ensures parts { IfOk result (λ passes. parts_of passes.items ≡ sum_by (λ s. s.pass.parts) seats.items + editor.parts) }
     ensures calls { IfOk result (λ passes. calls_of passes.items ≤ sum_by (λ s. s.pass.calls) seats.items + editor.calls + (length seats.items * limit + length edits.now)) }
+    ensures ended { IfOk result (λ passes. AreBeside (λ s. s.from) (λ s. s.pass) B.Calls.terms edits.now limit seats.items editor passes.items) }
 {
     let (worked, edited) = thread::join(
         rt,
@@ -184,10 +189,12 @@ fn work_beside<B: FillBook + Send, G: Gate + Sync, R: Threads + Wait + Sync>(
             requires { AllParts B.Calls.parts B.Placed.parts B.Withdrawn.parts }
             ensures parts { IfOk result (λ passes. parts_of passes.items ≡ sum_by (λ s. s.pass.parts) seats.items) }
             ensures calls { IfOk result (λ passes. calls_of passes.items ≤ sum_by (λ s. s.pass.calls) seats.items + length seats.items * limit) }
+            ensures ended { IfOk result (λ passes. SeatsEnded (λ s. s.from) (λ s. s.pass) B.Calls.terms limit seats.items passes.items) }
         { work_all(rt, alloc, shared, seats, gate, limit) },
         || -> Result<PassOf<B>, RoundLost>
             requires { AllParts B.Calls.parts B.Placed.parts B.Withdrawn.parts }
-            ensures { IfOk result (λ after. HasWorked (length edits.entry.now) editor after) }
+            ensures worked { IfOk result (λ after. HasWorked (length edits.entry.now) editor after) }
+            ensures edited { IfOk result (λ after. HasEdited B.Calls.terms edits.entry.now editor after) }
         { edit_all(rt, alloc, shared, editor, edits, gate) },
     );
     let mut passes = worked?;
@@ -200,8 +207,9 @@ fn close_round<B: FillBook>(shared: Shared<B>, passes: Vec<PassOf<B>>) -> (B, Pa
     requires ledgers { AllParts B.Calls.parts B.Placed.parts B.Withdrawn.parts }
     requires passes { parts_of passes.items ≡ 1024 }
     ensures keeping { IsKeeping (B.account result.0) }
+    ensures terms { terms_of (B.account result.0) ≡ B.Calls.terms }
     ensures counted { HasCounted (B.account result.0) result.1 }
-    ensures calls { result.1.calls ≡ calls_of passes.items }
+    ensures joined { result.1 ≡ together passes.items }
 {
     let Ok(closed) = shared.close(passes) else {
         unreachable!();
@@ -213,8 +221,8 @@ fn close_round<B: FillBook>(shared: Shared<B>, passes: Vec<PassOf<B>>) -> (B, Pa
 fn round_with_editor<B: FillBook + Send, G: Gate + Sync, R: Threads + Wait + Sync>(
     rt: &R,
     alloc: Global,
-    book: B,
-    pass: PassOf<B>,
+    mut book: B,
+    mut pass: PassOf<B>,
     edits: &[Edit],
     workers: u32,
     gate: &G,
@@ -224,9 +232,12 @@ fn round_with_editor<B: FillBook + Send, G: Gate + Sync, R: Threads + Wait + Syn
     requires pass { pass.parts ≡ 1024 }
     requires workers { (0 < workers) × (workers ≤ 64) }
     ensures keeping { IfOk result (λ r. IsKeeping (B.account r.0)) }
+    ensures terms { IfOk result (λ r. terms_of (B.account r.0) ≡ B.Calls.terms) }
     ensures counted { IfOk result (λ r. HasCounted (B.account r.0) r.1) }
     ensures calls { IfOk result (λ r. r.1.calls ≤ pass.calls + (workers * limit + length edits.now)) }
+    ensures ended { IfOk result (λ r. IsRoundWithEditor B.Calls.terms edits.now workers limit pass r.1) }
 {
+    book.audit(&mut pass);
     let tiles = book.rules().raster().tiles();
     let Ok((shared, mut passes)) = Shared::open(alloc, book, pass, workers + 1) else {
         return Err(RoundLost);
@@ -243,8 +254,8 @@ fn round_with_editor<B: FillBook + Send, G: Gate + Sync, R: Threads + Wait + Syn
 fn round_of_workers<B: FillBook + Send, G: Gate + Sync, R: Threads + Wait + Sync>(
     rt: &R,
     alloc: Global,
-    book: B,
-    pass: PassOf<B>,
+    mut book: B,
+    mut pass: PassOf<B>,
     workers: u32,
     gate: &G,
     limit: u64,
@@ -253,9 +264,12 @@ fn round_of_workers<B: FillBook + Send, G: Gate + Sync, R: Threads + Wait + Sync
     requires pass { pass.parts ≡ 1024 }
     requires workers { (0 < workers) × (workers ≤ 64) }
     ensures keeping { IfOk result (λ r. IsKeeping (B.account r.0)) }
+    ensures terms { IfOk result (λ r. terms_of (B.account r.0) ≡ B.Calls.terms) }
     ensures counted { IfOk result (λ r. HasCounted (B.account r.0) r.1) }
     ensures calls { IfOk result (λ r. r.1.calls ≤ pass.calls + workers * limit) }
+    ensures ended { IfOk result (λ r. IsRound B.Calls.terms workers limit pass r.1) }
 {
+    book.audit(&mut pass);
     let tiles = book.rules().raster().tiles();
     let Ok((shared, passes)) = Shared::open(alloc, book, pass, workers) else {
         return Err(RoundLost);
@@ -280,8 +294,10 @@ pub(crate) fn rounds<B: FillBook + Send, G: Gate + Sync, R: Threads + Wait + Syn
     requires pass { pass.parts ≡ 1024 }
     requires workers { (0 < workers) × (workers ≤ 64) }
     ensures keeping { IfOk result (λ r. IsKeeping (B.account r.0)) }
+    ensures terms { IfOk result (λ r. terms_of (B.account r.0) ≡ B.Calls.terms) }
     ensures counted { IfOk result (λ r. HasCounted (B.account r.0) r.1) }
     ensures calls { IfOk result (λ r. r.1.calls ≤ pass.calls + (length edits.now + 2 * (workers * limit))) }
+    ensures ended { IfOk result (λ r. HasRun B.Calls.terms edits.now workers limit pass (B.account r.0) r.1) }
 {
     let (book, pass) = round_with_editor(rt, alloc, book, pass, edits, workers, gate, limit)?;
     if book.is_complete() {

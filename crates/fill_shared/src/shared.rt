@@ -1,7 +1,7 @@
 //! The shared book: one lock, and calls that each hold it once.
 ghost use Rattle.std.specs.Prelude.{◌≡◌, ◌↔◌, ◌<◌, ◌≤◌, ◌-◌, ◌∷◌, Err, IfErr, IfOk, IfSome, IsErr, OnErr, length};
 ghost use Rattle.fill_job.specs.Basis.{read_by};
-ghost use Rattle.fill_core.specs.Accounts.{Account, IsCommitted, IsEdited, IsKeeping};
+ghost use Rattle.fill_core.specs.Accounts.{Account, IsCommitted, IsEdited, IsKeeping, terms_of};
 ghost use Rattle.fill_core.specs.Shares.{AllParts, IsWhole, totals_of};
 ghost use Rattle.fill_shared.specs.Passes.{HasCounted, calls_of, parts_of, split_among, together};
 ghost use Rattle.fill_shared.specs.Sharing.{AtSomePoint, IsFull, IsLook, IsSeen};
@@ -19,8 +19,8 @@ pub type PassOf<B> = Pass<
 >;
 
 /// The book of a fill, shared by callers in many threads. Each call holds the one lock once, so what it answers was so at one
-/// point of the book's history: at least as many events had happened by then as the caller's pass has calls. Which book of its
-/// type it was no clause can say of a value under a lock; what the callers counted is compared in `close`.
+/// point of a history of a book that was opened as this one: at least as many events had happened by then as the caller's pass has
+/// calls. Which history that is no clause can say of a value under a lock; what the callers counted is compared in `close`.
 #[derive(Drop)]
 pub struct Shared<B: FillBook> {
     book: Mutex<B>,
@@ -84,6 +84,7 @@ fn join_all<B: FillBook>(book: &mut B, mut pass: PassOf<B>, mut others: Vec<Pass
     ensures same { B.account book.new ≡ B.account book.old }
     ensures sums { result ≡ together (pass ∷ others.items) }
     ensures keeping { IsKeeping (B.account book.old) }
+    ensures terms { terms_of (B.account book.old) ≡ B.Calls.terms }
     ensures most { result.parts ≤ 1024 }
     ensures whole { result.parts ≡ 1024 → IsWhole result (totals_of (B.account book.old).history) }
 {
@@ -143,7 +144,7 @@ impl<B: FillBook> Shared<B> {
     ) -> Result<Look, AllocError>
         requires { AllParts B.Calls.parts B.Placed.parts B.Withdrawn.parts }
         ensures same { pass.new ≡ pass.old }
-        ensures seen { IfOk result (λ look. AtSomePoint pass.old.calls (λ a. IsLook a from look)) }
+        ensures seen { IfOk result (λ look. AtSomePoint B.Calls.terms pass.old.calls (λ a. IsLook a from look)) }
     {
         let mut guard = self.book.lock(rt);
         let book = &mut *guard;
@@ -168,8 +169,8 @@ impl<B: FillBook> Shared<B> {
         proposal: &Proposal,
     ) -> Result<Reply, BookError>
         requires { AllParts B.Calls.parts B.Placed.parts B.Withdrawn.parts }
-        ensures written { let p = proposal.now in IfOk result (λ reply. AtSomePoint pass.old.calls (λ a. (b : Account) × IsCommitted a b pass.old pass.new p.version p.tile (read_by p.basis) reply)) }
-        ensures full { result ≡ Err BookError.HistoryFull → AtSomePoint pass.old.calls IsFull }
+        ensures written { let p = proposal.now in IfOk result (λ reply. AtSomePoint B.Calls.terms pass.old.calls (λ a. (b : Account) × IsCommitted a b pass.old pass.new p.version p.tile (read_by p.basis) reply)) }
+        ensures full { result ≡ Err BookError.HistoryFull → AtSomePoint B.Calls.terms pass.old.calls IsFull }
         ensures err { OnErr result (pass.new ≡ pass.old) }
     {
         let mut guard = self.book.lock(rt);
@@ -190,8 +191,8 @@ impl<B: FillBook> Shared<B> {
         edit: Edit,
     ) -> Result<Reply, BookError>
         requires { AllParts B.Calls.parts B.Placed.parts B.Withdrawn.parts }
-        ensures written { IfOk result (λ reply. AtSomePoint pass.old.calls (λ a. (b : Account) × IsEdited a b pass.old pass.new edit reply)) }
-        ensures full { result ≡ Err BookError.HistoryFull → AtSomePoint pass.old.calls IsFull }
+        ensures written { IfOk result (λ reply. AtSomePoint B.Calls.terms pass.old.calls (λ a. (b : Account) × IsEdited a b pass.old pass.new edit reply)) }
+        ensures full { result ≡ Err BookError.HistoryFull → AtSomePoint B.Calls.terms pass.old.calls IsFull }
         ensures err { OnErr result (pass.new ≡ pass.old) }
     {
         let mut guard = self.book.lock(rt);
@@ -205,7 +206,7 @@ impl<B: FillBook> Shared<B> {
     pub fn total<R: Wait>(&self, rt: &R, pass: &mut PassOf<B>, a: u32, b: u32) -> Option<Seen>
         requires { AllParts B.Calls.parts B.Placed.parts B.Withdrawn.parts }
         ensures same { pass.new ≡ pass.old }
-        ensures seen { AtSomePoint pass.old.calls (λ k. IsSeen k a b result) }
+        ensures seen { AtSomePoint B.Calls.terms pass.old.calls (λ k. IsSeen k a b result) }
         ensures counted { IfSome result (λ seen. pass.old.calls ≤ seen.events) }
     {
         let mut guard = self.book.lock(rt);
@@ -234,6 +235,7 @@ impl<B: FillBook> Shared<B> {
         ensures err { IfErr result (λ e. (e.shared ≡ self) × (e.passes ≡ passes)) }
         ensures sums { IfOk result (λ r. r.1 ≡ together passes.items) }
         ensures keeping { IfOk result (λ r. IsKeeping (B.account r.0)) }
+        ensures terms { IfOk result (λ r. terms_of (B.account r.0) ≡ B.Calls.terms) }
         ensures counted { IfOk result (λ r. HasCounted (B.account r.0) r.1) }
     {
         if missing_parts::<B>(&passes) > 0 {

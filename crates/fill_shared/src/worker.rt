@@ -1,7 +1,7 @@
 //! A worker: turn after turn it looks for a tile, proposes its places and brings them.
 ghost use Rattle.std.specs.Prelude.{◌≡◌, ◌+◌, ◌<◌, ◌≤◌};
 ghost use Rattle.fill_core.specs.Shares.{AllParts};
-ghost use Rattle.fill_shared.specs.Working.{Ends, Turns};
+ghost use Rattle.fill_shared.specs.Working.{Ends, HasBrought, Turns};
 
 use crate::gate::Gate;
 use crate::shared::{Look, PassOf, Shared};
@@ -38,7 +38,7 @@ fn turn<B: FillBook, G: Gate, R: Wait>(
     gate: &G,
 ) -> ControlFlow<WorkEnd, u32>
     requires { AllParts B.Calls.parts B.Placed.parts B.Withdrawn.parts }
-    ensures { Turns pass.old pass.new from result }
+    ensures { Turns B.Calls.terms pass.old pass.new from result }
 {
     let job = match shared.look(rt, alloc, pass, from) {
         Ok(Look::Work(job)) => job,
@@ -58,8 +58,8 @@ fn turn<B: FillBook, G: Gate, R: Wait>(
 }
 
 /// Works on tile after tile, the first from `from` on, in at most `limit` turns. The end is `Done` where a turn finds every tile
-/// in, and `Tired` where there was no such turn; `Full` where the history was full. The pass has what was counted until then,
-/// also where memory was refused.
+/// in, and `Tired` where there was no such turn; `Full` where a tile was found that couldn't be brought, as the history was full.
+/// The pass has what was counted until then, also where memory was refused.
 pub fn work<B: FillBook, G: Gate, R: Wait>(
     rt: &R,
     alloc: Global,
@@ -72,7 +72,8 @@ pub fn work<B: FillBook, G: Gate, R: Wait>(
 ) -> WorkEnd
     requires { AllParts B.Calls.parts B.Placed.parts B.Withdrawn.parts }
     ensures parts { pass.new.parts ≡ pass.old.parts }
-    ensures end { Ends limit pass.old pass.new result }
+    ensures end { Ends B.Calls.terms limit pass.old pass.new result }
+    ensures brought { HasBrought B.Calls.terms limit from pass.old pass.new result }
 {
     let mut next = from;
     for _ in 0..limit {
