@@ -74,7 +74,7 @@ pub(crate) enum Fault {
     Memory,
     /// A tile of the fill isn't in.
     Unfinished,
-    /// A run gave back another book than it was given.
+    /// A run gave back a book whose edits do not begin those that it was given.
     Mixed,
 }
 

@@ -19,11 +19,13 @@ use crate::texts::{Filled, texts_of};
 use crate::together::fill_together;
 use crate::turns::{edit_all, fill_tiles};
 use fill_book::Book;
+use fill_core::Opened;
 use fill_device::{InputError, Tap, write_text};
 use fill_job::laws::rules_make_a_plan;
 use fill_text::{Edit, Rules};
 use std::alloc::Global;
 use std::io::{Read, Write};
+use std::marker::Brand;
 use std::sync::Wait;
 use std::sync::ledger::{Blank, Ledger};
 use std::thread::Threads;
@@ -33,7 +35,7 @@ const MOST_EVENTS: u64 = 4_294_967_296;
 
 /// The texts of a fill of the design: one worker makes the edits first and then brings the tiles, and more of them bring tiles while
 /// the edits are made.
-fn fill_design<C: Ledger + Send + Sync, P: Ledger + Send + Sync, W: Ledger + Send + Sync>(
+fn fill_design<C: Opened + Send + Sync, P: Ledger + Send + Sync, W: Ledger + Send + Sync>(
     rt: &(impl Threads + Wait + Sync),
     alloc: Global,
     calls: Blank,
@@ -48,6 +50,7 @@ fn fill_design<C: Ledger + Send + Sync, P: Ledger + Send + Sync, W: Ledger + Sen
     requires names { (calls.name ≡ C.name) × (placed.name ≡ P.name) × (withdrawn.name ≡ W.name) }
     requires parts { (calls.parts ≡ C.parts) × (placed.parts ≡ P.parts) × (withdrawn.parts ≡ W.parts) }
     requires all { AllParts C.parts P.parts W.parts }
+    requires terms { record { rules = values_of rules; opening = design.metal; keep = design.keep; most = 2 ^ 32 } ≡ C.terms }
     requires workers { (0 < workers) × (workers ≤ 64) }
     ensures filled { IfOk result (λ f. IsFillOf (values_of rules) (layers_in design.metal design.keep) design.units design.dates (map change_of edits.now) workers limit f.library.items f.report.items) }
     ensures unfinished { result ≡ Err RunFault.Unfinished → workers ≡ 1 → IsTooShort (values_of rules) limit (length (map change_of edits.now)) (2 ^ 32) }
@@ -88,16 +91,9 @@ fn fill_design<C: Ledger + Send + Sync, P: Ledger + Send + Sync, W: Ledger + Sen
 ///
 /// # Errors
 /// The first fault, with its part: `rules`, `design` and `script` for the inputs, and `run` once they are interpreted:
-/// `Memory`, `Unfinished` where a tile is left that isn't in, or, of two workers or more, `Mixed` where they gave back another book
-/// than they were given, which no clause can rule out. An input of more than 2^31 bytes is `TooLong`.
-pub fn prepare<
-    C: Ledger + Send + Sync,
-    P: Ledger + Send + Sync,
-    W: Ledger + Send + Sync,
-    R: Read,
-    D: Read,
-    S: Read,
->(
+/// `Memory`, `Unfinished` where a tile is left that isn't in, or, of two workers or more, `Mixed` where they gave back a book whose
+/// edits do not begin those of the script, which no clause can rule out. An input of more than 2^31 bytes is `TooLong`.
+pub fn prepare<R: Read, D: Read, S: Read>(
     rt: &(impl Threads + Wait + Sync),
     alloc: Global,
     calls: Blank,
@@ -109,9 +105,7 @@ pub fn prepare<
     workers: u32,
     limit: Option<u32>,
 ) -> Result<Filled, Refusal>
-    requires names { (calls.name ≡ C.name) × (placed.name ≡ P.name) × (withdrawn.name ≡ W.name) }
-    requires parts { (calls.parts ≡ C.parts) × (placed.parts ≡ P.parts) × (withdrawn.parts ≡ W.parts) }
-    requires all { AllParts C.parts P.parts W.parts }
+    requires parts { AllParts calls.parts placed.parts withdrawn.parts }
     requires workers { (0 < workers) × (workers ≤ 64) }
     requires rules { has_failed rules.old ≡ false }
     requires design { has_failed design.old ≡ false }
@@ -138,7 +132,7 @@ pub fn prepare<
     let values = take_rules(alloc, rules)?;
     let drawn = take_design(rt, alloc, design, &values)?;
     let edits = take_edits(alloc, script)?;
-    let filled = fill_design::<C, P, W>(
+    let filled = fill_design::<Brand, Brand, Brand>(
         rt, alloc, calls, placed, withdrawn, values, drawn, &edits, workers, limit,
     )?;
     Ok(filled)

@@ -215,12 +215,12 @@ impl<B: FillBook> From<RunError<B>> for RunFault {
     ghost use Rattle.fill_shared.specs.declared.runs.RunError.TheVariants as error;
     ghost use Rattle.fill_engine.specs.declared.refusal.RunFault.TheVariants.{Memory, Mixed, Unfinished};
 
-    ghost from_gives = { λ e fault. (e ≡ error.Memory → fault ≡ Memory) × (e ≡ error.Mixed → fault ≡ Mixed) × ((b : _) (p : _) → e ≡ error.Unfinished b p → fault ≡ Unfinished) };
+    ghost from_gives = { λ e fault. (e ≡ error.Memory → fault ≡ Memory) × ((b : _) (p : _) → e ≡ error.Mixed b p → fault ≡ Mixed) × ((b : _) (p : _) → e ≡ error.Unfinished b p → fault ≡ Unfinished) };
 
     fn from(error: RunError<B>) -> RunFault {
         match error {
             RunError::Memory => RunFault::Memory,
-            RunError::Mixed => RunFault::Mixed,
+            RunError::Mixed { .. } => RunFault::Mixed,
             RunError::Unfinished { .. } => RunFault::Unfinished,
         }
     }

@@ -1,7 +1,8 @@
 //! What many workers do with a book beside the editor of a script.
 ghost use Rattle.std.specs.Prelude.{◌≡◌, ◌+◌, ◌*◌, ◌<◌, ◌≤◌, length, IfOk};
+ghost use Rattle.fill_core.specs.Accounts.{terms_of};
 ghost use Rattle.fill_core.specs.Shares.{AllParts, Held};
-ghost use Rattle.fill_shared.specs.Runs.{IsFinished, opening_in};
+ghost use Rattle.fill_shared.specs.Runs.{IsFinished};
 ghost use Rattle.fill_engine.specs.Runs as spec;
 
 use crate::refusal::RunFault;
@@ -17,8 +18,8 @@ use std::thread::Threads;
 /// that, the workers begin once more, without edits.
 ///
 /// # Errors
-/// `Unfinished` where an edit could not be made or a tile is left after that, `Mixed` where the book that comes back isn't the one
-/// that was handed in, `Memory` where memory is refused.
+/// `Unfinished` where an edit could not be made or a tile is left after that, `Mixed` where the edits of the book that comes back do
+/// not begin those handed in, `Memory` where memory is refused.
 pub fn fill_together<B: FillBook + Send, R: Threads + Wait + Sync>(
     rt: &R,
     alloc: Global,
@@ -31,7 +32,7 @@ pub fn fill_together<B: FillBook + Send, R: Threads + Wait + Sync>(
     requires ledgers { AllParts B.Calls.parts B.Placed.parts B.Withdrawn.parts }
     requires pass { pass.parts ≡ 1024 }
     requires workers { (0 < workers) × (workers ≤ 64) }
-    ensures finished { let a = B.account book in IfOk result (λ b. (after : Held) × IsFinished a.rules (opening_in a) edits.now (B.account b) after
+    ensures finished { let a = B.account book in IfOk result (λ b. (after : Held) × IsFinished (terms_of a) edits.now (B.account b) after
         × (after.calls ≤ pass.calls + (length edits.now + 2 * (workers * spec.most_turns a.rules limit)))) }
 {
     let turns = most_turns(&book, limit);
