@@ -1,9 +1,10 @@
 ghost use Rattle.std.specs.Prelude.{◌≡◌, ◌≤◌, ◌^◌};
+ghost use Rattle.fill_text.specs.ValuesOfRules.{values_of};
 ghost use Rattle.fill_core.specs.Shares.{AllParts};
 
 use fill_base::Rect;
 use fill_book::{Book, PlainBook};
-use fill_core::{BookError, Edit, FillBook, Pass, Reply};
+use fill_core::{BookError, Edit, FillBook, Opened, Pass, Reply};
 use fill_job::Proposal;
 use fill_region::Region;
 use fill_text::{Rules, read_rules};
@@ -323,28 +324,30 @@ fn take_all<B: FillBook>(
 }
 
 /// Opens a book and takes the steps.
-fn play<C: Ledger + Send + Sync, P: Ledger + Send + Sync, W: Ledger + Send + Sync>(
+fn play<C: Opened + Send + Sync, P: Ledger + Send + Sync, W: Ledger + Send + Sync>(
     rt: &(impl Abort + Threads + Sync),
     alloc: Global,
     calls: Blank,
     placed: Blank,
     withdrawn: Blank,
     kind: Kind,
+    most: u64,
     case: Case<'_>,
 ) -> Result<(), Fail>
     requires names { (calls.name ≡ C.name) × (placed.name ≡ P.name) × (withdrawn.name ≡ W.name) }
     requires parts { (calls.parts ≡ C.parts) × (placed.parts ≡ P.parts) × (withdrawn.parts ≡ W.parts) }
     requires all { AllParts C.parts P.parts W.parts }
+    requires most { most ≤ 2 ^ 32 }
+    requires terms { record { rules = values_of case.rules; opening = case.metal; keep = case.keep; most = most } ≡ C.terms }
 {
     let Case {
         rules,
         metal,
         keep,
-        max_events,
         mut held,
         steps,
+        ..
     } = case;
-    let most = u64::from(max_events);
     match kind {
         Kind::Plain => {
             let (mut book, mut pass) = PlainBook::<C, P, W>::open(
@@ -375,6 +378,7 @@ fn run(
         Blank::new(1024),
         Blank::new(1024),
         kind,
+        u64::from(case.max_events),
         case,
     )
 }
@@ -665,7 +669,7 @@ fn a_full_history_takes_nothing(rt: HostRuntime) -> Result<(), Fail> {
 }
 
 /// The proposal of tile 0 of a book that opens on this metal and these keep-outs.
-fn offer<C: Ledger + Send + Sync, P: Ledger + Send + Sync, W: Ledger + Send + Sync>(
+fn offer<C: Opened + Send + Sync, P: Ledger + Send + Sync, W: Ledger + Send + Sync>(
     rt: &(impl Abort + Threads + Sync),
     alloc: Global,
     calls: Blank,
@@ -673,12 +677,13 @@ fn offer<C: Ledger + Send + Sync, P: Ledger + Send + Sync, W: Ledger + Send + Sy
     withdrawn: Blank,
     metal: Region,
     keep: Region,
+    rules: Rules,
 ) -> Result<Proposal, Fail>
     requires names { (calls.name ≡ C.name) × (placed.name ≡ P.name) × (withdrawn.name ≡ W.name) }
     requires parts { (calls.parts ≡ C.parts) × (placed.parts ≡ P.parts) × (withdrawn.parts ≡ W.parts) }
     requires all { AllParts C.parts P.parts W.parts }
+    requires terms { record { rules = values_of rules; opening = metal; keep = keep; most = 10 } ≡ C.terms }
 {
-    let rules = usual_rules(alloc, 300_000)?;
     let (book, _pass) = Book::<C, P, W>::open(
         rt, alloc, calls, placed, withdrawn, metal, keep, rules, 10,
     )?;
@@ -700,6 +705,7 @@ pub(crate) fn offered(
         Blank::new(1024),
         region_of(alloc, metal)?,
         region_of(alloc, keep)?,
+        usual_rules(alloc, 300_000)?,
     )
 }
 

@@ -3,7 +3,6 @@ ghost use Rattle.std.specs.Prelude.{◌≡◌, ◌≤◌, ◌<◌, IfOk};
 ghost use Rattle.fill_core.specs.Shares.{AllParts};
 
 use fill_base::Rect;
-use fill_book::Book;
 use fill_core::{BookError, Edit, FillBook, Pass, Reply};
 use fill_region::Region;
 use fill_shared::{Gate, OpenGate, PassMissing, PassOf, RunError, Shared, WorkEnd, run, work};
@@ -12,7 +11,6 @@ use std::alloc::Global;
 use std::process::Abort;
 use std::sync::Wait;
 use std::sync::atomic::{AtomicBool, AtomicU64, Ordering};
-use std::sync::ledger::{Blank, Ledger};
 use std::test::Fail;
 use std::thread::Threads;
 
@@ -90,33 +88,6 @@ pub(crate) fn hundred_places(alloc: Global) -> Opening {
         metal: Region::empty(alloc),
         max_events: 1000,
     }
-}
-
-/// The book that opens so.
-pub(crate) fn book_of<C: Ledger, P: Ledger, W: Ledger>(
-    rt: &(impl Threads + Sync),
-    alloc: Global,
-    calls: Blank,
-    placed: Blank,
-    withdrawn: Blank,
-    opening: Opening,
-) -> Result<(Book<C, P, W>, Pass<C, P, W>), Fail>
-    requires names { (calls.name ≡ C.name) × (placed.name ≡ P.name) × (withdrawn.name ≡ W.name) }
-    requires parts { (calls.parts ≡ C.parts) × (placed.parts ≡ P.parts) × (withdrawn.parts ≡ W.parts) }
-    requires all { AllParts C.parts P.parts W.parts }
-    ensures { IfOk result (λ r. r.1.parts ≡ 1024) }
-{
-    let Opening {
-        frame,
-        metal,
-        max_events,
-    } = opening;
-    let rules = rules_in(alloc, frame)?;
-    let most = u64::from(max_events);
-    let keep = Region::empty(alloc);
-    Ok(Book::open(
-        rt, alloc, calls, placed, withdrawn, metal, keep, rules, most,
-    )?)
 }
 
 /// How often a flag is looked at before a test gives up.

@@ -1,15 +1,19 @@
-ghost use Rattle.std.specs.Prelude.{◌≡◌, ◌<◌, ◌≤◌};
+ghost use Rattle.std.specs.Prelude.{◌≡◌, ◌<◌, ◌≤◌, ◌^◌};
+ghost use Rattle.fill_text.specs.ValuesOfRules.{values_of};
 ghost use Rattle.fill_core.specs.Shares.{AllParts};
 
 use crate::book::offered;
 use crate::cases::{
-    Count, NO_PLACES, Opening, added, assert_counts, assert_edit, assert_work, book_of, close,
-    finished, hundred_places, refuse_to_close, shared_alone, shared_by_three, unfinished,
+    Count, NO_PLACES, Opening, added, assert_counts, assert_edit, assert_work, close, finished,
+    hundred_places, refuse_to_close, rules_in, shared_alone, shared_by_three, unfinished,
 };
 use fill_base::Rect;
-use fill_core::{BookError, Edit, Entry, Event, FillBook, Reply};
+use fill_book::Book;
+use fill_core::{BookError, Edit, Entry, Event, FillBook, Opened, Reply};
 use fill_job::Proposal;
+use fill_region::Region;
 use fill_shared::{Gate, Look, PassOf, Seen, Shared, WorkEnd};
+use fill_text::Rules;
 use std::alloc::Global;
 use std::marker::Brand;
 use std::process::Abort;
@@ -522,20 +526,27 @@ fn play<B: FillBook + Send>(
 }
 
 /// Opens a book for a case and plays it.
-fn open_and_play<C: Ledger + Send + Sync, P: Ledger + Send + Sync, W: Ledger + Send + Sync>(
+fn open_and_play<C: Opened + Send + Sync, P: Ledger + Send + Sync, W: Ledger + Send + Sync>(
     rt: &(impl Abort + Threads + Wait + Sync),
     alloc: Global,
     calls: Blank,
     placed: Blank,
     withdrawn: Blank,
+    metal: Region,
+    keep: Region,
+    rules: Rules,
+    most: u64,
     case: Case,
 ) -> Result<(), Fail>
     requires names { (calls.name ≡ C.name) × (placed.name ≡ P.name) × (withdrawn.name ≡ W.name) }
     requires parts { (calls.parts ≡ C.parts) × (placed.parts ≡ P.parts) × (withdrawn.parts ≡ W.parts) }
     requires all { AllParts C.parts P.parts W.parts }
+    requires most { most ≤ 2 ^ 32 }
+    requires terms { record { rules = values_of rules; opening = metal; keep = keep; most = most } ≡ C.terms }
 {
-    let opening = case.opening(alloc);
-    let (book, pass) = book_of::<C, P, W>(rt, alloc, calls, placed, withdrawn, opening)?;
+    let (book, pass) = Book::<C, P, W>::open(
+        rt, alloc, calls, placed, withdrawn, metal, keep, rules, most,
+    )?;
     play(rt, alloc, book, pass, case)
 }
 
@@ -545,12 +556,21 @@ fn play_by(
     alloc: Global,
     case: Case,
 ) -> Result<(), Fail> {
+    let Opening {
+        frame,
+        metal,
+        max_events,
+    } = case.opening(alloc);
     open_and_play::<Brand, Brand, Brand>(
         rt,
         alloc,
         Blank::new(1024),
         Blank::new(1024),
         Blank::new(1024),
+        metal,
+        Region::empty(alloc),
+        rules_in(alloc, frame)?,
+        u64::from(max_events),
         case,
     )
 }

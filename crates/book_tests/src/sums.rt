@@ -1,5 +1,6 @@
 //! The plain book and the one with running sums, side by side, through edits and commits that are drawn by lot.
-ghost use Rattle.std.specs.Prelude.{◌≡◌, ◌<◌};
+ghost use Rattle.std.specs.Prelude.{◌≡◌, ◌<◌, IfOk};
+ghost use Rattle.fill_text.specs.ValuesOfRules.{values_of};
 ghost use Rattle.fill_core.specs.Shares.{AllParts};
 
 use crate::book::{drawn_of, proposal_of, total_of};
@@ -7,7 +8,7 @@ use crate::cases::HUNDRED_PLACES;
 use fill_area::{Windows, area_in};
 use fill_base::{Place, Rect};
 use fill_book::{Book, PlainBook};
-use fill_core::{Edit, FillBook, Pass, Reply};
+use fill_core::{Edit, FillBook, Opened, Pass, Reply};
 use fill_region::Region;
 use fill_text::{Rules, read_rules};
 use std::alloc::Global;
@@ -263,54 +264,77 @@ fn take_steps<A: FillBook, B: FillBook>(
     Ok(())
 }
 
-/// Opens both books on nothing, with these windows, and takes the steps.
+/// The blank ledgers of a book, and what it is opened with.
+#[derive(Drop)]
+struct Start {
+    calls: Blank,
+    placed: Blank,
+    withdrawn: Blank,
+    metal: Region,
+    keep: Region,
+    rules: Rules,
+}
+
+/// The start of a book on nothing.
+fn start(alloc: Global, rules: &Rules) -> Result<Start, Fail>
+    ensures { IfOk result (λ s. AllParts s.calls.parts s.placed.parts s.withdrawn.parts) }
+{
+    Ok(Start {
+        calls: Blank::new(1024),
+        placed: Blank::new(1024),
+        withdrawn: Blank::new(1024),
+        metal: Region::empty(alloc),
+        keep: Region::empty(alloc),
+        rules: rules.copy(alloc)?,
+    })
+}
+
+/// Opens both books and takes the steps.
 fn both<
-    C: Ledger + Send + Sync,
+    C: Opened + Send + Sync,
     P: Ledger + Send + Sync,
     W: Ledger + Send + Sync,
-    D: Ledger + Send + Sync,
+    D: Opened + Send + Sync,
     Q: Ledger + Send + Sync,
     X: Ledger + Send + Sync,
 >(
     rt: &(impl Abort + Threads + Sync),
     alloc: Global,
-    plain: (Blank, Blank, Blank),
-    running: (Blank, Blank, Blank),
-    rules: Rules,
+    plain: Start,
+    running: Start,
     source: Source,
     steps: u32,
 ) -> Result<(), Fail>
-    requires names { (plain.0.name ≡ C.name) × (plain.1.name ≡ P.name) × (plain.2.name ≡ W.name) }
-    requires parts { (plain.0.parts ≡ C.parts) × (plain.1.parts ≡ P.parts) × (plain.2.parts ≡ W.parts) }
+    requires names { (plain.calls.name ≡ C.name) × (plain.placed.name ≡ P.name) × (plain.withdrawn.name ≡ W.name) }
+    requires parts { (plain.calls.parts ≡ C.parts) × (plain.placed.parts ≡ P.parts) × (plain.withdrawn.parts ≡ W.parts) }
     requires all { AllParts C.parts P.parts W.parts }
-    requires other_names { (running.0.name ≡ D.name) × (running.1.name ≡ Q.name) × (running.2.name ≡ X.name) }
-    requires other_parts { (running.0.parts ≡ D.parts) × (running.1.parts ≡ Q.parts) × (running.2.parts ≡ X.parts) }
+    requires terms { record { rules = values_of plain.rules; opening = plain.metal; keep = plain.keep; most = 1000 } ≡ C.terms }
+    requires other_names { (running.calls.name ≡ D.name) × (running.placed.name ≡ Q.name) × (running.withdrawn.name ≡ X.name) }
+    requires other_parts { (running.calls.parts ≡ D.parts) × (running.placed.parts ≡ Q.parts) × (running.withdrawn.parts ≡ X.parts) }
     requires other_all { AllParts D.parts Q.parts X.parts }
+    requires other_terms { record { rules = values_of running.rules; opening = running.metal; keep = running.keep; most = 1000 } ≡ D.terms }
 {
-    let nothing = Region::empty(alloc);
-    let (calls, placed, withdrawn) = plain;
-    let (plain, plain_pass) = PlainBook::<C, P, W>::open(
-        rt,
-        alloc,
+    let Start {
         calls,
         placed,
         withdrawn,
-        nothing.copy(alloc)?,
-        nothing.copy(alloc)?,
-        rules.copy(alloc)?,
-        1000,
-    )?;
-    let (calls, placed, withdrawn) = running;
-    let (running, running_pass) = Book::<D, Q, X>::open(
-        rt,
-        alloc,
-        calls,
-        placed,
-        withdrawn,
-        nothing.copy(alloc)?,
-        nothing,
+        metal,
+        keep,
         rules,
-        1000,
+    } = plain;
+    let (plain, plain_pass) = PlainBook::<C, P, W>::open(
+        rt, alloc, calls, placed, withdrawn, metal, keep, rules, 1000,
+    )?;
+    let Start {
+        calls,
+        placed,
+        withdrawn,
+        metal,
+        keep,
+        rules,
+    } = running;
+    let (running, running_pass) = Book::<D, Q, X>::open(
+        rt, alloc, calls, placed, withdrawn, metal, keep, rules, 1000,
     )?;
     let mut pair = Pair {
         plain,
@@ -319,13 +343,6 @@ fn both<
         running_pass,
     };
     take_steps(rt, alloc, &mut pair, source, steps)
-}
-
-/// Three blank ledgers of a book.
-fn blanks() -> (Blank, Blank, Blank)
-    ensures { (result.0.parts ≡ 1024) × (result.1.parts ≡ 1024) × (result.2.parts ≡ 1024) }
-{
-    (Blank::new(1024), Blank::new(1024), Blank::new(1024))
 }
 
 /// Replies, counts and all numbers of all windows agree, and are those of metal and boxes.
@@ -337,9 +354,8 @@ fn both_books_agree(rt: HostRuntime) -> Result<(), Fail> {
         both::<Brand, Brand, Brand, Brand, Brand, Brand>(
             &rt,
             alloc,
-            blanks(),
-            blanks(),
-            rules,
+            start(alloc, &rules)?,
+            start(alloc, &rules)?,
             Source::Lot,
             STEPS,
         )?;
@@ -355,9 +371,8 @@ fn both_books_agree_by_rule(rt: HostRuntime) -> Result<(), Fail> {
     both::<Brand, Brand, Brand, Brand, Brand, Brand>(
         &rt,
         alloc,
-        blanks(),
-        blanks(),
-        rules,
+        start(alloc, &rules)?,
+        start(alloc, &rules)?,
         Source::Rule,
         200,
     )

@@ -19,7 +19,6 @@ use std::alloc::Global;
 use std::convert::AsStr;
 use std::fs::File;
 use std::io::{ErrorKind, Write};
-use std::marker::Brand;
 use std::process::ExitCode;
 use std::rt::Files;
 use std::sync::Wait;
@@ -122,7 +121,7 @@ fn prepared<R: Files + Threads + Wait + Sync>(
     ensures refused { IfErr result (λ e. IfSome (R.File.remaining (under rules.old)) (λ r. IfSome (R.File.remaining (under design.old)) (λ d.
         IfSome (R.File.remaining (under script.old)) (λ s. IsFillReason r d s workers limit e)))) }
 {
-    prepare::<Brand, Brand, Brand, _, _, _>(
+    prepare(
         rt,
         alloc,
         Blank::new(1024),

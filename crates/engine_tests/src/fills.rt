@@ -10,7 +10,6 @@ use fill_engine::{Filled, InputFault, Refusal, RunFault, deliver, prepare};
 use fill_text::ScriptError;
 use std::alloc::Global;
 use std::io::Read;
-use std::marker::Brand;
 use std::sync::Wait;
 use std::sync::ledger::Blank;
 use std::test::Fail;
@@ -92,7 +91,7 @@ pub(crate) fn fill_of<R: Read + Drop, D: Read + Drop, S: Read + Drop>(
 ) -> Result<Filled, Refusal>
     requires { (0 < workers) × (workers ≤ 64) }
 {
-    prepare::<Brand, Brand, Brand, _, _, _>(
+    prepare(
         rt,
         alloc,
         Blank::new(1024),

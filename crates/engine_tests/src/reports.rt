@@ -1,9 +1,10 @@
 ghost use Rattle.std.specs.Prelude.{◌≡◌};
+ghost use Rattle.fill_text.specs.ValuesOfRules.{values_of};
 ghost use Rattle.fill_core.specs.Shares.{AllParts};
 
 use fill_base::Rect;
 use fill_book::PlainBook;
-use fill_core::{FillBook, Pass};
+use fill_core::{FillBook, Opened, Pass};
 use fill_region::Region;
 use fill_report::report;
 use fill_text::{Rules, read_rules};
@@ -100,7 +101,7 @@ fn report_twice<B: FillBook>(
 }
 
 /// Asserts both reports of a book on this metal.
-fn open_and_report<C: Ledger + Send + Sync, P: Ledger + Send + Sync, W: Ledger + Send + Sync>(
+fn open_and_report<C: Opened + Send + Sync, P: Ledger + Send + Sync, W: Ledger + Send + Sync>(
     rt: &(impl Abort + Threads + Sync),
     alloc: Global,
     calls: Blank,
@@ -108,21 +109,15 @@ fn open_and_report<C: Ledger + Send + Sync, P: Ledger + Send + Sync, W: Ledger +
     withdrawn: Blank,
     rules: Rules,
     metal: Region,
+    keep: Region,
 ) -> Result<(), Fail>
     requires names { (calls.name ≡ C.name) × (placed.name ≡ P.name) × (withdrawn.name ≡ W.name) }
     requires parts { (calls.parts ≡ C.parts) × (placed.parts ≡ P.parts) × (withdrawn.parts ≡ W.parts) }
     requires all { AllParts C.parts P.parts W.parts }
+    requires terms { record { rules = values_of rules; opening = metal; keep = keep; most = 100 } ≡ C.terms }
 {
     let (mut book, mut pass) = PlainBook::<C, P, W>::open(
-        rt,
-        alloc,
-        calls,
-        placed,
-        withdrawn,
-        metal,
-        Region::empty(alloc),
-        rules,
-        100,
+        rt, alloc, calls, placed, withdrawn, metal, keep, rules, 100,
     )?;
     report_twice(rt, alloc, &mut book, &mut pass)
 }
@@ -145,5 +140,6 @@ fn report_of_a_book(rt: HostRuntime) -> Result<(), Fail> {
         Blank::new(1024),
         rules,
         metal,
+        Region::empty(alloc),
     )
 }
