@@ -16,4 +16,4 @@ loop-preserved g c =
 
 pub returns-in-Break-clause-brought : goal.returns-in-Break-clause-brought
 returns-in-Break-clause-brought g c =
-    stopped g.B.Calls.Opened.terms c.args.limit c.args.from c.loop.counter c.args.pass.now c.loop.next c.loop.pass c.turn.new.pass c.in-Break.end c.loop-test.true c.loop.invariant.answered c.in-Break.ensures.0 c.in-Break.ensures.2
+    stopped g.B.Calls.Opened.terms c.args.limit c.args.from c.loop.counter c.args.pass.now c.loop.next c.loop.pass c.turn.new.pass c.in-Break.end (omega (arith, c.loop-test.true)) c.loop.invariant.answered c.in-Break.ensures.0 c.in-Break.ensures.2
