@@ -1,5 +1,5 @@
 //! What the tests of shared books and of runs open.
-ghost use Rattle.std.specs.Prelude.{◌≡◌, ◌≤◌, ◌<◌, IfOk};
+ghost use Rattle.std.specs.Prelude.{◌≡◌, ◌≤◌, ◌<◌};
 ghost use Rattle.fill_core.specs.Shares.{AllParts};
 
 use fill_base::Rect;

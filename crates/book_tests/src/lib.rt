@@ -14,3 +14,5 @@ mod jobs;
 mod shared;
 #[cfg(test)]
 mod sums;
+#[cfg(test)]
+mod worked;

@@ -276,7 +276,7 @@ struct Start {
 }
 
 /// The start of a book on nothing.
-fn start(alloc: Global, rules: &Rules) -> Result<Start, Fail>
+fn start_on_nothing(alloc: Global, rules: &Rules) -> Result<Start, Fail>
     ensures { IfOk result (λ s. AllParts s.calls.parts s.placed.parts s.withdrawn.parts) }
 {
     Ok(Start {
@@ -354,8 +354,8 @@ fn both_books_agree(rt: HostRuntime) -> Result<(), Fail> {
         both::<Brand, Brand, Brand, Brand, Brand, Brand>(
             &rt,
             alloc,
-            start(alloc, &rules)?,
-            start(alloc, &rules)?,
+            start_on_nothing(alloc, &rules)?,
+            start_on_nothing(alloc, &rules)?,
             Source::Lot,
             STEPS,
         )?;
@@ -371,8 +371,8 @@ fn both_books_agree_by_rule(rt: HostRuntime) -> Result<(), Fail> {
     both::<Brand, Brand, Brand, Brand, Brand, Brand>(
         &rt,
         alloc,
-        start(alloc, &rules)?,
-        start(alloc, &rules)?,
+        start_on_nothing(alloc, &rules)?,
+        start_on_nothing(alloc, &rules)?,
         Source::Rule,
         200,
     )
