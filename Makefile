@@ -3,7 +3,8 @@
 # make build              proves the program and leaves it, optimized, at bin/densfill
 # make install PREFIX=..  installs the built program and its manual page below PREFIX (by default /usr/local)
 # make check CRATE=name   proves one crate over what earlier runs kept: for work on it
-# make test               the gate: every proof from nothing, the must-fail edits, the tests, the programs
+# make test               the gate: every proof from nothing, the must-fail edits, the tests, the programs, and the program
+#                         run as users do
 # make bench              times the program on generated input and prints tables
 .PHONY: demo build install check test bench
 
@@ -36,6 +37,7 @@ check:
 
 test:
 	rt ci
+	tools/test_program.py crates/densfill/out/densfill
 
 bench: build
 	bench/rects/run.sh
@@ -45,3 +47,4 @@ bench: build
 	bench/check/gains.sh
 	bench/fill/run.sh
 	bench/fill/late.sh
+	bench/book/run.sh
