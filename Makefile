@@ -38,6 +38,7 @@ check:
 test:
 	rt ci
 	tools/test_program.py crates/densfill/out/densfill
+	tools/storm.py crates/densfill/out/densfill
 
 bench: build
 	bench/rects/run.sh

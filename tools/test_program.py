@@ -7,7 +7,6 @@ usage: test_program.py [PROGRAM]     (by default bin/densfill, else what the gat
 import os
 import resource
 import shutil
-import struct
 import subprocess
 import sys
 import tempfile
@@ -15,47 +14,12 @@ import unittest
 from dataclasses import dataclass
 from pathlib import Path
 
+sys.path.insert(0, str(Path(__file__).resolve().parent))
+from stream import END, boundary, library, points, record, structure, text, words  # noqa: E402
+
 ROOT = Path(__file__).resolve().parent.parent
 BUILT = (ROOT / "bin/densfill", ROOT / "crates/densfill/out/densfill")
 NOBODY = 65534
-
-DATES = bytes(range(24))
-UNITS = bytes.fromhex("3e4189374bc6a7f0" "3944b82fa09b5a54")
-
-
-def record(kind: int, form: int, data: bytes = b"") -> bytes:
-    """A record of a stream: its length, its kind, the form of its data, and the data."""
-    return struct.pack(">HBB", len(data) + 4, kind, form) + data
-
-
-def words(kind: int, *numbers: int) -> bytes:
-    return record(kind, 2, struct.pack(f">{len(numbers)}h", *numbers))
-
-
-def points(*numbers: int) -> bytes:
-    return record(0x10, 3, struct.pack(f">{len(numbers)}i", *numbers))
-
-
-def text(kind: int, value: str) -> bytes:
-    data = value.encode()
-    return record(kind, 6, data + b"\0" * (len(data) % 2))
-
-
-END = record(0x11, 0)
-
-
-def library(name: str, *structures: bytes) -> bytes:
-    head = words(0x00, 600) + record(0x01, 2, DATES) + text(0x02, name) + record(0x03, 5, UNITS)
-    return head + b"".join(structures) + record(0x04, 0)
-
-
-def structure(name: str, *elements: bytes) -> bytes:
-    return record(0x05, 2, DATES) + text(0x06, name) + b"".join(elements) + record(0x07, 0)
-
-
-def boundary(layer: int, x1: int, y1: int, x2: int, y2: int) -> bytes:
-    return record(0x08, 0) + words(0x0D, layer) + words(0x0E, 0) + points(x1, y1, x1, y2, x2, y2, x2, y1, x1, y1) + END
-
 
 # A frame of 20 by 20 with one window over it, and four places for boxes of 4 by 4, at 2 and 10 each way; a square of metal in the
 # lower left corner is too near to the first.

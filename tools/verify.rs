@@ -19,15 +19,15 @@
 //! metal. It prints a line of numbers and ends with status 0, or the first wrong thing with status 1.
 //!
 //! usage: verify RULES DESIGN SCRIPT OUT REPORT
-#[path = "../design.rs"]
+#[path = "../bench/design.rs"]
 mod design;
-#[path = "../pieces.rs"]
+#[path = "../bench/pieces.rs"]
 mod pieces;
-#[path = "../rules.rs"]
+#[path = "../bench/rules.rs"]
 mod rules;
-#[path = "../sweep.rs"]
+#[path = "../bench/sweep.rs"]
 mod sweep;
-#[path = "../threads.rs"]
+#[path = "../bench/threads.rs"]
 mod threads;
 
 use design::{flatten, head, read_library};
