@@ -41,11 +41,7 @@ test:
 	tools/storm.py crates/densfill/out/densfill
 
 bench: build
-	bench/rects/run.sh
-	bench/gds/run.sh
-	bench/layer/run.sh
 	bench/check/run.sh
-	bench/check/gains.sh
 	bench/fill/run.sh
 	bench/fill/late.sh
 	bench/book/run.sh

@@ -22,12 +22,12 @@ measure() {
 }
 
 # build_over_layer PROGRAM RULES "CRATE ..": builds the benchmark's program over these crates of the repository (build.sh), draws
-# a layer of a million rectangles (that of bench/layer) as WORK/layer, and has the benchmark's RULES write rule files for it to
+# a layer of a million rectangles (layer.py) as WORK/layer, and has the benchmark's RULES write rule files for it to
 # WORK/rules.
 build_over_layer() {
-    python3 "$root/bench/layer/generate.py" 1000 "$work/first"
+    python3 "$root/bench/book/layer.py" 1000 "$work/first"
     "$root/bench/build.sh" "$here" "$1" "$work" "$work/first" "$3" "rayon csv thiserror anyhow"
-    python3 "$root/bench/layer/generate.py" 1000000 "$work/layer"
+    python3 "$root/bench/book/layer.py" 1000000 "$work/layer"
     mkdir "$work/rules"
     python3 "$here/$2" "$work/layer" "$work/rules"
 }

@@ -1,5 +1,5 @@
 #!/usr/bin/env python3
-"""Fills random designs by random rules, scripts and crews, and has each library and report judged by tools/verify.rs, which shares
+"""Fills random designs by random rules, scripts and crews, and has each library and report judged by tools/verify, which shares
 nothing with the program: raster, spacing, exact totals, completeness of the windows that were low at the last version.
 
 usage: storm.py [--runs N] [--seed S] [PROGRAM]     (by default 50 runs of bin/densfill, else of what the gate left in
@@ -104,7 +104,7 @@ def main() -> int:
         parser.error("no program is built: make build")
     with tempfile.TemporaryDirectory() as tools:
         verify = Path(tools) / "verify"
-        subprocess.run(["rustc", "--edition", "2021", "-O", "-o", verify, ROOT / "tools/verify.rs"], check=True)
+        subprocess.run(["rustc", "--edition", "2021", "-O", "-o", verify, ROOT / "tools/verify/main.rs"], check=True)
         for run in range(args.runs):
             folder = Path(tempfile.mkdtemp(prefix="storm-"))
             wrong = judged(random.Random(args.seed * 1_000_003 + run), args.program.resolve(), verify, folder)

@@ -1,5 +1,5 @@
 #!/usr/bin/env python3
-"""Writes the rules of books of a layer that bench/layer/generate.py has written.
+"""Writes the rules of books of a layer that layer.py has written.
 
 usage: plans.py LAYER FOLDER        writes FOLDER/SPACING-ACROSS.csv for spacings of no and of twenty tracks, and for 32 by 32
                                     and 130 by 130 windows that overlap by half

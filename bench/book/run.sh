@@ -1,5 +1,5 @@
 #!/usr/bin/env bash
-# Times the calls of a book over a layer of a million rectangles (that of bench/layer) and a raster of a million places in tiles
+# Times the calls of a book over a layer of a million rectangles (layer.py) and a raster of a million places in tiles
 # of 64 by 64, and prints one table: for spacings of no and of twenty tracks, and for some 1,000 and some 17,000 windows,
 #   open          opens the book; what comes out is the number of windows
 #   next+job      asks for a tile and its work, once for each tile

@@ -1,16 +1,16 @@
-//! `densfill check` without proofs, for the benchmark alone: reads the rule file and the design, carries the shapes of
-//! the layer to their copies, measures the windows straight from the rectangles and makes the lines of the report on all processors, and prints them. Records are checked as `densfill` checks them; shapes, references and rules are taken for sound. With the third word `library` it keeps the whole library as values before it
-//! fills a shape, as `densfill` does; without one it fills each shape of the layer as it is read. With the word `rects` it prints the
-//! rectangles alone, as a layer's file of `bench/layer` has them.
-#[path = "../cells.rs"]
+//! `densfill check` without proofs, for the benchmark alone: reads the rule file and the design, carries the shapes of the layer to
+//! their copies, measures the windows straight from the rectangles and makes the lines of the report on all processors, and prints
+//! them. Records are checked as `densfill` checks them; shapes, references and rules are taken for sound. With the third word
+//! `library` it keeps the whole library as values before it fills a shape; without one it fills each shape of the layer as it is read.
+
 mod cells;
-#[path = "../design.rs"]
+#[path = "../../tools/verify/design.rs"]
 mod design;
-#[path = "../rules.rs"]
+#[path = "../../tools/verify/rules.rs"]
 mod rules;
-#[path = "../sweep.rs"]
+#[path = "../../tools/verify/sweep.rs"]
 mod sweep;
-#[path = "../threads.rs"]
+#[path = "../../tools/verify/threads.rs"]
 mod threads;
 
 use cells::{sum_rects, Sums};
@@ -53,17 +53,13 @@ fn report(lines: &Lines, sums: &Sums) -> Vec<Vec<u8>> {
 
 fn main() {
     let paths: Vec<String> = std::env::args().skip(1).collect();
-    let [rules, design, way @ ..] = paths.as_slice() else { panic!("usage: plain RULES DESIGN [library|rects]") };
+    let [rules, design, way @ ..] = paths.as_slice() else { panic!("usage: plain RULES DESIGN [library]") };
     let rules = Rules::read(rules);
     let bytes = std::fs::read(design).expect("the design");
     let layer = rules.layer();
     let is_way = |name: &str| way.iter().any(|word| word == name);
     let (cells, library) = if is_way("library") { read_library(bytes, layer) } else { (read_cells(&bytes, layer), Vec::new()) };
     let lists = flatten(cells, rules.text("top"));
-    if is_way("rects") {
-        let bytes: Vec<u8> = lists.iter().flatten().flat_map(|r| [r.x1, r.y1, r.x2, r.y2]).flat_map(i32::to_le_bytes).collect();
-        return std::io::stdout().write_all(&bytes).expect("the rectangles");
-    }
     let lines = Lines::of(&rules);
     let takes_long = is_large(&library);
     let parts = beside(library, takes_long, || report(&lines, &sums_of(lists, &lines.windows)));

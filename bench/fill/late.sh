@@ -1,7 +1,7 @@
 #!/usr/bin/env bash
 # Fills a generated design (that of bench/check, flat) of 100,000 copies of shapes with 1, 2 and 8 workers, while a script of 1,000
 # late edits of its metal (edits.py) is carried out, and with an empty script; some windows are low at first, some at last. Each
-# result is checked by tools/verify.rs from its bytes alone: the run fails where one is refused. Seconds are the best of three runs without
+# result is checked by tools/verify from its bytes alone: the run fails where one is refused. Seconds are the best of three runs without
 # edits and of one run with them, peaks those of the whole process, both on all processors.
 #
 # Then each result is altered in one thing at a time (alter.py), and the run fails where that isn't refused for the right reason.
@@ -11,7 +11,7 @@ set -eu
 . "$(dirname "$0")/../common.sh"
 count=${1:-100000} edits=${2:-1000}
 
-rustc --edition 2021 -O -o "$work/verify" "$root/tools/verify.rs"
+rustc --edition 2021 -O -o "$work/verify" "$root/tools/verify/main.rs"
 python3 "$here/../check/generate.py" "$count" flat "$work"
 python3 "$here/rules.py" "$work"
 # At this share most windows are low in metal, and fill lifts most of them; small tiles, so that the workers take turns.

@@ -1,12 +1,12 @@
 //! `densfill fill` with an empty script and one worker, without proofs, for the benchmark alone: the same algorithms as the program's.
 //! It checks the records of the design, and takes all else for sound.
-#[path = "../design.rs"]
+#[path = "../../tools/verify/design.rs"]
 mod design;
-#[path = "../rules.rs"]
+#[path = "../../tools/verify/rules.rs"]
 mod rules;
-#[path = "../sweep.rs"]
+#[path = "../../tools/verify/sweep.rs"]
 mod sweep;
-#[path = "../threads.rs"]
+#[path = "../../tools/verify/threads.rs"]
 mod threads;
 
 use design::{flatten, head, read_library};

@@ -1,4 +1,4 @@
-//! Rule files and report lines in plain Rust, for the benchmarks alone. It takes sound inputs for granted.
+//! Rule files and report lines in plain Rust, for the checker of fills and the benchmarks alone. It takes sound inputs for granted.
 #![allow(dead_code)] // no benchmark uses all of it
 
 use crate::sweep::Windows;

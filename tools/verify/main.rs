@@ -19,15 +19,10 @@
 //! metal. It prints a line of numbers and ends with status 0, or the first wrong thing with status 1.
 //!
 //! usage: verify RULES DESIGN SCRIPT OUT REPORT
-#[path = "../bench/design.rs"]
 mod design;
-#[path = "../bench/pieces.rs"]
 mod pieces;
-#[path = "../bench/rules.rs"]
 mod rules;
-#[path = "../bench/sweep.rs"]
 mod sweep;
-#[path = "../bench/threads.rs"]
 mod threads;
 
 use design::{flatten, head, read_library};

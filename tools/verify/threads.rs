@@ -1,4 +1,4 @@
-//! Work that threads share in plain Rust, for the benchmarks alone.
+//! Work that threads share in plain Rust, for the checker of fills and the benchmarks alone.
 #![allow(dead_code)] // no benchmark uses all of it
 use std::sync::{Mutex, OnceLock};
 

@@ -1,4 +1,4 @@
-//! Regions and windows in plain Rust, for the benchmarks alone: the union of rectangles by a sweep over y, areas of
+//! Regions and windows in plain Rust, for the checker of fills and the benchmarks alone: the union of rectangles by a sweep over y, areas of
 //! windows on all processors, and clearances. The algorithms are those of the proved crates.
 #![allow(dead_code)] // no benchmark uses all of it
 

@@ -1,4 +1,4 @@
-//! Designs in plain Rust, for the benchmarks alone: reads a GDSII library and carries the shapes of a layer to their copies. Records are
+//! Designs in plain Rust, for the checker of fills and the benchmarks alone: reads a GDSII library and carries the shapes of a layer to their copies. Records are
 //! checked as `gds_grammar` checks them, each by itself and as they stand in an element; the order of the records around elements, shapes and references are taken for sound.
 #![allow(dead_code)] // no benchmark uses all of it
 

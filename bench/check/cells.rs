@@ -549,20 +549,3 @@ pub fn sum_rects(lists: &[Vec<Rect>], windows: &Windows) -> Sums {
     }
     Sums::new(Corners::new(columns + 1, height, groups), windows, &across, &up)
 }
-
-/// The areas of all windows, row by row, of the rectangles of all lists.
-#[allow(dead_code)] // bench/layer calls it, bench/check does not
-pub fn measure_rects(lists: &[Vec<Rect>], windows: &Windows) -> Vec<i64> {
-    sum_rects(lists, windows).areas()
-}
-
-/// The areas of windows by those of the cells that their steps cut, which are given row by row.
-#[allow(dead_code)] // bench/layer calls it, bench/check does not
-pub fn sum_cells(cells: &[i64], cut: &Windows, windows: &Windows) -> Vec<i64> {
-    let mut corners = vec![0i64; cut.columns + 1];
-    cells.chunks(cut.columns).for_each(|row| add_line(&mut corners, row));
-    let lines = |first: i32, step: i32, count: usize| -> Vec<i32> { (0..=count as i32).map(|a| first + a * step).collect() };
-    let across = lines(cut.origin.0, cut.step.0, cut.columns);
-    let up = lines(cut.origin.1, cut.step.1, cut.rows);
-    Sums::new(Corners::new(cut.columns + 1, cut.rows, vec![corners]), windows, &across, &up).areas()
-}

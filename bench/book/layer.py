@@ -1,7 +1,7 @@
 #!/usr/bin/env python3
 """Writes the rectangles of one metal layer as a placed and wired block has them.
 
-usage: generate.py COUNT FILE
+usage: layer.py COUNT FILE
 
 The block is square, of rows 1,800 units high: a power strap along each row, vertical straps over them, cells that are
 one of a small library each (shapes at a few fixed heights; every second row upside down), a few blank parts without
