@@ -11,10 +11,6 @@ use std::sync::Mutex;
 const MOST_GROUPS: usize = 64;
 const LAST_GROUPS: usize = 4;
 
-/// The windows are cut into at most so many ranges, each of so many or of all that are left.
-const MOST_RANGES: usize = 16;
-const LEAST_RANGE: usize = 16_384;
-
 /// What the parts of so many rectangles or more list is given back by several threads.
 const MANY: usize = 1_048_576;
 
@@ -487,14 +483,6 @@ impl Sums {
             above - (self.corners.number(bottom, right) - self.corners.number(bottom, left))
         };
         (from..from + count).map(area).collect()
-    }
-
-    /// The areas of all windows, ranges of them at once.
-    fn areas(&self) -> Vec<i64> {
-        let size = self.len().div_ceil(MOST_RANGES).max(LEAST_RANGE);
-        let mut ranges = vec![Vec::new(); self.len().div_ceil(size)];
-        share_out(ranges.iter_mut().enumerate(), |(k, range)| *range = self.areas_from(k * size, size.min(self.len() - k * size)));
-        ranges.concat()
     }
 }
 
