@@ -109,12 +109,12 @@ def main() -> int:
             folder = Path(tempfile.mkdtemp(prefix="storm-"))
             wrong = judged(random.Random(args.seed * 1_000_003 + run), args.program.resolve(), verify, folder)
             if wrong:
-                print(f"run {run} of seed {args.seed}, in {folder}: {wrong}")
+                print(f"run {run} of seed {args.seed}, in {folder}: {wrong}\n{run} passed, 1 failed")
                 return 1
             for file in folder.iterdir():
                 file.unlink()
             folder.rmdir()
-    print(f"{args.runs} runs, none refused")
+    print(f"{args.runs} passed, 0 failed")
     return 0
 
 
