@@ -1,6 +1,6 @@
 -- Windows along one axis.
 use Rattle.std.proofs.Common.{◌≡◌, ℕ, ◌*◌, ◌-◌, ◌≤◌, ◌<◌, ℤ, pos, negsuc, ◌+ℤ◌, ◌*ℤ◌, ◌≤ℤ◌, ◌<ℤ◌, refl, arith, ap, ◌∙◌, w64, FitsSigned}
-use Rattle.std.proofs.lemmas.Int.{ints}
+use Rattle.std.proofs.lemmas.Int.{ints, clamps}
 use Rattle.std.proofs.Math.Nat.{mul-le-mul}
 use Rattle.fill_base.specs.Coordinates.{lowest, highest, IsCoordinate}
 use Rattle.fill_base.proofs.Signed.{read, read_is, coordinate_fits, lt_le, le_trans}
@@ -20,21 +20,21 @@ pub record IsMove (a : ℕ) (step : ℤ) (m : ℕ) : Type 0 where
 
 moved : (a : ℕ) (step : ℤ) → a ≤ 1048576 → IsLength step → (m : ℕ) × IsMove a step m
 moved a (pos s) few length =
-    let short : s ≤ 1048576 = let most : pos s ≤ℤ pos 1048576 = length.most in omega (arith, ints) in
+    let short : s ≤ 1048576 = let most : pos s ≤ℤ pos 1048576 = length.most in omega (arith, ints, clamps) in
     (a * s, record { is = refl; most = mul-le-mul few short })
-moved a (negsuc s) few length = absurd (let least : pos 1 ≤ℤ negsuc s = length.least in omega (arith, ints))
+moved a (negsuc s) few length = absurd (let least : pos 1 ≤ℤ negsuc s = length.least in omega (arith, ints, clamps))
 
 pub move_fits : (a : ℕ) (step : ℤ) → a ≤ 1048576 → IsLength step → FitsSigned w64 (pos a *ℤ step)
 move_fits a step few length = let m = moved a step few length in rw m.1.is (fits m.0 m.1.most)
   where
     fits : (m : ℕ) → m ≤ 1048576 * 1048576 → FitsSigned w64 (pos m)
-    fits m most = omega (arith, ints)
+    fits m most = omega (arith, ints, clamps)
 
 pub begin_fits : (first : ℤ) (a : ℕ) (step : ℤ) → IsCoordinate first → a ≤ 1048576 → IsLength step → FitsSigned w64 (first +ℤ (pos a *ℤ step))
 begin_fits first a step coordinate few length = let m = moved a step few length in rw m.1.is (fits first m.0 coordinate m.1.most)
   where
     fits : (first : ℤ) (m : ℕ) → IsCoordinate first → m ≤ 1048576 * 1048576 → FitsSigned w64 (first +ℤ pos m)
-    fits first m c most = let low : lowest ≤ℤ first = c.least in let high : first ≤ℤ highest = c.most in omega (arith, ints)
+    fits first m c most = let low : lowest ≤ℤ first = c.least in let high : first ≤ℤ highest = c.most in omega (arith, ints, clamps)
 
 pub end_fits : (first length : ℤ) (a : ℕ) (step : ℤ) → IsCoordinate first → IsLength length → a ≤ 1048576 → IsLength step → FitsSigned w64 ((first +ℤ (pos a *ℤ step)) +ℤ length)
 end_fits first length a step coordinate long few is = let m = moved a step few is in rw m.1.is (fits first length m.0 coordinate long m.1.most)
@@ -42,7 +42,7 @@ end_fits first length a step coordinate long few is = let m = moved a step few i
     fits : (first length : ℤ) (m : ℕ) → IsCoordinate first → IsLength length → m ≤ 1048576 * 1048576 → FitsSigned w64 ((first +ℤ pos m) +ℤ length)
     fits first length m c l most =
         let low : lowest ≤ℤ first = c.least in let high : first ≤ℤ highest = c.most in
-        let one : pos 1 ≤ℤ length = l.least in let long : length ≤ℤ pos 1048576 = l.most in omega (arith, ints)
+        let one : pos 1 ≤ℤ length = l.least in let long : length ≤ℤ pos 1048576 = l.most in omega (arith, ints, clamps)
 
 -- an earlier window lies within the coordinates as the last one does
 pub extent : (first length step : ℤ) (count a : ℕ) → IsAxis (axis_of first length step count) → a < count
@@ -67,17 +67,17 @@ extent first length (pos s) count a axis lt =
     same s = omega arith
 
     longer : (z length : ℤ) → pos 1 ≤ℤ length → z <ℤ (z +ℤ length)
-    longer z length one = omega (arith, ints)
+    longer z length one = omega (arith, ints, clamps)
 
     later : (first : ℤ) (m : ℕ) → lowest ≤ℤ first → lowest ≤ℤ (first +ℤ pos m)
-    later first m low = omega (arith, ints)
+    later first m low = omega (arith, ints, clamps)
 
     sooner : (first length : ℤ) (m n : ℕ) → m ≤ n → ((first +ℤ pos n) +ℤ length) ≤ℤ highest → ((first +ℤ pos m) +ℤ length) ≤ℤ highest
-    sooner first length m n le last = omega (arith, ints)
-extent first length (negsuc s) count a axis lt = absurd (let least : pos 1 ≤ℤ negsuc s = axis.step_is.least in omega (arith, ints))
+    sooner first length m n le last = omega (arith, ints, clamps)
+extent first length (negsuc s) count a axis lt = absurd (let least : pos 1 ≤ℤ negsuc s = axis.step_is.least in omega (arith, ints, clamps))
 
 pub length_fits : (z : ℤ) → IsLength z → FitsSigned w64 z
-length_fits z is = let low : pos 1 ≤ℤ z = is.least in let high : z ≤ℤ pos 1048576 = is.most in omega (arith, ints)
+length_fits z is = let low : pos 1 ≤ℤ z = is.least in let high : z ≤ℤ pos 1048576 = is.most in omega (arith, ints, clamps)
 
 -- what the code adds up is what the definition adds up
 pub begin_is : (first step p : ℤ) (a : ℕ) → IsCoordinate first → IsLength step → a ≤ 1048576 → p ≡ pos a
@@ -88,7 +88,7 @@ begin_is first step p a coordinate is few p_is =
     (rw sum (begin_fits first a step coordinate few is), sum)
   where
     small : (a : ℕ) → a ≤ 1048576 → FitsSigned w64 (pos a)
-    small a few = omega (arith, ints)
+    small a few = omega (arith, ints, clamps)
 
 pub end_is : (first length step p : ℤ) (a : ℕ) → IsCoordinate first → IsLength length → IsLength step → a ≤ 1048576 → p ≡ pos a
     → FitsSigned w64 (read (read first +ℤ read (read p *ℤ read step)) +ℤ read length)
@@ -125,14 +125,14 @@ axis_read_is axis first length step = rw (read_is axis.first first, read_is axis
 -- a window's size is a product of two lengths
 pub size_fits : (w h : ℤ) → IsLength w → IsLength h → FitsSigned w64 (w *ℤ h)
 size_fits (pos w) (pos h) iw ih =
-    let a : w ≤ 1048576 = let most : pos w ≤ℤ pos 1048576 = iw.most in omega (arith, ints) in
-    let b : h ≤ 1048576 = let most : pos h ≤ℤ pos 1048576 = ih.most in omega (arith, ints) in
+    let a : w ≤ 1048576 = let most : pos w ≤ℤ pos 1048576 = iw.most in omega (arith, ints, clamps) in
+    let b : h ≤ 1048576 = let most : pos h ≤ℤ pos 1048576 = ih.most in omega (arith, ints, clamps) in
     fits (w * h) (mul-le-mul a b)
   where
     fits : (m : ℕ) → m ≤ 1048576 * 1048576 → FitsSigned w64 (pos m)
-    fits m most = omega (arith, ints)
-size_fits (pos w) (negsuc h) iw ih = absurd (let least : pos 1 ≤ℤ negsuc h = ih.least in omega (arith, ints))
-size_fits (negsuc w) h iw ih = absurd (let least : pos 1 ≤ℤ negsuc w = iw.least in omega (arith, ints))
+    fits m most = omega (arith, ints, clamps)
+size_fits (pos w) (negsuc h) iw ih = absurd (let least : pos 1 ≤ℤ negsuc h = ih.least in omega (arith, ints, clamps))
+size_fits (negsuc w) h iw ih = absurd (let least : pos 1 ≤ℤ negsuc w = iw.least in omega (arith, ints, clamps))
 
 pub size_is : (w h : ℤ) → IsLength w → IsLength h → (read w *ℤ read h ≡ w *ℤ h) × FitsSigned w64 (read w *ℤ read h)
 size_is w h iw ih = let e : read w *ℤ read h ≡ w *ℤ h = rw (read_is w (length_fits w iw), read_is h (length_fits h ih)) refl in (e, rw e (size_fits w h iw ih))
@@ -151,25 +151,25 @@ ends_at axis a lo hi edge is edge_is = edge_is ∙ ((extent_read axis a lo hi is
 -- a window's size is an area
 pub size_area : (w h : ℤ) → IsLength w → IsLength h → IsArea (w *ℤ h)
 size_area (pos w) (pos h) iw ih =
-    let a : w ≤ 1048576 = let most : pos w ≤ℤ pos 1048576 = iw.most in omega (arith, ints) in
-    let b : h ≤ 1048576 = let most : pos h ≤ℤ pos 1048576 = ih.most in omega (arith, ints) in
+    let a : w ≤ 1048576 = let most : pos w ≤ℤ pos 1048576 = iw.most in omega (arith, ints, clamps) in
+    let b : h ≤ 1048576 = let most : pos h ≤ℤ pos 1048576 = ih.most in omega (arith, ints, clamps) in
     area (w * h) (mul-le-mul a b)
   where
     area : (m : ℕ) → m ≤ 1048576 * 1048576 → IsArea (pos m)
-    area m most = record { least = omega (arith, ints); most = omega (arith, ints) }
-size_area (pos w) (negsuc h) iw ih = absurd (let least : pos 1 ≤ℤ negsuc h = ih.least in omega (arith, ints))
-size_area (negsuc w) h iw ih = absurd (let least : pos 1 ≤ℤ negsuc w = iw.least in omega (arith, ints))
+    area m most = record { least = omega (arith, ints, clamps); most = omega (arith, ints, clamps) }
+size_area (pos w) (negsuc h) iw ih = absurd (let least : pos 1 ≤ℤ negsuc h = ih.least in omega (arith, ints, clamps))
+size_area (negsuc w) h iw ih = absurd (let least : pos 1 ≤ℤ negsuc w = iw.least in omega (arith, ints, clamps))
 
 pub size_some : (w h : ℤ) → IsLength w → IsLength h → pos 1 ≤ℤ (w *ℤ h)
 size_some (pos w) (pos h) iw ih =
-    let a : 1 ≤ w = let least : pos 1 ≤ℤ pos w = iw.least in omega (arith, ints) in
-    let b : 1 ≤ h = let least : pos 1 ≤ℤ pos h = ih.least in omega (arith, ints) in
+    let a : 1 ≤ w = let least : pos 1 ≤ℤ pos w = iw.least in omega (arith, ints, clamps) in
+    let b : 1 ≤ h = let least : pos 1 ≤ℤ pos h = ih.least in omega (arith, ints, clamps) in
     let product : 1 * 1 ≤ w * h = mul-le-mul a b in some (w * h) product
   where
     some : (m : ℕ) → 1 ≤ m → pos 1 ≤ℤ pos m
-    some m le = omega (arith, ints)
-size_some (pos w) (negsuc h) iw ih = absurd (let least : pos 1 ≤ℤ negsuc h = ih.least in omega (arith, ints))
-size_some (negsuc w) h iw ih = absurd (let least : pos 1 ≤ℤ negsuc w = iw.least in omega (arith, ints))
+    some m le = omega (arith, ints, clamps)
+size_some (pos w) (negsuc h) iw ih = absurd (let least : pos 1 ≤ℤ negsuc h = ih.least in omega (arith, ints, clamps))
+size_some (negsuc w) h iw ih = absurd (let least : pos 1 ≤ℤ negsuc w = iw.least in omega (arith, ints, clamps))
 
 -- each column ends within the coordinates, as the code reads its numbers
 pub columns_end : (first length step : ℤ) (count a : ℕ) → IsAxis (axis_of first length step count) → a < count → ((read first +ℤ (pos a *ℤ read step)) +ℤ read length) ≤ℤ highest

@@ -33,7 +33,7 @@ kept_ordered : (low high b e : ℤ) → low <ℤ high → b ≤ℤ e → kept_wi
 kept_ordered low high b e some le = omega (arith, ints, clamps)
 
 le_self : (z : ℤ) → z ≤ℤ z
-le_self z = omega (arith, ints)
+le_self z = omega (arith, ints, clamps)
 
 order : (x y : ℤ) → (x ≤ℤ y) ⊎ (y <ℤ x)
 order x y = grind (arith, ints)
@@ -52,7 +52,7 @@ sum_before f low high b e le before =
     let none : span_len b e * 0 ≡ 0 = omega arith in each ∙ none
   where
     lt_le : (x e low : ℤ) → x <ℤ e → e ≤ℤ low → x <ℤ low
-    lt_le x e low lt le = omega (arith, ints)
+    lt_le x e low lt le = omega (arith, ints, clamps)
 
 sum_behind : (f : ℤ → ℕ) (low high b e : ℤ) → b ≤ℤ e → high ≤ℤ b → sum_between (λ x. cond (is_between low high x) (f x) 0) b e ≡ 0
 sum_behind f low high b e le behind =
@@ -60,21 +60,21 @@ sum_behind f low high b e le behind =
     let none : span_len b e * 0 ≡ 0 = omega arith in each ∙ none
   where
     le_le : (a b c : ℤ) → a ≤ℤ b → b ≤ℤ c → a ≤ℤ c
-    le_le a b c h k = omega (arith, ints)
+    le_le a b c h k = omega (arith, ints, clamps)
 
 sum_within : (f : ℤ → ℕ) (low high b e : ℤ) → b ≤ℤ e → low ≤ℤ b → e ≤ℤ high → sum_between (λ x. cond (is_between low high x) (f x) 0) b e ≡ sum_between f b e
 sum_within f low high b e le from to =
     sum_between_same (λ x. cond (is_between low high x) (f x) 0) f b e le (λ x low_x high_x. ap (λ t. cond t (f x) 0) (within low high x (le_le low b x from low_x) (lt_le x e high high_x to)))
   where
     le_le : (a b c : ℤ) → a ≤ℤ b → b ≤ℤ c → a ≤ℤ c
-    le_le a b c h k = omega (arith, ints)
+    le_le a b c h k = omega (arith, ints, clamps)
 
     lt_le : (x e high : ℤ) → x <ℤ e → e ≤ℤ high → x <ℤ high
-    lt_le x e high lt le = omega (arith, ints)
+    lt_le x e high lt le = omega (arith, ints, clamps)
 
 nothing_between : (f : ℤ → ℕ) (z : ℤ) → sum_between f z z ≡ 0
 unfolding sum_from
-nothing_between f z = let e : span_len z z ≡ 0 = omega (arith, ints) in rw e refl
+nothing_between f z = let e : span_len z z ≡ 0 = omega (arith, ints, clamps) in rw e refl
 
 -- where the two ranges share a number
 sum_shared : (f : ℤ → ℕ) (low high b e lo hi : ℤ) → lo ≡ int_max b low → hi ≡ int_min e high → b ≤ℤ e → low <ℤ high → low <ℤ e → b <ℤ high
@@ -161,7 +161,7 @@ area_kept p left bottom right top l b r t across up wide tall =
     ∙ sum_kept (λ y. count_between (λ x. p x y) (kept_within l r left) (kept_within l r right)) b t bottom top up tall
 
 longer : (z length : ℤ) → pos 1 ≤ℤ length → z ≤ℤ (z +ℤ length)
-longer z length one = omega (arith, ints)
+longer z length one = omega (arith, ints, clamps)
 
 -- what a window has of the squares within the clip is what counts of it
 pub counted_whole : (p : ℤ → ℤ → Bool) (g : Grid) (a b : ℕ) → IsGrid g → whole_area (λ x y. p x y && in_clip g x y) g a b ≡ window_area p g a b
@@ -180,10 +180,10 @@ counted_all p g a b is all column row =
     sym (rw (all, kept_all _ x.low (le_le _ _ _ (lt_le _ _ x.some) x.high), kept_all _ (le_le _ _ _ x.low (lt_le _ _ x.some)) x.high, kept_all _ y.low (le_le _ _ _ (lt_le _ _ y.some) y.high), kept_all _ (le_le _ _ _ y.low (lt_le _ _ y.some)) y.high) refl)
   where
     lt_le : (a b : ℤ) → a <ℤ b → a ≤ℤ b
-    lt_le a b h = omega (arith, ints)
+    lt_le a b h = omega (arith, ints, clamps)
 
     le_le : (a b c : ℤ) → a ≤ℤ b → b ≤ℤ c → a ≤ℤ c
-    le_le a b c h k = omega (arith, ints)
+    le_le a b c h k = omega (arith, ints, clamps)
 
 -- the list of what whole windows have of the squares within the clip, or of all squares where nothing is cut off
 pub clipped_measured : (p q : ℤ → ℤ → Bool) (g : Grid) (totals : List ℤ) → ((x y : ℤ) → q x y ≡ p x y && in_clip g x y) → AreWhole q g totals → AreMeasured p g totals × All IsArea totals
@@ -223,10 +223,10 @@ part_is p a lo hi m n k l is at m_is n_is k_is l_is =
     }
   where
     lt_le : (a b : ℤ) → a <ℤ b → a ≤ℤ b
-    lt_le a b h = omega (arith, ints)
+    lt_le a b h = omega (arith, ints, clamps)
 
     le_le : (a b c : ℤ) → a ≤ℤ b → b ≤ℤ c → a ≤ℤ c
-    le_le a b c h k = omega (arith, ints)
+    le_le a b c h k = omega (arith, ints, clamps)
 
     least : (low high z : ℤ) → lowest ≤ℤ low → low <ℤ high → lowest ≤ℤ kept_within low high z
     least low high z h some = omega (arith, ints, clamps)
@@ -248,7 +248,7 @@ part_short : (p : Parts) (a : ℕ) (lo hi : ℤ) → AreParts p → IsPart p a l
 part_short p a lo hi is at = short lo hi p.low p.high (axis_begin p.axis a) p.axis.length is.some is.axis.length_is at.begins at.ends at.ordered
   where
     short : (lo hi low high b length : ℤ) → low <ℤ high → IsLength length → lo ≡ kept_within low high b → hi ≡ kept_within low high (b +ℤ length) → lo ≤ℤ hi → pos 0 ≤ℤ (hi -ℤ lo) × (hi -ℤ lo) ≤ℤ pos 1048576
-    short lo hi low high b length some is lo_is hi_is le = let least : pos 1 ≤ℤ length = is.least in let most : length ≤ℤ pos 1048576 = is.most in (omega (arith, ints), omega (arith, ints, clamps))
+    short lo hi low high b length some is lo_is hi_is le = let least : pos 1 ≤ℤ length = is.least in let most : length ≤ℤ pos 1048576 = is.most in (omega (arith, ints, clamps), omega (arith, ints, clamps))
 
 pub record IsCountedSize (g : Grid) (a b : ℕ) (x0 x1 y0 y1 : ℤ) : Type 0 where
   pub fits : FitsSigned w64 (read (read x1 -ℤ read x0) *ℤ read (read y1 -ℤ read y0))
@@ -259,15 +259,15 @@ small_product : (m n : ℕ) → m ≤ 1048576 → n ≤ 1048576 → m * n ≤ 10
 small_product m n a b = mul-le-mul a b
 
 product_area : (z w : ℤ) → pos 0 ≤ℤ z → z ≤ℤ pos 1048576 → pos 0 ≤ℤ w → w ≤ℤ pos 1048576 → IsArea (z *ℤ w)
-product_area (pos m) (pos n) a b c d = let small = small_product m n (omega (arith, ints)) (omega (arith, ints)) in area (m * n) small
+product_area (pos m) (pos n) a b c d = let small = small_product m n (omega (arith, ints, clamps)) (omega (arith, ints, clamps)) in area (m * n) small
   where
     area : (k : ℕ) → k ≤ 1048576 * 1048576 → IsArea (pos k)
-    area k le = record { least = omega (arith, ints); most = omega (arith, ints) }
-product_area (pos m) (negsuc n) a b c d = absurd (omega (arith, ints))
-product_area (negsuc m) w a b c d = absurd (omega (arith, ints))
+    area k le = record { least = omega (arith, ints, clamps); most = omega (arith, ints, clamps) }
+product_area (pos m) (negsuc n) a b c d = absurd (omega (arith, ints, clamps))
+product_area (negsuc m) w a b c d = absurd (omega (arith, ints, clamps))
 
 area_fits : (z : ℤ) → IsArea z → FitsSigned w64 z
-area_fits z is = let a : pos 0 ≤ℤ z = is.least in let b : z ≤ℤ pos (2 ^ 40) = is.most in omega (arith, ints)
+area_fits z is = let a : pos 0 ≤ℤ z = is.least in let b : z ≤ℤ pos (2 ^ 40) = is.most in omega (arith, ints, clamps)
 
 pub counted_size_is : (g : Grid) (a b : ℕ) (x0 x1 y0 y1 : ℤ) → AreParts (parts_across g) → AreParts (parts_up g) → IsPart (parts_across g) a x0 x1 → IsPart (parts_up g) b y0 y1 → IsCountedSize g a b x0 x1 y0 y1
 counted_size_is g a b x0 x1 y0 y1 across up column row =
@@ -288,10 +288,10 @@ counted_size_is g a b x0 x1 y0 y1 across up column row =
     side_read lo hi low ordered high =
         let a = read_is lo (coordinate_fits lo low (le_le lo hi highest ordered high)) in
         let b = read_is hi (coordinate_fits hi (le_le lowest lo hi low ordered) high) in
-        rw (a, b) (read_is (hi -ℤ lo) (omega (arith, ints)))
+        rw (a, b) (read_is (hi -ℤ lo) (omega (arith, ints, clamps)))
       where
         le_le : (a b c : ℤ) → a ≤ℤ b → b ≤ℤ c → a ≤ℤ c
-        le_le a b c h k = omega (arith, ints)
+        le_le a b c h k = omega (arith, ints, clamps)
 
 -- where both ends are one number on some axis, nothing counts
 pub nothing_counts : (g : Grid) (a b : ℕ) (x0 x1 y0 y1 : ℤ) → IsPart (parts_across g) a x0 x1 → IsPart (parts_up g) b y0 y1 → (x1 ≤ℤ x0) ⊎ (y1 ≤ℤ y0) → (x y : ℤ) → part_squares g a b x y ≡ false
@@ -312,7 +312,7 @@ pub nothing_has_area : (p : ℤ → ℤ → Bool) (g : Grid) (a b : ℕ) (x0 x1 
 nothing_has_area p g a b x0 x1 y0 y1 column row either = rw (← column.begins, ← column.ends, ← row.begins, ← row.ends) (none either)
   where
     one : (lo hi : ℤ) → lo ≤ℤ hi → hi ≤ℤ lo → hi ≡ lo
-    one lo hi le ge = omega (arith, ints)
+    one lo hi le ge = omega (arith, ints, clamps)
 
     none : (x1 ≤ℤ x0) ⊎ (y1 ≤ℤ y0) → area_between p x0 y0 x1 y1 ≡ 0
     none (inl left) =
@@ -334,10 +334,10 @@ part_whole axis a is lt =
     (kept_all _ e.low (le_le _ _ _ (lt_le _ _ e.some) e.high), kept_all _ (le_le _ _ _ e.low (lt_le _ _ e.some)) e.high)
   where
     lt_le : (a b : ℤ) → a <ℤ b → a ≤ℤ b
-    lt_le a b h = omega (arith, ints)
+    lt_le a b h = omega (arith, ints, clamps)
 
     le_le : (a b c : ℤ) → a ≤ℤ b → b ≤ℤ c → a ≤ℤ c
-    le_le a b c h k = omega (arith, ints)
+    le_le a b c h k = omega (arith, ints, clamps)
 
 -- what whole windows have of the squares within a clip is what the clipped ones count
 pub cut_measured : (p q : ℤ → ℤ → Bool) (g : Grid) (totals : List ℤ) → IsGrid g → ((x y : ℤ) → q x y ≡ p x y && in_clip g x y) → AreMeasured q (whole g) totals → AreMeasured p g totals

@@ -64,7 +64,7 @@ cut_fits bottom top strips s low ordered high =
 -- no lines have no squares
 pub no_lines : (f : ℤ → ℕ) (lo : ℤ) → sum_between f lo lo ≡ 0
 no_lines f lo =
-    let c : sum_between f lo lo ≡ span_len lo lo * 0 = sum_between_const f lo lo 0 (omega (arith, ints)) (λ x le lt. absurd (omega (arith, ints))) in
+    let c : sum_between f lo lo ≡ span_len lo lo * 0 = sum_between_const f lo lo 0 (omega (arith, ints, clamps)) (λ x le lt. absurd (omega (arith, ints, clamps))) in
     let z : span_len lo lo * 0 ≡ 0 = omega arith in
     c ∙ z
 
@@ -80,7 +80,7 @@ pub cut_read : (bottom top z : ℤ) (strips s height : ℕ) → 1 ≤ strips →
 cut_read bottom top z strips s height some few within low ordered high height_is z_is =
     let bottom_read : read bottom ≡ bottom = read_is _ (coordinate_fits bottom low (le_trans _ top _ ordered high)) in
     let top_read : read top ≡ top = read_is _ (coordinate_fits top (le_trans _ bottom _ low ordered) high) in
-    let tall : height ≡ span_len bottom top = height_is ∙ rw (top_read, bottom_read) refl in
+    let tall : height ≡ span_len bottom top = height_is ∙ rw (top_read, bottom_read) (omega (arith, ints, clamps)) in
     let small : s * strip_lines bottom top strips ≤ 64 * (2 ^ 31 + 1) = mul-le-mul (le_few s strips within few) (short (span_len bottom top) strips (side_short bottom top low ordered high)) in
     let move : to_z w64 (s * (height / strips + 1)) ≡ pos (s * strip_lines bottom top strips) = ap (λ n. to_z w64 (s * (n / strips + 1))) tall ∙ to_z_pos w64 (s * strip_lines bottom top strips) (below (s * strip_lines bottom top strips) small) in
     let sum : read (read bottom +ℤ to_z w64 (s * (height / strips + 1))) ≡ bottom +ℤ pos (s * strip_lines bottom top strips) =
@@ -98,4 +98,4 @@ cut_read bottom top z strips s height some few within low ordered high height_is
     below n most = omega arith
 
     fits : (y : ℤ) (n : ℕ) → lowest ≤ℤ y → y ≤ℤ highest → n ≤ 64 * (2 ^ 31 + 1) → FitsSigned w64 (y +ℤ pos n)
-    fits y n low high most = omega (arith, ints)
+    fits y n low high most = omega (arith, ints, clamps)

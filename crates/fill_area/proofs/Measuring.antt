@@ -46,11 +46,11 @@ pub bounded : (p : ℤ → ℤ → Bool) (g : Grid) (totals : List ℤ) → IsGr
 bounded p g totals grid count each k d lt = rw (each k d (rw count at lt)) (area_of_count (window_area p g (k % g.across.count) (k / g.across.count)) (window_small p g (k % g.across.count) (k / g.across.count) grid))
   where
     area_of_count : (n : ℕ) → n ≤ 2 ^ 40 → IsArea (pos n)
-    area_of_count n small = record { least = omega (arith, ints); most = omega (arith, ints) }
+    area_of_count n small = record { least = omega (arith, ints, clamps); most = omega (arith, ints, clamps) }
 
 -- a window's upper ends are above its lower ones
 pub longer : (lo length : ℤ) → IsLength length → lo ≤ℤ (lo +ℤ length)
-longer lo length is = let least : pos 1 ≤ℤ length = is.least in omega (arith, ints)
+longer lo length is = let least : pos 1 ≤ℤ length = is.least in omega (arith, ints, clamps)
 
 -- sets with the same squares have the same area
 pub same_area : (p q : ℤ → ℤ → Bool) (left bottom right top : ℤ) → left ≤ℤ right → bottom ≤ℤ top → ((x y : ℤ) → p x y ≡ q x y)

@@ -1,6 +1,6 @@
 -- The walk over the rows of a strip, and what it has counted in each column of windows.
 use Rattle.std.proofs.Common.{◌≡◌, ℕ, ◌+◌, ◌*◌, ◌^◌, ◌≤◌, ◌<◌, ℤ, pos, ◌+ℤ◌, ◌-ℤ◌, ◌*ℤ◌, ◌≤ℤ◌, ◌<ℤ◌, List, length, get_or, replicate, arith, ap, ◌∙◌, sym, w64, FitsSigned, Bool, false}
-use Rattle.std.proofs.lemmas.Int.{ints}
+use Rattle.std.proofs.lemmas.Int.{ints, clamps}
 use Rattle.std.proofs.lemmas.List.{get_or-replicate, length-replicate}
 use Rattle.std.proofs.Math.Nat.{mul-le-mul}
 use Rattle.fill_base.specs.declared.rect.Rect.{Rect}
@@ -35,28 +35,28 @@ column_wide : (g : Grid) (a : ℕ) → IsGrid g → window_left g a ≤ℤ windo
 column_wide g a grid = wider (window_left g a) g.across.length grid.across.length_is.least
   where
     wider : (lo length : ℤ) → pos 1 ≤ℤ length → lo ≤ℤ (lo +ℤ length)
-    wider lo length least = omega (arith, ints)
+    wider lo length least = omega (arith, ints, clamps)
 
 -- some lines of a column have few squares
 pub lines_small : (p : ℤ → ℤ → Bool) (g : Grid) (begin from : ℤ) (a : ℕ) → IsGrid g → begin ≤ℤ from → (from -ℤ begin) ≤ℤ pos 1048576 → lines_area p g begin from a ≤ 2 ^ 40
 lines_small p g begin from a grid ordered short =
     let wide : span_len (window_left g a) (window_right g a) ≤ 1048576 = let least : pos 1 ≤ℤ g.across.length = grid.across.length_is.least in let most : g.across.length ≤ℤ pos 1048576 = grid.across.length_is.most in
     narrow (window_left g a) g.across.length least most in
-    let tall : span_len begin from ≤ 1048576 = omega (arith, ints) in
+    let tall : span_len begin from ≤ 1048576 = omega (arith, ints, clamps) in
     let lines : lines_area p g begin from a ≤ span_len begin from * span_len (window_left g a) (window_right g a) =
     sum_between_le (λ y. count_between (λ x. p x y) (window_left g a) (window_right g a)) begin from (span_len (window_left g a) (window_right g a)) (λ y. count_between_le (λ x. p x y) (window_left g a) (window_right g a)) in
     let product : span_len begin from * span_len (window_left g a) (window_right g a) ≤ 1048576 * 1048576 = mul-le-mul tall wide in
     omega (arith, lines, product)
   where
     narrow : (lo length : ℤ) → pos 1 ≤ℤ length → length ≤ℤ pos 1048576 → span_len lo (lo +ℤ length) ≤ 1048576
-    narrow lo length least most = omega (arith, ints)
+    narrow lo length least most = omega (arith, ints, clamps)
 
 -- so the numbers can take another row
 pub lines_are_sums : (p : ℤ → ℤ → Bool) (g : Grid) (begin from : ℤ) (sums : List ℤ) → IsGrid g → begin ≤ℤ from → (from -ℤ begin) ≤ℤ pos 1048576 → AreLines p g begin from sums → AreSums sums
 lines_are_sums p g begin from sums grid ordered short lines a d lt = rw (lines.each a d (rw lines.count at lt)) (small (lines_area p g begin from a) (lines_small p g begin from a grid ordered short))
   where
     small : (n : ℕ) → n ≤ 2 ^ 40 → (pos 0 ≤ℤ pos n) × (pos n ≤ℤ pos (2 ^ 61))
-    small n le = (omega (arith, ints), omega (arith, ints, le))
+    small n le = (omega (arith, ints, clamps), omega (arith, ints, clamps, le))
 
 -- a row is added to each column
 pub row_added : (bs : List Band) (g : Grid) (begin end height : ℤ) (rows : Upwards) (row : Row) (rest : Upwards) (old new : List ℤ) → IsGrid g → RowWalked bs g begin end rows old → IsNextRow rows row rest
@@ -122,21 +122,21 @@ row_ready bs g begin end rows row rest sums grid few walked next =
     record {
       fits = h.0;
       is = h.1;
-      least = rw h.1 (omega (arith, ints));
-      most = rw h.1 (omega (arith, ints, tall));
+      least = rw h.1 (omega (arith, ints, clamps));
+      most = rw h.1 (omega (arith, ints, clamps, tall));
       ready = lines_are_sums (holds bs) g begin rows.from sums grid walked.begun (shorter begin end rows.from few.short walked.not_past) walked.counted;
     }
   where
     height : (from to : ℤ) → lowest ≤ℤ from → from <ℤ to → to ≤ℤ highest → FitsSigned w64 (read to -ℤ read from) × (read (read to -ℤ read from) ≡ pos (span_len from to))
     height from to low tall high =
         rw (read_is to (coordinate_fits to (le_trans _ from to low (lt_le from to tall)) high), read_is from (coordinate_fits from low (le_trans from to _ (lt_le from to tall) high)))
-        (let fits : FitsSigned w64 (to -ℤ from) = omega (arith, ints) in (fits, read_is _ fits ∙ (omega (arith, ints))))
+        (let fits : FitsSigned w64 (to -ℤ from) = omega (arith, ints, clamps) in (fits, read_is _ fits ∙ (omega (arith, ints, clamps))))
 
     short : (begin end from to : ℤ) → (end -ℤ begin) ≤ℤ pos 1048576 → begin ≤ℤ from → from <ℤ to → to ≤ℤ end → span_len from to ≤ 1048576
-    short begin end from to few low ordered high = omega (arith, ints)
+    short begin end from to few low ordered high = omega (arith, ints, clamps)
 
     shorter : (begin end from : ℤ) → (end -ℤ begin) ≤ℤ pos 1048576 → from ≤ℤ end → (from -ℤ begin) ≤ℤ pos 1048576
-    shorter begin end from few within = omega (arith, ints)
+    shorter begin end from few within = omega (arith, ints, clamps)
 
 pub row_starts : (bs : List Band) (g : Grid) (from to : ℤ) (rows : Upwards) (sums : List ℤ) → IsGrid g → AreFewLines (read from) (read to) → sums ≡ replicate g.across.count (pos 0) → rows.region ≡ bs → read from ≤ℤ rows.from
     → (read from ≤ℤ read to → rows.from ≤ℤ read to) → rows.top ≡ read to → ((x y : ℤ) → read from ≤ℤ y → y <ℤ rows.from → holds bs x y ≡ false) → RowWalked bs g (read from) (read to) rows sums
@@ -180,10 +180,10 @@ strip_few g w b strips s from to grid low high from_is to_is =
     })
   where
     within : (bottom top from to : ℤ) → bottom ≤ℤ from → to ≤ℤ top → (top -ℤ bottom) ≤ℤ pos 1048576 → (to -ℤ from) ≤ℤ pos 1048576
-    within bottom top from to low high short = omega (arith, ints)
+    within bottom top from to low high short = omega (arith, ints, clamps)
 
     sides : (y1 y2 bottom height : ℤ) → y1 ≡ bottom → y2 ≡ bottom +ℤ height → height ≤ℤ pos 1048576 → (y2 -ℤ y1) ≤ℤ pos 1048576
-    sides y1 y2 bottom height a b short = omega (arith, ints)
+    sides y1 y2 bottom height a b short = omega (arith, ints, clamps)
 
 -- the lines of a strip of one row of windows
 pub strip_measured : (p : ℤ → ℤ → Bool) (g : Grid) (w : Rect) (b strips s : ℕ) (from to : ℤ) (sums : List ℤ) → w.y1 ≡ window_bottom g b → w.y2 ≡ window_top g b → from ≡ cut_at w.y1 w.y2 strips s → to ≡ cut_at w.y1 w.y2 strips (s + 1)

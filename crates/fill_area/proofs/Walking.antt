@@ -24,7 +24,7 @@ abbrev pub line_count : List Band → Rect → ℤ → ℕ
 line_count bs w = squares_across bs w.x1 w.x2
 
 pub same_le : (a : ℤ) → a ≤ℤ a
-same_le a = omega (arith, ints)
+same_le a = omega (arith, ints, clamps)
 
 -- lines without squares count nothing
 pub no_squares : (bs : List Band) (left right from to : ℤ) → left ≤ℤ right → from ≤ℤ to → ((x y : ℤ) → from ≤ℤ y → y <ℤ to → holds bs x y ≡ false) → sum_between (squares_across bs left right) from to ≡ 0
@@ -92,7 +92,7 @@ sum_small bs w to low high =
     omega (arith, lines, product)
   where
     short : (a b : ℤ) → lowest ≤ℤ a → a ≤ℤ b → b ≤ℤ highest → span_len a b ≤ 2 ^ 31
-    short a b low ordered high = omega (arith, ints)
+    short a b low ordered high = omega (arith, ints, clamps)
 
 -- height times width, as the code multiplies it
 pub record Product (from to n : ℤ) (whole : ℕ) : Type 0 where
@@ -128,7 +128,8 @@ walk_turn bs w rows row rest total x1 x2 n walked next x1_is x2_is n_is =
     let low_range : lowest ≤ℤ row.bottom = le_trans _ w.y1 row.bottom w.bottom low in
     let high_range : row.top ≤ℤ highest = le_trans row.top w.y2 _ high w.top in
     let count : ℕ = count_between (inside row.spans.now) w.x1 w.x2 in
-    let n_count : n ≡ pos count = n_is ∙ rw (x1_is, x2_is, read_x1 w, read_x2 w, later w.x1 w.x2 wide) refl in
+    let n_read : pos (count_between (inside row.spans.now) (read x1) (int_max (read x1) (read x2))) ≡ pos (count_between (inside row.spans.now) w.x1 (int_max w.x1 w.x2)) = rw (x1_is, x2_is, read_x1 w, read_x2 w) refl in
+    let n_count : n ≡ pos count = n_is ∙ (n_read ∙ ap (λ z. pos (count_between (inside row.spans.now) w.x1 z)) (later w.x1 w.x2 wide)) in
     let p : Product row.bottom row.top n (span_len row.bottom row.top * count) = product row.bottom row.top n count low_range tall high_range n_count (below_span w count (count_between_le (inside row.spans.now) w.x1 w.x2)) in
     let more : sum_between (line_count bs w) w.y1 row.top ≡ sum_between (line_count bs w) w.y1 rows.from + span_len row.bottom row.top * count = row_more bs w.x1 w.x2 w.y1 rows row rest walked.region_is next wide walked.begun in
     let whole : total +ℤ read (read (read row.top -ℤ read row.bottom) *ℤ read n) ≡ pos (sum_between (line_count bs w) w.y1 row.top) = rw (p.is, walked.counted, more) refl in
@@ -153,10 +154,10 @@ walk_turn bs w rows row rest total x1 x2 n walked next x1_is x2_is n_is =
     under n le = omega (arith, le)
 
     difference : (a b : ℤ) → lowest ≤ℤ a → a ≤ℤ b → b ≤ℤ highest → FitsSigned w64 (read b -ℤ read a)
-    difference a b low ordered high = rw (read_is b (coordinate_fits b (le_trans _ a b low ordered) high), read_is a (coordinate_fits a low (le_trans a b _ ordered high))) (omega (arith, ints))
+    difference a b low ordered high = rw (read_is b (coordinate_fits b (le_trans _ a b low ordered) high), read_is a (coordinate_fits a low (le_trans a b _ ordered high))) (omega (arith, ints, clamps))
 
     below_span : (w : Rect) (count : ℕ) → count ≤ span_len w.x1 w.x2 → count ≤ 2 ^ 31
-    below_span w count le = let low : lowest ≤ℤ w.x1 = w.left in let wide : w.x1 <ℤ w.x2 = w.wide in let high : w.x2 ≤ℤ highest = w.right in omega (arith, ints)
+    below_span w count le = let low : lowest ≤ℤ w.x1 = w.left in let wide : w.x1 <ℤ w.x2 = w.wide in let high : w.x2 ≤ℤ highest = w.right in omega (arith, ints, clamps)
 
 pub walk_ends : (bs : List Band) (w : Rect) (rows rest : Upwards) (total : ℤ) → Walked bs w rows total → AreOver rows rest → total ≡ pos (area_of (holds bs) w)
 walk_ends bs w rows rest total walked over =

@@ -1,6 +1,6 @@
 -- Sums and counts over whole numbers in a row.
 use Rattle.std.proofs.Common.{◌≡◌, ℕ, zero, suc, ◌+◌, ◌*◌, ◌≤◌, ◌<◌, ℤ, pos, ◌+ℤ◌, ◌≤ℤ◌, ◌<ℤ◌, refl, arith, ap, ◌∙◌, Bool, true, false, cond, add_assoc}
-use Rattle.std.proofs.lemmas.Int.{ints}
+use Rattle.std.proofs.lemmas.Int.{ints, clamps}
 use Rattle.fill_base.specs.Counts.{sum_from, span_len, sum_between, count_between}
 
 pub sum_from-+ : (f : ℤ → ℕ) (lo : ℤ) (m n : ℕ) → sum_from f lo (m + n) ≡ sum_from f lo m + sum_from f (lo +ℤ pos m) n
@@ -8,14 +8,14 @@ unfolding sum_from
 sum_from-+ f lo m zero = let e : m + zero ≡ m = omega arith in let z : sum_from f lo m ≡ sum_from f lo m + 0 = omega arith in ap (sum_from f lo) e ∙ z
 sum_from-+ f lo m (suc n) =
     let e : m + suc n ≡ suc (m + n) = omega arith in
-    let at : lo +ℤ pos (m + n) ≡ (lo +ℤ pos m) +ℤ pos n = omega (arith, ints) in
+    let at : lo +ℤ pos (m + n) ≡ (lo +ℤ pos m) +ℤ pos n = omega (arith, ints, clamps) in
     ap (sum_from f lo) e ∙ (ap (λ s. s + f (lo +ℤ pos (m + n))) (sum_from-+ f lo m n) ∙ (add_assoc (sum_from f lo m) (sum_from f (lo +ℤ pos m) n) (f (lo +ℤ pos (m + n))) ∙ ap (λ z. sum_from f lo m + (sum_from f (lo +ℤ pos m) n + f z)) at))
 
 -- a sum splits at a number within it
 pub sum_between_split : (f : ℤ → ℕ) (lo m hi : ℤ) → lo ≤ℤ m → m ≤ℤ hi → sum_between f lo hi ≡ sum_between f lo m + sum_between f m hi
 sum_between_split f lo m hi low high =
-    let whole : span_len lo hi ≡ span_len lo m + span_len m hi = omega (arith, ints) in
-    let at : lo +ℤ pos (span_len lo m) ≡ m = omega (arith, ints) in
+    let whole : span_len lo hi ≡ span_len lo m + span_len m hi = omega (arith, ints, clamps) in
+    let at : lo +ℤ pos (span_len lo m) ≡ m = omega (arith, ints, clamps) in
     ap (sum_from f lo) whole ∙ (sum_from-+ f lo (span_len lo m) (span_len m hi) ∙ ap (λ z. sum_from f lo (span_len lo m) + sum_from f z (span_len m hi)) at)
 
 pub sum_from_same : (f g : ℤ → ℕ) (lo : ℤ) (n : ℕ) → ((k : ℕ) → k < n → f (lo +ℤ pos k) ≡ g (lo +ℤ pos k)) → sum_from f lo n ≡ sum_from g lo n
@@ -25,7 +25,7 @@ sum_from_same f g lo (suc n) each =
     ap (λ s. s + f (lo +ℤ pos n)) (sum_from_same f g lo n (λ k lt. each k (omega arith))) ∙ ap (λ s. sum_from g lo n + s) (each n (omega arith))
 
 pub sum_between_same : (f g : ℤ → ℕ) (lo hi : ℤ) → lo ≤ℤ hi → ((x : ℤ) → lo ≤ℤ x → x <ℤ hi → f x ≡ g x) → sum_between f lo hi ≡ sum_between g lo hi
-sum_between_same f g lo hi ordered each = sum_from_same f g lo (span_len lo hi) (λ k lt. each (lo +ℤ pos k) (omega (arith, ints)) (omega (arith, ints)))
+sum_between_same f g lo hi ordered each = sum_from_same f g lo (span_len lo hi) (λ k lt. each (lo +ℤ pos k) (omega (arith, ints, clamps)) (omega (arith, ints, clamps)))
 
 pub sum_from_const : (c lo : ℤ) (v n : ℕ) → sum_from (λ x. v) lo n ≡ n * v
 unfolding sum_from

@@ -23,24 +23,24 @@ read32_is z fits = to_z-of_z w32 z fits
 
 -- what lies between two numbers that fit, fits
 pub fits_between : (lo hi z : ℤ) → FitsSigned w64 lo → FitsSigned w64 hi → lo ≤ℤ z → z ≤ℤ hi → FitsSigned w64 z
-fits_between lo hi z low high l h = omega (arith, ints)
+fits_between lo hi z low high l h = omega (arith, ints, clamps)
 
 -- a coordinate fits 64 bits, and 32
 pub coordinate_fits : (z : ℤ) → lowest ≤ℤ z → z ≤ℤ highest → FitsSigned w64 z
-coordinate_fits z low high = omega (arith, ints)
+coordinate_fits z low high = omega (arith, ints, clamps)
 
 pub coordinate_fits32 : (z : ℤ) → lowest ≤ℤ z → z ≤ℤ highest → FitsSigned w32 z
-coordinate_fits32 z low high = omega (arith, ints)
+coordinate_fits32 z low high = omega (arith, ints, clamps)
 
 -- the length of a side is the difference of its ends
 pub side_is : (a b : ℤ) → lowest ≤ℤ a → a ≤ℤ b → b ≤ℤ highest → read (b -ℤ a) ≡ pos (span_len a b)
-side_is a b low wide high = omega (arith, ints)
+side_is a b low wide high = omega (arith, ints, clamps)
 
 pub side_short : (a b : ℤ) → lowest ≤ℤ a → a ≤ℤ b → b ≤ℤ highest → span_len a b ≤ 2 ^ 31
-side_short a b low wide high = omega (arith, ints)
+side_short a b low wide high = omega (arith, ints, clamps)
 
 pub pos_fits : (n : ℕ) → n < 2 ^ 63 → FitsSigned w64 (pos n)
-pos_fits n small = omega (arith, ints)
+pos_fits n small = omega (arith, ints, clamps)
 
 pub not_le : (a b : ℤ) → int_le b a ≡ false → a <ℤ b
 not_le a b above = grind (arith, ints)
@@ -64,10 +64,10 @@ area_is a b c d l1 w1 h1 l2 w2 h2 =
     read_is _ (area_fits a b c d l1 w1 h1 l2 w2 h2) ∙ rw (side_is a b l1 w1 h1, side_is c d l2 w2 h2) refl
 
 pub lt_le : (a b : ℤ) → a <ℤ b → a ≤ℤ b
-lt_le a b h = omega (arith, ints)
+lt_le a b h = omega (arith, ints, clamps)
 
 pub le_trans : (a b c : ℤ) → a ≤ℤ b → b ≤ℤ c → a ≤ℤ c
-le_trans a b c h k = omega (arith, ints)
+le_trans a b c h k = omega (arith, ints, clamps)
 
 pub is_lt : (a b : ℤ) → int_lt a b ≡ true → a <ℤ b
 is_lt a b h = grind (arith, ints)

@@ -1,4 +1,5 @@
 -- Sums over whole numbers in a row, by which areas and lengths are counted.
+use Rattle.std.specs.Int.{int_max}
 use Rattle.std.specs.Prelude.{ℕ, zero, suc, ◌+◌, ℤ, pos, ◌+ℤ◌, ◌-ℤ◌, unsigned_abs, Bool, cond, ◌&&◌, int_le, int_lt, ◌≡◌, ◌≤ℤ◌, ◌<ℤ◌}
 
 -- the sum of `f` at `n` numbers in a row from `lo` on
@@ -6,9 +7,9 @@ unfoldable pub sum_from : (ℤ → ℕ) → ℤ → ℕ → ℕ
 sum_from f lo zero = 0
 sum_from f lo (suc n) = sum_from f lo n + f (lo +ℤ pos n)
 
--- how many whole numbers lie from `lo` on and below `hi`, where `lo` is at most `hi`
+-- how many whole numbers lie from `lo` on and below `hi`: none where `hi` is below `lo`
 abbrev pub span_len : ℤ → ℤ → ℕ
-span_len lo hi = unsigned_abs (hi -ℤ lo)
+span_len lo hi = unsigned_abs (int_max lo hi -ℤ lo)
 
 -- the sum of `f` at the numbers from `lo` on and below `hi`
 abbrev pub sum_between : (ℤ → ℕ) → ℤ → ℤ → ℕ

@@ -4,3 +4,4 @@ pub mod Limits
 pub mod Sides
 pub mod Squares
 pub mod Sequence
+pub mod Edges

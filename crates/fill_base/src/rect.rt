@@ -23,7 +23,7 @@ pub const HIGHEST: i64 = 1_073_741_824;
 
 /// A rectangle of at least one unit square, in database units. It holds the squares `(x, y)` with
 /// `x1 <= x < x2` and `y1 <= y < y2`. Its edges are kept in four bytes each, which hold every coordinate.
-#[derive(Clone, Copy, Debug, PartialEq, Eq)]
+#[derive(Clone, Copy, Debug)]
 pub struct Rect {
     x1: i32,
     y1: i32,
@@ -35,6 +35,28 @@ pub struct Rect {
     pub ghost bottom: { lowest ≤ℤ y1 },
     pub ghost right: { x2 ≤ℤ highest },
     pub ghost top: { y2 ≤ℤ highest },
+}
+
+impl PartialEq for Rect {
+    ghost use Rattle.fill_base.specs.Edges.{same_edges, edges_partial_equivalence};
+
+    ghost eq = { same_edges };
+
+    ghost laws = { edges_partial_equivalence };
+
+    /// Whether both rectangles have the same four edges.
+    fn eq(&self, other: &Rect) -> bool
+        ensures eq { result ≡ same_edges self.now other.now }
+        ensures same { IsTrue result ↔ ((self.now.x1 ≡ other.now.x1) × (self.now.y1 ≡ other.now.y1) × (self.now.x2 ≡ other.now.x2) × (self.now.y2 ≡ other.now.y2)) }
+    {
+        self.x1 == other.x1 && self.y1 == other.y1 && self.x2 == other.x2 && self.y2 == other.y2
+    }
+}
+
+impl Eq for Rect {
+    ghost use Rattle.fill_base.specs.Edges.{edges_equivalence};
+
+    ghost laws = { edges_equivalence };
 }
 
 /// Whether a number is a coordinate: from -2^30 to 2^30.

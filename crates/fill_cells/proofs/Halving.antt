@@ -1,6 +1,6 @@
 -- The area in both halves of a rectangle.
 use Rattle.std.proofs.Common.{◌≡◌, Bool, true, ℕ, ◌+◌, ◌*◌, ◌^◌, ◌≤◌, ◌<◌, ℤ, pos, ◌+ℤ◌, ◌≤ℤ◌, ◌<ℤ◌, List, refl, arith, ap, ◌∙◌, cond, w64, FitsSigned}
-use Rattle.std.proofs.lemmas.Int.{ints}
+use Rattle.std.proofs.lemmas.Int.{ints, clamps}
 use Rattle.fill_base.specs.declared.rect.Rect.{Rect}
 use Rattle.fill_base.specs.Coordinates.{lowest, highest}
 use Rattle.fill_base.specs.Counts.{span_len, count_between}
@@ -25,16 +25,16 @@ pub area_split_up : (p : ℤ → ℤ → Bool) (left right bottom mid top : ℤ)
 area_split_up p left right bottom mid top low high = sum_between_split (λ y. count_between (λ x. p x y) left right) bottom mid top low high
 
 shorter : (a m b c d : ℤ) → a <ℤ m → m <ℤ b → span_len a m + span_len c d < span_len a b + span_len c d
-shorter a m b c d low high = omega (arith, ints)
+shorter a m b c d low high = omega (arith, ints, clamps)
 
 shorter_2 : (a m b c d : ℤ) → a <ℤ m → m <ℤ b → span_len m b + span_len c d < span_len a b + span_len c d
-shorter_2 a m b c d low high = omega (arith, ints)
+shorter_2 a m b c d low high = omega (arith, ints, clamps)
 
 higher : (a m b c d : ℤ) → a <ℤ m → m <ℤ b → span_len c d + span_len a m < span_len c d + span_len a b
-higher a m b c d low high = omega (arith, ints)
+higher a m b c d low high = omega (arith, ints, clamps)
 
 higher_2 : (a m b c d : ℤ) → a <ℤ m → m <ℤ b → span_len c d + span_len m b < span_len c d + span_len a b
-higher_2 a m b c d low high = omega (arith, ints)
+higher_2 a m b c d low high = omega (arith, ints, clamps)
 
 pub halves_across : (whole a b : Rect) (m : ℤ) → whole.x1 <ℤ m → m <ℤ whole.x2
     → (a.x1 ≡ whole.x1) × (a.y1 ≡ whole.y1) × (a.x2 ≡ m) × (a.y2 ≡ whole.y2)
@@ -78,7 +78,7 @@ summed w u v m n is small m_is n_is =
     let u_read : read m ≡ pos u = rw m_is (read_is (pos u) (pos_fits u (omega (arith, is, small)))) in
     let v_read : read n ≡ pos v = rw n_is (read_is (pos v) (pos_fits v (omega (arith, is, small)))) in
     let fits : FitsSigned w64 (pos u +ℤ pos v) = pos_fits (u + v) (omega (arith, is, small)) in
-    let whole : pos u +ℤ pos v ≡ pos w = omega (arith, ints, is) in
+    let whole : pos u +ℤ pos v ≡ pos w = omega (arith, ints, clamps, is) in
     rw (u_read, v_read) (fits, read_is (pos u +ℤ pos v) fits ∙ whole)
 
 -- both halves' areas, as the code adds them

@@ -1,7 +1,7 @@
 -- The cells of a row put one after another.
 use Rattle.std.proofs.Common.{◌≡◌, Bool, true, false, ◌&&◌, ℕ, ◌+◌, ◌-◌, ◌^◌, ◌≤◌, ◌<◌, ℤ, pos, ◌≤ℤ◌, ◌<ℤ◌, List, [], ◌∷◌, ◌++◌, length, get_or, set, refl, arith, ap, ◌∙◌, sym, subst}
 use Rattle.std.specs.Global.{Vec}
-use Rattle.std.proofs.lemmas.Int.{ints}
+use Rattle.std.proofs.lemmas.Int.{ints, clamps}
 use Rattle.std.proofs.lemmas.List.{get_or_default, get_or-set_other, get_or_append_left, length-append, length-set}
 use Rattle.std.proofs.Math.Seq.{get_or-append_seam}
 use Rattle.fill_area.proofs.Begun.{by_lt}
@@ -104,7 +104,7 @@ cell_is across row part from to area i p rects list cells cell lines i_in left r
         rw (is_between_true row.x1 row.x2 x low high, is_between_true row.y1 row.y2 y (rw (bottom, ← edges.1) held.2) (rw (top, ← edges.3) held.3)) refl
       where
         lt_le_trans : (a b c : ℤ) → a <ℤ b → b ≤ℤ c → a <ℤ c
-        lt_le_trans a b c h k = omega (arith, ints)
+        lt_le_trans a b c h k = omega (arith, ints, clamps)
 
     within : (x y : ℤ) → squares part x y ≡ true → covered list x y ≡ p x y
     within x y inside = ap (λ zs. covered zs x y) (items ∙ ap (λ (v : Vec Rect). v.items) item)

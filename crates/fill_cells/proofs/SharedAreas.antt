@@ -3,7 +3,7 @@ use Rattle.std.proofs.Common.{◌≡◌, ℕ, ◌+◌, ◌^◌, ◌≤◌, ◌<�
 use Rattle.std.specs.Prelude.{int_lt}
 use Rattle.std.proofs.lemmas.List.{take_more}
 use Rattle.std.proofs.lemmas.Bool.{and_from, and_parts}
-use Rattle.std.proofs.lemmas.Int.{ints}
+use Rattle.std.proofs.lemmas.Int.{ints, clamps}
 use Rattle.fill_base.specs.declared.rect.Rect.{Rect}
 use Rattle.fill_base.specs.Counts.{is_between, count_between}
 use Rattle.fill_base.specs.Squares.{area_of, area_between, squares}
@@ -69,13 +69,13 @@ lies_in r w part each =
         and_parts _ _ (and_parts (squares r x y) (squares w x y) (sym (each x y) ∙ and_from _ _ (is_between_true part.x1 part.x2 x left right) (is_between_true part.y1 part.y2 y bottom top))).1
 
     first : (a b : ℤ) → a <ℤ b → a ≤ℤ a
-    first a b h = omega (arith, ints)
+    first a b h = omega (arith, ints, clamps)
 
     last : (a b : ℤ) → a <ℤ b → (a ≤ℤ (b -ℤ pos 1)) × ((b -ℤ pos 1) <ℤ b)
-    last a b h = (omega (arith, ints), omega (arith, ints))
+    last a b h = (omega (arith, ints, clamps), omega (arith, ints, clamps))
 
     reached : (a b : ℤ) → (a -ℤ pos 1) <ℤ b → a ≤ℤ b
-    reached a b h = omega (arith, ints)
+    reached a b h = omega (arith, ints, clamps)
 
 -- the area of what a rectangle has of a set in a window
 pub hidden_part : (p : ℤ → ℤ → Bool) (r w part : Rect) → ((x y : ℤ) → squares part x y ≡ squares r x y && squares w x y)
@@ -148,7 +148,7 @@ none_shared a b met meets none x y = is_no (squares a x y && squares b x y) (λ 
     is_no false h = refl
 
     over : (p q z : ℤ) → p ≤ℤ z → z <ℤ q → p <ℤ q
-    over p q z le lt = omega (arith, ints)
+    over p q z le lt = omega (arith, ints, clamps)
 
     within : (squares a x y ≡ true) × (squares b x y ≡ true) → met ≡ true
     within both =

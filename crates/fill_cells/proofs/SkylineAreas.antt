@@ -6,7 +6,7 @@ use Rattle.std.specs.List.{AllWithin}
 use Rattle.std.specs.List.Sorted.{IsPartitionedBy, IsPartitionPoint, IsPermutation}
 use Rattle.std.proofs.Math.Bool.{and_comm, or-false}
 use Rattle.std.proofs.lemmas.Bool.{and_from, and_parts}
-use Rattle.std.proofs.lemmas.Int.{ints, by_lt_z}
+use Rattle.std.proofs.lemmas.Int.{ints, clamps, by_lt_z}
 use Rattle.std.proofs.lemmas.List.{get_or_default, get_or-take, get_or-drop, length-take-le, length-drop, take-append-drop, take_more, take_all}
 use Rattle.std.proofs.lemmas.List.Folds.{list_any-append, list_any_none}
 use Rattle.std.proofs.lemmas.List.Sorted.{list_any-IsPermutation}
@@ -66,7 +66,7 @@ counted_next towers column count k n t apart counted lt item n_is = either (int_
     here i d is = rw is (at_k d)
 
     not_both : (a b c m : ℤ) → m <ℤ a → a ≤ℤ b → b <ℤ c → c ≤ℤ m → ⊥
-    not_both a b c m h k l p = omega (arith, ints)
+    not_both a b c m h k l p = omega (arith, ints, clamps)
 
     either : (e : Bool) → int_le t.x2 column ≡ e → IsCounted towers column (count + n) (k + 1)
     either true is =
@@ -103,7 +103,7 @@ in_lines : (r : Rect) (x y : ℤ) → squares r x y ≡ true → (r.y1 ≤ℤ y)
 in_lines r x y here = is_between_bounds r.y1 r.y2 y (and_parts (is_between r.x1 r.x2 x) (is_between r.y1 r.y2 y) here).1
 
 lt_le_lt : (a b c : ℤ) → a <ℤ b → b ≤ℤ c → a <ℤ c
-lt_le_lt a b c h k = omega (arith, ints)
+lt_le_lt a b c h k = omega (arith, ints, clamps)
 
 -- no tower that ends at a column or left of it has a square there
 pub left_of : (towers : List Rect) (k : ℕ) (x y : ℤ) → k ≤ length towers → ((j : ℕ) (d : Rect) → j < k → (get_or towers j d).x2 ≤ℤ x) → covered (take k towers) x y ≡ false
@@ -162,7 +162,7 @@ added_in p r m n m_is n_is = less (area_of (λ x y. not (p x y)) r) (area_of (sq
     less w u v is small m_is n_is =
         let u_read : read m ≡ pos u = rw m_is (read_is (pos u) (pos_fits u (omega (arith, small)))) in
         let v_read : read n ≡ pos v = rw n_is (read_is (pos v) (pos_fits v (omega (arith, is, small)))) in
-        let left : pos u -ℤ pos v ≡ pos w = omega (arith, ints, is) in
+        let left : pos u -ℤ pos v ≡ pos w = omega (arith, ints, clamps, is) in
         rw (u_read, v_read, left) (read_is (pos w) (pos_fits w (omega (arith, is, small))))
 
 -- what a rectangle has in the part

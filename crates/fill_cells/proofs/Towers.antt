@@ -7,7 +7,7 @@ use Rattle.std.proofs.lemmas.Bool.{and_parts}
 use Rattle.fill_base.proofs.Signed.{read, read_is, is_lt, not_lt, not_le}
 use Rattle.fill_cells.proofs.Lists.{edge_is}
 use Rattle.std.specs.List.{insert}
-use Rattle.std.proofs.lemmas.Int.{ints}
+use Rattle.std.proofs.lemmas.Int.{ints, clamps}
 use Rattle.std.proofs.lemmas.List.{take-append-drop, drop-drop, drop_more, take-set-le, drop-set, append_assoc, get_or-append-add, length-append, get_or_append_left, get_or-append_right, get_or_default, get_or-drop, length-take-le, length-drop, set-append_right}
 use Rattle.std.proofs.lemmas.List.Edits.{insert-append_right}
 use Rattle.std.proofs.lemmas.List.Elements.{All-append, All-cons}
@@ -27,7 +27,7 @@ abbrev Left : Rect → Rect → Type 0
 Left a b = a.x2 ≤ℤ b.x1
 
 le_trans : (a b c : ℤ) → a ≤ℤ b → b ≤ℤ c → a ≤ℤ c
-le_trans a b c h k = omega (arith, ints)
+le_trans a b c h k = omega (arith, ints, clamps)
 
 -- towers left of a column and towers right of it
 joined : (A C : List Rect) (m : ℤ) → AreApart A → AreApart C → All (λ q. q.x2 ≤ℤ m) A → All (λ q. m ≤ℤ q.x1) C → AreApart (A ++ C)
@@ -94,10 +94,10 @@ pub record Ends (line m : ℤ) (A : List Rect) : Type 0 where
   pub begun : All (λ q. q.y1 ≤ℤ line) A
 
 le_lt_le : (a b c d : ℤ) → a ≤ℤ b → b <ℤ c → c ≤ℤ d → a ≤ℤ d
-le_lt_le a b c d h k l = omega (arith, ints)
+le_lt_le a b c d h k l = omega (arith, ints, clamps)
 
 le_lt : (a b c : ℤ) → a ≤ℤ b → b <ℤ c → a <ℤ c
-le_lt a b c h k = omega (arith, ints)
+le_lt a b c h k = omega (arith, ints, clamps)
 
 one_more : (line m : ℤ) (q : Rect) (D : List Rect) → m ≤ℤ q.x1 → q.y1 ≤ℤ line → Stands line q.x2 D → Stands line m (q ∷ D)
 one_more line m q D from begun rest = record {
@@ -138,10 +138,10 @@ weaker : (line m n : ℤ) (D : List Rect) → n ≤ℤ m → Stands line m D →
 weaker line m n D le stands = record { apart = stands.apart; from = λ k d lt. le_trans n m (get_or D k d).x1 le (stands.from k d lt); begun = stands.begun }
 
 self : (z : ℤ) → z ≤ℤ z
-self z = omega (arith, ints)
+self z = omega (arith, ints, clamps)
 
 pub lt_le : (a b : ℤ) → a <ℤ b → a ≤ℤ b
-lt_le a b h = omega (arith, ints)
+lt_le a b h = omega (arith, ints, clamps)
 
 same_le : (a b : ℤ) → a ≡ b → a ≤ℤ b
 same_le a b is = rw is (self b)
@@ -596,7 +596,7 @@ all_hidden rect old met hidden right within is = is ∙ ap (λ n. pos n) (sym (s
     (λ x y here. right_of old met x y (λ j d from inside. lt_le_lt x rect.x2 (get_or old j d).x1 (in_rect x y here) (later j d from inside)))))
   where
     lt_le_lt : (a b c : ℤ) → a <ℤ b → b ≤ℤ c → a <ℤ c
-    lt_le_lt a b c h k = omega (arith, ints)
+    lt_le_lt a b c h k = omega (arith, ints, clamps)
 
     in_rect : (x y : ℤ) → squares rect x y ≡ true → x <ℤ rect.x2
     in_rect x y here = (is_between_bounds rect.x1 rect.x2 x (and_parts (is_between rect.x1 rect.x2 x) (is_between rect.y1 rect.y2 y) here).0).1

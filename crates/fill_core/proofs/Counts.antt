@@ -2,7 +2,7 @@
 use Rattle.std.proofs.Common.{◌≡◌, refl, ◌∙◌, ℕ, ◌+◌, ◌*◌, ◌≤◌, ℤ, ◌≤ℤ◌, ◌<ℤ◌, arith, inl, inr, ◌⊎◌, List, [], ◌∷◌, ◌++◌, length, Bool, true, false, cond, ◌&&◌, ◌||◌, not}
 use Rattle.std.specs.Prelude.{◌==◌}
 use Rattle.std.proofs.lemmas.Bool.{cases_Bool, and_parts}
-use Rattle.std.proofs.lemmas.Int.{ints}
+use Rattle.std.proofs.lemmas.Int.{ints, clamps}
 use Rattle.std.proofs.lemmas.List.{length_push}
 use Rattle.std.proofs.lemmas.List.Sums.{sum_by-cons}
 use Rattle.std.proofs.Math.Nat.{mul_comm}
@@ -193,7 +193,7 @@ count_in_part p left right a c low some high none =
     middle (count_between p left right) (count_between p left a) (count_between p a right) (count_between p a c) (count_between p c right) (span_len left a) (span_len c right) whole rest before after
   where
     up : (a c right : ℤ) → a ≤ℤ c → c ≤ℤ right → a ≤ℤ right
-    up a c right h k = omega (arith, ints)
+    up a c right h k = omega (arith, ints, clamps)
 
     middle : (w b r m t x y : ℕ) → w ≡ b + r → r ≡ m + t → b ≡ x * 0 → t ≡ y * 0 → w ≡ m
     middle w b r m t x y whole rest before after = omega (arith, whole, rest, before, after)
@@ -207,14 +207,14 @@ sum_in_part f bottom top b d low some high none =
     middle (sum_between f bottom top) (sum_between f bottom b) (sum_between f b top) (sum_between f b d) (sum_between f d top) (span_len bottom b) (span_len d top) whole rest before after
   where
     up : (a c right : ℤ) → a ≤ℤ c → c ≤ℤ right → a ≤ℤ right
-    up a c right h k = omega (arith, ints)
+    up a c right h k = omega (arith, ints, clamps)
 
     middle : (w b r m t x y : ℕ) → w ≡ b + r → r ≡ m + t → b ≡ x * 0 → t ≡ y * 0 → w ≡ m
     middle w b r m t x y whole rest before after = omega (arith, whole, rest, before, after)
 
 outside : (lo hi x : ℤ) → (x <ℤ lo ⊎ hi ≤ℤ x) → is_between lo hi x ≡ true → ⊥
-outside lo hi x (inl below) is = let b = is_between_bounds lo hi x is in let l = b.0 in omega (arith, ints)
-outside lo hi x (inr above) is = let b = is_between_bounds lo hi x is in let h = b.1 in omega (arith, ints)
+outside lo hi x (inl below) is = let b = is_between_bounds lo hi x is in let l = b.0 in omega (arith, ints, clamps)
+outside lo hi x (inr above) is = let b = is_between_bounds lo hi x is in let h = b.1 in omega (arith, ints, clamps)
 
 not_true : (b : Bool) → (b ≡ true → ⊥) → b ≡ false
 not_true true h = absurd (h refl)
@@ -229,7 +229,7 @@ counted_in_part p left bottom right top a b c d part inside =
     rows ∙ sum_between_same (λ y. count_between (λ x. p x y) left right) (λ y. count_between (λ x. p x y) a c) b d part.rows (λ y l h. row y)
   where
     wide : (left a c right : ℤ) → left ≤ℤ a → a ≤ℤ c → c ≤ℤ right → left ≤ℤ right
-    wide left a c right h k l = omega (arith, ints)
+    wide left a c right h k l = omega (arith, ints, clamps)
 
     empty : (y : ℤ) → ((x : ℤ) → left ≤ℤ x → x <ℤ right → p x y ≡ false) → count_between (λ x. p x y) left right ≡ 0
     empty y none = let e = count_between_const (λ x. p x y) left right false (wide left a c right part.from_left part.columns part.to_right) none in omega (arith, e)

@@ -4,11 +4,15 @@ use Rattle.fill_base.specs.Squares.{area_between}
 use Rattle.fill_area.specs.Density.{window_area}
 use Rattle.fill_raster.specs.Axes.{first, past}
 use Rattle.fill_raster.specs.Lattice.{Lattice, box_squares}
-use Rattle.fill_job.specs.Plans.{Plan, PointSet}
+use Rattle.fill_job.specs.Plans.{Layers, Plan, PointSet, allowed, in_window_of, low_windows}
 use Rattle.fill_job.specs.Searches.{some_within}
 
 abbrev pub no_places : PointSet
 no_places i j = false
+
+-- all places that may be filled and whose box lies wholly in a window that is low in the metal
+abbrev pub low_fill : Plan → Layers → PointSet
+low_fill plan layers i j = allowed plan layers i j && in_window_of plan (low_windows plan layers.metal) i j
 
 -- the squares of a set, and those of the boxes of some places of the raster
 abbrev pub with_boxes : Plan → PointSet → PointSet → PointSet

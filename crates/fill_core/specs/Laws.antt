@@ -8,7 +8,7 @@ use Rattle.fill_raster.specs.declared.block.Block.{Block}
 use Rattle.fill_size.specs.Distance.{InConflict}
 use Rattle.fill_job.specs.Plans.{Plan, IsPlan, Layers, PointSet, allowed, in_window_of, low_windows, plan_of, wanted}
 use Rattle.fill_core.specs.Accounts.{Account, IsKeeping, IsLegal, state_of, with_entry}
-use Rattle.fill_core.specs.Boxes.{count_places, total_in, with_boxes}
+use Rattle.fill_core.specs.Boxes.{count_places, low_fill, total_in, with_boxes}
 use Rattle.fill_core.specs.Histories.{edits_in, placed_in, withdrawn_in}
 use Rattle.fill_core.specs.Machine.{State, IsComplete, opening, step, reply_of, replay, replies}
 use Rattle.fill_core.specs.Soundness.{IsSound}
@@ -63,7 +63,7 @@ CompleteFill = (plan : Plan) (layers : Layers) (events : List Event) → IsPlan 
 -- without edits, that is what may be filled in windows that are low in the metal alone: the same in whatever order the tiles came
 abbrev pub CompleteFillWithoutEdits : Type 0
 CompleteFillWithoutEdits = (plan : Plan) (layers : Layers) (events : List Event) → IsPlan plan → edits_in events ≡ [] → let s = replay plan layers events in
-    IsComplete plan s → s.fill ≡ (λ i j. allowed plan layers i j && in_window_of plan (low_windows plan layers.metal) i j)
+    IsComplete plan s → s.fill ≡ low_fill plan layers
 
 -- the filled places are as many as were placed, less those taken out
 abbrev pub CountIsPlacedLessWithdrawn : Type 0

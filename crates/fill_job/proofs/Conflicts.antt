@@ -2,7 +2,7 @@
 use Rattle.std.proofs.Common.{◌≡◌, sym, ℕ, ◌<◌, ℤ, pos, ◌+ℤ◌, ◌-ℤ◌, ◌≤ℤ◌, ◌<ℤ◌, arith, Bool, true, ◌↔◌}
 use Rattle.std.specs.Prelude.{IsTrue}
 use Rattle.std.proofs.lemmas.Bool.{and_from, and_parts}
-use Rattle.std.proofs.lemmas.Int.{ints}
+use Rattle.std.proofs.lemmas.Int.{ints, clamps}
 use Rattle.fill_base.specs.Counts.{span_len}
 use Rattle.fill_base.specs.Limits.{IsLength, IsSpacing}
 use Rattle.fill_base.proofs.Between.{is_between_true, is_between_bounds}
@@ -17,10 +17,10 @@ use Rattle.fill_job.specs.Laws.{BlockedIsSharing, ConflictsAreOfSquares}
 use Rattle.fill_job.proofs.Searching.{some_below_finds, some_below_has}
 
 step_from : (lo hi x : ℤ) → lo ≤ℤ x → x <ℤ hi → (span_len lo x < span_len lo hi) × (lo +ℤ pos (span_len lo x) ≡ x)
-step_from lo hi x low high = (omega (arith, ints), omega (arith, ints))
+step_from lo hi x low high = (omega (arith, ints, clamps), omega (arith, ints, clamps))
 
 step_in : (lo hi : ℤ) (n : ℕ) → lo ≤ℤ hi → n < span_len lo hi → (lo ≤ℤ (lo +ℤ pos n)) × ((lo +ℤ pos n) <ℤ hi)
-step_in lo hi n ordered lt = (omega (arith, ints), omega (arith, ints))
+step_in lo hi n ordered lt = (omega (arith, ints, clamps), omega (arith, ints, clamps))
 
 -- a search between four edges finds a square where there is one
 pub some_within_decides : (p : ℤ → ℤ → Bool) (left bottom right top : ℤ) → left ≤ℤ right → bottom ≤ℤ top → IsTrue (some_within p left bottom right top) ↔ HasSquare p left bottom right top
@@ -41,16 +41,16 @@ some_within_decides p left bottom right top wide tall = (
 )
 
 some_wide : (b n : ℤ) → IsLength n → b <ℤ (b +ℤ n)
-some_wide b n long = let l : pos 1 ≤ℤ n = long.least in omega (arith, ints)
+some_wide b n long = let l : pos 1 ≤ℤ n = long.least in omega (arith, ints, clamps)
 
 pub grown_le : (b e s : ℤ) → b <ℤ e → pos 0 ≤ℤ s → (b -ℤ s) ≤ℤ (e +ℤ s)
-grown_le b e s lt some = omega (arith, ints)
+grown_le b e s lt some = omega (arith, ints, clamps)
 
 low_end : (x u lo s : ℤ) → lo ≤ℤ x → (x -ℤ u) ≤ℤ s → (lo -ℤ s) ≤ℤ u
-low_end x u lo s a b = omega (arith, ints)
+low_end x u lo s a b = omega (arith, ints, clamps)
 
 high_end : (x u hi s : ℤ) → x <ℤ hi → (u -ℤ x) ≤ℤ s → u <ℤ (hi +ℤ s)
-high_end x u hi s a b = omega (arith, ints)
+high_end x u hi s a b = omega (arith, ints, clamps)
 
 -- a set has a square in a grown box where it is in conflict with the box
 pub near_box : (r : Lattice) (s : ℤ) (p : PointSet) (i j : ℤ) → IsLattice r → IsSpacing s
@@ -100,13 +100,13 @@ conflict_of_squares plan p i j is = met_of_squares plan.raster plan.spacing p i 
 -- ---- no distance at all
 
 pub no_spacing : IsSpacing (pos 0)
-no_spacing = record { least = omega (arith, ints); most = omega (arith, ints) }
+no_spacing = record { least = omega (arith, ints, clamps); most = omega (arith, ints, clamps) }
 
 same_number : (x u : ℤ) → IsNear (pos 0) x u → u ≡ x
-same_number x u n = let a : (x -ℤ u) ≤ℤ pos 0 = n.above in let b : (u -ℤ x) ≤ℤ pos 0 = n.below in omega (arith, ints)
+same_number x u n = let a : (x -ℤ u) ≤ℤ pos 0 = n.above in let b : (u -ℤ x) ≤ℤ pos 0 = n.below in omega (arith, ints, clamps)
 
 no_further : (x : ℤ) → IsNear (pos 0) x x
-no_further x = record { above = omega (arith, ints); below = omega (arith, ints) }
+no_further x = record { above = omega (arith, ints, clamps); below = omega (arith, ints, clamps) }
 
 -- sets are in conflict at no distance where they share a square
 pub shared : (p q : PointSet) → InConflict p q (pos 0) ↔ ShareASquare p q

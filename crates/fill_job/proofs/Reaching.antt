@@ -26,7 +26,7 @@ use Rattle.fill_job.proofs.Conflicts.{some_within_decides, grown_le}
 use Rattle.fill_job.proofs.LowWindows.{both_or_none}
 
 some_wide : (b n : ℤ) → IsLength n → b <ℤ (b +ℤ n)
-some_wide b n long = let l : pos 1 ≤ℤ n = long.least in omega (arith, ints)
+some_wide b n long = let l : pos 1 ≤ℤ n = long.least in omega (arith, ints, clamps)
 
 -- a set meets a box where it has a square in the grown box
 met_found : (r : Lattice) (s : ℤ) (p : PointSet) (i j : ℤ) → IsLattice r → IsSpacing s
@@ -48,22 +48,22 @@ box_within r i j is on =
     (le_le _ _ _ is.across.least low, le_le _ _ _ high is.across.most)
   where
     le_le : (a b c : ℤ) → a ≤ℤ b → b ≤ℤ c → a ≤ℤ c
-    le_le a b c h k = omega (arith, ints)
+    le_le a b c h k = omega (arith, ints, clamps)
 
 place_in : (left right : ℤ) (a : ℕ) → left <ℤ right → a < span_len left right → is_between left right (left +ℤ pos a) ≡ true
-place_in left right a some lt = is_between_true left right (left +ℤ pos a) (omega (arith, ints)) (omega (arith, ints))
+place_in left right a some lt = is_between_true left right (left +ℤ pos a) (omega (arith, ints, clamps)) (omega (arith, ints, clamps))
 
 grown_within : (lo hi s : ℤ) → lowest ≤ℤ lo → hi ≤ℤ highest → pos 0 ≤ℤ s → s ≤ℤ pos 1048576 → ((pos 0 -ℤ pos (2 ^ 31)) ≤ℤ (lo -ℤ s)) × ((hi +ℤ s) ≤ℤ pos (2 ^ 31))
-grown_within lo hi s low high least most = (omega (arith, ints), omega (arith, ints))
+grown_within lo hi s low high least most = (omega (arith, ints, clamps), omega (arith, ints, clamps))
 
 grown_some : (lo n s : ℤ) → IsLength n → pos 0 ≤ℤ s → (lo -ℤ s) <ℤ ((lo +ℤ n) +ℤ s)
-grown_some lo n s long least = let l : pos 1 ≤ℤ n = long.least in omega (arith, ints)
+grown_some lo n s long least = let l : pos 1 ≤ℤ n = long.least in omega (arith, ints, clamps)
 
 box_rises : (a : Axis) (i k s : ℤ) → IsLength a.step → i ≤ℤ k → (box_begin a i -ℤ s) ≤ℤ (box_begin a k -ℤ s)
 box_rises a i k s step le = moved a.origin (i *ℤ a.step) (k *ℤ a.step) s (product_le i k a.step step.least le)
   where
     moved : (o m n s : ℤ) → m ≤ℤ n → ((o +ℤ m) -ℤ s) ≤ℤ ((o +ℤ n) -ℤ s)
-    moved o m n s h = omega (arith, ints)
+    moved o m n s h = omega (arith, ints, clamps)
 
 -- the columns that the boxes of a part of a row reach come one after the other
 pub reaches_rising : (r : Lattice) (s left right j : ℤ) (reaches : List (ℤ × ℤ)) → left <ℤ right → IsLattice r → IsSpacing s → ((i : ℤ) → is_between left right i ≡ true → in_raster r i j ≡ true)
@@ -71,7 +71,7 @@ pub reaches_rising : (r : Lattice) (s left right j : ℤ) (reaches : List (ℤ �
 reaches_rising r s left right j reaches some is spacing places are =
     record {
       some = λ a d lt. rw (are.each a d lt) (grown_some (box_begin r.across (left +ℤ pos a)) r.across.length s is.across.length_is spacing.least);
-      rising = λ a b d le lt. rw (are.each a d (omega arith), are.each b d lt) (box_rises r.across (left +ℤ pos a) (left +ℤ pos b) s is.across.step_is (omega (arith, ints)));
+      rising = λ a b d le lt. rw (are.each a d (omega arith), are.each b d lt) (box_rises r.across (left +ℤ pos a) (left +ℤ pos b) s is.across.step_is (omega (arith, ints, clamps)));
       least = λ a d lt. rw (are.each a d lt) (grown a (rw are.count at lt)).0;
       most = λ a d lt. rw (are.each a d lt) (grown a (rw are.count at lt)).1;
     }
@@ -85,21 +85,21 @@ reaches_rising r s left right j reaches some is spacing places are =
 pub lines_read : (r : Rect) (s y1 y2 : ℤ) → IsSpacing s → y1 ≡ r.y1 → y2 ≡ r.y2 → (read (read y1 -ℤ read s) ≡ r.y1 -ℤ s) × (read (read y2 +ℤ read s) ≡ r.y2 +ℤ s)
 lines_read r s y1 y2 is e1 e2 =
     let least = is.least in let most = is.most in let low = r.bottom in let tall = r.tall in let high = r.top in
-    let down : FitsSigned w64 (r.y1 -ℤ s) = omega (arith, ints) in
-    let up : FitsSigned w64 (r.y2 +ℤ s) = omega (arith, ints) in
+    let down : FitsSigned w64 (r.y1 -ℤ s) = omega (arith, ints, clamps) in
+    let up : FitsSigned w64 (r.y2 +ℤ s) = omega (arith, ints, clamps) in
     rw (e1, e2, read_y1 r, read_y2 r, spacing_read s is) (read_is _ down, read_is _ up)
 
 pub lines_fit : (r : Rect) (s y1 : ℤ) → IsSpacing s → y1 ≡ r.y1 → FitsSigned w64 (read y1 -ℤ read s)
 lines_fit r s y1 is e1 =
     let least = is.least in let most = is.most in let low = r.bottom in let tall = r.tall in let high = r.top in
-    let down : FitsSigned w64 (r.y1 -ℤ s) = omega (arith, ints) in
+    let down : FitsSigned w64 (r.y1 -ℤ s) = omega (arith, ints, clamps) in
     rw (e1, read_y1 r, spacing_read s is) down
 
 pub lines_ordered : (r : Rect) (s : ℤ) → IsSpacing s → (r.y1 -ℤ s) ≤ℤ (r.y2 +ℤ s)
 lines_ordered r s is = grown_le r.y1 r.y2 s r.tall is.least
 
 pub first_in : (left right : ℤ) → left <ℤ right → is_between left right left ≡ true
-first_in left right lt = is_between_true left right left (omega (arith, ints)) lt
+first_in left right lt = is_between_true left right left (omega (arith, ints, clamps)) lt
 
 -- the ranges that meet a set are those of the places whose boxes it meets
 pub met_places : (r : Lattice) (s : ℤ) (p : PointSet) (left right j : ℤ) (reaches : List (ℤ × ℤ)) (old new : List Bool) → IsLattice r → IsSpacing s → AreReaches r s left right reaches
@@ -134,19 +134,19 @@ taken_places plan layers left j n near taken count same metal keep a m lt =
 -- ---- the index of a place from the first of its part of a row
 
 pub no_index : (left : ℤ) → pos 0 ≡ left -ℤ left
-no_index left = omega (arith, ints)
+no_index left = omega (arith, ints, clamps)
 
 pub index_within : (left right i : ℤ) (index n : ℕ) → pos index ≡ i -ℤ left → i <ℤ right → n ≡ span_len left right → index < n
-index_within left right i index n is lt count = omega (arith, ints, count, is)
+index_within left right i index n is lt count = omega (arith, ints, clamps, count, is)
 
 pub index_place : (left i : ℤ) (index : ℕ) → pos index ≡ i -ℤ left → left +ℤ pos index ≡ i
-index_place left i index is = omega (arith, ints, is)
+index_place left i index is = omega (arith, ints, clamps, is)
 
 pub index_fits : (left right i : ℤ) (index : ℕ) → FitsSigned w64 left → FitsSigned w64 right → pos index ≡ i -ℤ left → i <ℤ right → Fits w64 (index + 1)
-index_fits left right i index fl fr is lt = omega (arith, ints, is)
+index_fits left right i index fl fr is lt = omega (arith, ints, clamps, is)
 
 pub next_index : (left i : ℤ) (index : ℕ) → pos index ≡ i -ℤ left → pos (index + 1) ≡ (i +ℤ pos 1) -ℤ left
-next_index left i index is = omega (arith, ints, is)
+next_index left i index is = omega (arith, ints, clamps, is)
 
 -- ---- the columns that boxes reach, one place after the other
 
@@ -154,19 +154,19 @@ pub no_reaches : (r : Lattice) (s left : ℤ) → AreReaches r s left left []
 no_reaches r s left = record { count = none left; each = λ a d lt. absurd (omega arith) }
   where
     none : (left : ℤ) → 0 ≡ span_len left left
-    none left = omega (arith, ints)
+    none left = omega (arith, ints, clamps)
 
 columns_read : (r : Rect) (s x1 x2 : ℤ) → IsSpacing s → x1 ≡ r.x1 → x2 ≡ r.x2 → (read (read x1 -ℤ read s) ≡ r.x1 -ℤ s) × (read (read x2 +ℤ read s) ≡ r.x2 +ℤ s)
 columns_read r s x1 x2 is e1 e2 =
     let least = is.least in let most = is.most in let low = r.left in let wide = r.wide in let high = r.right in
-    let down : FitsSigned w64 (r.x1 -ℤ s) = omega (arith, ints) in
-    let up : FitsSigned w64 (r.x2 +ℤ s) = omega (arith, ints) in
+    let down : FitsSigned w64 (r.x1 -ℤ s) = omega (arith, ints, clamps) in
+    let up : FitsSigned w64 (r.x2 +ℤ s) = omega (arith, ints, clamps) in
     rw (e1, e2, read_x1 r, read_x2 r, spacing_read s is) (read_is _ down, read_is _ up)
 
 pub columns_fit : (r : Rect) (s x1 : ℤ) → IsSpacing s → x1 ≡ r.x1 → FitsSigned w64 (read x1 -ℤ read s)
 columns_fit r s x1 is e1 =
     let least = is.least in let most = is.most in let low = r.left in let wide = r.wide in let high = r.right in
-    let down : FitsSigned w64 (r.x1 -ℤ s) = omega (arith, ints) in
+    let down : FitsSigned w64 (r.x1 -ℤ s) = omega (arith, ints, clamps) in
     rw (e1, read_x1 r, spacing_read s is) down
 
 abbrev pair : ℤ → ℤ → ℤ × ℤ
@@ -188,10 +188,10 @@ reach_more g left i reaches new r s x1 x2 are le is left_is right_is e1 e2 new_i
     }
   where
     place_of : (i : ℤ) (n : ℕ) → left ≤ℤ i → n ≡ span_len left i → i ≡ left +ℤ pos n
-    place_of i n le count = omega (arith, ints, count)
+    place_of i n le count = omega (arith, ints, clamps, count)
 
     longer : (n : ℕ) → left ≤ℤ i → n ≡ span_len left i → n + 1 ≡ span_len left (i +ℤ pos 1)
-    longer n le count = omega (arith, ints, count)
+    longer n le count = omega (arith, ints, clamps, count)
 
 pub reaches_all : (r : Lattice) (s left right i : ℤ) (reaches : List (ℤ × ℤ)) → left <ℤ right → i ≤ℤ int_max left right → right ≤ℤ i → AreReaches r s left i reaches → AreReaches r s left right reaches
 reaches_all r s left right i reaches some most past are = let is : i ≡ right = omega (arith, ints, clamps) in subst (λ x. AreReaches r s left x reaches) is are

@@ -1,7 +1,7 @@
 -- Searches through finite ranges.
 use Rattle.std.proofs.Common.{◌≡◌, refl, ap, ◌∙◌, ℕ, zero, suc, ◌<◌, ℤ, pos, ◌+ℤ◌, ◌≤ℤ◌, ◌<ℤ◌, arith, inl, inr, Bool, true, false, ◌||◌}
 use Rattle.std.proofs.lemmas.Bool.{cases_Bool}
-use Rattle.std.proofs.lemmas.Int.{ints}
+use Rattle.std.proofs.lemmas.Int.{ints, clamps}
 use Rattle.fill_base.specs.Counts.{span_len}
 use Rattle.fill_job.specs.Searches.{some_below, some_pair, some_within}
 
@@ -15,7 +15,7 @@ unfolding some_pair
 some_pair_same p q m n each = some_below_same (λ a. some_below (λ b. p a b) n) (λ a. some_below (λ b. q a b) n) m (λ a below. some_below_same (λ b. p a b) (λ b. q a b) n (λ b lt. each a b below lt))
 
 step_within : (lo hi : ℤ) (n : ℕ) → lo ≤ℤ hi → n < span_len lo hi → (lo ≤ℤ (lo +ℤ pos n)) × ((lo +ℤ pos n) <ℤ hi)
-step_within lo hi n ordered lt = (omega (arith, ints), omega (arith, ints))
+step_within lo hi n ordered lt = (omega (arith, ints, clamps), omega (arith, ints, clamps))
 
 pub some_within_same : (p q : ℤ → ℤ → Bool) (left bottom right top : ℤ) → left ≤ℤ right → bottom ≤ℤ top
     → ((x y : ℤ) → left ≤ℤ x → x <ℤ right → bottom ≤ℤ y → y <ℤ top → p x y ≡ q x y) → some_within p left bottom right top ≡ some_within q left bottom right top

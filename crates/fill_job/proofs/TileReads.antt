@@ -44,10 +44,10 @@ clamped lo hi l h b e le he some low high = (
 )
 
 index_between : (c d a : ℕ) → IsIndex c d a → is_between (pos c) (pos d) (pos a) ≡ true
-index_between c d a is = let x = is.0 in let y = is.1 in is_between_true (pos c) (pos d) (pos a) (omega (arith, ints)) (omega (arith, ints))
+index_between c d a is = let x = is.0 in let y = is.1 in is_between_true (pos c) (pos d) (pos a) (omega (arith, ints, clamps)) (omega (arith, ints, clamps))
 
 between_index : (c d a : ℕ) → is_between (pos c) (pos d) (pos a) ≡ true → IsIndex c d a
-between_index c d a h = let b = is_between_bounds (pos c) (pos d) (pos a) h in let x = b.0 in let y = b.1 in (omega (arith, ints), omega (arith, ints))
+between_index c d a h = let b = is_between_bounds (pos c) (pos d) (pos a) h in let x = b.0 in let y = b.1 in (omega (arith, ints, clamps), omega (arith, ints, clamps))
 
 axis_touched : (axis : Axis) (lo hi l h : ℤ) (c0 c1 a : ℕ) → IsAxis axis → l ≡ int_max (lo -ℤ pos 0) lowest → h ≡ int_min (hi +ℤ pos 0) highest → (IsIndex c0 c1 a ↔ IsTouching axis l h a)
     → is_between (pos c0) (pos c1) (pos a) ≡ nat_lt a axis.count && (int_lt (axis_begin axis a) hi && int_lt lo (axis_end axis a))
@@ -120,7 +120,7 @@ part_inside low part c0 c1 r0 r1 is x y h =
     let sides = and_parts (is_between (pos c0) (pos c1) x) (is_between (pos r0) (pos r1) y) parts.1 in
     let across = (is_between_bounds (pos c0) (pos c1) x sides.0).0 in
     let up = (is_between_bounds (pos r0) (pos r1) y sides.1).0 in
-    (omega (arith, ints), omega (arith, ints))
+    (omega (arith, ints, clamps), omega (arith, ints, clamps))
 
 -- ---- the read set
 

@@ -92,13 +92,13 @@ group_places a g is lt =
     stops z p = omega (arith, ints, clamps)
 
     from : (f z : ℤ) → negsuc 2147483647 ≤ℤ f → f ≤ℤ z → negsuc 2147483647 ≤ℤ z
-    from f z h k = omega (arith, ints)
+    from f z h k = omega (arith, ints, clamps)
 
     to : (z p : ℤ) → z ≤ℤ p → p ≤ℤ pos 2147483648 → z ≤ℤ pos 2147483648
-    to z p h k = omega (arith, ints)
+    to z p h k = omega (arith, ints, clamps)
 
     within : (f z y p : ℤ) → f ≤ℤ z → z <ℤ y → y ≤ℤ p → span_len z y ≤ span_len f p
-    within f z y p a b c = omega (arith, ints)
+    within f z y p a b c = omega (arith, ints, clamps)
 
 pub block_reckoned : (r : Lattice) (t column row : ℕ) (left bottom right top : ℤ) → IsLattice r → t < tiles r → column ≡ t % groups r.across → row ≡ t / groups r.across
     → left ≡ group_first r.across column → bottom ≡ group_first r.up row → right ≡ group_past r.across column → top ≡ group_past r.up row

@@ -55,7 +55,7 @@ pub apart_below : (a : Axis) (i : ℤ) → IsIn a i → span_len (first a) i < e
 apart_below a i is = less (first a) (past a) i is.low is.high
   where
     less : (f p i : ℤ) → f ≤ℤ i → i <ℤ p → span_len f i < span_len f p
-    less f p i low high = omega (arith, ints)
+    less f p i low high = omega (arith, ints, clamps)
 
 pub group_below : (a : Axis) (i : ℤ) → 1 ≤ a.group → IsIn a i → group_of a i < groups a
 group_below a i some is = below_groups (extent a) a.group (span_len (first a) i) some (apart_below a i is)
@@ -65,10 +65,10 @@ pub first_in : (a : Axis) (g : ℕ) → 1 ≤ a.group → g < groups a → IsIn 
 first_in a g some lt = record { low = later (first a) (g * a.group); high = within (first a) (past a) (g * a.group) (first_past a) (starts_below (extent a) a.group g some lt) }
   where
     later : (f : ℤ) (m : ℕ) → f ≤ℤ (f +ℤ pos m)
-    later f m = omega (arith, ints)
+    later f m = omega (arith, ints, clamps)
 
     within : (f p : ℤ) (m : ℕ) → f ≤ℤ p → m < span_len f p → (f +ℤ pos m) <ℤ p
-    within f p m le lt = omega (arith, ints)
+    within f p m le lt = omega (arith, ints, clamps)
 
 -- and so is its last one
 pub last_in : (a : Axis) (g : ℕ) → 1 ≤ a.group → g < groups a → IsIn a (group_past a g -ℤ pos 1)
@@ -101,7 +101,7 @@ of_group a g i some is e =
     record { low = from (first a) i (g * a.group) is.low n.0; high = under (first a) (past a) i (g * a.group) a.group is.low is.high n.1 }
   where
     from : (f i : ℤ) (m : ℕ) → f ≤ℤ i → m ≤ span_len f i → (f +ℤ pos m) ≤ℤ i
-    from f i m low le = omega (arith, ints)
+    from f i m low le = omega (arith, ints, clamps)
 
     under : (f p i : ℤ) (m b : ℕ) → f ≤ℤ i → i <ℤ p → span_len f i < m + b → i <ℤ int_min ((f +ℤ pos m) +ℤ pos b) p
     under f p i m b low high lt = omega (arith, ints, clamps)
@@ -110,7 +110,7 @@ pub group_in : (a : Axis) (g : ℕ) (i : ℤ) → IsInGroup a g i → IsIn a i
 group_in a g i is = record { low = later (first a) i (g * a.group) is.low; high = below i (group_first a g +ℤ pos a.group) (past a) is.high }
   where
     later : (f i : ℤ) (m : ℕ) → (f +ℤ pos m) ≤ℤ i → f ≤ℤ i
-    later f i m h = omega (arith, ints)
+    later f i m h = omega (arith, ints, clamps)
 
     below : (i z p : ℤ) → i <ℤ int_min z p → i <ℤ p
     below i z p h = omega (arith, ints, clamps)
@@ -119,7 +119,7 @@ pub group_of_in : (a : Axis) (g : ℕ) (i : ℤ) → 1 ≤ a.group → IsInGroup
 group_of_in a g i some is = group_is (span_len (first a) i) a.group g some (least (first a) i (g * a.group) is.low) (most (first a) i (past a) (g * a.group) a.group is.low is.high)
   where
     least : (f i : ℤ) (m : ℕ) → (f +ℤ pos m) ≤ℤ i → m ≤ span_len f i
-    least f i m h = omega (arith, ints)
+    least f i m h = omega (arith, ints, clamps)
 
     most : (f i p : ℤ) (m b : ℕ) → (f +ℤ pos m) ≤ℤ i → i <ℤ int_min ((f +ℤ pos m) +ℤ pos b) p → span_len f i < m + b
     most f i p m b h k = omega (arith, ints, clamps)

@@ -3,7 +3,7 @@ use Rattle.std.proofs.Common.{◌≡◌, ℕ, zero, ◌+◌, ◌*◌, ◌/◌, �
 use Rattle.std.specs.Int.{div_ceil}
 use Rattle.std.proofs.lemmas.Bool.{and_parts, cases_Bool, cases_lt, eq-eqb, eqb-true}
 use Rattle.std.proofs.lemmas.Grind.{div_ceil_times}
-use Rattle.std.proofs.lemmas.Int.{ints}
+use Rattle.std.proofs.lemmas.Int.{ints, clamps}
 use Rattle.std.specs.Ordering.{int_eq}
 use Rattle.std.proofs.Math.Seq.{take-append_seam}
 use Rattle.std.proofs.lemmas.Bool.Decides.{Decides-int_eq}
@@ -11,6 +11,7 @@ use Rattle.std.proofs.lemmas.List.{length-replicate, get_or-replicate, get_or_pa
 use Rattle.std.proofs.lemmas.Nat.Bits.{bit_at-zero}
 use Rattle.std.proofs.lemmas.Nat.{mul-add-lt, same_from_place}
 use Rattle.std.proofs.Math.Nat.{mul_comm}
+use Rattle.fill_base.proofs.Distances.{distance, distance_is}
 use Rattle.fill_base.specs.Counts.{span_len}
 use Rattle.fill_base.proofs.Between.{is_between_bounds}
 use Rattle.fill_base.proofs.Signed.{read, read_is, lt_le}
@@ -32,7 +33,7 @@ number_read : (z : ℤ) → negsuc 2147483647 ≤ℤ z → z ≤ℤ pos 21474836
 number_read z low high = read_is z (fits z low high)
   where
     fits : (z : ℤ) → negsuc 2147483647 ≤ℤ z → z ≤ℤ pos 2147483648 → FitsSigned w64 z
-    fits z low high = omega (arith, ints)
+    fits z low high = omega (arith, ints, clamps)
 
 pub block_read : (b : Block) → IsBlock b → BlockRead b
 block_read b is = record {
@@ -43,10 +44,10 @@ block_read b is = record {
 }
   where
     below : (z y : ℤ) → z <ℤ y → y ≤ℤ pos 2147483648 → z ≤ℤ pos 2147483648
-    below z y h k = omega (arith, ints)
+    below z y h k = omega (arith, ints, clamps)
 
     above : (z y : ℤ) → negsuc 2147483647 ≤ℤ z → z <ℤ y → negsuc 2147483647 ≤ℤ y
-    above z y h k = omega (arith, ints)
+    above z y h k = omega (arith, ints, clamps)
 
 -- a place of a block, and where it is there
 pub record InBlock (b : Block) (i j : ℤ) : Type 0 where
@@ -62,7 +63,7 @@ place_in b i j h =
     record { left = x.0; right = x.1; bottom = y.0; top = y.1 }
 
 apart : (lo hi z : ℤ) → lo ≤ℤ z → z <ℤ hi → span_len lo z < span_len lo hi
-apart lo hi z low high = omega (arith, ints)
+apart lo hi z low high = omega (arith, ints, clamps)
 
 pub index_below : (b : Block) (i j : ℤ) → in_block b i j ≡ true → index_in b i j < block_len b
 index_below b i j h =
@@ -81,13 +82,14 @@ index_apart b i j k l h g e =
     (same b.left i k p.left q.left s.1, same b.bottom j l p.bottom q.bottom s.0)
   where
     same : (lo x y : ℤ) → lo ≤ℤ x → lo ≤ℤ y → span_len lo x ≡ span_len lo y → x ≡ y
-    same lo x y h g e = omega (arith, ints, e)
+    same lo x y h g e = omega (arith, ints, clamps, e)
 
 -- the rows below a place
-pub rows_fit : (b : Block) (i j : ℤ) (row columns : ℕ) → IsBlock b → FitsSigned w64 j → in_block b i j ≡ true → row ≡ span_len (read b.bottom) (read j) → columns ≡ span_len (read b.left) (read b.right) → Fits w64 (row * columns)
+pub rows_fit : (b : Block) (i j : ℤ) (row columns : ℕ) → IsBlock b → FitsSigned w64 j → in_block b i j ≡ true → row ≡ distance (read b.bottom) (read j) → columns ≡ distance (read b.left) (read b.right) → Fits w64 (row * columns)
 rows_fit b i j row columns is j_fits h row_is columns_is =
     let r = block_read b is in
-    rw (row_is, columns_is, r.left_is, r.right_is, r.bottom_is, read_is j j_fits) (part (span_len b.bottom j * span_len b.left b.right) (span_len b.left i) (block_len b) (index_below b i j h) is.few)
+    let p = place_in b i j h in
+    rw (row_is, columns_is, r.left_is, r.right_is, r.bottom_is, read_is j j_fits, distance_is b.bottom j p.bottom, distance_is b.left b.right (lt_le _ _ is.columns)) (part (span_len b.bottom j * span_len b.left b.right) (span_len b.left i) (block_len b) (index_below b i j h) is.few)
   where
     part : (m n t : ℕ) → m + n < t → t ≤ 16777216 → Fits w64 m
     part m n t lt few = omega (arith, lt, few)
@@ -98,10 +100,12 @@ pub record IndexReckoned (b : Block) (i j : ℤ) (row columns column : ℕ) : Ty
   pub below : row * columns + column < block_len b
 
 pub index_reckoned : (b : Block) (i j : ℤ) (row columns column : ℕ) → IsBlock b → FitsSigned w64 i → FitsSigned w64 j → in_block b i j ≡ true
-    → row ≡ span_len (read b.bottom) (read j) → columns ≡ span_len (read b.left) (read b.right) → column ≡ span_len (read b.left) (read i) → IndexReckoned b i j row columns column
+    → row ≡ distance (read b.bottom) (read j) → columns ≡ distance (read b.left) (read b.right) → column ≡ distance (read b.left) (read i) → IndexReckoned b i j row columns column
 index_reckoned b i j row columns column is i_fits j_fits h row_is columns_is column_is =
     let r = block_read b is in
-    let e : row * columns + column ≡ index_in b i j = rw (row_is, columns_is, column_is, r.left_is, r.right_is, r.bottom_is, read_is i i_fits, read_is j j_fits) refl in
+    let p = place_in b i j h in
+    let e : row * columns + column ≡ index_in b i j =
+    rw (row_is, columns_is, column_is, r.left_is, r.right_is, r.bottom_is, read_is i i_fits, read_is j j_fits, distance_is b.bottom j p.bottom, distance_is b.left b.right (lt_le _ _ is.columns), distance_is b.left i p.left) refl in
     let below : row * columns + column < block_len b = rw e (index_below b i j h) in
     record { fits = whole (row * columns + column) (block_len b) below is.few; index = e; below = below }
   where
@@ -116,19 +120,20 @@ get_or-replicate-zero n i = elim (cases_lt i n) [
   | inr above ↦ get_or_past (replicate n 0) i 0 (rw (length-replicate n zero) above)
 ]
 
+-- no place is marked where no bit is set
+pub no_marks : (b : Block) (words : List ℕ) (n : ℕ) → words ≡ replicate n 0 → (i j : ℤ) → is_marked (record { block = b; bits = words }) i j ≡ false
+no_marks b words n words_is i j = rw (words_is, get_or-replicate-zero n (index_in b i j / 64), bit_at-zero (index_in b i j % 64)) (and_no (in_block b i j))
+
 -- a bit for each place, none of them set
 pub none_marked : (b : Block) (words : List ℕ) (n : ℕ) → IsBlock b → n ≡ div_ceil (block_len b) 64 → words ≡ replicate n 0 → AreMarks (record { block = b; bits = words }) 0
 none_marked b words n is n_is words_is = record {
   block = is;
   room = rw (words_is, length-replicate n zero) (room (block_len b) n n_is);
-  counted = sym (area_none _ b.left b.bottom b.right b.top (lt_le _ _ is.columns) (lt_le _ _ is.rows) (λ i j. rw words_is (no_mark i j)));
+  counted = sym (area_none _ b.left b.bottom b.right b.top (lt_le _ _ is.columns) (lt_le _ _ is.rows) (no_marks b words n words_is));
 }
   where
     room : (len n : ℕ) → n ≡ div_ceil len 64 → len ≤ 64 * n
     room len n e = let h = (div_ceil_times len 64 (omega arith)).0 in let t : n * 64 ≡ div_ceil len 64 * 64 = ap (λ m. m * 64) e in omega (arith, h, t)
-
-    no_mark : (i j : ℤ) → is_marked (record { block = b; bits = replicate n 0 }) i j ≡ false
-    no_mark i j = rw (get_or-replicate-zero n (index_in b i j / 64), bit_at-zero (index_in b i j % 64)) (and_no (in_block b i j))
 
 -- the place where two numbers of each pair are equal
 pub int_both : (x y i j : ℤ) → int_eq x i && int_eq y j ≡ true → (x ≡ i) × (y ≡ j)

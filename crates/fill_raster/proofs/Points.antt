@@ -3,7 +3,7 @@ use Rattle.std.proofs.Common.{◌≡◌, ℕ, zero, suc, ◌+◌, ◌*◌, ◌�
 use Rattle.std.specs.Ordering.{int_eq}
 use Rattle.std.proofs.lemmas.Bool.{cases_eq, cases_lt}
 use Rattle.std.proofs.lemmas.Bool.Decides.{Decides-int_eq}
-use Rattle.std.proofs.lemmas.Int.{ints}
+use Rattle.std.proofs.lemmas.Int.{ints, clamps}
 use Rattle.fill_base.specs.Counts.{sum_from, span_len, sum_between, count_between}
 use Rattle.fill_base.specs.Squares.{area_between}
 use Rattle.fill_base.proofs.Counting.{sum_from_same, count_between_same, count_between_le, count_between_const, sum_between_const, sum_between_le}
@@ -29,22 +29,22 @@ sum_from_more f g lo (suc n) k lt each one = elim (cases_eq n k) [
 
 pub sum_more : (f g : ℤ → ℕ) (lo hi x : ℤ) → lo ≤ℤ x → x <ℤ hi → ((y : ℤ) → lo ≤ℤ y → y <ℤ hi → (y ≡ x → ⊥) → f y ≡ g y) → g x ≡ f x + 1 → sum_between g lo hi ≡ sum_between f lo hi + 1
 sum_more f g lo hi x low high each one =
-    let at : lo +ℤ pos (span_len lo x) ≡ x = omega (arith, ints) in
-    sum_from_more f g lo (span_len lo hi) (span_len lo x) (omega (arith, ints))
+    let at : lo +ℤ pos (span_len lo x) ≡ x = omega (arith, ints, clamps) in
+    sum_from_more f g lo (span_len lo hi) (span_len lo x) (omega (arith, ints, clamps))
     (λ m below ne. each (lo +ℤ pos m) (from lo m) (under lo hi m (ordered lo hi x low high) below) (λ e. ne (steps lo x m e)))
     (rw at one)
   where
     ordered : (lo hi x : ℤ) → lo ≤ℤ x → x <ℤ hi → lo ≤ℤ hi
-    ordered lo hi x low high = omega (arith, ints)
+    ordered lo hi x low high = omega (arith, ints, clamps)
 
     from : (lo : ℤ) (m : ℕ) → lo ≤ℤ (lo +ℤ pos m)
-    from lo m = omega (arith, ints)
+    from lo m = omega (arith, ints, clamps)
 
     under : (lo hi : ℤ) (m : ℕ) → lo ≤ℤ hi → m < span_len lo hi → (lo +ℤ pos m) <ℤ hi
-    under lo hi m le below = omega (arith, ints)
+    under lo hi m le below = omega (arith, ints, clamps)
 
     steps : (lo x : ℤ) (m : ℕ) → lo +ℤ pos m ≡ x → m ≡ span_len lo x
-    steps lo x m e = omega (arith, ints, e)
+    steps lo x m e = omega (arith, ints, clamps, e)
 
 int_eq_no : (x y : ℤ) → (x ≡ y → ⊥) → int_eq x y ≡ false
 int_eq_no x y ne = no (int_eq x y) (λ e. ne ((Decides-int_eq x y).0 e))
@@ -73,7 +73,7 @@ area_more p q left bottom right top i j li ir bj jt point off =
     (sum_more (λ x. cond (p x j) 1 0) (λ x. cond (q x j) 1 0) left right i li ir (λ x l h ne. ap (λ b. cond b 1 0) (sym (other_column x ne))) (rw (here, off) refl))
   where
     ordered : (lo hi x : ℤ) → lo ≤ℤ x → x <ℤ hi → lo ≤ℤ hi
-    ordered lo hi x low high = omega (arith, ints)
+    ordered lo hi x low high = omega (arith, ints, clamps)
 
     other_row : (x y : ℤ) → (y ≡ j → ⊥) → q x y ≡ p x y
     other_row x y ne = point x y ∙ rw (int_eq_no y j ne, and_no (int_eq x i)) (or_no (p x y))

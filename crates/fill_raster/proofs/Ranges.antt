@@ -40,13 +40,13 @@ on_in a i step w = record {
 }
   where
     from_low : (origin low m : ℤ) → low ≤ℤ (origin +ℤ m) → neg_ℤ m ≤ℤ (origin -ℤ low)
-    from_low origin low m h = omega (arith, ints)
+    from_low origin low m h = omega (arith, ints, clamps)
 
     turned : (i q : ℤ) → neg_ℤ i ≤ℤ q → neg_ℤ q ≤ℤ i
-    turned i q h = omega (arith, ints)
+    turned i q h = omega (arith, ints, clamps)
 
     to_high : (origin m length high : ℤ) → ((origin +ℤ m) +ℤ length) ≤ℤ high → m ≤ℤ ((high -ℤ length) -ℤ origin)
-    to_high origin m length high h = omega (arith, ints)
+    to_high origin m length high h = omega (arith, ints, clamps)
 
     under : (i f q : ℤ) → i ≤ℤ q → i <ℤ int_max f (q +ℤ pos 1)
     under i f q h = omega (arith, ints, clamps)
@@ -59,13 +59,13 @@ in_on a i step is = record {
 }
   where
     to_low : (origin low m : ℤ) → neg_ℤ m ≤ℤ (origin -ℤ low) → low ≤ℤ (origin +ℤ m)
-    to_low origin low m h = omega (arith, ints)
+    to_low origin low m h = omega (arith, ints, clamps)
 
     turned : (i q : ℤ) → neg_ℤ q ≤ℤ i → neg_ℤ i ≤ℤ q
-    turned i q h = omega (arith, ints)
+    turned i q h = omega (arith, ints, clamps)
 
     from_high : (origin m length high : ℤ) → m ≤ℤ ((high -ℤ length) -ℤ origin) → ((origin +ℤ m) +ℤ length) ≤ℤ high
-    from_high origin m length high h = omega (arith, ints)
+    from_high origin m length high h = omega (arith, ints, clamps)
 
     under : (i f q : ℤ) → f ≤ℤ i → i <ℤ int_max f (q +ℤ pos 1) → i ≤ℤ q
     under i f q h k = omega (arith, ints, clamps)
@@ -94,23 +94,23 @@ pub record IsPlaceNumber (z : ℤ) : Type 0 where
 pub first_bounded : (a : Axis) → IsAxis a → IsPlaceNumber (first a)
 unfolding first
 first_bounded a is =
-    let q = floor_bounds (negsuc 2147483647) (pos 2147483648) (a.origin -ℤ a.low) a.step is.step_is.least (omega (arith, ints)) (low a.origin a.low is.origin_is.least (upper a.low a.high is.ordered is.most)) (high a.origin a.low is.origin_is.most is.least) (omega (arith, ints)) in
+    let q = floor_bounds (negsuc 2147483647) (pos 2147483648) (a.origin -ℤ a.low) a.step is.step_is.least (omega (arith, ints, clamps)) (low a.origin a.low is.origin_is.least (upper a.low a.high is.ordered is.most)) (high a.origin a.low is.origin_is.most is.least) (omega (arith, ints, clamps)) in
     record { least = turned_low _ q.1; most = turned_high _ q.0 }
   where
     upper : (low high : ℤ) → low <ℤ high → high ≤ℤ highest → low ≤ℤ highest
-    upper low high h k = omega (arith, ints)
+    upper low high h k = omega (arith, ints, clamps)
 
     low : (origin edge : ℤ) → lowest ≤ℤ origin → edge ≤ℤ highest → negsuc 2147483647 ≤ℤ (origin -ℤ edge)
-    low origin edge h k = omega (arith, ints)
+    low origin edge h k = omega (arith, ints, clamps)
 
     high : (origin edge : ℤ) → origin ≤ℤ highest → lowest ≤ℤ edge → (origin -ℤ edge) ≤ℤ pos 2147483648
-    high origin edge h k = omega (arith, ints)
+    high origin edge h k = omega (arith, ints, clamps)
 
     turned_low : (q : ℤ) → q ≤ℤ pos 2147483648 → negsuc 2147483647 ≤ℤ neg_ℤ q
-    turned_low q h = omega (arith, ints)
+    turned_low q h = omega (arith, ints, clamps)
 
     turned_high : (q : ℤ) → negsuc 2147483647 ≤ℤ q → neg_ℤ q ≤ℤ pos 2147483648
-    turned_high q h = omega (arith, ints)
+    turned_high q h = omega (arith, ints, clamps)
 
 -- the last place as the upper edge of the frame alone gives it
 abbrev pub last : Axis → ℤ
@@ -118,14 +118,14 @@ last a = int_div_euclid ((a.high -ℤ a.length) -ℤ a.origin) a.step
 
 pub last_bounded : (a : Axis) → IsAxis a → (negsuc 2148532223 ≤ℤ last a) × (last a ≤ℤ pos 2147483647)
 last_bounded a is =
-    floor_bounds (negsuc 2148532223) (pos 2147483647) ((a.high -ℤ a.length) -ℤ a.origin) a.step is.step_is.least (omega (arith, ints))
-    (low a.low a.high a.length a.origin is.least is.ordered is.length_is.most is.origin_is.most) (high a.high a.length a.origin is.most is.length_is.least is.origin_is.least) (omega (arith, ints))
+    floor_bounds (negsuc 2148532223) (pos 2147483647) ((a.high -ℤ a.length) -ℤ a.origin) a.step is.step_is.least (omega (arith, ints, clamps))
+    (low a.low a.high a.length a.origin is.least is.ordered is.length_is.most is.origin_is.most) (high a.high a.length a.origin is.most is.length_is.least is.origin_is.least) (omega (arith, ints, clamps))
   where
     low : (edge limit length origin : ℤ) → lowest ≤ℤ edge → edge <ℤ limit → length ≤ℤ pos 1048576 → origin ≤ℤ highest → negsuc 2148532223 ≤ℤ ((limit -ℤ length) -ℤ origin)
-    low edge limit length origin h k l m = omega (arith, ints)
+    low edge limit length origin h k l m = omega (arith, ints, clamps)
 
     high : (limit length origin : ℤ) → limit ≤ℤ highest → pos 1 ≤ℤ length → lowest ≤ℤ origin → ((limit -ℤ length) -ℤ origin) ≤ℤ pos 2147483647
-    high limit length origin h k l = omega (arith, ints)
+    high limit length origin h k l = omega (arith, ints, clamps)
 
 pub past_bounded : (a : Axis) → IsAxis a → IsPlaceNumber (past a)
 unfolding past
@@ -139,19 +139,19 @@ pub extent_bounded : (a : Axis) → IsAxis a → extent a ≤ 2147483648
 extent_bounded a is = by_lt_z (first a) (past a) (λ lt. some lt) (λ le. none (first a) (past a) (first_past a) le)
   where
     none : (f p : ℤ) → f ≤ℤ p → p ≤ℤ f → span_len f p ≤ 2147483648
-    none f p h k = omega (arith, ints)
+    none f p h k = omega (arith, ints, clamps)
 
     gap : (f p : ℤ) → f <ℤ p → f +ℤ pos (span_len f (p -ℤ pos 1)) ≡ p -ℤ pos 1
-    gap f p lt = omega (arith, ints)
+    gap f p lt = omega (arith, ints, clamps)
 
     frame : (low high length origin m k : ℤ) (n : ℕ) → lowest ≤ℤ low → high ≤ℤ highest → pos 1 ≤ℤ length → low ≤ℤ (origin +ℤ m) → ((origin +ℤ k) +ℤ length) ≤ℤ high → (m +ℤ pos n) ≤ℤ k → n ≤ 2147483647
-    frame low high length origin m k n a b c d e f = omega (arith, ints)
+    frame low high length origin m k n a b c d e f = omega (arith, ints, clamps)
 
     one_more_place : (f p : ℤ) → f <ℤ p → span_len f (p -ℤ pos 1) ≤ 2147483647 → span_len f p ≤ 2147483648
-    one_more_place f p lt le = omega (arith, ints)
+    one_more_place f p lt le = omega (arith, ints, clamps)
 
     least : (f p : ℤ) → f <ℤ p → (f ≤ℤ f) × (f ≤ℤ (p -ℤ pos 1)) × ((p -ℤ pos 1) <ℤ p)
-    least f p lt = (omega (arith, ints), omega (arith, ints), omega (arith, ints))
+    least f p lt = (omega (arith, ints, clamps), omega (arith, ints, clamps), omega (arith, ints, clamps))
 
     some : first a <ℤ past a → extent a ≤ 2147483648
     some lt =

@@ -3,7 +3,7 @@ use Rattle.std.proofs.Common.{◌≡◌, ℕ, ◌*◌, ◌%◌, ◌/◌, ◌<◌
 use Rattle.std.specs.Ordering.{int_eq}
 use Rattle.std.proofs.lemmas.Bool.{cases_Bool, and_from, and_parts}
 use Rattle.std.proofs.lemmas.Bool.Decides.{Decides-int_eq}
-use Rattle.std.proofs.lemmas.Int.{ints, by_lt_z}
+use Rattle.std.proofs.lemmas.Int.{ints, clamps, by_lt_z}
 use Rattle.std.proofs.Math.Nat.{mul_comm}
 use Rattle.fill_base.specs.Counts.{is_between, count_between}
 use Rattle.fill_base.specs.Squares.{area_between}
@@ -49,13 +49,13 @@ bounded a g i is h =
     (sooner a.origin _ _ (product_le (group_first a g) i a.step is.step_is.least b.0), later a.origin a.length _ _ (product_le i (group_past a g -ℤ pos 1) a.step is.step_is.least (under i (group_past a g) b.1)))
   where
     under : (i p : ℤ) → i <ℤ p → i ≤ℤ (p -ℤ pos 1)
-    under i p lt = omega (arith, ints)
+    under i p lt = omega (arith, ints, clamps)
 
     sooner : (origin m n : ℤ) → m ≤ℤ n → (origin +ℤ m) ≤ℤ (origin +ℤ n)
-    sooner origin m n le = omega (arith, ints)
+    sooner origin m n le = omega (arith, ints, clamps)
 
     later : (origin length m n : ℤ) → m ≤ℤ n → ((origin +ℤ m) +ℤ length) ≤ℤ ((origin +ℤ n) +ℤ length)
-    later origin length m n le = omega (arith, ints)
+    later origin length m n le = omega (arith, ints, clamps)
 
 pub edges_bound : TileEdgesBoundItsBoxes
 edges_bound r is t lt i j h =
@@ -69,7 +69,7 @@ ends : (a : Axis) (g : ℕ) → IsAxis a → g < groups a → (is_between (group
 ends a g is lt = both_ends (group_first a g) (group_past a g) (first_before_last a g is.group_is.least lt)
   where
     both_ends : (f p : ℤ) → f <ℤ p → (is_between f p f ≡ true) × (is_between f p (p -ℤ pos 1) ≡ true)
-    both_ends f p lt = (is_between_true f p f (omega (arith, ints)) lt, is_between_true f p (p -ℤ pos 1) (omega (arith, ints)) (omega (arith, ints)))
+    both_ends f p lt = (is_between_true f p f (omega (arith, ints, clamps)) lt, is_between_true f p (p -ℤ pos 1) (omega (arith, ints, clamps)) (omega (arith, ints, clamps)))
 
 pub edges_reached : TileEdgesAreReached
 edges_reached r is t lt =
@@ -97,7 +97,7 @@ gap_kept : (a : Axis) (spacing i k : ℤ) → pos 1 ≤ℤ a.step → IsPitch a 
 gap_kept a spacing i k one pitch lt = wide a.origin a.length a.step spacing (i *ℤ a.step) (k *ℤ a.step) pitch (product_lt i k a.step one lt)
   where
     wide : (origin length step spacing m n : ℤ) → (length +ℤ spacing) ≤ℤ step → (m +ℤ step) ≤ℤ n → (((origin +ℤ m) +ℤ length) +ℤ spacing) ≤ℤ (origin +ℤ n)
-    wide origin length step spacing m n h k = omega (arith, ints)
+    wide origin length step spacing m n h k = omega (arith, ints, clamps)
 
 keeps_gap : (a : Axis) (spacing i k : ℤ) → pos 1 ≤ℤ a.step → IsPitch a spacing → (i ≡ k → ⊥) → KeepsGap a spacing i k
 keeps_gap a spacing i k one pitch ne = by_lt_z i k (λ lt. inl (gap_kept a spacing i k one pitch lt)) (λ le. inr (gap_kept a spacing k i one pitch (below i k ne le)))
@@ -106,7 +106,7 @@ keeps_gap a spacing i k one pitch ne = by_lt_z i k (λ lt. inl (gap_kept a spaci
     below i k ne le = by_lt_z k i (λ lt. lt) (λ ge. absurd (ne (equal i k le ge)))
       where
         equal : (i k : ℤ) → k ≤ℤ i → i ≤ℤ k → i ≡ k
-        equal i k h g = omega (arith, ints)
+        equal i k h g = omega (arith, ints, clamps)
 
 pub spacing_kept : BoxesKeepTheSpacing
 spacing_kept r spacing is pitch i j k l other = elim (cases_Bool (int_eq i k)) [

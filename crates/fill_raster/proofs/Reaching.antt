@@ -7,6 +7,7 @@ use Rattle.std.proofs.lemmas.Int.{ints, clamps, by_lt_z}
 use Rattle.std.proofs.lemmas.Nat.{div_below}
 use Rattle.std.proofs.Math.Nat.{div-le_self, mul-le-mul}
 use Rattle.std.proofs.lemmas.Bool.{and_parts}
+use Rattle.fill_base.proofs.Distances.{distance, distance_is}
 use Rattle.fill_base.specs.Counts.{span_len}
 use Rattle.fill_base.specs.Limits.{IsLength, IsSpacing}
 use Rattle.fill_base.specs.Squares.{squares}
@@ -39,10 +40,10 @@ begins_below a high n g some lt here begins =
     fewer g (div_ceil (span_len (first a) n) a.group) a.group (omega (arith, less, whole))
   where
     before : (begin high : ℤ) → begin <ℤ high → begin ≤ℤ (high -ℤ pos 1)
-    before begin high h = omega (arith, ints)
+    before begin high h = omega (arith, ints, clamps)
 
     apart : (f n : ℤ) (m : ℕ) → (f +ℤ pos m) <ℤ n → m < span_len f n
-    apart f n m h = omega (arith, ints)
+    apart f n m h = omega (arith, ints, clamps)
 
     same : (n : ℕ) → n ≤ n
     same n = omega arith
@@ -65,7 +66,7 @@ ends_above a low n g some lt here ends =
     omega (arith, below)
   where
     not_both : (begin low length : ℤ) → begin ≤ℤ (low -ℤ length) → low <ℤ (begin +ℤ length) → ⊥
-    not_both begin low length h k = omega (arith, ints)
+    not_both begin low length h k = omega (arith, ints, clamps)
 
     next : (g b : ℕ) → suc g * b ≡ g * b + b
     next g b = omega arith
@@ -83,29 +84,36 @@ within_read : (a : Axis) (i : ℤ) → IsAxis a → first a ≤ℤ i → i ≤�
 within_read a i is low high = let f = first_bounded a is in let p = past_bounded a is in read_is i (fits (first a) i (past a) f.least low high p.most)
   where
     fits : (f i p : ℤ) → negsuc 2147483647 ≤ℤ f → f ≤ℤ i → i ≤ℤ p → p ≤ℤ pos 2147483648 → FitsSigned w64 i
-    fits f i p a b c d = omega (arith, ints)
+    fits f i p a b c d = omega (arith, ints, clamps)
 
 span_few : (a : Axis) (i : ℤ) → IsAxis a → first a ≤ℤ i → i ≤ℤ past a → span_len (first a) i ≤ 2147483648
 span_few a i is low high = few (first a) i (past a) low high (extent_bounded a is)
   where
     few : (f i p : ℤ) → f ≤ℤ i → i ≤ℤ p → span_len f p ≤ 2147483648 → span_len f i ≤ 2147483648
-    few f i p low high most = omega (arith, ints)
+    few f i p low high most = omega (arith, ints, clamps)
 
-pub below_fits : (a : Axis) (i f : ℤ) (d b : ℕ) → IsAxis a → first a ≤ℤ i → i ≤ℤ past a → f ≡ first a → d ≡ span_len (read f) (read i) → Fits w32 (d / b)
+pub below_fits : (a : Axis) (i f : ℤ) (d b : ℕ) → IsAxis a → first a ≤ℤ i → i ≤ℤ past a → f ≡ first a → d ≡ distance (read f) (read i) → Fits w32 (d / b)
 below_fits a i f d b is low high f_is d_is =
-    let e : d ≡ span_len (first a) i = rw (f_is, first_read a is, within_read a i is low high) at d_is in
+    let far : d ≡ distance (first a) i = rw (f_is, first_read a is, within_read a i is low high) at d_is in
+    let e : d ≡ span_len (first a) i = far ∙ distance_is (first a) i low in
     small d b (rw e (span_few a i is low high))
   where
     small : (n b : ℕ) → n ≤ 2147483648 → Fits w32 (n / b)
     small n b few = let q = div-le_self n b in omega (arith, q)
 
-pub begun_fits : (a : Axis) (i f : ℤ) (d b c : ℕ) → IsAxis a → first a ≤ℤ i → i ≤ℤ past a → f ≡ first a → d ≡ span_len (read f) (read i) → b ≡ a.group → c ≡ div_ceil d b → Fits w32 c
+pub begun_fits : (a : Axis) (i f : ℤ) (d b c : ℕ) → IsAxis a → first a ≤ℤ i → i ≤ℤ past a → f ≡ first a → d ≡ distance (read f) (read i) → b ≡ a.group → c ≡ div_ceil d b → Fits w32 c
 begun_fits a i f d b c is low high f_is d_is b_is c_is =
-    let e : d ≡ span_len (first a) i = rw (f_is, first_read a is, within_read a i is low high) at d_is in
+    let far : d ≡ distance (first a) i = rw (f_is, first_read a is, within_read a i is low high) at d_is in
+    let e : d ≡ span_len (first a) i = far ∙ distance_is (first a) i low in
     rw c_is (small (div_ceil d b) d (rw e (span_few a i is low high)) (groups_few d b (rw b_is is.group_is.least)))
   where
     small : (c n : ℕ) → n ≤ 2147483648 → c ≤ n → Fits w32 c
     small c n few le = omega (arith, few, le)
+
+pub begun_is : (a : Axis) (i f : ℤ) (d b c : ℕ) → IsAxis a → first a ≤ℤ i → i ≤ℤ past a → f ≡ first a → d ≡ distance (read f) (read i) → b ≡ a.group → c ≡ div_ceil d b → c ≡ div_ceil (span_len (first a) i) a.group
+begun_is a i f d b c is low high f_is d_is b_is c_is =
+    let far : d ≡ distance (first a) i = rw (f_is, first_read a is, within_read a i is low high) at d_is in
+    c_is ∙ rw (far ∙ distance_is (first a) i low, b_is) refl
 
 abbrev pub BeginsAt : Axis → ℤ → ℤ → Type 0
 BeginsAt a z n = (i : ℤ) → (i <ℤ n → box_begin a i ≤ℤ z) × (box_begin a i ≤ℤ z → i <ℤ n)
@@ -138,7 +146,7 @@ most_groups a n c is low high c_is =
     rw (c_is, within_read a n is low high) (fewer (div_ceil (span_len (first a) n) a.group) (groups a) a.group (omega (arith, span, d, e)))
   where
     less : (f n p : ℤ) → f ≤ℤ n → n ≤ℤ p → span_len f n ≤ span_len f p
-    less f n p low high = omega (arith, ints)
+    less f n p low high = omega (arith, ints, clamps)
 
     same : (n : ℕ) → n ≤ n
     same n = omega arith
@@ -160,19 +168,19 @@ near_groups a low high m n start end is least ordered most before behind start_i
     rw (start_is, end_is, within_read a m is before.least before.most, within_read a n is behind.least behind.most) (groups_are_near a low high m n is.group_is.least (rw e at before) (rw g at behind))
   where
     shorter : (low length : ℤ) → negsuc 1074790399 ≤ℤ low → low ≤ℤ pos 1074790400 → IsLength length → FitsSigned w64 (low -ℤ length)
-    shorter low length h k il = let a : pos 1 ≤ℤ length = il.least in let b : length ≤ℤ pos 1048576 = il.most in omega (arith, ints)
+    shorter low length h k il = let a : pos 1 ≤ℤ length = il.least in let b : length ≤ℤ pos 1048576 = il.most in omega (arith, ints, clamps)
 
     edge : (z : ℤ) → negsuc 1074790399 ≤ℤ z → z ≤ℤ pos 1074790400 → FitsSigned w64 z
-    edge z h k = omega (arith, ints)
+    edge z h k = omega (arith, ints, clamps)
 
     less : (z : ℤ) → negsuc 1074790399 ≤ℤ z → z ≤ℤ pos 1074790400 → FitsSigned w64 (z -ℤ pos 1)
-    less z h k = omega (arith, ints)
+    less z h k = omega (arith, ints, clamps)
 
     low_below : (low high : ℤ) → low <ℤ high → high ≤ℤ pos 1074790400 → low ≤ℤ pos 1074790400
-    low_below low high h k = omega (arith, ints)
+    low_below low high h k = omega (arith, ints, clamps)
 
     high_above : (low high : ℤ) → low <ℤ high → negsuc 1074790399 ≤ℤ low → negsuc 1074790399 ≤ℤ high
-    high_above low high h k = omega (arith, ints)
+    high_above low high h k = omega (arith, ints, clamps)
 
 -- the groups of an axis that an edge reaches
 abbrev pub AreNear : Axis → ℤ → ℤ → ℕ → ℕ → Type 0
@@ -199,4 +207,4 @@ near_tiles r rect s across up x1 x2 y1 y2 a b c d is across_is up_is x1_is x2_is
     (cs (tile % groups r.across) parts.column_below mx.0 mx.1, rs (tile / groups r.across) parts.row_below my.0 my.1)
   where
     meets : (left right low high s x : ℤ) → (left -ℤ s) ≤ℤ x → x <ℤ (right +ℤ s) → low ≤ℤ x → x <ℤ high → (left <ℤ (high +ℤ s)) × ((low -ℤ s) <ℤ right)
-    meets left right low high s x a b c d = (omega (arith, ints), omega (arith, ints))
+    meets left right low high s x a b c d = (omega (arith, ints, clamps), omega (arith, ints, clamps))

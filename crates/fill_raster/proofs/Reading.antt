@@ -5,24 +5,25 @@ use Rattle.std.specs.Int.{int_max, int_min, int_div_euclid, div_ceil}
 use Rattle.std.proofs.lemmas.Int.{ints, clamps}
 use Rattle.std.proofs.Math.Nat.{div-le_self}
 use Rattle.fill_base.specs.Coordinates.{lowest, highest, IsCoordinate}
+use Rattle.fill_base.proofs.Distances.{distance, distance_is}
 use Rattle.fill_base.specs.Counts.{span_len}
 use Rattle.fill_base.specs.Limits.{IsLength, IsSpacing}
 use Rattle.fill_base.proofs.Signed.{read, read_is, pos_fits, lt_le, le_trans, coordinate_fits}
 use Rattle.fill_raster.specs.Axes.{box_begin, box_end, is_on, first, past, extent, groups, group_of, group_first, group_past, group_end, IsAxis, IsPitch}
 use Rattle.fill_raster.specs.declared.axis.Axis.{Axis}
-use Rattle.fill_raster.proofs.Ranges.{IsIn, IsWithin, IsPlaceNumber, le_true, true_le, on_in, in_on, on_within, within_on, on_range, last, last_bounded, first_bounded, past_bounded, extent_bounded}
+use Rattle.fill_raster.proofs.Ranges.{IsIn, IsWithin, IsPlaceNumber, le_true, true_le, on_in, in_on, on_within, within_on, on_range, last, last_bounded, first_bounded, first_past, past_bounded, extent_bounded}
 use Rattle.fill_raster.proofs.Groups.{apart_below, first_in, last_in, groups_few, starts_below}
 
 -- ---- numbers that fit
 
 length_fits : (z : ℤ) → IsLength z → FitsSigned w64 z
-length_fits z is = let low : pos 1 ≤ℤ z = is.least in let high : z ≤ℤ pos 1048576 = is.most in omega (arith, ints)
+length_fits z is = let low : pos 1 ≤ℤ z = is.least in let high : z ≤ℤ pos 1048576 = is.most in omega (arith, ints, clamps)
 
 place_fits : (z : ℤ) → IsPlaceNumber z → FitsSigned w64 z
-place_fits z is = let low : negsuc 2147483647 ≤ℤ z = is.least in let high : z ≤ℤ pos 2147483648 = is.most in omega (arith, ints)
+place_fits z is = let low : negsuc 2147483647 ≤ℤ z = is.least in let high : z ≤ℤ pos 2147483648 = is.most in omega (arith, ints, clamps)
 
 spacing_fits : (s : ℤ) → IsSpacing s → FitsSigned w64 s
-spacing_fits s is = let low : pos 0 ≤ℤ s = is.least in let high : s ≤ℤ pos 1048576 = is.most in omega (arith, ints)
+spacing_fits s is = let low : pos 0 ≤ℤ s = is.least in let high : s ≤ℤ pos 1048576 = is.most in omega (arith, ints, clamps)
 
 pub length_read : (z : ℤ) → IsLength z → read z ≡ z
 length_read z is = read_is z (length_fits z is)
@@ -68,7 +69,7 @@ pitch_test a s is spacing =
     sum_fits : (l s : ℤ) → IsLength l → IsSpacing s → FitsSigned w64 (l +ℤ s)
     sum_fits l s il is =
         let a : pos 1 ≤ℤ l = il.least in let b : l ≤ℤ pos 1048576 = il.most in
-        let low : pos 0 ≤ℤ s = is.least in let high : s ≤ℤ pos 1048576 = is.most in omega (arith, ints)
+        let low : pos 0 ≤ℤ s = is.least in let high : s ≤ℤ pos 1048576 = is.most in omega (arith, ints, clamps)
 
 -- ---- the ends of the range of places
 
@@ -82,14 +83,14 @@ first_reckoned a q is q_is =
     let f = first_bounded a is in
     let b : IsPlaceNumber (neg_ℤ q) = rw e f in
     let fits : FitsSigned w64 q = turned_fits q b.least b.most in
-    let turned : pos 0 -ℤ q ≡ neg_ℤ q = omega (arith, ints) in
+    let turned : pos 0 -ℤ q ≡ neg_ℤ q = omega (arith, ints, clamps) in
     rw (read_is q fits, turned) (place_fits (neg_ℤ q) b, read_is (neg_ℤ q) (place_fits (neg_ℤ q) b) ∙ ap neg_ℤ e)
   where
     gap_fits : (origin edge : ℤ) → lowest ≤ℤ origin → origin ≤ℤ highest → lowest ≤ℤ edge → edge ≤ℤ highest → FitsSigned w64 (origin -ℤ edge)
-    gap_fits origin edge h k l m = omega (arith, ints)
+    gap_fits origin edge h k l m = omega (arith, ints, clamps)
 
     turned_fits : (q : ℤ) → negsuc 2147483647 ≤ℤ neg_ℤ q → neg_ℤ q ≤ℤ pos 2147483648 → FitsSigned w64 q
-    turned_fits q h k = omega (arith, ints)
+    turned_fits q h k = omega (arith, ints, clamps)
 
 pub last_reckoned : (a : Axis) (q : ℤ) → IsAxis a → q ≡ int_div_euclid (read (read (read a.high -ℤ read a.length) -ℤ read a.origin)) (read a.step) → q ≡ last a
 last_reckoned a q is q_is =
@@ -100,10 +101,10 @@ last_reckoned a q is q_is =
     rw (r.high_is, r.length_is, r.origin_is, r.step_is, shorter, gap) at q_is
   where
     short_fits : (limit length : ℤ) → limit ≤ℤ highest → lowest ≤ℤ limit → IsLength length → FitsSigned w64 (limit -ℤ length)
-    short_fits limit length h k il = let a : pos 1 ≤ℤ length = il.least in let b : length ≤ℤ pos 1048576 = il.most in omega (arith, ints)
+    short_fits limit length h k il = let a : pos 1 ≤ℤ length = il.least in let b : length ≤ℤ pos 1048576 = il.most in omega (arith, ints, clamps)
 
     gap_fits : (limit length origin : ℤ) → limit ≤ℤ highest → lowest ≤ℤ limit → IsLength length → lowest ≤ℤ origin → origin ≤ℤ highest → FitsSigned w64 ((limit -ℤ length) -ℤ origin)
-    gap_fits limit length origin h k il l m = let a : pos 1 ≤ℤ length = il.least in let b : length ≤ℤ pos 1048576 = il.most in omega (arith, ints)
+    gap_fits limit length origin h k il l m = let a : pos 1 ≤ℤ length = il.least in let b : length ≤ℤ pos 1048576 = il.most in omega (arith, ints, clamps)
 
 pub last_next : (a : Axis) (q : ℤ) → IsAxis a → q ≡ last a → FitsSigned w64 (read q +ℤ pos 1) × (read (read q +ℤ pos 1) ≡ last a +ℤ pos 1)
 last_next a q is q_is =
@@ -111,10 +112,10 @@ last_next a q is q_is =
     rw (q_is, read_is (last a) (fits (last a) b.0 b.1), read_is (last a +ℤ pos 1) (next_fits (last a) b.0 b.1)) (next_fits (last a) b.0 b.1, refl)
   where
     fits : (q : ℤ) → negsuc 2148532223 ≤ℤ q → q ≤ℤ pos 2147483647 → FitsSigned w64 q
-    fits q h k = omega (arith, ints)
+    fits q h k = omega (arith, ints, clamps)
 
     next_fits : (q : ℤ) → negsuc 2148532223 ≤ℤ q → q ≤ℤ pos 2147483647 → FitsSigned w64 (q +ℤ pos 1)
-    next_fits q h k = omega (arith, ints)
+    next_fits q h k = omega (arith, ints, clamps)
 
 pub past_reckoned : (a : Axis) (f q m : ℤ) → IsAxis a → f ≡ first a → q ≡ last a → m ≡ int_max (read f) (read (read q +ℤ pos 1)) → read m ≡ past a
 unfolding past
@@ -137,13 +138,13 @@ box_fits a i is w = record {
 }
   where
     product_fits : (edge limit length origin m : ℤ) → lowest ≤ℤ edge → limit ≤ℤ highest → pos 1 ≤ℤ length → lowest ≤ℤ origin → origin ≤ℤ highest → edge ≤ℤ (origin +ℤ m) → ((origin +ℤ m) +ℤ length) ≤ℤ limit → FitsSigned w64 m
-    product_fits edge limit length origin m a b c d e f g = omega (arith, ints)
+    product_fits edge limit length origin m a b c d e f g = omega (arith, ints, clamps)
 
     begin_fits : (edge limit length z : ℤ) → lowest ≤ℤ edge → limit ≤ℤ highest → pos 1 ≤ℤ length → edge ≤ℤ z → (z +ℤ length) ≤ℤ limit → FitsSigned w64 z
-    begin_fits edge limit length z a b c d e = omega (arith, ints)
+    begin_fits edge limit length z a b c d e = omega (arith, ints, clamps)
 
     end_fits : (edge limit length z : ℤ) → lowest ≤ℤ edge → limit ≤ℤ highest → pos 1 ≤ℤ length → edge ≤ℤ z → (z +ℤ length) ≤ℤ limit → FitsSigned w64 (z +ℤ length)
-    end_fits edge limit length z a b c d e = omega (arith, ints)
+    end_fits edge limit length z a b c d e = omega (arith, ints, clamps)
 
 in_number : (a : Axis) (i : ℤ) → IsAxis a → IsIn a i → IsPlaceNumber i
 in_number a i is within =
@@ -151,7 +152,7 @@ in_number a i is within =
     number (first a) (past a) i f.least p.most within.low within.high
   where
     number : (f p i : ℤ) → negsuc 2147483647 ≤ℤ f → p ≤ℤ pos 2147483648 → f ≤ℤ i → i <ℤ p → IsPlaceNumber i
-    number f p i a b c d = record { least = omega (arith, ints); most = omega (arith, ints) }
+    number f p i a b c d = record { least = omega (arith, ints, clamps); most = omega (arith, ints, clamps) }
 
 pub place_in_fits : (a : Axis) (i : ℤ) → IsAxis a → IsIn a i → FitsSigned w64 i
 place_in_fits a i is within = place_fits i (in_number a i is within)
@@ -187,10 +188,16 @@ group_count_fits e g few some = let h = groups_few e g some in small (div_ceil e
 pub groups_fit : (a : Axis) (e b c : ℕ) → IsAxis a → e ≡ extent a → b ≡ a.group → c ≡ div_ceil e b → Fits w32 c
 groups_fit a e b c is e_is b_is c_is = rw (c_is, e_is, b_is) (group_count_fits (extent a) a.group (extent_bounded a is) is.group_is.least)
 
-pub group_of_fits : (a : Axis) (i f : ℤ) (d b : ℕ) → IsAxis a → is_on a i ≡ true → f ≡ first a → d ≡ span_len (read f) (read i) → b ≡ a.group → Fits w32 (d / b) × (d / b ≡ group_of a i)
+pub extent_is : (a : Axis) (p f : ℤ) (d : ℕ) → IsAxis a → p ≡ past a → f ≡ first a → d ≡ distance (read f) (read p) → d ≡ extent a
+extent_is a p f d is p_is f_is d_is =
+    let far : d ≡ distance (first a) (past a) = rw (f_is, p_is, first_read a is, past_read a is) at d_is in
+    far ∙ distance_is (first a) (past a) (first_past a)
+
+pub group_of_fits : (a : Axis) (i f : ℤ) (d b : ℕ) → IsAxis a → is_on a i ≡ true → f ≡ first a → d ≡ distance (read f) (read i) → b ≡ a.group → Fits w32 (d / b) × (d / b ≡ group_of a i)
 group_of_fits a i f d b is on f_is d_is b_is =
     let within = on_in a i is.step_is.least (on_within a i on) in
-    let e : d ≡ span_len (first a) i = rw (f_is, first_read a is, place_read a i is within) at d_is in
+    let far : d ≡ distance (first a) i = rw (f_is, first_read a is, place_read a i is within) at d_is in
+    let e : d ≡ span_len (first a) i = far ∙ distance_is (first a) i within.low in
     rw (e, b_is) (small (span_len (first a) i) (extent a) a.group (apart_below a i within) (extent_bounded a is), refl)
   where
     small : (n e b : ℕ) → n < e → e ≤ 2147483648 → Fits w32 (n / b)
@@ -215,10 +222,10 @@ group_first_reckoned a g f m n is lt f_is m_is n_is =
     less m e h k = omega (arith, h, k)
 
     small_fits : (g : ℕ) → g ≤ 2147483648 → FitsSigned w64 (pos g)
-    small_fits g h = omega (arith, ints)
+    small_fits g h = omega (arith, ints, clamps)
 
     group_fits : (g : ℕ) → g ≤ 4096 → FitsSigned w64 (pos g)
-    group_fits g h = omega (arith, ints)
+    group_fits g h = omega (arith, ints, clamps)
 
 pub first_place_read : (a : Axis) (g : ℕ) → IsAxis a → g < groups a → read (group_first a g) ≡ group_first a g
 first_place_read a g is lt = place_read a (group_first a g) is (first_in a g is.group_is.least lt)
@@ -230,7 +237,7 @@ past_place_read a g is lt =
     read_is (group_past a g) (next_fits (group_past a g) last)
   where
     next_fits : (z : ℤ) → IsPlaceNumber (z -ℤ pos 1) → FitsSigned w64 z
-    next_fits z is = let low : negsuc 2147483647 ≤ℤ (z -ℤ pos 1) = is.least in let high : (z -ℤ pos 1) ≤ℤ pos 2147483648 = is.most in omega (arith, ints)
+    next_fits z is = let low : negsuc 2147483647 ≤ℤ (z -ℤ pos 1) = is.least in let high : (z -ℤ pos 1) ≤ℤ pos 2147483648 = is.most in omega (arith, ints, clamps)
 
 pub group_past_reckoned : (a : Axis) (g : ℕ) (z n p m : ℤ) → IsAxis a → g < groups a → z ≡ group_first a g → n ≡ pos a.group → p ≡ past a
     → FitsSigned w64 (read z +ℤ read n) × (m ≡ int_min (read (read z +ℤ read n)) (read p) → read m ≡ group_past a g)
@@ -242,10 +249,10 @@ group_past_reckoned a g z n p m is lt z_is n_is p_is =
     (plus, λ m_is. rw m_is (read_is (group_past a g) (place_fits (group_past a g) (least (group_first a g) (past a) a.group number (past_bounded a is)))))
   where
     group_fits : (g : ℕ) → g ≤ 4096 → FitsSigned w64 (pos g)
-    group_fits g h = omega (arith, ints)
+    group_fits g h = omega (arith, ints, clamps)
 
     past_fits : (z : ℤ) (b : ℕ) → IsPlaceNumber z → b ≤ 4096 → FitsSigned w64 (z +ℤ pos b)
-    past_fits z b is few = let low : negsuc 2147483647 ≤ℤ z = is.least in let high : z ≤ℤ pos 2147483648 = is.most in omega (arith, ints)
+    past_fits z b is few = let low : negsuc 2147483647 ≤ℤ z = is.least in let high : z ≤ℤ pos 2147483648 = is.most in omega (arith, ints, clamps)
 
     least : (z p : ℤ) (b : ℕ) → IsPlaceNumber z → IsPlaceNumber p → IsPlaceNumber (int_min (z +ℤ pos b) p)
     least z p b iz ip =
@@ -269,7 +276,7 @@ last_on a g z is lt z_is =
     (place_fits _ number, refl, within_on a (group_past a g -ℤ pos 1) (in_on a (group_past a g -ℤ pos 1) is.step_is.least within))
   where
     next_fits : (z : ℤ) → IsPlaceNumber (z -ℤ pos 1) → FitsSigned w64 z
-    next_fits z is = let low : negsuc 2147483647 ≤ℤ (z -ℤ pos 1) = is.least in let high : (z -ℤ pos 1) ≤ℤ pos 2147483648 = is.most in omega (arith, ints)
+    next_fits z is = let low : negsuc 2147483647 ≤ℤ (z -ℤ pos 1) = is.least in let high : (z -ℤ pos 1) ≤ℤ pos 2147483648 = is.most in omega (arith, ints, clamps)
 
 pub far_fits : (a : Axis) (i : ℤ) → IsAxis a → is_on a i ≡ true → FitsSigned w64 (read i *ℤ read a.step)
 far_fits a i is on =
@@ -307,4 +314,4 @@ box_range a i is on =
     record { some = longer (box_begin a i) a.length is.length_is.least; least = le_trans _ a.low _ is.least w.begins; most = le_trans _ a.high _ w.ends is.most }
   where
     longer : (z length : ℤ) → pos 1 ≤ℤ length → z <ℤ (z +ℤ length)
-    longer z length one = omega (arith, ints)
+    longer z length one = omega (arith, ints, clamps)

@@ -266,8 +266,8 @@ impl Raster {
         tile % self.across.groups()
     }
 
-    /// The row of a tile, among the rows of tiles.
-    fn tile_row(&self, tile: u32) -> u32
+    /// The row of a tile, among the rows of tiles, from 0 on.
+    pub fn tile_row(&self, tile: u32) -> u32
         requires { tile < spec.tiles self.now }
         ensures row { result ≡ tile / groups self.now.across }
         ensures index { result < groups self.now.up }

@@ -87,4 +87,11 @@ impl Raster {
     {
         self.across().groups()
     }
+
+    /// How many rows of tiles there are.
+    pub fn tile_rows(&self) -> u32
+        ensures { result ≡ axes.groups self.now.up }
+    {
+        self.up().groups()
+    }
 }

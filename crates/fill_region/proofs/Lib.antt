@@ -1,3 +1,4 @@
+pub mod Collecting
 pub mod Stack
 pub mod Sweeping
 pub mod SweepTurns

@@ -18,10 +18,10 @@ use Rattle.fill_region.proofs.Looking.{bottoms_rise, row_of_place}
 use Rattle.fill_region.proofs.SweepTurns.{bottom_read}
 
 lt_le_trans : (a b c : ℤ) → a <ℤ b → b ≤ℤ c → a <ℤ c
-lt_le_trans a b c h k = omega (arith, ints)
+lt_le_trans a b c h k = omega (arith, ints, clamps)
 
 le_lt_absurd : (a b : ℤ) → a ≤ℤ b → b <ℤ a → ⊥
-le_lt_absurd a b h k = omega (arith, ints)
+le_lt_absurd a b h k = omega (arith, ints, clamps)
 
 -- a line that the walk has not passed has the row before the next band
 row_here : (bs : List Band) (from top y : ℤ) (n : ℕ) → IsAtBand bs from top n → from <ℤ top → n ≤ length bs → from ≤ℤ y → (n < length bs → y <ℤ next_bottom bs n) → row_from [] bs y ≡ last_row [] (take n bs)
@@ -45,7 +45,7 @@ nothing_left bs from top n at lt past x y low high =
     ∙ (ap (λ b. last_row [] b) (take_all (length bs) bs (omega arith)) ∙ at.region.closed))
 
 pub no_lines_left : (bs : List Band) (from top : ℤ) → top ≤ℤ from → (x y : ℤ) → from ≤ℤ y → y <ℤ top → holds bs x y ≡ false
-no_lines_left bs from top le x y low high = absurd (omega (arith, ints))
+no_lines_left bs from top le x y low high = absurd (omega (arith, ints, clamps))
 
 -- the line at which the next row ends
 pub record IsRowEnd (from top next : ℤ) : Type 0 where
@@ -149,7 +149,7 @@ begun bs bottom top below cast low from k n region bottom_fits top_fits first n_
     })
   where
     edge_fits : (z : ℤ) → floor <ℤ z → z ≤ℤ ceiling → FitsSigned w64 z
-    edge_fits z low high = omega (arith, ints)
+    edge_fits z low high = omega (arith, ints, clamps)
 
     below_top : (bottom from top first : ℤ) → from ≡ int_max bottom (int_min first top) → bottom ≤ℤ top → from ≤ℤ top
     below_top bottom from top first is ordered = omega (arith, ints, clamps)
@@ -174,7 +174,7 @@ next_line bs from top below cast next n at below_is cast_is next_is =
     next_is ∙ rw (read_is top at.top_fits, band) refl
   where
     edge_fits : (z : ℤ) → floor <ℤ z → z ≤ℤ ceiling → FitsSigned w64 z
-    edge_fits z low high = omega (arith, ints)
+    edge_fits z low high = omega (arith, ints, clamps)
 
 not_both : (b : Bool) → b ≡ true → b ≡ false → ⊥
 not_both b h k = let e : true ≡ false = sym h ∙ k in cc
@@ -192,6 +192,6 @@ region_in_range bs x y region is =
     record {
       left = at_least x lowest (λ lt. not_both _ is (outside_low (row_from [] bs y) x canonical lt));
       right = below x highest (λ le. not_both _ is (outside_high (row_from [] bs y) x canonical le));
-      bottom = at_least y lowest (λ lt. not_both _ is (ap (λ row. inside row x) (row_below floor ceiling y [] bs region.bands (omega (arith, ints)))));
-      top = below y highest (λ le. not_both _ is (ap (λ row. inside row x) (row_past floor ceiling y [] bs region.bands (omega (arith, ints)) ∙ region.closed)));
+      bottom = at_least y lowest (λ lt. not_both _ is (ap (λ row. inside row x) (row_below floor ceiling y [] bs region.bands (omega (arith, ints, clamps)))));
+      top = below y highest (λ le. not_both _ is (ap (λ row. inside row x) (row_past floor ceiling y [] bs region.bands (omega (arith, ints, clamps)) ∙ region.closed)));
     }

@@ -1,6 +1,6 @@
 -- Two walks along the edges, one at the left ends of columns and one at the right ends.
 use Rattle.std.proofs.Common.{◌≡◌, ℕ, ◌+◌, ◌^◌, ◌≤◌, ℤ, pos, ◌-ℤ◌, ◌≤ℤ◌, List, refl, arith, ap, ◌∙◌, cond, w64, FitsSigned}
-use Rattle.std.proofs.lemmas.Int.{ints}
+use Rattle.std.proofs.lemmas.Int.{ints, clamps}
 use Rattle.fill_base.specs.Counts.{count_between}
 use Rattle.fill_base.proofs.Signed.{read, pos_fits, le_trans}
 use Rattle.fill_base.proofs.Counting.{sum_between_split}
@@ -76,4 +76,4 @@ difference es first step width a left right behind ahead count_ahead count_behin
     record { fits = rw is (pos_fits _ (omega (arith, short))); is = is }
   where
     less : (m n : ℕ) → (pos (m + n) -ℤ pos m) ≡ pos n
-    less m n = omega (arith, ints)
+    less m n = omega (arith, ints, clamps)

@@ -26,7 +26,7 @@ not_here_lt e x h = grind (arith, ints)
 -- the edges rise from place to place
 pub chain_rises : (lo hi : ℤ) (es : List ℤ) (i j : ℕ) → Chain lo es hi → i ≤ j → j < length es → get_or es i hi ≤ℤ get_or es j hi
 chain_rises lo hi [] i j h le lt = absurd (omega arith)
-chain_rises lo hi (e ∷ es) zero zero h le lt = omega (arith, ints)
+chain_rises lo hi (e ∷ es) zero zero h le lt = omega (arith, ints, clamps)
 chain_rises lo hi (e ∷ es) zero (suc j) h le lt = lt_le e _ (chain_within e hi es j (omega arith) h.1).0
 chain_rises lo hi (e ∷ es) (suc i) zero h le lt = absurd (omega arith)
 chain_rises lo hi (e ∷ es) (suc i) (suc j) h le lt = chain_rises e hi es i j h.1 (omega arith) (omega arith)
@@ -75,14 +75,14 @@ next_first es n canonical lt = record {
 
 -- beyond the coordinates nothing is a member
 pub outside_low : (es : List ℤ) (x : ℤ) → IsCanonical es → x <ℤ lowest → inside es x ≡ false
-outside_low es x canonical lt = inside_below floor ceiling x es canonical.rising (omega (arith, ints))
+outside_low es x canonical lt = inside_below floor ceiling x es canonical.rising (omega (arith, ints, clamps))
 
 pub outside_high : (es : List ℤ) (x : ℤ) → IsCanonical es → highest ≤ℤ x → inside es x ≡ false
-outside_high es x canonical le = inside_past floor ceiling x es canonical.rising (omega (arith, ints)) ∙ canonical.even
+outside_high es x canonical le = inside_past floor ceiling x es canonical.rising (omega (arith, ints, clamps)) ∙ canonical.even
 
 -- a count is at most the length it is taken on
 pub count_small : (p : ℤ → Bool) (lo hi : ℤ) → lowest ≤ℤ lo → lo ≤ℤ hi → hi ≤ℤ highest → count_between p lo hi ≤ 2 ^ 31
-count_small p lo hi low ordered high = let le = count_between_le p lo hi in let short : span_len lo hi ≤ 2 ^ 31 = omega (arith, ints) in omega (arith, le, short)
+count_small p lo hi low ordered high = let le = count_between_le p lo hi in let short : span_len lo hi ≤ 2 ^ 31 = omega (arith, ints, clamps) in omega (arith, le, short)
 
 -- beyond both ends of the range nothing counts
 pub count_clamped : (p : ℤ → Bool) (a b lo hi : ℤ) → ((x : ℤ) → x <ℤ a → p x ≡ false) → ((x : ℤ) → b ≤ℤ x → p x ≡ false)
@@ -128,7 +128,7 @@ pub some_member : (es : List ℤ) (lo hi : ℤ) (k : ℕ) (edge : ℤ) → IsCan
 some_member es lo hi k edge canonical ordered place e = by_parity (odd k) refl
   where
     by_parity : (b : Bool) → odd k ≡ b → HasMember es lo hi
-    by_parity true is = record { at = lo; member = inside_first_above es lo k canonical place ∙ is; low = omega (arith, ints); high = ordered }
+    by_parity true is = record { at = lo; member = inside_first_above es lo k canonical place ∙ is; low = omega (arith, ints, clamps); high = ordered }
     by_parity false is = record {
       at = next_edge es k;
       member = inside_first_above es (next_edge es k) (k + 1) canonical (next_first es k canonical e.within) ∙ turned k is;
@@ -140,9 +140,9 @@ some_member es lo hi k edge canonical ordered place e = by_parity (odd k) refl
 pub gap_member : (es : List ℤ) (lo hi : ℤ) (k : ℕ) → IsCanonical es → lo <ℤ hi → IsFirstAbove es lo k → (k < length es → hi ≤ℤ next_edge es k)
     → (odd k ≡ true → HasMember es lo hi) × (HasMember es lo hi → odd k ≡ true)
 gap_member es lo hi k canonical ordered place none = (
-  (λ is. record { at = lo; member = inside_first_above es lo k canonical place ∙ is; low = omega (arith, ints); high = ordered }),
+  (λ is. record { at = lo; member = inside_first_above es lo k canonical place ∙ is; low = omega (arith, ints, clamps); high = ordered }),
   (λ m. sym (inside_gap es k lo m.at canonical place m.low (λ inner. lt_le_trans m.at hi _ m.high (none inner))) ∙ m.member),
 )
   where
     lt_le_trans : (a b c : ℤ) → a <ℤ b → b ≤ℤ c → a <ℤ c
-    lt_le_trans a b c h k = omega (arith, ints)
+    lt_le_trans a b c h k = omega (arith, ints, clamps)

@@ -1,6 +1,6 @@
 -- A walk along the edges: what it has counted, wherever it stands.
 use Rattle.std.proofs.Common.{◌≡◌, ℕ, suc, ◌+◌, ◌*◌, ◌^◌, ◌%◌, ◌≤◌, ◌<◌, ℤ, pos, ◌-ℤ◌, ◌≤ℤ◌, ◌<ℤ◌, List, length, refl, arith, ap, ◌∙◌, sym, Bool, true, false, not, cond, w64, FitsSigned}
-use Rattle.std.proofs.lemmas.Int.{ints}
+use Rattle.std.proofs.lemmas.Int.{ints, clamps}
 use Rattle.std.proofs.lemmas.Bool.Decides.{nat_tests}
 use Rattle.fill_base.specs.Coordinates.{lowest, highest}
 use Rattle.fill_base.specs.Counts.{span_len, count_between}
@@ -18,7 +18,7 @@ abbrev pub walk_of : ℤ → ℕ → ℤ → Walk
 walk_of start next sum = record { start = start; next = next; sum = sum }
 
 lt_le_trans : (a b c : ℤ) → a <ℤ b → b ≤ℤ c → a <ℤ c
-lt_le_trans a b c h k = omega (arith, ints)
+lt_le_trans a b c h k = omega (arith, ints, clamps)
 
 -- a stretch without an edge counts whole or not at all
 stretch_counts : (es : List ℤ) (k : ℕ) (from to : ℤ) → IsCanonical es → IsFirstAbove es from k → from ≤ℤ to → (k < length es → to ≤ℤ next_edge es k)
@@ -40,12 +40,12 @@ begins_right es start next sum canonical place sum_is = record {
 }
   where
     begun : (b : Bool) (start x : ℤ) → start ≤ℤ x → cond b (x -ℤ cond b start (pos 0)) (cond b start (pos 0)) ≡ pos (cond b (span_len start x) 0)
-    begun true start x le = omega (arith, ints)
+    begun true start x le = omega (arith, ints, clamps)
     begun false start x le = refl
 
 pub begins_there : (es : List ℤ) (start : ℤ) (next : ℕ) (sum : ℤ) → IsFirstAbove es start next → HasReached es (walk_of start next sum) start
 begins_there es start next sum place = record {
-  not_beyond = record { begun = omega (arith, ints); passed = place.before };
+  not_beyond = record { begun = omega (arith, ints, clamps); passed = place.before };
   ahead = λ lt. lt_le start _ (place.after lt);
 }
 
@@ -58,7 +58,7 @@ pub record Passes (es : List ℤ) (start : ℤ) (next : ℕ) (sum edge : ℤ) : 
 at_edge : (es : List ℤ) (walk : Walk) → IsCanonical es → IsWalk es walk → walk.next < length es → HasReached es walk (next_edge es walk.next)
 at_edge es walk canonical w lt = record {
   not_beyond = record { begun = w.ahead lt; passed = λ k below. chain_rises floor ceiling es k walk.next canonical.rising (omega arith) lt };
-  ahead = λ inner. omega (arith, ints);
+  ahead = λ inner. omega (arith, ints, clamps);
 }
 
 pub passes : (es : List ℤ) (start : ℤ) (next : ℕ) (sum : ℤ) → IsCanonical es → lowest ≤ℤ start → IsWalk es (walk_of start next sum) → next < length es → Passes es start next sum (next_edge es next)
@@ -84,16 +84,16 @@ passes es start next sum canonical low w lt =
     add_one n = omega arith
 
     below_ceiling : (e : ℤ) → e <ℤ ceiling → e ≤ℤ highest
-    below_ceiling e h = omega (arith, ints)
+    below_ceiling e h = omega (arith, ints, clamps)
 
     difference_fits : (b : Bool) (edge sum : ℤ) (n : ℕ) → lowest ≤ℤ edge → edge ≤ℤ highest → n ≤ 2 ^ 31 → cond b (edge -ℤ sum) sum ≡ pos n → FitsSigned w64 (edge -ℤ sum)
-    difference_fits true edge sum n low high small is = omega (arith, ints)
-    difference_fits false edge sum n low high small is = omega (arith, ints)
+    difference_fits true edge sum n low high small is = omega (arith, ints, clamps)
+    difference_fits false edge sum n low high small is = omega (arith, ints, clamps)
 
     turned : (b : Bool) (edge sum x : ℤ) (n m : ℕ) → edge ≤ℤ x → cond b (edge -ℤ sum) sum ≡ pos n → m ≡ cond (not b) (span_len edge x) 0
         → cond (not b) (x -ℤ (edge -ℤ sum)) (edge -ℤ sum) ≡ pos (n + m)
-    turned true edge sum x n m past at stretch = omega (arith, ints)
-    turned false edge sum x n m past at stretch = omega (arith, ints)
+    turned true edge sum x n m past at stretch = omega (arith, ints, clamps)
+    turned false edge sum x n m past at stretch = omega (arith, ints, clamps)
 
 -- passing an edge below `to` is not going beyond `to`
 pub passed_below : (es : List ℤ) (start : ℤ) (next : ℕ) (sum sum' to : ℤ) → IsCanonical es → next < length es → next_edge es next <ℤ to → IsNotBeyond es (walk_of start next sum) to → IsNotBeyond es (walk_of start (next + 1) sum') to
@@ -116,17 +116,17 @@ length_short es walk x low high w reached =
     }
   where
     at_least : (n : ℕ) → pos 0 ≤ℤ pos n
-    at_least n = omega (arith, ints)
+    at_least n = omega (arith, ints, clamps)
 
     at_most : (n : ℕ) → n ≤ 2 ^ 31 → pos n ≤ℤ pos (2 ^ 31)
-    at_most n h = omega (arith, ints)
+    at_most n h = omega (arith, ints, clamps)
 
 -- an edge that the code has found is what it reads
 edge_is_read : (es : List ℤ) (k : ℕ) (to edge : ℤ) → IsCanonical es → IsEdgeBelow es k to edge → read edge ≡ next_edge es k
 edge_is_read es k to edge canonical e = let range = chain_at floor ceiling es k canonical.rising in ap read e.is ∙ read_is _ (fits (next_edge es k) range.0 range.1)
   where
     fits : (z : ℤ) → floor <ℤ z → z ≤ℤ ceiling → FitsSigned w64 z
-    fits z low high = omega (arith, ints)
+    fits z low high = omega (arith, ints, clamps)
 
 -- one turn of the code's walk
 pub record Turn (es : List ℤ) (start : ℤ) (next : ℕ) (sum to edge : ℤ) : Type 0 where

@@ -2,7 +2,7 @@
 use Rattle.std.proofs.Common.{◌≡◌, refl, ap, sym, subst, ◌∙◌, ℕ, suc, ◌≤◌, ◌<◌, min, ℤ, pos, ◌+ℤ◌, ◌≤ℤ◌, ◌<ℤ◌, arith, inl, inr, ◌⊎◌, Bool, true, false, List, [], ◌∷◌, ◌++◌, map}
 use Rattle.std.specs.Prelude.{if◌then◌else◌, filter}
 use Rattle.std.specs.List.{flat_map}
-use Rattle.std.proofs.lemmas.Int.{ints}
+use Rattle.std.proofs.lemmas.Int.{ints, clamps}
 use Rattle.fill_base.specs.Counts.{span_len}
 use Rattle.fill_base.proofs.Between.{is_between_bounds}
 use Rattle.fill_raster.specs.Axes.{first, past, extent}
@@ -74,7 +74,7 @@ bounds filled r j p low high is =
     }
   where
     more : (j e : ℤ) → j <ℤ e → span_len j e ≡ suc (span_len (j +ℤ pos 1) e)
-    more j e lt = omega (arith, ints)
+    more j e lt = omega (arith, ints, clamps)
 
     least : (h n : ℕ) → h ≡ suc n → 0 < min h 32767
     least h n e = omega (arith, e)
@@ -83,7 +83,7 @@ bounds filled r j p low high is =
     few_rows h = omega arith
 
     within : (j e : ℤ) (h : ℕ) → h ≤ span_len j e → j <ℤ e → (j +ℤ pos (min h 32767)) ≤ℤ e
-    within j e h most lt = omega (arith, ints, most)
+    within j e h most lt = omega (arith, ints, clamps, most)
 
 pub on_the_raster : StacksAreOnTheRaster
 on_the_raster filled r s is =

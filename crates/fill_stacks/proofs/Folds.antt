@@ -2,7 +2,7 @@
 use Rattle.std.proofs.Common.{◌≡◌, refl, ap, sym, ◌∙◌, ℕ, suc, ◌+◌, ◌%◌, min, ℤ, pos, ◌+ℤ◌, ◌-ℤ◌, ◌≤ℤ◌, ◌<ℤ◌, arith, Bool, true, false, ◌||◌, List, [], ◌∷◌, Some, None}
 use Rattle.std.specs.Prelude.{find, if◌then◌else◌, int_lt, int_le, option_map}
 use Rattle.std.specs.List.{list_any}
-use Rattle.std.proofs.lemmas.Int.{ints}
+use Rattle.std.proofs.lemmas.Int.{ints, clamps}
 use Rattle.std.proofs.lemmas.Simd.{map-map}
 use Rattle.fill_base.specs.Counts.{span_len}
 use Rattle.fill_raster.specs.Axes.{first, past}
@@ -51,10 +51,10 @@ height_step filled r j p lt has =
     rw (a, has) (by (has_piece filled r p (j +ℤ pos 1)) refl)
   where
     more : (j e : ℤ) → (j +ℤ pos 1) <ℤ e → span_len j e ≡ suc (span_len (j +ℤ pos 1) e)
-    more j e lt = omega (arith, ints)
+    more j e lt = omega (arith, ints, clamps)
 
     two : (j e : ℤ) → (j +ℤ pos 1) <ℤ e → span_len (j +ℤ pos 1) e ≡ suc (span_len (j +ℤ pos 2) e)
-    two j e lt = omega (arith, ints)
+    two j e lt = omega (arith, ints, clamps)
 
     rest : ℕ
     rest = height filled r (j +ℤ pos 1) p
@@ -74,7 +74,7 @@ level_step filled r j p lt =
     rw a (by (has_piece filled r p (j -ℤ pos 1)) refl)
   where
     more : (f j : ℤ) → f <ℤ j → span_len f j ≡ suc (span_len f (j -ℤ pos 1))
-    more f j lt = omega (arith, ints)
+    more f j lt = omega (arith, ints, clamps)
 
     by : (b : Bool) → has_piece filled r p (j -ℤ pos 1) ≡ b → (if b then suc (depth filled r (j -ℤ pos 1) p) else 0) % 32767 ≡ next_level (found (counted_row (λ q. depth filled r (j -ℤ pos 1) q % 32767) (row_pieces filled r (j -ℤ pos 1))) (as_piece p))
     by true h = level_more (depth filled r (j -ℤ pos 1) p) ∙ ap next_level (sym (found_in (λ q. depth filled r (j -ℤ pos 1) q % 32767) p (row_pieces filled r (j -ℤ pos 1)) h))

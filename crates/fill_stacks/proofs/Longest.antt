@@ -2,7 +2,7 @@
 use Rattle.std.proofs.Common.{◌≡◌, refl, ap, sym, subst, ◌∙◌, ℕ, zero, suc, ◌%◌, ◌<◌, min, ℤ, pos, ◌+ℤ◌, ◌-ℤ◌, ◌<ℤ◌, arith, Bool, true, false}
 use Rattle.std.specs.Prelude.{if◌then◌else◌, filter}
 use Rattle.std.proofs.lemmas.Bool.{eqb-true}
-use Rattle.std.proofs.lemmas.Int.{ints}
+use Rattle.std.proofs.lemmas.Int.{ints, clamps}
 use Rattle.fill_base.specs.Counts.{span_len}
 use Rattle.fill_base.proofs.Between.{is_between_bounds}
 use Rattle.fill_raster.specs.Axes.{first, past, extent}
@@ -22,10 +22,10 @@ up_stops has j zero lt = absurd (omega (arith, lt))
 up_stops has j (suc n) lt = by (has j) refl lt (up_stops has (j +ℤ pos 1) n)
   where
     here : (j : ℤ) → j ≡ j +ℤ pos 0
-    here j = omega (arith, ints)
+    here j = omega (arith, ints, clamps)
 
     further : (j : ℤ) (m : ℕ) → (j +ℤ pos 1) +ℤ pos m ≡ j +ℤ pos (suc m)
-    further j m = omega (arith, ints)
+    further j m = omega (arith, ints, clamps)
 
     by : (b : Bool) → has j ≡ b → (if b then suc (rows_up has (j +ℤ pos 1) n) else 0) < suc n → (rows_up has (j +ℤ pos 1) n < n → has ((j +ℤ pos 1) +ℤ pos (rows_up has (j +ℤ pos 1) n)) ≡ false)
         → has (j +ℤ pos (if b then suc (rows_up has (j +ℤ pos 1) n) else 0)) ≡ false
@@ -53,10 +53,10 @@ longest filled r j p high whole = record {
     all h few = omega (arith, few)
 
     within : (j e : ℤ) (h : ℕ) → (j +ℤ pos h) <ℤ e → h < span_len j e
-    within j e h lt = omega (arith, ints)
+    within j e h lt = omega (arith, ints, clamps)
 
     more : (f j : ℤ) → f <ℤ j → 0 < span_len f j
-    more f j lt = omega (arith, ints)
+    more f j lt = omega (arith, ints, clamps)
 
     deep : (d k : ℕ) → 0 < d → d % 32767 ≡ 0 → k < 32767 → k < d
     deep d k some none lt = omega (arith, some, none, lt)

@@ -5,7 +5,7 @@ use Rattle.std.specs.Int.{div_ceil}
 use Rattle.std.specs.List.{flat_map, AllByRecursion}
 use Rattle.std.specs.Ordering.{int_eq}
 use Rattle.std.proofs.lemmas.Bool.Decides.{Decides-int_eq}
-use Rattle.std.proofs.lemmas.Int.{ints}
+use Rattle.std.proofs.lemmas.Int.{ints, clamps}
 use Rattle.fill_base.specs.Counts.{span_len}
 use Rattle.fill_raster.specs.Axes.{first, past, extent}
 use Rattle.fill_raster.specs.Lattice.{Lattice}
@@ -36,16 +36,16 @@ record IsRunBetween (lo hi : ℤ) (r : Run) : Type 0 where
 
 numbers_between : (lo hi z : ℤ) (n : ℕ) → lo ≤ℤ z → (z +ℤ pos n) ≤ℤ hi → AllByRecursion (IsBetween lo hi) (numbers_from z n)
 numbers_between lo hi z zero low high = tt
-numbers_between lo hi z (suc n) low high = (record { from = low; to = omega (arith, ints) }, numbers_between lo hi (z +ℤ pos 1) n (omega (arith, ints)) (omega (arith, ints)))
+numbers_between lo hi z (suc n) low high = (record { from = low; to = omega (arith, ints, clamps) }, numbers_between lo hi (z +ℤ pos 1) n (omega (arith, ints, clamps)) (omega (arith, ints, clamps)))
 
 along_between : (a : Axis) → AllByRecursion (IsBetween (first a) (past a)) (places_along a)
 along_between a = numbers_between (first a) (past a) (first a) (extent a) (self (first a)) (whole (first a) (past a) (first_past a))
   where
     self : (z : ℤ) → z ≤ℤ z
-    self z = omega (arith, ints)
+    self z = omega (arith, ints, clamps)
 
     whole : (f p : ℤ) → f ≤ℤ p → (f +ℤ pos (span_len f p)) ≤ℤ p
-    whole f p h = omega (arith, ints)
+    whole f p h = omega (arith, ints, clamps)
 
 joined_between : (lo hi z : ℤ) (rs : List Run) → IsBetween lo hi z → AllByRecursion (IsRunBetween lo hi) rs → AllByRecursion (IsRunBetween lo hi) (joined z rs)
 joined_between lo hi z rs is all = by rs all
@@ -54,10 +54,10 @@ joined_between lo hi z rs is all = by rs all
     one = record { from = is.from; to = next z hi is.to; some = omega arith }
       where
         next : (z hi : ℤ) → z <ℤ hi → (z +ℤ pos 1) ≤ℤ hi
-        next z hi lt = omega (arith, ints)
+        next z hi lt = omega (arith, ints, clamps)
 
     longer : (z s hi : ℤ) (n : ℕ) → s ≡ z +ℤ pos 1 → (s +ℤ pos n) ≤ℤ hi → (z +ℤ pos (suc n)) ≤ℤ hi
-    longer z s hi n e h = omega (arith, ints)
+    longer z s hi n e h = omega (arith, ints, clamps)
 
     by : (rs : List Run) → AllByRecursion (IsRunBetween lo hi) rs → AllByRecursion (IsRunBetween lo hi) (joined z rs)
     by [] all = (one, tt)
@@ -82,10 +82,10 @@ run_pieces : (lo hi : ℤ) (n : Run) → IsRunBetween lo hi n → AllByRecursion
 run_pieces lo hi n is = all_range (IsPieceOf lo hi) (piece n) 0 (div_ceil n.count 32767) (λ k lt. each k (starts_below n.count 32767 k (omega arith) (omega (arith, lt))))
   where
     later : (f i : ℤ) (d : ℕ) → f ≤ℤ i → f ≤ℤ (i +ℤ pos d)
-    later f i d h = omega (arith, ints)
+    later f i d h = omega (arith, ints, clamps)
 
     within : (i p : ℤ) (n d : ℕ) → (i +ℤ pos n) ≤ℤ p → d < n → ((i +ℤ pos d) +ℤ pos (min (n - d) 32767)) ≤ℤ p
-    within i p n d h lt = omega (arith, ints)
+    within i p n d h lt = omega (arith, ints, clamps)
 
     left : (n d : ℕ) → d < n → 0 < min (n - d) 32767
     left n d lt = omega arith
@@ -113,13 +113,13 @@ Rising lo [] = Unit {0}
 Rising lo (z ∷ zs) = (lo ≤ℤ z) × Rising (z +ℤ pos 1) zs
 
 chain : (a b c : ℤ) → a ≤ℤ b → b ≤ℤ c → a ≤ℤ c
-chain a b c h k = omega (arith, ints)
+chain a b c h k = omega (arith, ints, clamps)
 
 next : (a b : ℤ) → a ≤ℤ b → a ≤ℤ (b +ℤ pos 1)
-next a b h = omega (arith, ints)
+next a b h = omega (arith, ints, clamps)
 
 self : (a : ℤ) → a ≤ℤ a
-self a = omega (arith, ints)
+self a = omega (arith, ints, clamps)
 
 lower : (a b : ℤ) (zs : List ℤ) → a ≤ℤ b → Rising b zs → Rising a zs
 lower a b [] le h = tt
@@ -161,7 +161,7 @@ rises b f (p ∷ ps) h k zero d lt below = absurd (omega (arith, lt))
 rises b f (p ∷ ps) h zero (suc l) d lt below = after p.start _ (least (p.start +ℤ pos 1) f ps l d h.1 (omega (arith, below)))
   where
     after : (x y : ℤ) → (x +ℤ pos 1) ≤ℤ y → x <ℤ y
-    after x y h = omega (arith, ints)
+    after x y h = omega (arith, ints, clamps)
 rises b f (p ∷ ps) h (suc k) (suc l) d lt below = rises (p.start +ℤ pos 1) f ps h.1 k l d (omega (arith, lt)) (omega (arith, below))
 
 rows_rise : (filled : PlaceSet) (r : Lattice) (j : ℤ) (f : Run → ℕ) → AreRising (counted_row f (row_pieces filled r j))

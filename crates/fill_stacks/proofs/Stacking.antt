@@ -6,7 +6,7 @@ use Rattle.std.specs.Ordering.{int_eq}
 use Rattle.std.proofs.lemmas.Bool.{and_from, and_parts, or_cases, eqb-true}
 use Rattle.std.proofs.lemmas.Bool.Decides.{Decides-int_eq, nat_tests}
 use Rattle.std.proofs.lemmas.Grind.{flat_map-append}
-use Rattle.std.proofs.lemmas.Int.{ints}
+use Rattle.std.proofs.lemmas.Int.{ints, clamps}
 use Rattle.fill_base.specs.Counts.{is_between, span_len}
 use Rattle.fill_base.proofs.Between.{is_between_true, is_between_bounds}
 use Rattle.fill_raster.specs.Axes.{first, past, extent}
@@ -29,7 +29,7 @@ down_has has j zero m lt = absurd (omega (arith, lt))
 down_has has j (suc n) m lt = by (has (j -ℤ pos 1)) refl m lt (down_has has (j -ℤ pos 1) n)
   where
     at : (j : ℤ) (m : ℕ) → (j -ℤ pos 1) -ℤ pos (suc m) ≡ j -ℤ pos (suc (suc m))
-    at j m = omega (arith, ints)
+    at j m = omega (arith, ints, clamps)
 
     by : (b : Bool) → has (j -ℤ pos 1) ≡ b → (m : ℕ) → m < (if b then suc (rows_down has (j -ℤ pos 1) n) else 0) → ((m : ℕ) → m < rows_down has (j -ℤ pos 1) n → has ((j -ℤ pos 1) -ℤ pos (suc m)) ≡ true) → has (j -ℤ pos (suc m)) ≡ true
     by true h zero lt later = h
@@ -46,13 +46,13 @@ down_most has j (suc n) = by (has (j -ℤ pos 1)) (down_most has (j -ℤ pos 1) 
 
 -- where the rows from one on pass, so many more are below a later one
 down_from : (has : ℤ → Bool) (k : ℤ) (n m : ℕ) → ((t : ℕ) → t < m → has (k +ℤ pos t) ≡ true) → rows_down has (k +ℤ pos m) (n + m) ≡ rows_down has k n + m
-down_from has k n zero all = let a : k +ℤ pos 0 ≡ k = omega (arith, ints) in let b : n + 0 ≡ n = omega arith in let c = rows_down has k n in rw (a, b) (plus_none c)
+down_from has k n zero all = let a : k +ℤ pos 0 ≡ k = omega (arith, ints, clamps) in let b : n + 0 ≡ n = omega arith in let c = rows_down has k n in rw (a, b) (plus_none c)
   where
     plus_none : (c : ℕ) → c ≡ c + 0
     plus_none c = omega arith
 down_from has k n (suc m) all =
     let a : n + suc m ≡ suc (n + m) = omega arith in
-    let b : (k +ℤ pos (suc m)) -ℤ pos 1 ≡ k +ℤ pos m = omega (arith, ints) in
+    let b : (k +ℤ pos (suc m)) -ℤ pos 1 ≡ k +ℤ pos m = omega (arith, ints, clamps) in
     let later = down_from has k n m (λ t lt. all t (omega (arith, lt))) in
     let here : has ((k +ℤ pos (suc m)) -ℤ pos 1) ≡ true = ap has b ∙ all m (omega arith) in
     ap (rows_down has (k +ℤ pos (suc m))) a ∙ (rw here refl ∙ (ap (λ z. suc (rows_down has z (n + m))) b ∙ (ap suc later ∙ last (rows_down has k n) m)))
@@ -65,10 +65,10 @@ up_has has j zero m lt = absurd (omega (arith, lt))
 up_has has j (suc n) m lt = by (has j) refl m lt (up_has has (j +ℤ pos 1) n)
   where
     same : (j : ℤ) → j +ℤ pos 0 ≡ j
-    same j = omega (arith, ints)
+    same j = omega (arith, ints, clamps)
 
     at : (j : ℤ) (m : ℕ) → (j +ℤ pos 1) +ℤ pos m ≡ j +ℤ pos (suc m)
-    at j m = omega (arith, ints)
+    at j m = omega (arith, ints, clamps)
 
     by : (b : Bool) → has j ≡ b → (m : ℕ) → m < (if b then suc (rows_up has (j +ℤ pos 1) n) else 0) → ((m : ℕ) → m < rows_up has (j +ℤ pos 1) n → has ((j +ℤ pos 1) +ℤ pos m) ≡ true) → has (j +ℤ pos m) ≡ true
     by true h zero lt later = ap has (same j) ∙ h
@@ -84,10 +84,10 @@ up_most has j (suc n) = by (has j) (up_most has (j +ℤ pos 1) n)
     by false le = omega arith
 
 moved_none : (j : ℤ) → j +ℤ pos 0 ≡ j
-moved_none j = omega (arith, ints)
+moved_none j = omega (arith, ints, clamps)
 
 moved_on : (j : ℤ) (t : ℕ) → (j +ℤ pos 1) +ℤ pos t ≡ j +ℤ pos (suc t)
-moved_on j t = omega (arith, ints)
+moved_on j t = omega (arith, ints, clamps)
 
 up_reaches : (has : ℤ → Bool) (j : ℤ) (n m : ℕ) → m < n → ((t : ℕ) → t ≤ m → has (j +ℤ pos t) ≡ true) → m < rows_up has j n
 up_reaches has j zero m lt all = absurd (omega (arith, lt))
@@ -183,7 +183,7 @@ stack_times i j s =
     row k = ap (λ n. cond (int_eq k j) n 0) (times_numbers i s.column s.columns) ∙ swapped (int_eq k j) (is_between s.column (s.column +ℤ pos s.columns) i)
 
 past_end : (f p : ℤ) → f ≤ℤ p → f +ℤ pos (span_len f p) ≡ p
-past_end f p h = omega (arith, ints)
+past_end f p h = omega (arith, ints, clamps)
 
 pub along : (a : Axis) (x : ℤ) → is_between (first a) (first a +ℤ pos (extent a)) x ≡ is_between (first a) (past a) x
 along a x = ap (λ e. is_between (first a) e x) (past_end (first a) (past a) (first_past a))
@@ -309,13 +309,13 @@ module _ (filled : PlaceSet) (r : Lattice) where
       }
     where
       steps : (k j : ℤ) → k ≤ℤ j → (m : ℕ) × (k +ℤ pos m ≡ j)
-      steps k j le = (unsigned_abs (j -ℤ k), omega (arith, ints))
+      steps k j le = (unsigned_abs (j -ℤ k), omega (arith, ints, clamps))
 
       below : (k j : ℤ) (h m : ℕ) → k +ℤ pos m ≡ j → j <ℤ (k +ℤ pos h) → m < h
-      below k j h m at lt = omega (arith, ints, at)
+      below k j h m at lt = omega (arith, ints, clamps, at)
 
       inside : (k j past : ℤ) (m h : ℕ) → k +ℤ pos m ≡ j → m < h → h ≤ span_len k past → k <ℤ past → j <ℤ past
-      inside k j past m h at lt le under = omega (arith, ints, at, lt, le)
+      inside k j past m h at lt le under = omega (arith, ints, clamps, at, lt, le)
 
   here : (i j k : ℤ) (p : Run) → Holding i j k p → IsOne p (row_pieces filled r j)
   here i j k p h = any_one p (row_pieces filled r j) (ap (has_piece filled r p) (sym h.at) ∙ h.all h.up (self h.up))
@@ -336,13 +336,13 @@ module _ (filled : PlaceSet) (r : Lattice) where
       back k j h.up _ h.at (left _ _ _ down h.whole h.few)
     where
       longer : (f k j : ℤ) (m : ℕ) → f ≤ℤ k → k +ℤ pos m ≡ j → span_len f k + m ≡ span_len f j
-      longer f k j m le at = omega (arith, ints, at)
+      longer f k j m le at = omega (arith, ints, clamps, at)
 
       left : (d c m : ℕ) → d ≡ c + m → c % 32767 ≡ 0 → m < 32767 → d % 32767 ≡ m
       left d c m is none few = omega (arith, is, none, few)
 
       back : (k j : ℤ) (m n : ℕ) → k +ℤ pos m ≡ j → n ≡ m → k ≡ j -ℤ pos n
-      back k j m n at same = omega (arith, ints, at, same)
+      back k j m n at same = omega (arith, ints, clamps, at, same)
 
   few_pieces : (i j : ℤ) → times (in_run i) (row_pieces filled r j) ≤ 1
   few_pieces i j = rw (piece_times i j) (most (is_between (first r.across) (past r.across) i && filled i j))
@@ -364,14 +364,14 @@ module _ (filled : PlaceSet) (r : Lattice) where
     bottom_low = let most = down_most (has_piece filled r p) j (span_len (first r.up) j) in let le = lifted_most in within (first r.up) j (depth filled r j p % 32767) (depth filled r j p) low most le
       where
         within : (f j : ℤ) (m d : ℕ) → f ≤ℤ j → d ≤ span_len f j → m ≤ d → f ≤ℤ (j -ℤ pos m)
-        within f j m d low most le = omega (arith, ints, most, le)
+        within f j m d low most le = omega (arith, ints, clamps, most, le)
 
     bottom_at : bottom j p +ℤ pos lifted ≡ j
     unfolding bottom
     bottom_at = back j (depth filled r j p % 32767)
       where
         back : (j : ℤ) (m : ℕ) → (j -ℤ pos m) +ℤ pos m ≡ j
-        back j m = omega (arith, ints)
+        back j m = omega (arith, ints, clamps)
 
     -- the rows from there up to row j have the piece
     all_have : (t : ℕ) → t ≤ lifted → has_piece filled r p (bottom j p +ℤ pos t) ≡ true
@@ -387,10 +387,10 @@ module _ (filled : PlaceSet) (r : Lattice) where
         cases t m le = grind (arith, le)
 
         at_top : (j : ℤ) (t m : ℕ) → t ≡ m → (j -ℤ pos m) +ℤ pos t ≡ j
-        at_top j t m e = omega (arith, ints, e)
+        at_top j t m e = omega (arith, ints, clamps, e)
 
         at_row : (j : ℤ) (t m : ℕ) → t < m → (j -ℤ pos m) +ℤ pos t ≡ j -ℤ pos (suc (m - t - 1))
-        at_row j t m lt = omega (arith, ints, lt)
+        at_row j t m lt = omega (arith, ints, clamps, lt)
 
     -- so that row has it, and its stack there begins with it and reaches row j
     at_bottom : IsOne p (row_pieces filled r (bottom j p))
@@ -410,7 +410,7 @@ module _ (filled : PlaceSet) (r : Lattice) where
         less t n lt = omega (arith, lt)
 
         longer : (f k j : ℤ) (m : ℕ) → f ≤ℤ k → k +ℤ pos m ≡ j → span_len f k + m ≡ span_len f j
-        longer f k j m le at = omega (arith, ints, at)
+        longer f k j m le at = omega (arith, ints, clamps, at)
 
         left : (d c m : ℕ) → d ≡ c + m → m ≡ d % 32767 → c % 32767 ≡ 0
         left d c m is at = omega (arith, is, at)
@@ -421,16 +421,16 @@ module _ (filled : PlaceSet) (r : Lattice) where
         is_between_true _ _ j (from (bottom j p) j lifted bottom_at) (to (bottom j p) j lifted (height filled r (bottom j p) p) bottom_at high_enough (small (depth filled r j p)))
       where
         under : (k j past : ℤ) (m : ℕ) → k +ℤ pos m ≡ j → j <ℤ past → m < span_len k past
-        under k j past m at lt = omega (arith, ints, at)
+        under k j past m at lt = omega (arith, ints, clamps, at)
 
         from : (k j : ℤ) (m : ℕ) → k +ℤ pos m ≡ j → k ≤ℤ j
-        from k j m at = omega (arith, ints, at)
+        from k j m at = omega (arith, ints, clamps, at)
 
         small : (d : ℕ) → d % 32767 < 32767
         small d = omega arith
 
         to : (k j : ℤ) (m h : ℕ) → k +ℤ pos m ≡ j → m < h → m < 32767 → j <ℤ (k +ℤ pos (min h 32767))
-        to k j m h at lt few = omega (arith, ints, at, lt, few)
+        to k j m h at lt few = omega (arith, ints, clamps, at, lt, few)
 
     holds_there : holds i j (bottom j p) p ≡ true
     unfolding holds
@@ -477,7 +477,7 @@ module _ (filled : PlaceSet) (r : Lattice) where
         ∙ (times_numbers (bottom j p) (first r.up) (extent r.up) ∙ ap one_if (along r.up (bottom j p) ∙ is_between_true _ _ (bottom j p) bottom_low (under (bottom j p) j (past r.up) lifted bottom_at high)))
       where
         under : (k j past : ℤ) (m : ℕ) → k +ℤ pos m ≡ j → j <ℤ past → k <ℤ past
-        under k j past m at lt = omega (arith, ints, at)
+        under k j past m at lt = omega (arith, ints, clamps, at)
 
         by : (k : ℤ) → IsOne k (places_along r.up) → (b : Bool) → int_eq k (bottom j p) ≡ b → total (λ q. one_if (holds i j k q)) (row_pieces filled r k) ≡ one_if b
         by k row true same = ap (λ z. total (λ q. one_if (holds i j z q)) (row_pieces filled r z)) (int_same k (bottom j p) same) ∙ once_there
@@ -504,7 +504,7 @@ module _ (filled : PlaceSet) (r : Lattice) where
           yes_if false h = absurd (omega (arith, h))
 
           from : (f k j : ℤ) (m : ℕ) → f ≤ℤ k → k +ℤ pos m ≡ j → f ≤ℤ j
-          from f k j m low at = omega (arith, ints, at)
+          from f k j m low at = omega (arith, ints, clamps, at)
 
       by : (b : Bool) → is_between (first r.across) (past r.across) i && filled i j ≡ b → (c : Bool) → is_between (first r.up) (past r.up) j ≡ c
           → total (λ k. total (λ p. one_if (holds i j k p)) (row_pieces filled r k)) (places_along r.up) ≡ one_if (b && c)

@@ -2,7 +2,7 @@
 use Rattle.std.proofs.Common.{◌≡◌, refl, ap, sym, subst, ◌∙◌, ℕ, ◌<◌, ℤ, pos, negsuc, w64, FitsSigned, ◌-ℤ◌, ◌≤ℤ◌, ◌<ℤ◌, arith, Bool, true, false, ◌&&◌, ◌⊎◌, inl, inr, List, length, get_or, Bor, Option, Some, None, IfSome}
 use Rattle.std.specs.Prelude.{not, slice_get, ◌==◌}
 use Rattle.std.proofs.lemmas.Bool.{and_parts, and_from, cases_Bool, cases_eq, eqb-true, eq-eqb}
-use Rattle.std.proofs.lemmas.Int.{ints}
+use Rattle.std.proofs.lemmas.Int.{ints, clamps}
 use Rattle.std.proofs.lemmas.List.Folds.{list_any_none, list_any_at}
 use Rattle.std.proofs.lemmas.Option.{slice_get-get_or, slice_get_within, get_or_from_slice_get}
 use Rattle.fill_base.specs.Counts.{span_len, is_between}
@@ -50,10 +50,10 @@ tile_marks r marks t m i j are here below inside = elim (cases_Bool (is_marked m
     ]
 
 chain : (a b c : ℤ) → a ≤ℤ b → b ≤ℤ c → a ≤ℤ c
-chain a b c h g = omega (arith, ints)
+chain a b c h g = omega (arith, ints, clamps)
 
 at_most : (a b : ℤ) → a <ℤ b → a ≤ℤ b
-at_most a b h = omega (arith, ints)
+at_most a b h = omega (arith, ints, clamps)
 
 pub under_or_over : (n i : ℤ) → (n <ℤ i) ⊎ (i ≤ℤ n)
 under_or_over n i = grind (arith, ints)
@@ -65,7 +65,7 @@ block_between b i n k j in_i in_k low high =
     and_from _ _ (is_between_true b.left b.right n (chain b.left i n (is_between_bounds b.left b.right i pi.0).0 low) (less n k b.right high (is_between_bounds b.left b.right k pk.0).1)) pi.1
   where
     less : (n k r : ℤ) → n <ℤ k → k <ℤ r → n <ℤ r
-    less n k r h g = omega (arith, ints)
+    less n k r h g = omega (arith, ints, clamps)
 
 -- the column of a place of a tile is before the one past the last
 pub before_past : (r : Lattice) (t : ℕ) (k j : ℤ) → IsLattice r → in_tile r t k j ≡ true → k <ℤ past r.across
@@ -130,16 +130,16 @@ tile_passed r marks t m start i j s e lo hi wanted is are here below from before
     }
   where
     one_past : (e p : ℤ) → (e -ℤ pos 1) <ℤ p → e ≤ℤ p
-    one_past e p h = omega (arith, ints)
+    one_past e p h = omega (arith, ints, clamps)
 
     one_less : (i e : ℤ) → i <ℤ e → i ≤ℤ (e -ℤ pos 1)
-    one_less i e h = omega (arith, ints)
+    one_less i e h = omega (arith, ints, clamps)
 
     one_before : (e : ℤ) → (e -ℤ pos 1) <ℤ e
-    one_before e = omega (arith, ints)
+    one_before e = omega (arith, ints, clamps)
 
 pub shorter : (i e p : ℤ) → i <ℤ e → e ≤ℤ p → span_len e p < span_len i p
-shorter i e p h g = omega (arith, ints)
+shorter i e p h g = omega (arith, ints, clamps)
 
 -- the row has ended
 pub row_ends : (r : Lattice) (filled : ℤ → ℤ → Bool) (start i j p : ℤ) (wanted : Bool) → p ≡ past r.across → start ≤ℤ p → i ≤ℤ p → p ≤ℤ i
@@ -152,13 +152,13 @@ row_ends r filled start i j p wanted p_is from to over before = record {
 }
   where
     self : (p : ℤ) → p ≤ℤ p
-    self p = omega (arith, ints)
+    self p = omega (arith, ints, clamps)
 
     less : (n p i : ℤ) → n <ℤ p → p ≤ℤ i → n <ℤ i
-    less n p i h g = omega (arith, ints)
+    less n p i h g = omega (arith, ints, clamps)
 
     never : (p q : ℤ) → p ≡ q → p <ℤ q → ⊥
-    never p q e lt = omega (arith, ints, e, lt)
+    never p q e lt = omega (arith, ints, clamps, e, lt)
 
 pub number_fits : (z : ℤ) → negsuc 2147483647 ≤ℤ z → z ≤ℤ pos 2147483648 → FitsSigned w64 z
-number_fits z low high = omega (arith, ints)
+number_fits z low high = omega (arith, ints, clamps)

@@ -4,7 +4,7 @@ use Rattle.std.specs.Prelude.{if◌then◌else◌}
 use Rattle.std.specs.List.{flat_map, filter}
 use Rattle.std.proofs.lemmas.Bool.Decides.{Decides-int_eq}
 use Rattle.std.specs.Ordering.{int_eq}
-use Rattle.std.proofs.lemmas.Int.{ints}
+use Rattle.std.proofs.lemmas.Int.{ints, clamps}
 use Rattle.std.proofs.lemmas.List.{append-nil}
 use Rattle.std.proofs.lemmas.List.Elements.{filter-append}
 use Rattle.fill_base.specs.Counts.{is_between, span_len}
@@ -49,7 +49,7 @@ along_axis f i a step other =
     ∙ (ap (λ e. cond (is_between (first a) e i) (f i) []) (whole (first a) (past a) (first_past a)) ∙ ap (λ b. cond b (f i) []) (sym (on_range a i step)))
   where
     whole : (f p : ℤ) → f ≤ℤ p → f +ℤ pos (span_len f p) ≡ p
-    whole f p h = omega (arith, ints)
+    whole f p h = omega (arith, ints, clamps)
 
 kept : (test : ℤ × ℤ → Bool) (g : ℤ → ℤ × ℤ) (k : ℤ) (ks : List ℤ) (more : List (ℤ × ℤ)) (b : Bool) → filter test (map g ks) ≡ more
     → filter test (map g (cond b (k ∷ ks) ks)) ≡ cond b (cond (test (g k)) (g k ∷ []) []) [] ++ more

@@ -3,7 +3,7 @@ use Rattle.std.proofs.Common.{◌≡◌, refl, ap, sym, subst, ◌∙◌, ℕ, z
 use Rattle.std.specs.Prelude.{◌==◌, if◌then◌else◌, int_lt, int_le, filter}
 use Rattle.std.specs.List.{flat_map, AllByRecursion}
 use Rattle.std.proofs.lemmas.Bool.{eq-eqb, ne_eqb}
-use Rattle.std.proofs.lemmas.Int.{ints}
+use Rattle.std.proofs.lemmas.Int.{ints, clamps}
 use Rattle.std.proofs.lemmas.Grind.{flat_map-append}
 use Rattle.std.proofs.lemmas.List.{append-nil, length-append, length-map}
 use Rattle.std.proofs.lemmas.Simd.{map-map}
@@ -31,19 +31,19 @@ use Rattle.gds_out.proofs.RowTurns.{number_read}
 -- ---- heights, from the highest row down
 
 pub below_read : (f j p : ℤ) → negsuc 2147483647 ≤ℤ f → p ≤ℤ pos 2147483648 → f <ℤ j → j ≤ℤ p → read (j -ℤ pos 1) ≡ j -ℤ pos 1
-below_read f j p low high lt le = number_read (j -ℤ pos 1) (omega (arith, ints)) (omega (arith, ints))
+below_read f j p low high lt le = number_read (j -ℤ pos 1) (omega (arith, ints, clamps)) (omega (arith, ints, clamps))
 
 pub from_below : (f j : ℤ) → f <ℤ j → f ≤ℤ (j -ℤ pos 1)
-from_below f j lt = omega (arith, ints)
+from_below f j lt = omega (arith, ints, clamps)
 
 pub under_past : (j p : ℤ) → j ≤ℤ p → (j -ℤ pos 1) <ℤ p
-under_past j p le = omega (arith, ints)
+under_past j p le = omega (arith, ints, clamps)
 
 pub to_past : (j p : ℤ) → j ≤ℤ p → (j -ℤ pos 1) ≤ℤ p
-to_past j p le = omega (arith, ints)
+to_past j p le = omega (arith, ints, clamps)
 
 pub one_less : (f j : ℤ) → f <ℤ j → span_len f (j -ℤ pos 1) < span_len f j
-one_less f j lt = omega (arith, ints)
+one_less f j lt = omega (arith, ints, clamps)
 
 pub no_heights : (filled : PlaceSet) (r : Lattice) → [] ≡ heights_at filled r (past r.up)
 no_heights filled r = by (int_lt (past r.up) (past r.up)) (never (past r.up))
@@ -55,13 +55,13 @@ no_heights filled r = by (int_lt (past r.up) (past r.up)) (never (past r.up))
     by b h = rw h refl
 
 pub none_down : (filled : PlaceSet) (r : Lattice) (j : ℤ) → [] ≡ heights_down filled r j (span_len j j)
-none_down filled r j = let e : span_len j j ≡ 0 = omega (arith, ints) in rw e refl
+none_down filled r j = let e : span_len j j ≡ 0 = omega (arith, ints, clamps) in rw e refl
 
 -- the heights of the row below
 pub heights_next : (filled : PlaceSet) (r : Lattice) (j : ℤ) (above new : List Counted) (row : List Piece) → j ≤ℤ past r.up → above ≡ heights_at filled r j
     → row ≡ map as_piece (row_pieces filled r (j -ℤ pos 1)) → new ≡ map (λ p. counted p (next_height (found above p))) row → new ≡ heights_at filled r (j -ℤ pos 1)
 heights_next filled r j above new row le above_is row_is new_is =
-    let e : j ≡ (j -ℤ pos 1) +ℤ pos 1 = omega (arith, ints) in
+    let e : j ≡ (j -ℤ pos 1) +ℤ pos 1 = omega (arith, ints, clamps) in
     new_is ∙ (ap (λ (cs : List Counted). map (λ p. counted p (next_height (found cs p))) row) (above_is ∙ ap (heights_at filled r) e)
     ∙ (ap (λ (ps : List Piece). map (λ p. counted p (next_height (found (heights_at filled r ((j -ℤ pos 1) +ℤ pos 1)) p))) ps) row_is
     ∙ heights_row filled r (j -ℤ pos 1) (under_past j (past r.up) le)))
@@ -79,12 +79,12 @@ pub heights_more : (filled : PlaceSet) (r : Lattice) (j : ℤ) → j <ℤ past r
 heights_more filled r j lt = let e : span_len j (past r.up) ≡ suc (span_len (j +ℤ pos 1) (past r.up)) = more j (past r.up) lt in rw e refl
   where
     more : (j p : ℤ) → j <ℤ p → span_len j p ≡ suc (span_len (j +ℤ pos 1) p)
-    more j p lt = omega (arith, ints)
+    more j p lt = omega (arith, ints, clamps)
 
 pub down_next : (filled : PlaceSet) (r : Lattice) (j : ℤ) (list new : List ℕ) (cs : List Counted) → j ≤ℤ past r.up → list ≡ heights_down filled r j (span_len j (past r.up))
     → cs ≡ heights_at filled r (j -ℤ pos 1) → new ≡ list ++ counts cs → new ≡ heights_down filled r (j -ℤ pos 1) (span_len (j -ℤ pos 1) (past r.up))
 down_next filled r j list new cs le list_is cs_is new_is =
-    let e : j ≡ (j -ℤ pos 1) +ℤ pos 1 = omega (arith, ints) in
+    let e : j ≡ (j -ℤ pos 1) +ℤ pos 1 = omega (arith, ints, clamps) in
     new_is ∙ (ap (λ ns. ns ++ counts cs) (list_is ∙ ap (λ z. heights_down filled r z (span_len z (past r.up))) e)
     ∙ (ap (λ ns. heights_down filled r ((j -ℤ pos 1) +ℤ pos 1) (span_len ((j -ℤ pos 1) +ℤ pos 1) (past r.up)) ++ ns) (ap counts cs_is ∙ counts_are filled r (j -ℤ pos 1) (under_past j (past r.up) le))
     ∙ sym (heights_more filled r (j -ℤ pos 1) (under_past j (past r.up) le))))
@@ -93,7 +93,7 @@ pub down_done : (filled : PlaceSet) (r : Lattice) (f j p : ℤ) (list : List ℕ
 down_done filled r f j p list le over is = subst (λ z. list ≡ heights_down filled r z (span_len z p)) (same f j le over) is
   where
     same : (f j : ℤ) → f ≤ℤ j → j ≤ℤ f → j ≡ f
-    same f j le over = omega (arith, ints)
+    same f j le over = omega (arith, ints, clamps)
 
 -- ---- the stacks that begin in a row, piece by piece
 
@@ -168,10 +168,10 @@ pub column_read : (r : Lattice) (s : Stack) → negsuc 2147483647 ≤ℤ first r
 column_read r s low high is = number_read s.column (chain _ _ _ low is.left) (within s.column s.columns (past r.across) is.right high)
   where
     chain : (a b c : ℤ) → a ≤ℤ b → b ≤ℤ c → a ≤ℤ c
-    chain a b c h k = omega (arith, ints)
+    chain a b c h k = omega (arith, ints, clamps)
 
     within : (i : ℤ) (n : ℕ) (p : ℤ) → (i +ℤ pos n) ≤ℤ p → p ≤ℤ pos 2147483648 → i ≤ℤ pos 2147483648
-    within i n p h k = omega (arith, ints)
+    within i n p h k = omega (arith, ints, clamps)
 
 -- ---- levels, from the lowest row up
 

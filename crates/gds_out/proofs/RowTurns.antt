@@ -2,12 +2,12 @@
 use Rattle.std.proofs.Common.{◌≡◌, refl, ap, sym, subst, ◌∙◌, ℕ, zero, suc, ◌+◌, ◌*◌, ◌<◌, ◌≤◌, ℤ, pos, negsuc, ◌+ℤ◌, ◌-ℤ◌, ◌≤ℤ◌, ◌<ℤ◌, arith, Bool, true, false, ◌⊎◌, inl, inr, List, [], ◌∷◌, ◌++◌, map, Fits, w32, w64, FitsSigned}
 use Rattle.std.specs.Int.{div_ceil}
 use Rattle.std.specs.List.{flat_map, filter, range_with_len}
-use Rattle.std.proofs.lemmas.Int.{ints}
+use Rattle.std.proofs.lemmas.Int.{ints, clamps, by_lt_z}
 use Rattle.std.proofs.lemmas.Grind.{flat_map-append}
 use Rattle.std.proofs.lemmas.List.{append-nil, append_assoc, map-append}
 use Rattle.std.proofs.lemmas.List.FromFn.{map-range_with_len_more}
 use Rattle.fill_base.specs.Counts.{span_len}
-use Rattle.fill_base.proofs.Signed.{read, read_is}
+use Rattle.fill_base.proofs.Signed.{read, read_is, le_trans}
 use Rattle.gds_record.specs.Records.{Rec, spelling}
 use Rattle.fill_raster.specs.Axes.{first, past}
 use Rattle.fill_raster.specs.Lattice.{Lattice, IsLattice}
@@ -23,7 +23,7 @@ use Rattle.gds_out.proofs.Cutting.{one_turn, if_some}
 -- ---- pieces
 
 pub number_fits : (z : ℤ) → negsuc 2147483647 ≤ℤ z → z ≤ℤ pos 2147483648 → FitsSigned w64 z
-number_fits z low high = omega (arith, ints)
+number_fits z low high = omega (arith, ints, clamps)
 
 pub number_read : (z : ℤ) → negsuc 2147483647 ≤ℤ z → z ≤ℤ pos 2147483648 → read z ≡ z
 number_read z low high = read_is z (number_fits z low high)
@@ -48,16 +48,16 @@ part_of i count k low high lt =
     }
   where
     to_self : (i : ℤ) (n : ℕ) → (i +ℤ pos n) ≤ℤ pos 2147483648 → i ≤ℤ pos 2147483648
-    to_self i n h = omega (arith, ints)
+    to_self i n h = omega (arith, ints, clamps)
 
     further : (i : ℤ) (d : ℕ) → negsuc 2147483647 ≤ℤ i → negsuc 2147483647 ≤ℤ (i +ℤ pos d)
-    further i d h = omega (arith, ints)
+    further i d h = omega (arith, ints, clamps)
 
     to_high : (i : ℤ) (n d : ℕ) → (i +ℤ pos n) ≤ℤ pos 2147483648 → d < n → (i +ℤ pos d) ≤ℤ pos 2147483648
-    to_high i n d h lt = omega (arith, ints)
+    to_high i n d h lt = omega (arith, ints, clamps)
 
     pos_high : (i : ℤ) (n d : ℕ) → negsuc 2147483647 ≤ℤ i → (i +ℤ pos n) ≤ℤ pos 2147483648 → d < n → FitsSigned w64 (pos d)
-    pos_high i n d l h lt = omega (arith, ints)
+    pos_high i n d l h lt = omega (arith, ints, clamps)
 
 -- one piece more
 pub piece_more : (r : Run) (k : ℕ) (old mid new : List Piece) → mid ≡ old ++ map as_piece (map (piece r) (range_with_len 0 k)) → new ≡ mid ++ as_piece (piece r k) ∷ []
@@ -68,6 +68,16 @@ piece_more r k old mid new before this =
     ∙ ap (λ ps. old ++ ps) (sym (ap (map as_piece) (map-range_with_len_more (piece r) 0 k k (omega arith)) ∙ map-append as_piece (map (piece r) (range_with_len 0 k)) (piece r k ∷ [])))))
 
 -- ---- runs
+
+-- a range's length is how far its end lies behind its beginning
+far : (lo hi : ℤ) → lo ≤ℤ hi → pos (span_len lo hi) ≡ hi -ℤ lo
+far lo hi h = omega (arith, ints, clamps)
+
+added : (n a b c : ℕ) (i s e q : ℤ) → pos n ≡ q -ℤ i → pos a ≡ s -ℤ i → pos b ≡ e -ℤ s → pos c ≡ q -ℤ e → n ≡ a + (b + c)
+added n a b c i s e q w x y z = omega (arith, ints)
+
+none_left : (i q : ℤ) → i ≤ℤ q → q ≤ℤ i → span_len i q ≡ 0
+none_left i q a b = omega (arith, ints, clamps)
 
 pub record IsTurn (i s e q : ℤ) (p : ℤ → Bool) : Type 0 where
   pub first_from : i ≤ℤ s
@@ -95,13 +105,14 @@ run_turn f p i s e q t nothing =
     ∙ by k)))
   where
     spans : (i s e q : ℤ) → i ≤ℤ s → s ≤ℤ e → e ≤ℤ q → span_len i q ≡ span_len i s + (span_len s e + span_len e q)
-    spans i s e q a b c = omega (arith, ints)
+    spans i s e q a b c =
+        added (span_len i q) (span_len i s) (span_len s e) (span_len e q) i s e q (far i q (le_trans i s q a (le_trans s e q b c))) (far i s a) (far s e b) (far e q c)
 
     behind : (i s : ℤ) → i ≤ℤ s → i +ℤ pos (span_len i s) ≡ s
-    behind i s h = omega (arith, ints)
+    behind i s h = omega (arith, ints, clamps)
 
     ended : (e q : ℤ) → e ≤ℤ q → (span_len e q ≡ 0) ⊎ (e <ℤ q)
-    ended e q h = grind (arith, ints)
+    ended e q h = by_lt_z e q (λ lt. inr lt) (λ over. inl (none_left e q h over))
 
     by : (k : ℕ) → flat_map f (if_some s k ++ runs (filter p (numbers_from e (span_len e q)))) ≡ f (run s k) ++ flat_map f (runs (filter p (numbers_from e (span_len e q))))
     by zero = sym (ap (λ t. t ++ flat_map f (runs (filter p (numbers_from e (span_len e q))))) (nothing s))
@@ -123,28 +134,25 @@ row_more p i s e q old new whole t new_is before =
 pub row_done : (p : ℤ → Bool) (i q : ℤ) (list whole : List Piece) → i ≤ℤ q → q ≤ℤ i
     → list ++ map as_piece (flat_map pieces (runs (filter p (numbers_from i (span_len i q))))) ≡ whole → list ≡ whole
 row_done p i q list whole to over is =
-    sym (ap (λ n. list ++ map as_piece (flat_map pieces (runs (filter p (numbers_from i n))))) (none i q to over) ∙ append-nil list) ∙ is
-  where
-    none : (i q : ℤ) → i ≤ℤ q → q ≤ℤ i → span_len i q ≡ 0
-    none i q a b = omega (arith, ints)
+    sym (ap (λ n. list ++ map as_piece (flat_map pieces (runs (filter p (numbers_from i n))))) (none_left i q to over) ∙ append-nil list) ∙ is
 
 -- ---- rows
 
 numbers_more : (z : ℤ) (n : ℕ) → numbers_from z (n + 1) ≡ numbers_from z n ++ (z +ℤ pos n) ∷ []
-numbers_more z zero = let e : z +ℤ pos zero ≡ z = omega (arith, ints) in rw e refl
+numbers_more z zero = let e : z +ℤ pos zero ≡ z = omega (arith, ints, clamps) in rw e refl
 numbers_more z (suc n) =
     let e : suc n + 1 ≡ suc (n + 1) = omega arith in
-    let g : (z +ℤ pos 1) +ℤ pos n ≡ z +ℤ pos (suc n) = omega (arith, ints) in
+    let g : (z +ℤ pos 1) +ℤ pos n ≡ z +ℤ pos (suc n) = omega (arith, ints, clamps) in
     rw e (ap (λ t. z ∷ t) (numbers_more (z +ℤ pos 1) n ∙ ap (λ y. numbers_from (z +ℤ pos 1) n ++ y ∷ []) g))
 
 pub rows_begin : (f : ℤ → List Rec) (z : ℤ) (text : List ℕ) → text ≡ text ++ flat_map spelling (flat_map f (numbers_from z (span_len z z)))
-rows_begin f z text = let e : span_len z z ≡ 0 = omega (arith, ints) in rw e (sym (append-nil text))
+rows_begin f z text = let e : span_len z z ≡ 0 = omega (arith, ints, clamps) in rw e (sym (append-nil text))
 
 pub rows_more : (f : ℤ → List Rec) (z j : ℤ) (old mid new : List ℕ) → z ≤ℤ j → mid ≡ old ++ flat_map spelling (flat_map f (numbers_from z (span_len z j)))
     → new ≡ mid ++ flat_map spelling (f j) → new ≡ old ++ flat_map spelling (flat_map f (numbers_from z (span_len z (j +ℤ pos 1))))
 rows_more f z j old mid new from before this =
-    let e : span_len z (j +ℤ pos 1) ≡ span_len z j + 1 = omega (arith, ints) in
-    let g : z +ℤ pos (span_len z j) ≡ j = omega (arith, ints) in
+    let e : span_len z (j +ℤ pos 1) ≡ span_len z j + 1 = omega (arith, ints, clamps) in
+    let g : z +ℤ pos (span_len z j) ≡ j = omega (arith, ints, clamps) in
     then old mid new (flat_map f (numbers_from z (span_len z j))) (f j) before this
     ∙ ap (λ rs. old ++ flat_map spelling rs) (sym (ap (λ n. flat_map f (numbers_from z n)) e ∙ (ap (flat_map f) (numbers_more z (span_len z j))
     ∙ (flat_map-append f (numbers_from z (span_len z j)) ((z +ℤ pos (span_len z j)) ∷ [])
@@ -155,7 +163,7 @@ pub rows_done : (f : ℤ → List Rec) (z j q : ℤ) (old text : List ℕ) → j
 rows_done f z j q old text to over is = subst (λ y. text ≡ old ++ flat_map spelling (flat_map f (numbers_from z (span_len z y)))) (same j q to over) is
   where
     same : (j q : ℤ) → j ≤ℤ q → q ≤ℤ j → j ≡ q
-    same j q a b = omega (arith, ints)
+    same j q a b = omega (arith, ints, clamps)
 
 -- ---- a run's length
 
@@ -171,14 +179,14 @@ pub record IsLength (s e : ℤ) : Type 0 where
 
 pub length_of : (f q s e : ℤ) → negsuc 2147483647 ≤ℤ f → q ≤ℤ pos 2147483648 → span_len f q ≤ 2147483648 → f ≤ℤ s → s ≤ℤ e → e ≤ℤ q → IsLength s e
 length_of f q s e low high few fs se eq = record {
-  start = number_read s (omega (arith, ints)) (omega (arith, ints));
-  end = number_read e (omega (arith, ints)) (omega (arith, ints));
-  fits = omega (arith, ints);
-  difference = read_is (e -ℤ s) (omega (arith, ints)) ∙ omega (arith, ints);
-  small = omega (arith, ints);
-  behind = omega (arith, ints);
-  low = omega (arith, ints);
-  high = omega (arith, ints);
+  start = number_read s (omega (arith, ints, clamps)) (omega (arith, ints, clamps));
+  end = number_read e (omega (arith, ints, clamps)) (omega (arith, ints, clamps));
+  fits = omega (arith, ints, clamps);
+  difference = read_is (e -ℤ s) (omega (arith, ints, clamps)) ∙ omega (arith, ints, clamps);
+  small = omega (arith, ints, clamps);
+  behind = omega (arith, ints, clamps);
+  low = omega (arith, ints, clamps);
+  high = omega (arith, ints, clamps);
 }
 
 -- ---- what the search for a run has found
@@ -215,25 +223,25 @@ turn_of r filled j i s e is lt low start end =
     }
   where
     chain : (a b c : ℤ) → a ≤ℤ b → b ≤ℤ c → a ≤ℤ c
-    chain a b c h g = omega (arith, ints)
+    chain a b c h g = omega (arith, ints, clamps)
 
     cases : (a b : ℤ) → (a <ℤ b) ⊎ (b ≤ℤ a)
     cases a b = grind (arith, ints)
 
     further : (i s e : ℤ) → i ≤ℤ s → s <ℤ e → i <ℤ e
-    further i s e h g = omega (arith, ints)
+    further i s e h g = omega (arith, ints, clamps)
 
     same : (s e : ℤ) → s ≤ℤ e → e ≤ℤ s → s ≡ e
-    same s e h g = omega (arith, ints)
+    same s e h g = omega (arith, ints, clamps)
 
     below : (s e p : ℤ) → e ≤ℤ s → s <ℤ p → e <ℤ p
-    below s e p h g = omega (arith, ints)
+    below s e p h g = omega (arith, ints, clamps)
 
     last : (i s e p : ℤ) → i <ℤ p → p ≤ℤ s → s ≤ℤ e → i <ℤ e
-    last i s e p h g k = omega (arith, ints)
+    last i s e p h g k = omega (arith, ints, clamps)
 
     never : (b : Bool) → b ≡ true → b ≡ false → ⊥
     never b h g = let e : true ≡ false = sym h ∙ g in cc e
 
 pub next_to : (j q : ℤ) → j <ℤ q → (j +ℤ pos 1) ≤ℤ q
-next_to j q lt = omega (arith, ints)
+next_to j q lt = omega (arith, ints, clamps)

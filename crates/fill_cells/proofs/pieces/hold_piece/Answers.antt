@@ -8,6 +8,6 @@ use Rattle.fill_cells.proofs.pieces.hold_piece.Goals as goal
 pub returns : goal.returns
 returns c = elim c.if-eq.branch [
   | then-eq w ↦ whole_alone c.args.part.now c.args.piece c.args.list.now.items c.if-eq.list.items c.put.new.list.items (ap (λ v. v.items) w.list-is ∙ w.clear.ensures.items)
-      (equal_squares c.args.piece c.args.part.now (sym c.eq.ensures ∙ w.if-eq.true)) c.in_ok-put.ensures
+      (equal_squares c.args.piece c.args.part.now (sym c.eq.ensures.eq ∙ w.if-eq.true)) c.in_ok-put.ensures
   | else-eq w ↦ (λ x y here. c.in_ok-put.ensures x y ∙ ap (λ v. covered v.items x y || squares c.args.piece x y) w.list-is)
 ]
