@@ -70,6 +70,10 @@ one_value bytes rest v w h k =
       | inr q ↦ sym (done_is w v (ended w (Done v) q.more (goes_on k.records h.taken q.more (Done w) (Done v) q.longer runs h.runs)))
     ]
 
+pub spelled_once : (bytes : List ℕ) (one other : Contents) → Spells bytes one → Spells bytes other → one ≡ other
+spelled_once bytes one other h k =
+    one_value bytes h.rest one other (record { taken = h.records; fit = h.library.well.fit; parts = h.parts; runs = library_runs all_rules h.records one h.library }) k
+
 -- where a record stands and is taken nothing fails
 pub record_fails : (s t : State) (bytes : List ℕ) (r : Rec) (x : List ℕ) (cause : Cause) → IsRecord r → bytes ≡ spelling r ++ x → step all_rules s r ≡ fine t → FailsAt s bytes cause → ⊥
 record_fails s t bytes r x causes.Truncated fits e h f =

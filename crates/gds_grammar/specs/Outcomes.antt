@@ -18,6 +18,10 @@ pub record Spells (bytes : List ℕ) (value : Contents) : Type 0 where
   pub parts : bytes ≡ flat_map spelling records ++ rest
   pub library : IsLibrary all_rules records value
 
+-- what bytes say they say once: two readings of them agree
+abbrev pub SpellsOnce : Type 0
+SpellsOnce = (bytes : List ℕ) (one other : Contents) → Spells bytes one → Spells bytes other → one ≡ other
+
 -- the bytes begin with records that some others make a library, and that are none yet
 pub record SoFar (bytes : List ℕ) (records : List Rec) (rest : List ℕ) : Type 0 where
   pub parts : bytes ≡ flat_map spelling records ++ rest
