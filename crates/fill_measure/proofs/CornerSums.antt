@@ -1,6 +1,6 @@
 -- Areas between lines, as sums and differences of those below and left of the crossings.
 use Rattle.std.proofs.Common.{◌≡◌, ℕ, ◌+◌, ◌*◌, ◌^◌, ◌≤◌, ◌<◌, ℤ, pos, ◌+ℤ◌, ◌-ℤ◌, ◌≤ℤ◌, List, [], ◌∷◌, ◌++◌, Bool, cond, length, get_or, replicate, refl, arith, ap, subst, ◌∙◌, sym, w64, FitsSigned}
-use Rattle.std.proofs.lemmas.Int.{ints}
+use Rattle.std.proofs.lemmas.Int.{ints, clamps}
 use Rattle.std.proofs.lemmas.List.{get_or_append_left, get_or_default, get_or-replicate, length_push, length-replicate}
 use Rattle.std.proofs.lemmas.Nat.{same_from_place}
 use Rattle.std.proofs.Math.Nat.{mul-le-mul}
@@ -30,13 +30,13 @@ area_le p left bottom right top = sum_between_le (λ y. count_between (λ x. p x
 
 -- nothing lies between a line and itself
 no_width : (p : ℤ → ℤ → Bool) (x bottom top : ℤ) → area_between p x bottom x top ≡ 0
-no_width p x bottom top = nothing _ (span_len bottom top) (span_len x x) (omega (arith, ints)) (area_le p x bottom x top)
+no_width p x bottom top = nothing _ (span_len bottom top) (span_len x x) (omega (arith, ints, clamps)) (area_le p x bottom x top)
   where
     nothing : (m n s : ℕ) → s ≡ 0 → m ≤ n * s → m ≡ 0
     nothing m n s none le = let le' : m ≤ n * 0 = subst (λ z. m ≤ n * z) none le in omega (arith, le')
 
 no_height : (p : ℤ → ℤ → Bool) (left right y : ℤ) → area_between p left y right y ≡ 0
-no_height p left right y = nothing _ (span_len y y) (span_len left right) (omega (arith, ints)) (area_le p left y right y)
+no_height p left right y = nothing _ (span_len y y) (span_len left right) (omega (arith, ints, clamps)) (area_le p left y right y)
   where
     nothing : (m s n : ℕ) → s ≡ 0 → m ≤ s * n → m ≡ 0
     nothing m s n none le = let le' : m ≤ 0 * n = subst (λ z. m ≤ z * n) none le in omega (arith, le')
@@ -48,7 +48,7 @@ line_le lines i j d are le lt = by_lt i j
     (λ same. let e : i ≡ j = omega (arith, le, same) in rw e (refl_le (get_or lines j d)))
   where
     refl_le : (z : ℤ) → z ≤ℤ z
-    refl_le z = omega (arith, ints)
+    refl_le z = omega (arith, ints, clamps)
 
 -- the area between lines is small
 pub block_small : (p : ℤ → ℤ → Bool) (across up : List ℤ) (left bottom right top : ℕ) (d : ℤ) → AreLines across → AreLines up → left ≤ right → right < length across → bottom ≤ top → top < length up
@@ -78,7 +78,7 @@ difference_of x y m n k x_is y_is is small =
     (rw whole (pos_fits k (omega (arith, is, small))), count_read (x -ℤ y) k whole (omega (arith, is, small)))
   where
     left : (m n k : ℕ) → m ≡ n + k → pos m -ℤ pos n ≡ pos k
-    left m n k e = omega (arith, ints)
+    left m n k e = omega (arith, ints, clamps)
 
 -- the corner in column `i` and row `j` is in the list of all
 pub corner_in : (w h i j : ℕ) → i < w → j < h → j * w + i < h * w

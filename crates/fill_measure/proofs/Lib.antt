@@ -1,8 +1,6 @@
 pub mod CornerSums
 pub mod Cutting
 pub mod Ends
-pub mod Grouping
-pub mod Joining
 pub mod Listing
 pub mod Parting
 pub mod Placing

@@ -1,12 +1,14 @@
 -- Rectangles in parts, and the lists of rows that the parts give together.
-use Rattle.std.proofs.Common.{◌≡◌, Bool, true, false, ℕ, suc, ◌+◌, ◌<◌, ◌≤◌, ℤ, List, [], ◌∷◌, ◌++◌, ◌||◌, All, length, get_or, map, take, drop, Result, Ok, IfOk, vec_len, arith, ap, subst, ◌∙◌, sym, append_assoc, refl}
+use Rattle.std.proofs.Common.{◌≡◌, Bool, true, false, ℕ, ◌+◌, ◌<◌, ◌≤◌, ℤ, List, [], ◌∷◌, ◌++◌, ◌||◌, All, length, get_or, map, take, drop, Result, Ok, IfOk, arith, ap, subst, ◌∙◌, sym, refl}
 use Rattle.std.specs.Borrow.{Bor}
 use Rattle.std.specs.Global.{Vec}
-use Rattle.std.specs.List.{flat_map, list_any, FoldsTo}
-use Rattle.std.specs.Vec.{vec_capacity, vec_items}
+use Rattle.std.specs.List.{flat_map, list_any, AllZip}
+use Rattle.std.specs.Vec.{vec_items}
+use Rattle.std.specs.declared.alloc.AllocError.{AllocError}
 use Rattle.std.proofs.lemmas.Grind.{flat_map-append}
-use Rattle.std.proofs.lemmas.List.{take_more, drop_all, get_or-map, map-append, append-nil, length-map, nil_from_length, get_or_default}
+use Rattle.std.proofs.lemmas.List.{take_more, drop_all, append-nil, nil_from_length, get_or_default}
 use Rattle.std.proofs.lemmas.List.Folds.{list_any-append, list_any_more}
+use Rattle.std.proofs.lemmas.List.Elements.{All-cons}
 use Rattle.fill_base.specs.declared.rect.Rect.{Rect}
 use Rattle.fill_base.specs.Squares.{squares}
 use Rattle.fill_region.specs.Squares.{covered}
@@ -15,16 +17,6 @@ use Rattle.fill_cells.proofs.Lists.{covered_pushed}
 use Rattle.fill_cells.specs.Mesh.{covered_at, row_squares, gaps}
 use Rattle.fill_measure.specs.declared.lists.Part.{Part}
 use Rattle.fill_measure.specs.steps.Parts.{ArePartLists, IsPart, covered_by_parts, listed_by_parts}
-
--- each result is a value, where a list takes what the results hold one by one
-pub values_of_results : {V E : Type 0} (results : List (Result V E)) (old new : Vec V)
-    → FoldsTo (λ (p : Vec V) x q. (y : V) × (Ok y ≡ x) × ((q.items ≡ p.items ++ y ∷ []) × (vec_len q ≡ vec_len p + 1) × (vec_capacity p ≤ vec_capacity q))) old results new
-    → map Ok old.items ++ results ≡ map Ok new.items
-values_of_results [] old new same = append-nil (map Ok old.items) ∙ ap (λ (v : Vec _). map Ok v.items) same
-values_of_results (result ∷ results) old new (next, (value, is, added), rest) =
-    ap (λ r. map Ok old.items ++ r ∷ results) (sym is)
-    ∙ (sym (append_assoc (map Ok old.items) (Ok value ∷ []) results)
-    ∙ (ap (λ rs. rs ++ results) (sym (map-append Ok old.items (value ∷ [])) ∙ ap (λ vs. map Ok vs) (sym added.0)) ∙ values_of_results results next new rest))
 
 -- one part more, and all of them
 pub part_more : (p : ℤ → ℤ → Bool) (done new : List (Bor (List Rect))) (part : Bor (List Rect)) (left rest : List Rect) → left ≡ part.now ++ rest → new ≡ done ++ part ∷ []
@@ -74,44 +66,39 @@ listed_more parts part old new list places n j n_in part_is j_in list_is places_
     holds : Part → Bool
     holds p = list_any (λ row. covered_at p.rects.now row.items x y) (take 1 (drop j p.rows.items))
 
--- each part's lists cover in a row what its rectangles do, so all do together
+-- each part gave the lists of its rectangles
+abbrev pub AreListed : List ℤ → List (Bor (List Rect)) → List (Result Part AllocError) → Type 0
+AreListed up parts made = AllZip (λ part one. IfOk one (IsPart up part.now)) parts made
+
+-- its lists cover in a row what its rectangles do, so all do together
 listed_is : (up : List ℤ) (j : ℕ) (d : ℤ) (x y : ℤ) → j < gaps up → row_squares (get_or up j d) (get_or up (j + 1) d) x y ≡ true
-    → (parts : List (Bor (List Rect))) (lists : List Part) → length lists ≡ length parts
-    → ((k : ℕ) (a : Part) (b : Bor (List Rect)) → k < length parts → IsPart up (get_or parts k b).now (get_or lists k a))
-    → listed_by_parts j lists x y ≡ covered_by_parts parts x y
-listed_is up j d x y j_in here [] [] len each = refl
-listed_is up j d x y j_in here [] (v ∷ vs) len each = absurd (omega (arith, len))
-listed_is up j d x y j_in here (s ∷ ss) [] len each = absurd (omega (arith, len))
-listed_is up j d x y j_in here (s ∷ ss) (v ∷ vs) len each =
-    let first = each 0 v s (omega arith) in
+    → (parts : List (Bor (List Rect))) (lists : List Part) → AreListed up parts (map Ok lists) → listed_by_parts j lists x y ≡ covered_by_parts parts x y
+listed_is up j d x y j_in here [] [] are = refl
+listed_is up j d x y j_in here [] (v ∷ vs) are = absurd are
+listed_is up j d x y j_in here (s ∷ ss) [] are = absurd are
+listed_is up j d x y j_in here (s ∷ ss) (v ∷ vs) are =
+    let first = are.0 in
     let within : j < length v.rows.items = rw first.rows.count j_in in
     let row = at_place v.rows.items j within in
     ap (λ b. b || listed_by_parts j vs x y) (any_at (λ (r : Vec ℕ). covered_at v.rects.now r.items x y) v.rows.items j row.0 within
     ∙ (ap (λ rs. covered_at rs (get_or v.rows.items j row.0).items x y) first.same ∙ first.rows.each j d row.0 j_in x y here))
-    ∙ ap (λ b. covered s.now x y || b) (listed_is up j d x y j_in here ss vs (omega (arith, len)) (λ k a b lt. each (suc k) a b (omega (arith, lt))))
+    ∙ ap (λ b. covered s.now x y || b) (listed_is up j d x y j_in here ss vs are.1)
 
-counts : (up : List ℤ) (parts : List (Bor (List Rect))) (lists : List Part) → length lists ≡ length parts
-    → ((k : ℕ) (a : Part) (b : Bor (List Rect)) → k < length parts → IsPart up (get_or parts k b).now (get_or lists k a))
-    → All (λ part. length part.rows.items ≡ gaps up) lists
-counts up [] lists len each = λ k d lt. absurd (omega (arith, len, lt))
-counts up (s ∷ ss) lists len each = λ k d lt. (each k d s (omega (arith, len, lt))).rows.count
+counts : (up : List ℤ) (parts : List (Bor (List Rect))) (lists : List Part) → AreListed up parts (map Ok lists) → All (λ part. length part.rows.items ≡ gaps up) lists
+counts up [] [] are = λ k d lt. absurd (omega (arith, lt))
+counts up [] (v ∷ vs) are = absurd are
+counts up (s ∷ ss) [] are = absurd are
+counts up (s ∷ ss) (v ∷ vs) are = All-cons (λ part. length part.rows.items ≡ gaps up) v vs are.0.rows.count (counts up ss vs are.1)
 
 -- the lists of all parts, where each part gave those of its rectangles
-pub part_lists : {E : Type 0} (up : List ℤ) (rects : List Rect) (parts : List (Bor (List Rect))) (results : List (Result Part E)) (lists : List Part) → results ≡ map Ok lists → length results ≡ length parts
-    → ((k : ℕ) (r : Result Part E) (b : Bor (List Rect)) → k < length parts → IfOk (get_or results k r) (λ p. IsPart up (get_or parts k b).now p))
+pub part_lists : (up : List ℤ) (rects : List Rect) (parts : List (Bor (List Rect))) (made : List (Result Part AllocError)) (lists : List Part) → made ≡ map Ok lists → AreListed up parts made
     → ((x y : ℤ) → covered_by_parts parts x y ≡ covered rects x y) → ArePartLists up (covered rects) lists
-part_lists up rects parts results lists are len each whole = record {
-  count = counts up parts lists count listed;
-  each = λ j d j_in x y here. listed_is up j d x y j_in here parts lists count listed ∙ whole x y;
-}
-  where
-    count : length lists ≡ length parts
-    count = sym (length-map lists Ok) ∙ (ap length (sym are) ∙ len)
-
-    listed : (k : ℕ) (a : Part) (b : Bor (List Rect)) → k < length parts → IsPart up (get_or parts k b).now (get_or lists k a)
-    listed k a b lt =
-        let at : get_or results k (Ok a) ≡ Ok (get_or lists k a) = ap (λ rs. get_or rs k (Ok a)) are ∙ get_or-map Ok lists k a (Ok a) (omega (arith, count, lt)) in
-        subst (λ r. IfOk r (λ p. IsPart up (get_or parts k b).now p)) at (each k (Ok a) b lt)
+part_lists up rects parts made lists are listed whole =
+    let each = subst (AreListed up parts) are listed in
+    record {
+      count = counts up parts lists each;
+      each = λ j d j_in x y here. listed_is up j d x y j_in here parts lists each ∙ whole x y;
+    }
 
 taken_more : (rects : List Rect) (places : List ℕ) (k : ℕ) → k < length places → (x y : ℤ)
     → covered_at rects (take (k + 1) places) x y ≡ (covered_at rects (take k places) x y || covered (take 1 (drop (get_or places k 0) rects)) x y)

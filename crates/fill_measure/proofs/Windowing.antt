@@ -1,19 +1,16 @@
 -- The areas of windows: a difference of numbers at crossings, and a list of them.
-use Rattle.std.proofs.Common.{◌≡◌, ℕ, ◌+◌, ◌-◌, ◌*◌, ◌/◌, ◌%◌, ◌≤◌, ◌<◌, min, ℤ, pos, ◌-ℤ◌, Bool, List, [], ◌∷◌, ◌++◌, All, map, Result, Ok, IfOk, length, get_or, refl, arith, ap, ◌∙◌, sym, subst, w64, FitsSigned}
-use Rattle.std.specs.Global.{Vec}
-use Rattle.std.specs.List.{flat_map}
-use Rattle.std.specs.Vec.{vec_items}
-use Rattle.std.specs.declared.alloc.AllocError.{AllocError}
+use Rattle.std.proofs.Common.{◌≡◌, ℕ, ◌+◌, ◌*◌, ◌/◌, ◌%◌, ◌≤◌, ◌<◌, ℤ, pos, ◌-ℤ◌, Bool, List, [], ◌∷◌, ◌++◌, All, map, length, get_or, refl, arith, ap, ◌∙◌, sym, subst, w64, FitsSigned}
+use Rattle.std.specs.List.{range_with_len, AllZip}
 use Rattle.std.proofs.Math.Logic.{∥∥₁_elim}
 use Rattle.std.proofs.Props.{props}
 use Rattle.std.proofs.lemmas.List.FromFn.{get_or-map-range_with_len, length-map-range_with_len, map-range_with_len_more}
+use Rattle.std.proofs.lemmas.Slice.Zip.{AllZip-map}
 use Rattle.fill_base.proofs.Signed.{read}
 use Rattle.fill_area.proofs.Measuring.{area_at, bounded, measured}
 use Rattle.fill_area.specs.Density.{window_area, AreMeasured, IsArea}
 use Rattle.fill_area.specs.Grid.{Grid, IsGrid, parts_across, parts_up}
 use Rattle.fill_cells.specs.Mesh.{AreLines}
 use Rattle.fill_measure.proofs.CornerSums.{block_small, count_read, lines_difference, rows_difference}
-use Rattle.fill_measure.proofs.Joining.{map_split, ranges_joined}
 use Rattle.fill_measure.specs.Sums.{areas_from}
 use Rattle.fill_measure.specs.declared.sides.Sides.{Sides}
 use Rattle.fill_measure.specs.declared.sums.WindowSums.{WindowSums}
@@ -94,7 +91,6 @@ areas_bounded p g areas from n grid within is = rw is (λ k d lt.
 pub merely_area : {A : Type 0} {z : ℤ} → ∥ A ∥₁ → (A → IsArea z) → IsArea z
 merely_area there is = record { least = ∥∥₁_elim there (hlevel props) (λ x. (is x).least); most = ∥∥₁_elim there (hlevel props) (λ x. (is x).most) }
 
--- the areas of all ranges of windows, one after another, are those of all windows
-pub areas_joined : (p : ℤ → ℤ → Bool) (g : Grid) (size n : ℕ) (ranges : List (Result (Vec ℤ) AllocError)) (lists : List (Vec ℤ)) → 0 < size → length ranges ≡ n / size + min 1 (n % size)
-    → ((k : ℕ) (d : Result (Vec ℤ) AllocError) → k < length ranges → IfOk (get_or ranges k d) (λ v. v.items ≡ areas_from p g (k * size) (min size (n - k * size)))) → ranges ≡ map Ok lists → flat_map vec_items lists ≡ areas_from p g 0 n
-areas_joined p g size n ranges lists some count each are = ranges_joined (areas_from p g) size n ranges lists (λ a. refl) (map_split (area_at p g)) some count each are
+-- areas that were found window by window are those of all windows
+pub found_in_order : (p : ℤ → ℤ → Bool) (g : Grid) (n : ℕ) (numbers : List ℕ) (areas : List ℤ) → numbers ≡ range_with_len 0 n → AllZip (λ k area. area ≡ area_at p g k) numbers areas → areas ≡ areas_from p g 0 n
+found_in_order p g n numbers areas below each = AllZip-map (area_at p g) numbers areas each ∙ ap (map (area_at p g)) below

@@ -10,7 +10,6 @@ mod lists;
 mod measure;
 mod mesh;
 mod pitch;
-mod shelf;
 mod sides;
 mod sums;
 mod windows;

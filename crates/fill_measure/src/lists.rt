@@ -1,6 +1,6 @@
 //! The rectangles that meet each row of cells, listed in parallel: parts of them are looked through at once, and a row has what all
 //! parts list for it.
-ghost use Rattle.std.specs.Prelude.{◌≡◌, ◌||◌, ◌^◌, ℤ, ◌<◌, ◌≤◌, length, slice_index_or, map, All, Ok, IfOk, OnOk};
+ghost use Rattle.std.specs.Prelude.{◌≡◌, ◌||◌, ◌^◌, ℤ, ◌<◌, ◌≤◌, length, All, IfOk, OnOk};
 ghost use Rattle.std.specs.List.{flat_map};
 ghost use Rattle.std.specs.Vec.{vec_items};
 ghost use Rattle.fill_region.specs.Squares.{covered};
@@ -9,11 +9,11 @@ ghost use Rattle.fill_measure.specs.steps.Parts.{ArePartLists, IsPart, covered_b
 
 use fill_base::Rect;
 use fill_cells::by_row;
-use fill_threads::map_indices;
+use rayon::prelude::*;
 use std::alloc::{AllocError, Global};
 use std::thread::Threads;
 
-/// The rectangles are cut into about so many parts, which threads look through one after another.
+/// The rectangles are cut into about so many parts, which threads look through.
 const MOST_PARTS: usize = 16;
 
 /// A part has about so many rectangles or more, or all of a list that is shorter.
@@ -35,28 +35,23 @@ pub(crate) struct Part<'a> {
 pub(crate) fn by_parts<'a>(
     rt: &(impl Threads + Sync),
     alloc: Global,
-    threads: usize,
     lists: &'a [Vec<Rect>],
     up: &[i64],
 ) -> Result<Vec<Part<'a>>, AllocError>
     requires { AreLines up.now }
     ensures { IfOk result (λ v. ArePartLists up.now (covered (flat_map vec_items lists.now)) v.items) }
 {
-    let parts = parts_of(alloc, lists)?;
-    let parts = parts.as_slice();
-    let listed = map_indices(
-        rt,
-        alloc,
-        threads,
-        parts.len(),
-        &|k: usize| -> Result<Part, AllocError>
-            requires lines { AreLines up.now }
-            requires within { k < length parts.now }
-            requires few { All (λ part. length part.now ≤ 2 ^ 32) parts.now }
-            ensures { IfOk result (λ p. IsPart up.entry.now (slice_index_or parts.entry.now k p.rects).now p) }
-        { listed(alloc, parts[k], up) },
-    )?;
-    all_of(alloc, listed)
+    parts_of(alloc, lists)?
+        .par_iter()
+        .with_min_len(1)
+        .map(
+            |part: &&[Rect]| -> Result<Part, AllocError>
+                requires lines { AreLines up.now }
+                requires few { length part.now.now ≤ 2 ^ 32 }
+                ensures { IfOk result (λ p. IsPart up.entry.now part.entry.now.now p) }
+            { listed(alloc, part, up) },
+        )
+        .collect::<Result<Vec<Part>, AllocError>>(rt, alloc)?
 }
 
 /// A part with its lists.
@@ -107,16 +102,6 @@ fn put_parts<'a>(
         parts.push(part)?;
     }
     Ok(())
-}
-
-/// What all calls gave, or the first refusal of memory.
-pub(crate) fn all_of<T: Drop>(
-    alloc: Global,
-    results: Vec<Result<T, AllocError>>,
-) -> Result<Vec<T>, AllocError>
-    ensures { IfOk result (λ v. results.items ≡ map Ok v.items) }
-{
-    results.into_iter().try_collect(alloc)
 }
 
 /// The rectangles that all parts list for the row at `j`.

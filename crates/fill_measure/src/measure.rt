@@ -17,7 +17,6 @@ use crate::sums::WindowSums;
 use fill_area::{Windows, measure_all};
 use fill_base::Rect;
 use fill_region::Region;
-use fill_threads::processors;
 use std::alloc::{AllocError, Global};
 use std::thread::Threads;
 
@@ -36,20 +35,17 @@ pub fn measure_rects(
     ensures areas { IfOk result (λ v. AreMeasured (covered (flat_map vec_items lists.now)) windows.now v.items) }
     ensures bounded { IfOk result (λ v. All IsArea v.items) }
 {
-    let threads = processors(rt);
-    sum_rects(rt, alloc, threads, lists, windows)?.areas(rt, alloc, threads)
+    sum_rects(rt, alloc, lists, windows)?.areas(rt, alloc)
 }
 
 /// The sums of which each window's area is a difference, in terms of the squares that some rectangle of some list holds. The lines at
-/// which windows begin or end make a mesh, whose rows of cells are measured on at most so many threads, mostly as many as there are
-/// processors. The sums are the same for any number of them.
+/// which windows begin or end make a mesh, whose rows of cells are measured on all processors. The sums are the same for any number of them.
 ///
 /// # Errors
 /// `AllocError` where memory is refused.
 pub fn sum_rects(
     rt: &(impl Threads + Sync),
     alloc: Global,
-    threads: usize,
     lists: &[Vec<Rect>],
     windows: &Windows,
 ) -> Result<WindowSums, AllocError>
@@ -64,7 +60,7 @@ pub fn sum_rects(
         across: &across,
         up: &up,
     };
-    let corners = mesh.corners(rt, alloc, threads, lists)?;
+    let corners = mesh.corners(rt, alloc, lists)?;
     WindowSums::new(alloc, windows, across, up, corners)
 }
 
@@ -131,5 +127,5 @@ fn measure_cut(
         up: &up,
     };
     let corners = mesh.corners_of(alloc, &cells)?;
-    WindowSums::new(alloc, windows, across, up, corners)?.areas(rt, alloc, processors(rt))
+    WindowSums::new(alloc, windows, across, up, corners)?.areas(rt, alloc)
 }

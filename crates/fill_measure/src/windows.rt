@@ -1,5 +1,5 @@
 //! The areas of windows whose sides are lines, by sums: each is a difference of four.
-ghost use Rattle.std.specs.Prelude.{◌≡◌, ℤ, pos, Bool, ◌+◌, ◌*◌, ◌<◌, ◌≤◌, IfOk, All, length};
+ghost use Rattle.std.specs.Prelude.{◌≡◌, ℤ, pos, Bool, ◌+◌, ◌*◌, ◌/◌, ◌%◌, ◌<◌, ◌≤◌, IfOk, All, length};
 ghost use Rattle.fill_area.specs.Density.{AreMeasured, IsArea, window_area};
 ghost use Rattle.fill_area.specs.Grid.{IsGrid, parts_across, parts_up};
 ghost use Rattle.fill_cells.specs.Mesh.{AreLines};
@@ -9,19 +9,12 @@ ghost use Rattle.fill_measure.specs.steps.Ends.{HoldEnds};
 ghost use Rattle.fill_measure.specs.steps.Meshes.{AreAllCorners};
 
 use crate::corners::Corners;
-use crate::lists::all_of;
 use crate::sides::sides_of;
 use crate::sums::WindowSums;
 use fill_area::Windows;
-use fill_threads::map_ranges;
+use rayon::prelude::*;
 use std::alloc::{AllocError, Global};
 use std::thread::Threads;
-
-/// The windows are cut into at most so many ranges, which threads sum one after another.
-const MOST_RANGES: usize = 16;
-
-/// A range has so many windows or more, or all that are left: fewer take no longer than a thread needs to begin.
-const LEAST_RANGE: usize = 16_384;
 
 impl WindowSums {
     /// The sums of these windows, each of whose sides is one of the lines.
@@ -113,23 +106,21 @@ impl WindowSums {
         &self,
         rt: &(impl Threads + Sync),
         alloc: Global,
-        threads: usize,
     ) -> Result<Vec<i64>, AllocError>
         ensures areas { IfOk result (λ v. (p : ℤ → ℤ → Bool) → AreSumsOf p self.now → AreMeasured p self.now.windows v.items) }
         ensures bounded { IfOk result (λ v. All IsArea v.items) }
     {
-        let size = self.windows.len().div_ceil(MOST_RANGES).max(LEAST_RANGE);
-        let ranges = map_ranges(
-            rt,
-            alloc,
-            threads,
-            self.windows.len(),
-            size,
-            &|from: usize, count: usize| -> Result<Vec<i64>, AllocError>
-                requires { from + count ≤ self.now.windows.across.count * self.now.windows.up.count }
-                ensures { IfOk result (λ v. (p : ℤ → ℤ → Bool) → AreSumsOf p self.entry.now → v.items ≡ areas_from p self.entry.now.windows from count) }
-            { self.areas_from(alloc, from, count) },
-        )?;
-        all_of(alloc, ranges)?.concat(alloc)
+        (0..self.windows.len())
+            .into_par_iter()
+            .map(
+                |i: usize| -> i64
+                    requires { i < self.now.windows.across.count * self.now.windows.up.count }
+                    ensures { let g = self.entry.now.windows in (p : ℤ → ℤ → Bool) → AreSumsOf p self.entry.now → result ≡ pos (window_area p g (i % g.across.count) (i / g.across.count)) }
+                {
+                    let (a, b) = self.windows.column_and_row(i);
+                    self.area(a, b)
+                },
+            )
+            .collect(rt, alloc)
     }
 }

@@ -1,6 +1,6 @@
 -- What metal and boxes of a sound fill take of a window.
 use Rattle.std.proofs.Common.{◌≡◌, refl, sym, ap, ◌∙◌, ℕ, ◌+◌, ◌*◌, ◌^◌, ◌≤◌, ℤ, pos, ◌-ℤ◌, ◌≤ℤ◌, arith, inl, inr, Bool, true, false, cond, ◌||◌, w64, FitsSigned}
-use Rattle.std.proofs.lemmas.Int.{ints}
+use Rattle.std.proofs.lemmas.Int.{ints, clamps}
 use Rattle.std.proofs.Math.Nat.{mul-le-mul}
 use Rattle.fill_base.specs.Counts.{count_between, span_len}
 use Rattle.fill_base.specs.Squares.{area_between}
@@ -39,7 +39,7 @@ area_either p q left bottom right top apart =
 
 -- a number is near to itself
 near_itself : (d x : ℤ) → pos 0 ≤ℤ d → IsNear d x x
-near_itself d x some = record { above = omega (arith, ints, some); below = omega (arith, ints, some) }
+near_itself d x some = record { above = omega (arith, ints, clamps, some); below = omega (arith, ints, clamps, some) }
 
 -- no square of a sound fill's boxes is metal
 no_shared : (plan : Plan) (layers : Layers) (fill : PointSet) (totals : ℕ → ℕ → ℕ) → IsPlan plan → IsSound plan layers fill totals
@@ -88,7 +88,7 @@ rest_is d f t adds small =
     rw (read_is (pos t) (small_fits t small), read_is (pos d) (small_fits d few)) (less d f t adds)
   where
     less : (d f t : ℕ) → t ≡ d + f → pos t -ℤ pos d ≡ pos f
-    less d f t adds = omega (arith, ints, adds)
+    less d f t adds = omega (arith, ints, clamps, adds)
 
 parts_are : (d f t : ℕ) → t ≡ d + f → t ≤ 2 ^ 40
     → let m : Measures = record { drawn = read (pos d); fill = read (read (pos t) -ℤ read (pos d)); total = read (pos t) } in let n : Measures = record { drawn = pos d; fill = pos f; total = pos t } in m ≡ n
@@ -108,7 +108,7 @@ total_is_area a column row drawn total given =
     rw (given.total_is) (area (total_in (plan_of a.rules) (state_of a).layers.metal (state_of a).fill column row) (area_small (with_boxes (plan_of a.rules) (state_of a).layers.metal (state_of a).fill) (plan_of a.rules).windows column row given.plan.windows))
   where
     area : (n : ℕ) → n ≤ 2 ^ 40 → IsArea (read (pos n))
-    area n small = rw (read_is (pos n) (small_fits n small)) (record { least = omega (arith, ints); most = omega (arith, ints, small) })
+    area n small = rw (read_is (pos n) (small_fits n small)) (record { least = omega (arith, ints, clamps); most = omega (arith, ints, clamps, small) })
 
 pub measures_are : (a : Account) (g : Grid) (column row : ℕ) (drawn total : ℤ) → g ≡ (plan_of a.rules).windows → AreGiven a column row drawn total
     → let m : Measures = record { drawn = read drawn; fill = read (read total -ℤ read drawn); total = read total } in m ≡ measures_of (state_of a).layers.metal (boxes_of (plan_of a.rules) (state_of a).fill) g column row

@@ -1,5 +1,5 @@
 -- The lines of a report, one after another.
-use Rattle.std.proofs.Common.{◌≡◌, ℕ, zero, suc, ◌+◌, ◌-◌, ◌*◌, ◌/◌, ◌%◌, ◌≤◌, ◌<◌, min, map, take, drop, Result, Ok, IfOk, ℤ, pos, ◌+ℤ◌, ◌≤ℤ◌, ◌<ℤ◌, List, ◌++◌, get_or, length, refl, arith, ap, ◌∙◌, sym, w64, FitsSigned, Some, Bool, false, true, ◌||◌}
+use Rattle.std.proofs.Common.{◌≡◌, ℕ, zero, suc, ◌+◌, ◌-◌, ◌*◌, ◌/◌, ◌%◌, ◌≤◌, ◌<◌, min, take, drop, ℤ, pos, ◌+ℤ◌, ◌≤ℤ◌, ◌<ℤ◌, List, ◌++◌, get_or, length, refl, arith, ap, ◌∙◌, sym, w64, FitsSigned, Some, Bool, false, true, ◌||◌}
 use Rattle.std.specs.Global.{Vec}
 use Rattle.std.specs.List.{flat_map, range_with_len, All}
 use Rattle.std.specs.Vec.{vec_items}
@@ -7,7 +7,7 @@ use Rattle.std.proofs.lemmas.List.{append-nil, append_assoc, get_or_default, get
 use Rattle.std.proofs.lemmas.List.FromFn.{get_or-map-range_with_len, length-map-range_with_len}
 use Rattle.std.proofs.Math.Nat.{div-add-mod, div-lt_iff_lt-mul}
 use Rattle.fill_base.proofs.Signed.{read, read_is}
-use Rattle.std.specs.Int.{int_max, int_min}
+use Rattle.std.specs.Int.{div_ceil, int_max, int_min}
 use Rattle.std.proofs.lemmas.Int.{ints}
 use Rattle.fill_base.specs.Counts.{span_len}
 use Rattle.fill_base.specs.Limits.{IsLength}
@@ -18,9 +18,8 @@ use Rattle.fill_area.specs.declared.parts.Parts.{Parts}
 use Rattle.fill_area.specs.Density.{IsArea, AreMeasured, window_area}
 use Rattle.fill_area.proofs.Measuring.{area_at, same_area, no_area}
 use Rattle.fill_report.specs.declared.line.Measures.{Measures}
-use Rattle.fill_report.specs.declared.error.OutOfMemory.{OutOfMemory}
 use Rattle.fill_report.specs.Report.{AreDrawn, first_lines, lines_from, line_at, metal_alone, window_line, windows_text, report_text, measures_of, drawn_only, nothing}
-use Rattle.fill_measure.proofs.Joining.{ranges_joined}
+use Rattle.fill_report.proofs.Joining.{ranges_joined}
 use Rattle.fill_measure.specs.Sums.{areas_from}
 use Rattle.fill_report.specs.Writing.{Lines, written}
 use Rattle.fill_area.proofs.Shares.{area_read}
@@ -166,8 +165,8 @@ sums_drawn p g areas from n grid is i d lt =
     alone t e f u x y z = let w = x ∙ z in cc
 
 -- the lines of all parts, one after another, are those of all windows
-pub parts_joined : (g : Grid) (least most : ℤ) (measures : ℕ → ℕ → Measures) (size n : ℕ) (parts : List (Result (Vec ℕ) OutOfMemory)) (texts : List (Vec ℕ)) → 0 < size → length parts ≡ n / size + min 1 (n % size)
-    → ((k : ℕ) (d : Result (Vec ℕ) OutOfMemory) → k < length parts → IfOk (get_or parts k d) (λ v. v.items ≡ lines_from g least most measures (k * size) (min size (n - k * size)))) → parts ≡ map Ok texts
+pub parts_joined : (g : Grid) (least most : ℤ) (measures : ℕ → ℕ → Measures) (size n : ℕ) (texts : List (Vec ℕ)) → 0 < size → length texts ≡ div_ceil n size
+    → ((k : ℕ) (d : Vec ℕ) → k < div_ceil n size → (get_or texts k d).items ≡ lines_from g least most measures (k * size) (min size (n - k * size)))
     → n ≡ g.across.count * g.up.count → flat_map vec_items texts ≡ windows_text g least most measures
-parts_joined g least most measures size n parts texts some count each are all =
-    ranges_joined (lines_from g least most measures) size n parts texts (λ a. refl) (lines_split (line_at g least most measures)) some count each are ∙ ap (first_lines g least most measures) all
+parts_joined g least most measures size n texts some count each all =
+    ranges_joined (lines_from g least most measures) size n texts (λ a. refl) (lines_split (line_at g least most measures)) some count each ∙ ap (first_lines g least most measures) all

@@ -6,6 +6,7 @@ pub mod book;
 pub mod error;
 pub mod line;
 pub mod metal;
+mod rows;
 pub mod shapes;
 mod window;
 
@@ -13,4 +14,5 @@ pub use book::report;
 pub use error::OutOfMemory;
 pub use line::{Density, Measures};
 pub use metal::{report_of, report_parts};
+pub use rows::rows_report_of_rects;
 pub use shapes::report_parts_of_rects;

@@ -1,5 +1,5 @@
 //! The report of metal alone.
-ghost use Rattle.std.specs.Prelude.{◌≡◌, ℕ, ◌+◌, ◌*◌, ◌<◌, ◌≤◌, length, map, Ok, IfOk, All};
+ghost use Rattle.std.specs.Prelude.{◌≡◌, ℕ, ◌+◌, ◌-◌, ◌*◌, ◌<◌, ◌≤◌, min, length, IfOk, All};
 ghost use Rattle.std.specs.List.{flat_map};
 ghost use Rattle.std.specs.Vec.{vec_items};
 ghost use Rattle.fill_region.specs.Bands.{holds};
@@ -16,11 +16,11 @@ use fill_area::Windows;
 use fill_measure::measure_region;
 use fill_region::Region;
 use fill_text::Rules;
-use fill_threads::{map_ranges, processors};
+use rayon::prelude::*;
 use std::alloc::Global;
 use std::thread::Threads;
 
-/// The lines are made in at most so many parts, by threads that take one after another.
+/// The lines are made in at most so many parts.
 const MOST_PARTS: usize = 32;
 
 /// A part has the lines of so many windows or more, or of all that are left: fewer take no longer than a thread needs to begin.
@@ -98,32 +98,25 @@ pub(crate) fn drawn_lines(
     requires most { IsShare most }
     ensures { IfOk result (λ v. flat_map vec_items v.items ≡ windows_text windows.now least most (drawn_only windows.now totals.now)) }
 {
-    let parts = map_ranges(
-        rt,
-        alloc,
-        processors(rt),
-        totals.len(),
-        part_size(totals.len()),
-        &|from: usize, count: usize| -> Result<Vec<u8>, OutOfMemory>
-            requires count { length totals.now ≡ windows.now.across.count * windows.now.up.count }
-            requires within { from + count ≤ length totals.now }
-            requires areas { All IsArea totals.now }
-            requires least { IsShare least }
-            requires most { IsShare most }
-            ensures { IfOk result (λ v. v.items ≡ lines_from windows.entry.now least most (drawn_only windows.entry.now totals.entry.now) from count) }
-        { part_lines(alloc, windows, totals, from, count, least, most) },
-    )?;
-    all_parts(alloc, parts)
-}
-
-/// What all parts are, or the first refusal of memory.
-pub(crate) fn all_parts(
-    alloc: Global,
-    parts: Vec<Result<Vec<u8>, OutOfMemory>>,
-) -> Result<Vec<Vec<u8>>, OutOfMemory>
-    ensures { IfOk result (λ v. parts.items ≡ map Ok v.items) }
-{
-    parts.into_iter().try_collect(alloc)
+    let size = part_size(totals.len());
+    (0..totals.len().div_ceil(size))
+        .into_par_iter()
+        .with_min_len(1)
+        .map(
+            move |k: usize| -> Result<Vec<u8>, OutOfMemory>
+                requires count { length totals.now ≡ windows.now.across.count * windows.now.up.count }
+                requires within { k * size < length totals.now }
+                requires areas { All IsArea totals.now }
+                requires least { IsShare least }
+                requires most { IsShare most }
+                ensures { IfOk result (λ v. v.items ≡ lines_from windows.entry.now least most (drawn_only windows.entry.now totals.entry.now) (k * size) (min size (length totals.entry.now - k * size))) }
+            {
+                let from = k * size;
+                let count = size.min(totals.len() - from);
+                part_lines(alloc, windows, totals, from, count, least, most)
+            },
+        )
+        .collect::<Result<Vec<Vec<u8>>, OutOfMemory>>(rt, alloc)?
 }
 
 /// Of how many windows a part has the lines, where there are so many windows.

@@ -1,5 +1,5 @@
 //! The report of metal that is given as rectangles.
-ghost use Rattle.std.specs.Prelude.{◌≡◌, ◌+◌, ◌*◌, ◌≤◌, ℤ, Bool, IfOk};
+ghost use Rattle.std.specs.Prelude.{◌≡◌, ◌+◌, ◌-◌, ◌*◌, ◌<◌, ◌≤◌, min, ℤ, Bool, IfOk};
 ghost use Rattle.std.specs.List.{flat_map};
 ghost use Rattle.std.specs.Vec.{vec_items};
 ghost use Rattle.fill_region.specs.Squares.{covered};
@@ -10,17 +10,14 @@ ghost use Rattle.fill_report.specs.Report.{lines_from, measures_of, report_text,
 ghost use Rattle.fill_report.specs.RulesReport.{metal_report};
 
 use crate::error::OutOfMemory;
-use crate::metal::{all_parts, lines_of, part_size};
+use crate::metal::{lines_of, part_size};
 use fill_area::Windows;
 use fill_base::Rect;
 use fill_measure::{WindowSums, sum_rects};
 use fill_text::Rules;
-use fill_threads::{let_go, map_ranges, processors};
-use std::alloc::{AllocError, Global};
+use rayon::prelude::*;
+use std::alloc::Global;
 use std::thread::Threads;
-
-/// A list of so many rectangles or more is given back to the system page by page, which takes one thread long.
-const LARGE: usize = 65_536;
 
 /// The parts that `report_parts` makes, of the squares that some rectangle of some list holds: the windows are measured straight from
 /// the rectangles, with no region in between. The lists are taken, and let go of once the windows are measured, before a line of
@@ -38,15 +35,13 @@ pub fn report_parts_of_rects(
 {
     let least = rules.min();
     let most = rules.max();
-    let threads = processors(rt);
-    windows_report(rt, alloc, threads, lists, &rules.windows(), least, most)
+    windows_report(rt, alloc, lists, &rules.windows(), least, most)
 }
 
 /// The same over these windows: the lists are let go of before a line is made. A window is `LOW` below `least` parts in a million and `HIGH` above `most`.
 fn windows_report(
     rt: &(impl Threads + Sync),
     alloc: Global,
-    threads: usize,
     lists: Vec<Vec<Rect>>,
     windows: &Windows,
     least: i64,
@@ -56,33 +51,15 @@ fn windows_report(
     requires most { IsShare most }
     ensures { IfOk result (λ v. flat_map vec_items v.items ≡ report_text (covered (flat_map vec_items lists.items)) nothing windows.now least most) }
 {
-    let sums = sums_of(rt, alloc, threads, lists, windows)?;
-    sum_lines(rt, alloc, threads, &sums, least, most)
-}
-
-/// The sums of the windows in terms of the squares that some rectangle holds. The lists are let go of.
-fn sums_of(
-    rt: &(impl Threads + Sync),
-    alloc: Global,
-    threads: usize,
-    lists: Vec<Vec<Rect>>,
-    windows: &Windows,
-) -> Result<WindowSums, AllocError>
-    ensures windows { IfOk result (λ s. s.windows ≡ windows.now) }
-    ensures sums { IfOk result (AreSumsOf (covered (flat_map vec_items lists.items))) }
-{
-    let sums = sum_rects(rt, alloc, threads, &lists, windows)?;
-    if lists.iter().any(|list| list.len() >= LARGE) {
-        let_go(rt, alloc, threads, lists);
-    }
-    Ok(sums)
+    let sums = sum_rects(rt, alloc, &lists, windows)?;
+    drop(lists);
+    sum_lines(rt, alloc, &sums, least, most)
 }
 
 /// The lines of windows by their sums, and no fill, in parts that are made at once: a part's windows are summed and written by one thread.
 fn sum_lines(
     rt: &(impl Threads + Sync),
     alloc: Global,
-    threads: usize,
     sums: &WindowSums,
     least: i64,
     most: i64,
@@ -92,24 +69,27 @@ fn sum_lines(
     ensures { IfOk result (λ v. (p : ℤ → ℤ → Bool) → AreSumsOf p sums.now → flat_map vec_items v.items ≡ report_text p nothing sums.now.windows least most) }
 {
     let count = sums.windows().len();
-    let parts = map_ranges(
-        rt,
-        alloc,
-        threads,
-        count,
-        part_size(count),
-        &|from: usize, count: usize| -> Result<Vec<u8>, OutOfMemory>
-            requires within { from + count ≤ sums.now.windows.across.count * sums.now.windows.up.count }
-            requires least { IsShare least }
-            requires most { IsShare most }
-            ensures { IfOk result (λ v. (p : ℤ → ℤ → Bool) → AreSumsOf p sums.entry.now → v.items ≡ lines_from sums.entry.now.windows least most (measures_of p nothing sums.entry.now.windows) from count) }
-        { part_by_sums(alloc, sums, from, count, least, most) },
-    )?;
-    all_parts(alloc, parts)
+    let size = part_size(count);
+    (0..count.div_ceil(size))
+        .into_par_iter()
+        .with_min_len(1)
+        .map(
+            move |k: usize| -> Result<Vec<u8>, OutOfMemory>
+                requires count { count ≡ sums.now.windows.across.count * sums.now.windows.up.count }
+                requires within { k * size < count }
+                requires least { IsShare least }
+                requires most { IsShare most }
+                ensures { let windows = sums.entry.now.windows in IfOk result (λ v. (p : ℤ → ℤ → Bool) → AreSumsOf p sums.entry.now → v.items ≡ lines_from windows least most (measures_of p nothing windows) (k * size) (min size (count - k * size))) }
+            {
+                let from = k * size;
+                part_by_sums(alloc, sums, from, size.min(count - from), least, most)
+            },
+        )
+        .collect::<Result<Vec<Vec<u8>>, OutOfMemory>>(rt, alloc)?
 }
 
 /// The lines of `count` windows from the one at place `from` on, by their sums, and no fill.
-fn part_by_sums(
+pub(crate) fn part_by_sums(
     alloc: Global,
     sums: &WindowSums,
     from: usize,

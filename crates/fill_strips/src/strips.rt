@@ -10,9 +10,9 @@ use crate::cuts::cuts_of;
 use fill_base::Rect;
 use fill_base::rect::{HIGHEST, LOWEST};
 use fill_region::Region;
-use fill_threads::processors;
+use rayon::{current_num_threads, join};
 use std::alloc::{AllocError, Global};
-use std::thread::{Threads, join};
+use std::thread::Threads;
 
 /// Appends what of a rectangle lies in a strip.
 fn put_within(out: &mut Vec<Rect>, rect: &Rect, strip: &Rect) -> Result<(), AllocError>
@@ -90,7 +90,7 @@ pub fn region_of_rects<R: Threads + Sync>(
 ) -> Result<Region, AllocError>
     ensures squares { IfOk result (λ r. (x y : ℤ) → holds r x y ≡ covered rects.now x y) }
 {
-    let strips = processors(rt);
+    let strips = current_num_threads(rt);
     if strips <= 1 {
         return Region::from_rects(alloc, rects);
     }

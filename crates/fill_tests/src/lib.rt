@@ -16,5 +16,3 @@ mod size;
 mod spans;
 #[cfg(test)]
 mod text;
-#[cfg(test)]
-mod threads;

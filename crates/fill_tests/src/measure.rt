@@ -105,7 +105,7 @@ fn sums_outlive_the_rectangles(rt: HostRuntime) -> Result<(), Fail> {
     let windows = Windows::new(Point { x: 0, y: 0 }, (6, 4), (4, 2), (2, 2))?;
     let rects = [Rect::new(1, 1, 6, 4)?, Rect::new(5, 2, 9, 5)?];
     let lists = in_lists(alloc, &rects, 2)?;
-    let sums = sum_rects(&rt, alloc, 3, &lists, &windows)?;
+    let sums = sum_rects(&rt, alloc, &lists, &windows)?;
     drop(lists);
     assert!(rt; *sums.windows() == windows);
     assert_eq!(rt;

@@ -2,7 +2,7 @@
 use Rattle.std.proofs.Common.{◌≡◌, ℤ, ◌+ℤ◌, ◌-ℤ◌, ◌≤ℤ◌, ◌<ℤ◌, FitsSigned, w32, w64, of_z, to_z, arith, refl, sym, ap, ◌∙◌, Bool, true, ◌&&◌, int_eq}
 use Rattle.std.proofs.Math.Path.{to_path_p}
 use Rattle.std.proofs.Props.{props}
-use Rattle.std.proofs.lemmas.Int.{ints}
+use Rattle.std.proofs.lemmas.Int.{ints, clamps}
 use Rattle.fill_base.specs.Coordinates.{lowest, highest}
 use Rattle.fill_base.specs.declared.rect.Rect.{Rect}
 use Rattle.fill_base.proofs.Signed.{read, read32, read_is, read32_is, coordinate_fits, coordinate_fits32, lt_le}
@@ -32,13 +32,13 @@ same_rect q r x1 y1 x2 y2 = λ i. record {
 }
 
 side_read : (l : ℤ) → FitsSigned w32 l → read l ≡ l
-side_read l fits = omega (arith, ints)
+side_read l fits = omega (arith, ints, clamps)
 
 length_read : (b : ℤ) → lowest <ℤ b → b ≤ℤ highest → read (b -ℤ lowest) ≡ b -ℤ lowest
-length_read b wide high = omega (arith, ints)
+length_read b wide high = omega (arith, ints, clamps)
 
 end_read : (l b : ℤ) → FitsSigned w32 l → lowest <ℤ b → b ≤ℤ highest → read (l +ℤ (b -ℤ lowest)) ≡ l +ℤ (b -ℤ lowest)
-end_read l b fits wide high = omega (arith, ints)
+end_read l b fits wide high = omega (arith, ints, clamps)
 
 pub extent_read : (one : OneRect) (l b r t : ℤ) → FitsSigned w32 one.left → FitsSigned w32 one.bottom
     → l ≡ read32 one.left → b ≡ read32 one.bottom → r ≡ read32 one.right → t ≡ read32 one.top
@@ -83,10 +83,10 @@ same_extent a b same tells is =
 
 -- an edge of a rectangle, kept in four bytes
 pub edge_read : (x e : ℤ) → x ≡ e → lowest ≤ℤ e → e ≤ℤ highest → read32 (read x) ≡ e
-edge_read x e is low high = rw is (omega (arith, ints))
+edge_read x e is low high = rw is (omega (arith, ints, clamps))
 
 pub le_lt : (a b c : ℤ) → a ≤ℤ b → b <ℤ c → a <ℤ c
-le_lt a b c le lt = omega (arith, ints)
+le_lt a b c le lt = omega (arith, ints, clamps)
 
 -- an edge that the code found to be the least
 pub least_is : (x e : ℤ) → x ≡ e → lowest ≤ℤ e → e ≤ℤ highest → of_z w64 x ≡ 18446744072635809792 → lowest ≡ e

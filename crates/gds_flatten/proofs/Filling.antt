@@ -2,7 +2,7 @@
 use Rattle.std.proofs.Common.{◌≡◌, ℕ, zero, suc, ◌<◌, ℤ, ◌-ℤ◌, ◌≤ℤ◌, List, [], ◌∷◌, length, get_or, map, refl, arith, ap, ◌∙◌, sym, Bool, true, false, not, ◌||◌, Some, None}
 use Rattle.std.specs.Prelude.{IsTrue, ◌↔◌}
 use Rattle.std.specs.List.{list_any}
-use Rattle.std.proofs.lemmas.Int.{ints}
+use Rattle.std.proofs.lemmas.Int.{ints, clamps}
 use Rattle.fill_base.specs.declared.place.Point.{Point}
 use Rattle.fill_base.specs.declared.rect.Rect.{Rect}
 use Rattle.fill_region.specs.Squares.{covered}
@@ -24,7 +24,7 @@ none_is : (b : Bounds) → Some b ≡ None → ⊥
 none_is b h = cc
 
 le_self : (a : ℤ) → a ≤ℤ a
-le_self a = omega (arith, ints)
+le_self a = omega (arith, ints, clamps)
 
 points_ordered : (points : List Point) (k : ℕ) (d : Bounds) → k < length (map at_point points) → IsOrdered (get_or (map at_point points) k d)
 points_ordered [] k d lt = absurd (omega arith)

@@ -96,7 +96,7 @@ held_none o x y seen = absurd cc
 still_back : (s : ℤ → ℤ → Bool) (x y : ℤ) → carried still s x y ≡ s x y
 still_back s x y = ap (λ a. s a (y -ℤ pos 0)) (less x) ∙ ap (s x) (less y) where
   less : (z : ℤ) → z -ℤ pos 0 ≡ z
-  less z = omega (arith, ints)
+  less z = omega (arith, ints, clamps)
 
 or_none : (b : Bool) → (b || false) ≡ b
 or_none true = refl

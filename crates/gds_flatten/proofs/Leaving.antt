@@ -4,6 +4,7 @@ use Rattle.std.specs.Prelude.{slice_get, filter, not, ◌&&◌, ◌==◌, Some, 
 use Rattle.std.specs.Str.{bytes_eq}
 use Rattle.std.proofs.lemmas.Bool.{and_parts, eqb-true}
 use Rattle.std.proofs.lemmas.List.{length-map}
+use Rattle.fill_base.specs.declared.rect.Rect.{Rect}
 use Rattle.gds_grammar.specs.Values.{boundary, path, reference, array, Shape as Element}
 use Rattle.gds_grammar.specs.Layers.{is_kept, kept_shapes, kept_cell}
 use Rattle.gds_flatten.specs.declared.error.FlattenError.{FlattenError}
@@ -12,8 +13,9 @@ use Rattle.gds_flatten.specs.Graphs.{Graph, IsReached, IsCyclic, IsTooDeep}
 use Rattle.gds_flatten.specs.Shapes.{is_shape}
 use Rattle.gds_flatten.specs.Copies.{Hierarchy, copies, AllStayInRange}
 use Rattle.gds_flatten.specs.Designs.{Entry, index_of, elements_at, targets, graph_of, singles_among, hierarchy_of, element_fault, AreFine, AllFine, IsFirstFault}
-use Rattle.gds_flatten.specs.Flattening.{IsSound, copies_of, IsCountable, IsRefused}
-use Rattle.gds_flatten.specs.Layers.{TellsOf, LayersSuffice}
+use Rattle.gds_flatten.specs.Flattening.{IsSound, copies_of, IsCountable, IsCountableOn, IsRefused, IsRefusedOn}
+use Rattle.gds_flatten.specs.Frames.{met}
+use Rattle.gds_flatten.specs.Layers.{TellsOf, TellsOfWithin, LayersSuffice, LayersSufficeWithin}
 
 -- the first fault of a cell, by its place
 pub record IsAtIn (layer data_type : ℕ) (es : List Element) (e : FlattenError) : Type 0 where
@@ -260,6 +262,29 @@ module _ (layer data_type : ℕ) (cells others : List Entry) (top : List ℕ) wh
     pub tells : TellsOf cells others top layer data_type
     tells = record { copies = same.copies; countable = countable; refused = refused }
 
+    module _ (frame : Rect) where
+      countable_on : IsCountableOn others top layer data_type frame → IsCountableOn cells top layer data_type frame
+      countable_on h = record { sound = sound h.sound; fine = all_fine h.fine; few = subst (λ cs. met frame cs ≤ 4000000) same.copies h.few }
+
+      refused_on : (e : FlattenError) → IsRefusedOn others top layer data_type frame e → IsRefusedOn cells top layer data_type frame e
+      refused_on errors.Memory h = refused errors.Memory h
+      refused_on errors.NoTop h = refused errors.NoTop h
+      refused_on errors.MissingCell h = refused errors.MissingCell h
+      refused_on errors.Cycle h = refused errors.Cycle h
+      refused_on errors.TooDeep h = refused errors.TooDeep h
+      refused_on errors.BadTransform h = refused errors.BadTransform h
+      refused_on errors.BadArray h = refused errors.BadArray h
+      refused_on errors.NotManhattan h = refused errors.NotManhattan h
+      refused_on errors.RoundEnd h = refused errors.RoundEnd h
+      refused_on errors.OddWidth h = refused errors.OddWidth h
+      refused_on errors.DoublesBack h = refused errors.DoublesBack h
+      refused_on errors.BadExtension h = refused errors.BadExtension h
+      refused_on errors.TooManyShapes h = (sound h.0, all_fine h.1, subst (λ cs. 4000000 < met frame cs) same.copies h.2)
+      refused_on errors.OutOfRange h = (countable_on h.0, subst (λ cs. AllStayInRange cs → ⊥) same.copies h.1)
+
+      pub tells_within : TellsOfWithin cells others top layer data_type frame
+      tells_within = record { copies = same.copies; countable = countable_on; refused = refused_on }
+
 -- ---- so do the library and what is left of it
 
 module _ (keep : ℕ → ℕ → Bool) (cells : List Entry) (top : List ℕ) (layer data_type : ℕ) (wanted : keep layer data_type ≡ true) where
@@ -291,3 +316,6 @@ layers_suffice keep cells top layer data_type wanted = (
   tells layer data_type cells (left keep cells) top (left_is_same keep cells top layer data_type wanted),
   tells layer data_type (left keep cells) cells top (whole_is_same keep cells top layer data_type wanted),
 )
+
+pub layers_suffice_within : LayersSufficeWithin
+layers_suffice_within keep cells top layer data_type frame wanted = tells_within layer data_type cells (left keep cells) top (left_is_same keep cells top layer data_type wanted) frame

@@ -21,7 +21,6 @@ pub mod Arrays
 pub mod Wholes
 pub mod Drawing
 pub mod Sharing
-pub mod Results
 pub mod Running
 pub mod Capping
 pub mod CountsInOrder

@@ -2,7 +2,7 @@
 use Rattle.std.proofs.Common.{◌≡◌, ℕ, zero, suc, ◌+◌, ◌<◌, ◌≤◌, inl, inr, ℤ, pos, ◌+ℤ◌, ◌≤ℤ◌, Bool, true, false, ◌||◌, List, [], ◌∷◌, ◌++◌, length, map, take, drop, get_or, refl, sym, ap, subst, arith, ◌∙◌}
 use Rattle.std.specs.Prelude.{not, int_lt, Option, Some, None, All, ◌↔◌}
 use Rattle.std.specs.List.{flat_map, range_with_len}
-use Rattle.std.proofs.lemmas.Int.{ints}
+use Rattle.std.proofs.lemmas.Int.{ints, clamps}
 use Rattle.std.proofs.lemmas.Bool.{and_parts, and_from}
 use Rattle.std.proofs.lemmas.Grind.{common_steps, flat_map-append}
 use Rattle.std.proofs.lemmas.List.{take-append-drop}
@@ -40,7 +40,7 @@ is_false false h = refl
 pub itself : (b : Bounds) → IsPart b b
 itself b = record { left = same b.left; bottom = same b.bottom; right = same b.right; top = same b.top } where
   same : (a : ℤ) → a ≤ℤ a
-  same a = omega (arith, ints)
+  same a = omega (arith, ints, clamps)
 
 join_fit : (w b : Bounds) (o : Option Bounds) → Fits w (joined_if b o) ↔ (IsPart w b × Fits w o)
 join_fit w b None = ((λ h. (h, tt)), (λ h. h.0))
@@ -59,14 +59,14 @@ parts_fit w p (b ∷ bs) =
 same_extent : (o : Option Bounds) (b : Bounds) → ((w : Bounds) → Fits w o ↔ IsPart w b) → o ≡ Some b
 same_extent None b same = absurd (never b.left ((same (record b { left = b.left +ℤ pos 1 })).0 tt).left) where
   never : (a : ℤ) → (a +ℤ pos 1) ≤ℤ a → ⊥
-  never a h = omega (arith, ints, h)
+  never a h = omega (arith, ints, clamps, h)
 same_extent (Some c) b same =
     let h = (same b).1 (itself b) in
     let k = (same c).0 (itself c) in
     ap Some (four_same c.left c.bottom c.right c.top b.left b.bottom b.right b.top (between _ _ k.left h.left) (between _ _ k.bottom h.bottom) (between _ _ h.right k.right) (between _ _ h.top k.top))
   where
     between : (a b : ℤ) → a ≤ℤ b → b ≤ℤ a → a ≡ b
-    between a b h k = omega (arith, ints, h, k)
+    between a b h k = omega (arith, ints, clamps, h, k)
 
 pub shape_extent : (e : Element) (pieces : List Rect) (b : Bounds) (at : Placement) → IsPrepared e pieces (Some b) → extent_of (parts_at (carry_copy at (own_copy e))) ≡ Some (carried_bounds at b)
 shape_extent e pieces b at prepared =

@@ -25,7 +25,7 @@ use Rattle.gds_flatten.proofs.Carrying.{low, high, InRange, part_carried, rect_o
 use Rattle.gds_flatten.specs.steps.Framing.{IsPart}
 
 le_self : (a : ℤ) → a ≤ℤ a
-le_self a = omega (arith, ints)
+le_self a = omega (arith, ints, clamps)
 
 -- ---- the extent is in range where all parts are
 
@@ -189,10 +189,10 @@ square_held element pieces b k d x y drawn narrow lt h =
     holds_is b _ _ (drawn.inside _ _ (sym (drawn.filled narrow x y) ∙ any_at (λ r. squares r x y) pieces k d lt h))
 
 begins_there : (a x : ℤ) → a ≤ℤ (x -ℤ (lowest -ℤ a)) → a ≤ℤ (x +ℤ (a -ℤ lowest))
-begins_there a x h = omega (arith, ints)
+begins_there a x h = omega (arith, ints, clamps)
 
 ends_there : (a b x : ℤ) → ((x -ℤ pos 1) -ℤ (lowest -ℤ a)) <ℤ b → (x +ℤ (a -ℤ lowest)) ≤ℤ b
-ends_there a b x h = omega (arith, ints)
+ends_there a b x h = omega (arith, ints, clamps)
 
 pub pieces_stay : (p : Placement) (element : Element) (pieces : List Rect) (b : Bounds) → IsDrawn element pieces b → AreInRange (carried_bounds p b)
     → All (λ r. AreInRange (carried_bounds (composed p (way_back b)) (edges_of r))) pieces
@@ -214,7 +214,7 @@ pieces_stay p element pieces b drawn range = λ k d lt.
     in_range (carried_shifted p (b.left -ℤ lowest) (b.bottom -ℤ lowest) (edges_of r)) (part_carried p b _ part ordered range)
   where
     along : (x y m : ℤ) → x ≤ℤ y → (x +ℤ m) ≤ℤ (y +ℤ m)
-    along x y m h = omega (arith, ints)
+    along x y m h = omega (arith, ints, clamps)
 
     in_range : {c d : Bounds} → c ≡ d → AreInRange c → AreInRange d
     in_range e h = let P : Bounds → Type 0 = AreInRange in subst P e h
@@ -222,7 +222,7 @@ pieces_stay p element pieces b drawn range = λ k d lt.
 -- ---- and they cover what the shape does
 
 there_and_back : (x a : ℤ) → (x -ℤ (a -ℤ lowest)) -ℤ (lowest -ℤ a) ≡ x
-there_and_back x a = omega (arith, ints)
+there_and_back x a = omega (arith, ints, clamps)
 
 pub shape_back : (p : Placement) (element : Element) (pieces : List Rect) (b : Bounds) (x y : ℤ) → IsDrawn element pieces b → IsNarrow b
     → carried (composed p (way_back b)) (covered pieces) x y ≡ carried p (covers_of element) x y
@@ -237,7 +237,7 @@ pub way_read : (b : Bounds) (q : Placement) → IsNear b → q ≡ shift (read (
 way_read b q n is = is ∙ ap₂ (one b.left b.right n.left n.wide n.right) (one b.bottom b.top n.bottom n.tall n.top)
   where
     one : (a c : ℤ) → negsuc 8589934591 ≤ℤ a → a ≤ℤ c → c ≤ℤ pos 8589934592 → read (read a -ℤ lowest) ≡ a -ℤ lowest
-    one a c h k l = omega (arith, ints)
+    one a c h k l = omega (arith, ints, clamps)
 
     ap₂ : {a b c d : ℤ} → a ≡ c → b ≡ d → shift a b ≡ shift c d
     ap₂ h k = λ i. shift (h i) (k i)
@@ -246,4 +246,4 @@ pub way_short : (b : Bounds) → IsNear b → IsWithin 1 (way_back b)
 way_short b n = record { x = one b.left b.right n.left n.wide n.right; y = one b.bottom b.top n.bottom n.tall n.top }
   where
     one : (a c : ℤ) → negsuc 8589934591 ≤ℤ a → a ≤ℤ c → c ≤ℤ pos 8589934592 → unsigned_abs (a -ℤ lowest) ≤ 1 * 68719476736
-    one a c h k l = omega (arith, ints)
+    one a c h k l = omega (arith, ints, clamps)

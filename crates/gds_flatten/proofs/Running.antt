@@ -1,15 +1,15 @@
 -- The runs of a cell's elements, one after another.
-use Rattle.std.proofs.Common.{◌≡◌, ℕ, zero, suc, ◌+◌, ◌-◌, ◌*◌, ◌/◌, ◌%◌, ◌<◌, ◌≤◌, ◌⊎◌, inl, inr, min, List, [], ◌∷◌, ◌++◌, length, take, drop, get_or, Result, Ok, Err, IfOk, IfErr, refl, sym, ap, subst, arith, ◌∙◌}
+use Rattle.std.proofs.Common.{◌≡◌, ℕ, zero, suc, ◌+◌, ◌-◌, ◌*◌, ◌<◌, ◌≤◌, ◌⊎◌, inl, inr, max, map, List, [], ◌∷◌, ◌++◌, length, take, drop, get_or, Result, Ok, Err, IfOk, IfErr, refl, sym, ap, subst, arith, ◌∙◌}
 use Rattle.std.specs.Global.{Vec}
 use Rattle.std.specs.Prelude.{slice_get, None}
-use Rattle.std.specs.List.{flat_map}
+use Rattle.std.specs.List.{flat_map, AllZip}
 use Rattle.std.specs.Vec.{vec_items}
-use Rattle.std.proofs.lemmas.List.{length-append, append-nil}
+use Rattle.std.proofs.lemmas.List.{length-append, length-map, length-drop, append-nil, drop-drop, take-map, drop-map}
 use Rattle.std.proofs.lemmas.List.Elements.{All-append}
 use Rattle.std.proofs.lemmas.Option.{slice_get_within}
-use Rattle.std.proofs.lemmas.Nat.{div-add-mod', mod_below}
 use Rattle.std.proofs.Math.Seq.{get_or-append_seam}
 use Rattle.std.proofs.lemmas.Grind.{common_steps, flat_map-append}
+use Rattle.rayon.specs.Lists.{chunks_from, chunks_of}
 use Rattle.gds_grammar.specs.Values.{Shape as Element}
 use Rattle.gds_flatten.specs.Designs.{Entry}
 use Rattle.gds_flatten.specs.declared.cell.Run.{Run}
@@ -38,10 +38,6 @@ get_taken zero i xs less = absurd (omega (arith, less))
 get_taken (suc s) i [] less = refl
 get_taken (suc s) zero (x ∷ xs) less = refl
 get_taken (suc s) (suc i) (x ∷ xs) less = get_taken s i xs (omega (arith, less))
-
--- of what is left, at most as many are taken
-pub taken_left : {X : Type 0} (s m : ℕ) (xs : List X) → take (min s (length xs - m)) (drop m xs) ≡ take s (drop m xs)
-taken_left s m xs = grind (arith, common_steps)
 
 one_more : (k size : ℕ) → (k + 1) * size ≡ k * size + size
 one_more k size = omega arith
@@ -115,24 +111,52 @@ module _ (entries : List Entry) (layer data_type size : ℕ) (elements : List El
       let whole : take (length done * size) elements ≡ elements = let long : length elements ≤ length done * size = subst (λ n. length elements ≤ n * size) (sym came) enough in grind (arith, common_steps, long) in
       (subst (λ xs. AreOf entries layer data_type xs (flat_map vec_items shapes) links) whole joined.are, subst (λ xs. AreFine layer data_type xs) whole joined.fine)
 
--- the runs, as ranges of the elements
-pub runs_are : (entries : List Entry) (layer data_type size : ℕ) (elements : List Element) (runs : List (Result Run FlattenError)) (n : ℕ) → n ≡ length elements → 0 < size
-    → length runs ≡ n / size + min 1 (n % size)
-    → ((k : ℕ) (d : Result Run FlattenError) → k < length runs → IfOk (get_or runs k d) (λ run. IsRun entries layer data_type (take (min size (n - k * size)) (drop (k * size) elements)) run))
-    → ((k : ℕ) (d : Result Run FlattenError) → k < length runs → IfOk (get_or runs k d) (λ run. AreFine layer data_type (take (min size (n - k * size)) (drop (k * size) elements))))
-    → ((k : ℕ) (d : Result Run FlattenError) → k < length runs → IfErr (get_or runs k d) (λ e. (e ≡ Memory) ⊎ IsFaulty layer data_type (take (min size (n - k * size)) (drop (k * size) elements)) e))
-    → AreRuns entries layer data_type size elements runs
-runs_are entries layer data_type size elements runs n long some count built fine refused = record {
-  all = let whole = div-add-mod' n size in let rest = mod_below n size some in subst (λ m. m ≤ length runs * size) long (enough (n / size) (n % size) size n (length runs) whole rest count);
-  built = λ k d within. subst (λ xs. IfOk (get_or runs k d) (λ run. IsRun entries layer data_type xs run)) (left k) (built k d within);
-  fine = λ k d within. subst (λ xs. IfOk (get_or runs k d) (λ run. AreFine layer data_type xs)) (left k) (fine k d within);
-  refused = λ k d within. subst (λ xs. IfErr (get_or runs k d) (λ e. (e ≡ Memory) ⊎ IsFaulty layer data_type xs e)) (left k) (refused k d within);
-} where
-  enough : (q r s n m : ℕ) → q * s + r ≡ n → r < s → m ≡ q + min 1 r → n ≤ m * s
-  enough q r s n m whole less is = grind (arith, whole, less, is)
+-- ---- the runs, as chunks of the elements
 
-  left : (k : ℕ) → take (min size (n - k * size)) (drop (k * size) elements) ≡ run_at size k elements
-  left k = ap (λ m. take (min size (m - k * size)) (drop (k * size) elements)) long ∙ taken_left size (k * size) elements
+-- what came of each chunk is what came of those elements
+chunks_at : {X Y : Type 0} (R : List X → Y → Type 0) (size fuel : ℕ) (xs : List X) (ys : List Y) → 0 < size → length xs ≤ fuel → AllZip R (chunks_from fuel size xs) ys
+    → (length xs ≤ length ys * size) × ((k : ℕ) (d : Y) → k < length ys → R (take size (drop (k * size) xs)) (get_or ys k d))
+chunks_at R size zero [] [] some few all = (omega arith, λ k d lt. absurd (omega (arith, lt)))
+chunks_at R size zero [] (y ∷ ys) some few all = absurd all
+chunks_at R size zero (x ∷ xs) ys some few all = absurd (omega (arith, few))
+chunks_at R size (suc n) [] [] some few all = (omega arith, λ k d lt. absurd (omega (arith, lt)))
+chunks_at R size (suc n) [] (y ∷ ys) some few all = absurd all
+chunks_at R size (suc n) (x ∷ xs) [] some few all = absurd all
+chunks_at {Y = Y} R size (suc n) (x ∷ xs) (y ∷ ys) some few all =
+    let long = length-drop size (x ∷ xs) in
+    let rest = chunks_at R size n (drop size (x ∷ xs)) ys some (omega (arith, long, few, some)) all.1 in
+    (enough long rest.0, at rest.1)
+  where
+    enough : length (drop size (x ∷ xs)) ≡ length (x ∷ xs) - size → length (drop size (x ∷ xs)) ≤ length ys * size → length (x ∷ xs) ≤ length (y ∷ ys) * size
+    enough long rest = let one : length (y ∷ ys) * size ≡ length ys * size + size = omega arith in omega (arith, long, rest, one)
+
+    at : ((k : ℕ) (d : Y) → k < length ys → R (take size (drop (k * size) (drop size (x ∷ xs)))) (get_or ys k d)) → (k : ℕ) (d : Y) → k < length (y ∷ ys) → R (take size (drop (k * size) (x ∷ xs))) (get_or (y ∷ ys) k d)
+    at others zero d lt = let begin : 0 ≡ 0 * size = omega arith in subst (λ m. R (take size (drop m (x ∷ xs))) y) begin all.0
+    at others (suc k) d lt =
+        let next : size + k * size ≡ suc k * size = omega arith in
+        subst (λ zs. R (take size zs) (get_or ys k d)) (drop-drop (k * size) size (x ∷ xs) ∙ ap (λ m. drop m (x ∷ xs)) next) (others k d (omega (arith, lt)))
+
+-- what was said of the elements of a chunk is said of a run
+run_said : {X : Type 0} (said : X → Element) (size k : ℕ) (xs : List X) → map said (take size (drop (k * size) xs)) ≡ run_at size k (map said xs)
+run_said said size k xs = sym (ap (take size) (drop-map said (k * size) xs) ∙ take-map said size (drop (k * size) xs))
+
+-- what a chunk of elements came to
+abbrev pub IsChunkRun : {X : Type 0} → (X → Element) → List Entry → ℕ → ℕ → List X → Result Run FlattenError → Type 0
+IsChunkRun said entries layer data_type chunk came =
+    IfOk came (λ run. IsRun entries layer data_type (map said chunk) run)
+    × (IfOk came (λ run. AreFine layer data_type (map said chunk)) × IfErr came (λ e. (e ≡ Memory) ⊎ IsFaulty layer data_type (map said chunk) e))
+
+pub runs_are : {X : Type 0} (said : X → Element) (entries : List Entry) (layer data_type size : ℕ) (xs : List X) (runs : List (Result Run FlattenError)) → 0 < size
+    → AllZip (IsChunkRun said entries layer data_type) (chunks_of (max size 1) xs) runs → AreRuns entries layer data_type size (map said xs) runs
+runs_are said entries layer data_type size xs runs some all =
+    let only : max size 1 ≡ size = omega (arith, some) in
+    let cut = chunks_at (IsChunkRun said entries layer data_type) size (length xs) xs runs some (omega arith) (subst (λ s. AllZip (IsChunkRun said entries layer data_type) (chunks_of s xs) runs) only all) in
+    record {
+      all = rw (length-map xs said) cut.0;
+      built = λ k d lt. subst (λ es. IfOk (get_or runs k d) (λ run. IsRun entries layer data_type es run)) (run_said said size k xs) (cut.1 k d lt).0;
+      fine = λ k d lt. subst (λ es. IfOk (get_or runs k d) (λ run. AreFine layer data_type es)) (run_said said size k xs) (cut.1 k d lt).1.0;
+      refused = λ k d lt. subst (λ es. IfErr (get_or runs k d) (λ e. (e ≡ Memory) ⊎ IsFaulty layer data_type es e)) (run_said said size k xs) (cut.1 k d lt).1.1;
+    }
 
 -- where nothing is left, all have come
 pub all_came : {X : Type 0} (done rest all : List X) (n : ℕ) → done ++ rest ≡ all → n ≡ length rest → n ≡ 0 → length done ≡ length all

@@ -1,12 +1,13 @@
 -- Parts of lists of copies, as shares of a walk have them.
-use Rattle.std.proofs.Common.{◌≡◌, ℕ, zero, suc, ◌+◌, ◌-◌, ◌*◌, ◌/◌, ◌%◌, ◌<◌, ◌≤◌, ◌⊎◌, inl, inr, List, [], ◌∷◌, ◌++◌, get_or, length, take, drop, map, min, refl, sym, ap, subst, arith, ◌∙◌}
-use Rattle.std.specs.Prelude.{slice_get, Some, Result, Ok, IfOk, ◌||◌}
+use Rattle.std.proofs.Common.{◌≡◌, ℕ, zero, suc, ◌+◌, ◌-◌, ◌*◌, ◌<◌, ◌≤◌, ◌⊎◌, inl, inr, List, [], ◌∷◌, ◌++◌, get_or, length, take, drop, map, min, refl, sym, ap, subst, arith, ◌∙◌}
+use Rattle.std.specs.Prelude.{slice_get, Some, ◌||◌}
+use Rattle.std.specs.Int.{div_ceil}
 use Rattle.std.specs.List.{flat_map, range_with_len}
 use Rattle.std.specs.Global.{Vec}
 use Rattle.std.specs.Vec.{vec_items}
 use Rattle.std.proofs.Math.Nat.{mul-le-mul}
 use Rattle.std.proofs.lemmas.Bool.{cases_lt}
-use Rattle.std.proofs.lemmas.List.{take_all, drop_all, take-append-le, take-append-drop, length-take, drop-take, length-map, get_or-map, length-append, take-map, drop-map}
+use Rattle.std.proofs.lemmas.List.{take_all, drop_all, take-append-le, take-append-drop, length-take, drop-take, length-map, length-append, take-map, drop-map}
 use Rattle.std.proofs.lemmas.List.Concat.{flat_map_single}
 use Rattle.std.proofs.lemmas.List.Elements.{All-take, All-drop}
 use Rattle.std.proofs.lemmas.List.Folds.{list_any-append}
@@ -337,28 +338,9 @@ parts_drawn size (v ∷ parts) cs few each =
     fewer : length (drop size cs) ≡ length cs - size → length cs ≤ suc (length parts) * size → length (drop size cs) ≤ length parts * size
     fewer long all = let one : suc (length parts) * size ≡ length parts * size + size = grind (arith, common_steps) in omega (arith, long, all, one)
 
--- how many shares there are
-abbrev shares_of : ℕ → ℕ → ℕ
-shares_of number size = number / size + min 1 (number % size)
-
--- each begins with a copy that there is
-pub share_begins : (number size k count : ℕ) → 0 < size → count ≡ shares_of number size → k < count → k * size < number
-share_begins number size k count some is within =
-    let bound = (div_ceil_times number size some).1 in
-    let most = times_more (k + 1) (shares_of number size) size (omega (arith, is, within)) in
-    let one : (k + 1) * size ≡ k * size + size = grind (arith, common_steps) in
-    omega (arith, bound, most, one)
-
 -- the results of all of them
-pub parts_joined : {E : Type 0} (number size : ℕ) (cs : List Copy) (results : List (Result (Vec Rect) E)) (parts : List (Vec Rect)) → 0 < size → number ≡ length cs
-    → results ≡ map Ok parts → length results ≡ shares_of number size
-    → ((k : ℕ) (d : Result (Vec Rect) E) → k < length results → IfOk (get_or results k d) (λ v. IsDrawn (part (k * size) (k * size + size) cs) [] v.items))
+pub parts_joined : (number size : ℕ) (cs : List Copy) (parts : List (Vec Rect)) → 0 < size → number ≡ length cs → length parts ≡ div_ceil number size
+    → ((k : ℕ) (d : Vec Rect) → k < div_ceil number size → IsDrawn (part (k * size) (k * size + size) cs) [] (get_or parts k d).items)
     → IsDrawn cs [] (flat_map vec_items parts)
-parts_joined {E} number size cs results parts some all is count each =
-    let long : length parts ≡ length results = sym (length-map parts Ok) ∙ ap length (sym is) in
-    let bound = (div_ceil_times number size some).0 in
-    parts_drawn size parts cs (subst (λ n. length cs ≤ n * size) (sym (long ∙ count)) (subst (λ n. n ≤ shares_of number size * size) all bound))
-    (λ k d within.
-    let one = each k (Ok d) (omega (arith, long, within)) in
-    subst (λ r. IfOk r (λ (v : Vec Rect). IsDrawn (part (k * size) (k * size + size) cs) [] v.items))
-    (ap (λ (rs : List (Result (Vec Rect) E)). get_or rs k (Ok d)) is ∙ get_or-map Ok parts k d (Ok d) within) one)
+parts_joined number size cs parts some all count each =
+    parts_drawn size parts cs (rw (count, sym all) (div_ceil_times number size some).0) (λ k d within. each k d (rw count at within))

@@ -2,7 +2,7 @@
 use Rattle.std.proofs.Common.{◌≡◌, ℕ, zero, suc, ◌*◌, ◌<◌, ◌≤◌, ◌⊎◌, inl, inr, ◌%◌, ◌/◌, ℤ, pos, negsuc, ◌+ℤ◌, ◌-ℤ◌, ◌*ℤ◌, ◌≤ℤ◌, Bool, true, false, cond, List, [], ◌∷◌, map, refl, sym, subst, arith}
 use Rattle.std.specs.Prelude.{Option, Some, None, slice_get, unsigned_abs}
 use Rattle.std.specs.List.{flat_map}
-use Rattle.std.proofs.lemmas.Int.{ints}
+use Rattle.std.proofs.lemmas.Int.{ints, clamps}
 use Rattle.std.proofs.lemmas.Grind.{flat_map-append}
 use Rattle.std.proofs.lemmas.Nat.{mod_below}
 use Rattle.std.proofs.Math.Nat.{mul-le-mul}
@@ -35,10 +35,10 @@ near_square m b n = record {
   top = high m b.top n.top;
 } where
   low : (m : ℕ) (z : ℤ) → negsuc 8589934591 ≤ℤ z → (pos 0 -ℤ pos (suc m * 68719476736)) ≤ℤ z
-  low m z h = omega (arith, ints, h)
+  low m z h = omega (arith, ints, clamps, h)
 
   high : (m : ℕ) (z : ℤ) → z ≤ℤ pos 8589934592 → z ≤ℤ pos (suc m * 68719476736)
-  high m z h = omega (arith, ints, h)
+  high m z h = omega (arith, ints, clamps, h)
 
 shape_sized : (m : ℕ) (o : Option Bounds) (s : Shape) → extent_in s.filled ≡ o → FitAll (square (suc m)) (own_copy (shape_of s.element.now) ∷ [])
 shape_sized m None s is = (shape_tight (shape_of s.element.now) (rects_in s.filled) None (subst (IsPrepared (shape_of s.element.now) (rects_in s.filled)) is s.prepared) (square (suc m))).0 tt
@@ -62,7 +62,7 @@ steps_size c m n (negsuc q) le h =
     let few : c * suc q ≤ m * suc q = mul-le-mul le same in grind (arith, ints, few, h)
 
 sum_near : (x u v : ℤ) → unsigned_abs x ≤ 2147483648 → unsigned_abs u ≤ 4294967296 → unsigned_abs v ≤ 4294967296 → unsigned_abs ((x +ℤ u) +ℤ v) ≤ 1 * 68719476736
-sum_near x u v h k l = omega (arith, ints, h, k, l)
+sum_near x u v h k l = omega (arith, ints, clamps, h, k, l)
 
 pub single_near : (l : Link) (k : ℕ) → k < l.columns * l.rows → IsWithin 1 (single l k)
 single_near l k lt =
@@ -83,8 +83,8 @@ record Wider (f : Bool) (m : ℕ) (z : ℤ) : Type 0 where
   high : pos (m * 68719476736) ≤ℤ cond f (z -ℤ (pos 0 -ℤ pos (suc m * 68719476736))) (pos (suc m * 68719476736) -ℤ z)
 
 wider : (f : Bool) (m : ℕ) (z : ℤ) → unsigned_abs z ≤ 1 * 68719476736 → Wider f m z
-wider true m z h = record { low = omega (arith, ints, h); high = omega (arith, ints, h) }
-wider false m z h = record { low = omega (arith, ints, h); high = omega (arith, ints, h) }
+wider true m z h = record { low = omega (arith, ints, clamps, h); high = omega (arith, ints, clamps, h) }
+wider false m z h = record { low = omega (arith, ints, clamps, h); high = omega (arith, ints, clamps, h) }
 
 window_square : (m : ℕ) (p : Placement) → IsWithin 1 p → IsPart (window p (square (suc m))) (square m)
 window_square m p w = by p.swapped where
@@ -140,10 +140,10 @@ square_close m b few wide tall h = record {
   top = last m b.bottom b.top few tall h.bottom h.top;
 } where
   first : (m : ℕ) (a c : ℤ) → m ≤ 512 → a ≤ℤ c → (pos 0 -ℤ pos (m * 68719476736)) ≤ℤ a → c ≤ℤ pos (m * 68719476736) → unsigned_abs a ≤ 35184372088832
-  first m a c few o h k = omega (arith, ints, few, o, h, k)
+  first m a c few o h k = omega (arith, ints, clamps, few, o, h, k)
 
   last : (m : ℕ) (a c : ℤ) → m ≤ 512 → a ≤ℤ c → (pos 0 -ℤ pos (m * 68719476736)) ≤ℤ a → c ≤ℤ pos (m * 68719476736) → unsigned_abs c ≤ 35184372088832
-  last m a c few o h k = omega (arith, ints, few, o, h, k)
+  last m a c few o h k = omega (arith, ints, clamps, few, o, h, k)
 
 -- carried by a single reference, it goes at most so much farther
 pub carried_sized : (m : ℕ) (l : Link) (k : ℕ) (b : Bounds) → k < l.columns * l.rows → IsOrdered b → IsPart (square m) b → IsPart (square (suc m)) (carried_bounds (single l k) b)

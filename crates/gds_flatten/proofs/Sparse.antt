@@ -3,7 +3,7 @@ use Rattle.std.proofs.Common.{◌≡◌, ℕ, zero, suc, ◌+◌, ◌<◌, inl, 
 use Rattle.std.specs.Prelude.{filter, slice_get, is_some, Option, Some, None, All, ◌↔◌}
 use Rattle.std.specs.List.{flat_map}
 use Rattle.std.proofs.lemmas.Grind.{common_steps, flat_map-append}
-use Rattle.std.proofs.lemmas.Int.{ints}
+use Rattle.std.proofs.lemmas.Int.{ints, clamps}
 use Rattle.std.proofs.lemmas.List.Elements.{All-filter}
 use Rattle.fill_base.specs.declared.rect.Rect.{Rect}
 use Rattle.fill_region.specs.Squares.{covered}
@@ -51,7 +51,7 @@ right_of b = record { left = b.left +ℤ pos 1; bottom = b.bottom; right = b.rig
 
 past_it : (b : Bounds) → IsPart (right_of b) b → ⊥
 unfolding right_of
-past_it b part = let left = part.left in omega (arith, ints, left)
+past_it b part = let left = part.left in omega (arith, ints, clamps, left)
 
 no_parts : (p : Placement) (parts : List Bounds) → ((w : Bounds) → All (λ b. IsPart w (carried_bounds p b)) parts) → parts ≡ []
 no_parts p [] all = refl

@@ -56,7 +56,7 @@ joined_fits w a b = (
 )
 
 at_most : (a b c : ℤ) → a ≤ℤ b → b ≤ℤ c → a ≤ℤ c
-at_most a b c h k = omega (arith, ints)
+at_most a b c h k = omega (arith, ints, clamps)
 
 pub part_of_part : (w b c : Bounds) → IsPart w b → IsPart b c → IsPart w c
 part_of_part w b c h k = record {
@@ -111,7 +111,7 @@ tight_both cs ds o p q h k both =
 -- ---- shapes
 
 same_still : (z : ℤ) → z +ℤ pos 0 ≡ z
-same_still z = omega (arith, ints)
+same_still z = omega (arith, ints, clamps)
 
 least_still : (a b : ℤ) → a ≤ℤ b → int_min (a +ℤ pos 0) (b +ℤ pos 0) ≡ a
 least_still a b h = omega (arith, ints, clamps)
@@ -372,8 +372,8 @@ pub range_part : (b : Bounds) → IsOrdered b → IsPart all_coordinates b → A
 range_part b o h = axes b.left b.bottom b.right b.top o.wide o.tall h.left h.bottom h.right h.top where
   axes : (l m r t : ℤ) → l ≤ℤ r → m ≤ℤ t → lowest ≤ℤ l → lowest ≤ℤ m → r ≤ℤ highest → t ≤ℤ highest → AreInRange (record { left = l; bottom = m; right = r; top = t })
   axes l m r t u v a b c d = (
-    (record { least = a; most = omega (arith, ints, u, c) }, record { least = b; most = omega (arith, ints, v, d) }),
-    (record { least = omega (arith, ints, u, a); most = c }, record { least = omega (arith, ints, v, b); most = d }),
+    (record { least = a; most = omega (arith, ints, clamps, u, c) }, record { least = b; most = omega (arith, ints, clamps, v, d) }),
+    (record { least = omega (arith, ints, clamps, u, a); most = c }, record { least = omega (arith, ints, clamps, v, b); most = d }),
   )
 
 pub part_range : (b : Bounds) → AreInRange b → IsPart all_coordinates b

@@ -1,6 +1,6 @@
 //! How a cell is built of its elements: by the calling thread alone, or by several.
 
-ghost use Rattle.std.specs.Prelude.{◌≡◌, ◌⊎◌, ℕ, ◌+◌, ◌≤◌, List, length, take, drop, IfOk, IfErr, map};
+ghost use Rattle.std.specs.Prelude.{◌≡◌, ◌⊎◌, ℕ, List, IfOk, IfErr, map};
 ghost use Rattle.std.specs.Thread.{IsSync};
 ghost use Rattle.gds_grammar.specs.Values.{cell_of, shape_of, Shape};
 ghost use Rattle.gds_flatten.specs.Designs.{Entry, targets, AreFine};
@@ -9,13 +9,13 @@ ghost use Rattle.gds_flatten.specs.steps.Built.{IsRun, IsCell, IsFaulty, AreRuns
 use crate::cell::{Cell, Run};
 use crate::error::FlattenError;
 use crate::runs::{Targets, run_of};
-use fill_threads::{map_ranges, processors};
 use gds_grammar::Element;
 use indexmap::IndexMap;
+use rayon::prelude::*;
 use std::alloc::Global;
 use std::thread::Threads;
 
-/// The elements of a cell are cut into at most so many runs, which threads build one after another.
+/// The elements of a cell are cut into at most so many runs, which threads build.
 const MOST_RUNS: usize = 16;
 
 /// A run has so many elements or more, or all that are left: fewer take no longer than a thread needs to begin. A cell of more elements is built in
@@ -128,41 +128,18 @@ fn cell_by_runs<'a, 'b>(
         ⊎ IsFaulty layer data_type (map shape_of elements.now) e) }
 {
     let size = elements.len().div_ceil(MOST_RUNS).max(LEAST_RUN);
-    let runs = map_ranges(
-        rt,
-        alloc,
-        processors(rt),
-        elements.len(),
-        size,
-        &|from: usize, count: usize| -> Result<Run, FlattenError>
-            requires { from + count ≤ length elements.now }
-            ensures built { IfOk result (λ run. IsRun (map cell_of cells.entry.now.entries) layer data_type (take count (drop from (map shape_of elements.entry.now))) run) }
-            ensures fine { IfOk result (λ run. AreFine layer data_type (take count (drop from (map shape_of elements.entry.now)))) }
-            ensures refused { IfErr result (λ e. (e ≡ FlattenError.Memory)
-                ⊎ IsFaulty layer data_type (take count (drop from (map shape_of elements.entry.now))) e) }
-        { run_between(alloc, cells, elements, from, count, layer, data_type) },
-    )?;
+    let runs = elements
+        .par_chunks(size)
+        .map(
+            move |run: &[Element]| -> Result<Run, FlattenError>
+                ensures built { IfOk result (λ built. IsRun (map cell_of cells.entry.now.entries) layer data_type (map shape_of run.entry.now) built) }
+                ensures fine { IfOk result (λ built. AreFine layer data_type (map shape_of run.entry.now)) }
+                ensures refused { IfErr result (λ e. (e ≡ FlattenError.Memory)
+                    ⊎ IsFaulty layer data_type (map shape_of run.entry.now) e) }
+            { run_of(alloc, Targets::Names(cells), run, layer, data_type) },
+        )
+        .collect::<Vec<Result<Run, FlattenError>>>(rt, alloc)?;
     joined(alloc, runs)
-}
-
-/// The run of `count` elements from the one at `from` on.
-fn run_between<'a, 'b>(
-    alloc: Global,
-    cells: &IndexMap<Vec<u8>, Vec<Element<'_>>>,
-    elements: &'a [Element<'b>],
-    from: usize,
-    count: usize,
-    layer: u16,
-    data_type: u16,
-) -> Result<Run<'a, 'b>, FlattenError>
-    requires { from + count ≤ length elements.now }
-    ensures built { IfOk result (λ run. IsRun (map cell_of cells.now.entries) layer data_type (take count (drop from (map shape_of elements.now))) run) }
-    ensures fine { IfOk result (λ run. AreFine layer data_type (take count (drop from (map shape_of elements.now)))) }
-    ensures refused { IfErr result (λ e. (e ≡ FlattenError.Memory)
-        ⊎ IsFaulty layer data_type (take count (drop from (map shape_of elements.now))) e) }
-{
-    let run = &elements[from..from + count];
-    run_of(alloc, Targets::Names(cells), run, layer, data_type)
 }
 
 /// The cell of all runs, or the first refusal.

@@ -1,6 +1,6 @@
 //! A design whose copies are counted: it's carried in shares of them, by several threads at once.
 
-ghost use Rattle.std.specs.Prelude.{◌≡◌, ◌⊎◌, ◌+◌, ◌*◌, ◌≤◌, ◌<◌, [], length, map, Ok, Err, Contains, IfOk, IfErr};
+ghost use Rattle.std.specs.Prelude.{◌≡◌, ◌+◌, ◌*◌, ◌≤◌, ◌<◌, [], length, IfOk, IfErr};
 ghost use Rattle.std.specs.List.{flat_map};
 ghost use Rattle.std.specs.Vec.{vec_items};
 ghost use Rattle.gds_flatten.specs.steps.Counting.{AreCounted};
@@ -13,14 +13,14 @@ use crate::placement::Placement;
 use crate::share::Share;
 use crate::walk::carry_cell;
 use fill_base::Rect;
-use fill_threads::{map_indices, processors};
+use rayon::prelude::*;
 use std::alloc::Global;
 use std::thread::Threads;
 
 /// How many cells a chain may have, the top among them.
 pub const DEEPEST: u32 = 256;
 
-/// The copies are cut into at most so many shares, which threads carry one after another.
+/// The copies are cut into at most so many shares, which threads carry.
 const MOST_SHARES: usize = 16;
 
 /// A share has so many copies or more, or all that are left: fewer take no longer than a thread needs to begin.
@@ -106,21 +106,20 @@ impl Design<'_, '_> {
         ensures refused { IfErr result (IsRefusal (top_copies self.now.cells.items self.now.top)) }
     {
         let size = self.number.div_ceil(MOST_SHARES).max(LEAST_SHARE);
-        let parts = map_indices(
-            rt,
-            alloc,
-            processors(rt),
-            self.number.div_ceil(size),
-            &|index: usize| -> Result<Vec<Rect>, FlattenError>
-                requires counted { AreCounted self.now.cells.items self.now.counts.items 256 self.now.top }
-                requires few { size ≤ 4000000 }
-                requires within { index * size < self.now.number }
-                ensures drawn { IfOk result (λ v. IsDrawn (part (index * size) (index * size + size)
-                    (top_copies self.entry.now.cells.items self.entry.now.top)) [] v.items) }
-                ensures refused { IfErr result (IsRefusal (top_copies self.entry.now.cells.items self.entry.now.top)) }
-            { self.part(alloc, size, index) },
-        )?;
-        all_parts(alloc, parts)
+        (0..self.number.div_ceil(size))
+            .into_par_iter()
+            .with_min_len(1)
+            .map(
+                move |index: usize| -> Result<Vec<Rect>, FlattenError>
+                    requires counted { AreCounted self.now.cells.items self.now.counts.items 256 self.now.top }
+                    requires few { size ≤ 4000000 }
+                    requires within { index * size < self.now.number }
+                    ensures drawn { IfOk result (λ v. IsDrawn (part (index * size) (index * size + size)
+                        (top_copies self.entry.now.cells.items self.entry.now.top)) [] v.items) }
+                    ensures refused { IfErr result (IsRefusal (top_copies self.entry.now.cells.items self.entry.now.top)) }
+                { self.part(alloc, size, index) },
+            )
+            .collect::<Result<Vec<Vec<Rect>>, FlattenError>>(rt, alloc)?
     }
 
     /// The rectangles of the share at the index, where each share has so many copies.
@@ -139,15 +138,4 @@ impl Design<'_, '_> {
         };
         self.carried(alloc, share)
     }
-}
-
-/// What all parts are, or the first refusal.
-fn all_parts(
-    alloc: Global,
-    parts: Vec<Result<Vec<Rect>, FlattenError>>,
-) -> Result<Vec<Vec<Rect>>, FlattenError>
-    ensures all { IfOk result (λ v. parts.items ≡ map Ok v.items) }
-    ensures refused { IfErr result (λ e. (e ≡ FlattenError.Memory) ⊎ Contains parts.items (Err e)) }
-{
-    parts.into_iter().try_collect(alloc)
 }

@@ -31,7 +31,6 @@ use crate::search::number_at;
 use crate::survey::survey;
 use fill_base::Rect;
 use fill_region::Region;
-use fill_threads::{let_go, processors};
 use gds_grammar::{Element, Library};
 use gds_shape::{Bounds, is_in_range};
 use indexmap::IndexMap;
@@ -295,18 +294,7 @@ pub fn flatten_parts(
     ensures refused { IfErr result (λ e. IsRefused (contents_of library.now).cells top.now layer data_type e) }
 {
     let design = design_of(&Together(rt), alloc, library, top, layer, data_type)?;
-    let parts = design.parts(rt, alloc);
-    let_go_of(rt, alloc, design);
-    parts
-}
-
-/// Lets go of a design. The shapes of a large cell, which several threads filled, are given back by several threads.
-fn let_go_of(rt: &(impl Threads + Sync), alloc: Global, design: Design<'_, '_>) {
-    for cell in design.cells {
-        if cell.shapes.len() > 1 {
-            let_go(rt, alloc, processors(rt), cell.shapes);
-        }
-    }
+    design.parts(rt, alloc)
 }
 
 /// The squares that the top draws on the layer, as a region.

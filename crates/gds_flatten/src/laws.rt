@@ -2,7 +2,7 @@
 
 ghost use Rattle.gds_flatten.specs.Laws.{ActsOnCentres, ActsInTurn, GroupsFreely, TurnsAreDegrees, UnitIsOne, StepsAreWhole};
 ghost use Rattle.gds_flatten.specs.Frames.{SideBySide};
-ghost use Rattle.gds_flatten.specs.Layers.{LayersSuffice};
+ghost use Rattle.gds_flatten.specs.Layers.{LayersSuffice, LayersSufficeWithin};
 
 /// A placement of a reflection, turns and a move does these three, in this order, to the centre of
 /// each square (Calma GDSII Stream Format Manual, release 6.0, STRANS and ANGLE).
@@ -41,6 +41,11 @@ pub fn steps_are_whole()
 /// is refused for the same causes.
 pub fn layers_suffice()
     ensures { LayersSuffice }
+{}
+
+/// So it does within a frame.
+pub fn layers_suffice_within()
+    ensures { LayersSufficeWithin }
 {}
 
 /// What is drawn in two frames side by side is, united, what is drawn in the frame that both make up.

@@ -1,20 +1,19 @@
-use Rattle.std.proofs.Common.{◌≡◌, List, length, subst, arith}
-use Rattle.std.specs.Borrow.{Bor}
+use Rattle.std.proofs.Common.{◌∙◌}
 use Rattle.std.specs.List.{flat_map}
+use Rattle.std.specs.Result.{IfOk}
 use Rattle.std.specs.Vec.{vec_items}
-use Rattle.std.proofs.lemmas.Grind.{common_steps}
-use Rattle.std.proofs.lemmas.List.{get_or_default}
 use Rattle.std.proofs.lemmas.Result.{IfOk-weaker}
-use Rattle.fill_base.specs.declared.rect.Rect.{Rect}
+use Rattle.rayon.proofs.ToStd.{slice-AllZip}
 use Rattle.fill_measure.specs.steps.Parts.{IsPart}
+use Rattle.fill_region.proofs.Collecting.{values_of}
 use Rattle.fill_measure.proofs.Parting.{part_lists}
 use Rattle.fill_measure.proofs.lists.by_parts.Goals as goal
 
 pub returns : goal.returns
 returns g c =
-    let parts = c.as_slice-parts.result.now in
-    let results = c.in_ok-listed.listed.items in
-    let count : length results ≡ length parts = grind (arith, common_steps) in
-    IfOk-weaker c.all_of.result _ _ (λ v is. part_lists c.args.up.now (flat_map vec_items c.args.lists.now) parts results v.items is count
-    (λ k r b lt. IfOk-weaker _ _ _ (λ p is. subst (λ (b : Bor (List Rect)). IsPart c.args.up.now b.now p) (get_or_default parts k p.rects b lt) is) (c.in_ok-listed.ensures.each k r lt).1.met)
-    (rw c.as_slice-parts.ensures.value c.in_ok-parts.ensures.whole)) c.all_of.ensures
+    let up = c.args.up.now in
+    let parts = c.in_ok-parts_of.field-0.items in
+    let h = c.in_ok-collect.ensures in
+    let chain = rw (c.map.ensures.base, c.map.ensures.f, c.with_min_len.ensures.base) at h.1 in
+    let listed = slice-AllZip chain.0 parts (chain.1 ∙ c.par_iter.ensures) (λ part one. IfOk one (IsPart up part.now)) h.0 chain.2 in
+    IfOk-weaker c.in_ok-collect.field-0 _ _ (λ v is. part_lists up (flat_map vec_items c.args.lists.now) parts h.0 v.items is listed c.in_ok-parts_of.ensures.whole) (values_of vec_items h.0 c.in_ok-collect.field-0 h.2)

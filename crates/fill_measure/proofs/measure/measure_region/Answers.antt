@@ -1,7 +1,6 @@
-use Rattle.std.proofs.Common.{◌∙◌, ◌&&◌, ap, rules}
+use Rattle.std.proofs.Common.{◌∙◌, ◌&&◌, ap}
 use Rattle.std.proofs.lemmas.Result.{IfOk-weaker}
 use Rattle.fill_region.specs.Bands.{holds}
-use Rattle.fill_area.specs.Grid.{IsGrid}
 use Rattle.fill_area.proofs.Clipping.{cut_measured}
 use Rattle.fill_measure.proofs.measure.measure_region.Goals as goal
 

@@ -11,5 +11,5 @@ use Rattle.fill_report.proofs.shapes.windows_report.Goals as goal
 pub returns : goal.returns
 returns g c =
     let p = covered (flat_map vec_items c.args.lists.items) in
-    IfOk-weaker c.sum_lines.result _ _ (λ v is. subst (λ (w : Grid). flat_map vec_items v.items ≡ report_text p nothing w c.args.least c.args.most) c.in_ok-sums.ensures.windows (is p c.in_ok-sums.ensures.sums))
+    IfOk-weaker c.sum_lines.result _ _ (λ v is. subst (λ (w : Grid). flat_map vec_items v.items ≡ report_text p nothing w c.args.least c.args.most) c.in_ok-sums.ensures.windows (is p (rw c.deref.ensures.value at c.in_ok-sums.ensures.sums)))
     (rw (read_is c.args.least c.ranges.least, read_is c.args.most c.ranges.most) at c.sum_lines.ensures)

@@ -1,27 +1,38 @@
-use Rattle.std.proofs.Common.{◌≡◌, ◌-◌, ◌*◌, ◌<◌, ℕ, ℤ, Bool, min, List, length, vec_len, get_or, arith, ◌∙◌, IfOk, Result}
-use Rattle.std.specs.Global.{Vec}
-use Rattle.std.specs.List.{each_same, flat_map}
-use Rattle.std.specs.Vec.{vec_items}
-use Rattle.std.specs.declared.alloc.AllocError.{AllocError}
-use Rattle.std.proofs.lemmas.Grind.{common_steps}
+use Rattle.std.proofs.Common.{◌≡◌, ◌-◌, ◌*◌, ◌<◌, ◌∙◌, ap, arith}
+use Rattle.std.specs.List.{range_with_len}
 use Rattle.std.proofs.lemmas.Result.{IfOk-weaker}
-use Rattle.fill_measure.specs.Sums.{AreSumsOf, areas_from}
-use Rattle.fill_measure.proofs.Windowing.{all_bounded, all_measured, areas_joined, merely_area}
+use Rattle.rayon.specs.Numbers.{nat_range}
+use Rattle.rayon.proofs.ListFacts.{AllZip-weaken}
+use Rattle.rayon.proofs.ToStd.{nat_range-All}
+use Rattle.fill_measure.proofs.Windowing.{all_bounded, all_measured, found_in_order, merely_area}
 use Rattle.fill_measure.proofs.sums.WindowSums.areas.Goals as goal
 
--- the areas that all ranges of windows gave, in terms of a set of squares
-joined : (g : _) (c : goal.After-drop-branch g) (p : ℤ → ℤ → Bool) (all : List ℤ) → AreSumsOf p c.args.self.now → all ≡ flat_map vec_items c.deref.result.now → all ≡ areas_from p c.args.self.now.windows 0 c.len-2.result
-joined g c p all are same =
-    let ranges = c.in_ok-ranges.ranges.items in
-    let size = c.max-size.result in
-    let n = c.len-2.result in
-    let listed : length ranges ≡ vec_len c.in_ok-ranges.ranges = grind (arith, common_steps) in
-    let each : (k : ℕ) (d : Result (Vec ℤ) AllocError) → k < length ranges → IfOk (get_or ranges k d) (λ v. v.items ≡ areas_from p c.args.self.now.windows (k * size) (min size (n - k * size))) =
-    λ k d lt. IfOk-weaker (get_or ranges k d) _ _ (λ v is. is p are) (c.in_ok-ranges.ensures.each k d lt).met in
-    same ∙ rw c.deref.ensures.value (areas_joined p c.args.self.now.windows size n ranges c.in_ok-all_of.field-0.items (omega (arith, c.max-size.ensures)) (listed ∙ c.in_ok-ranges.ensures.len) each c.in_ok-all_of.ensures)
+pub collect-requires-clause-ready : goal.collect-requires-clause-ready
+collect-requires-clause-ready g c κs within =
+    let windows = c.args.self.now.windows in
+    let ends = c.into_par_iter.ensures in
+    let count = windows.across.count * windows.up.count in
+    let inside = nat_range-All (λ i. i < count) 0 count (λ i low high. high) in
+    rw (c.map.ensures.base, c.map.ensures.f, ends.0, ends.1, c.len.ensures.count) (λ k d lt. (inside k d lt, λ y h. tt))
 
 pub returns-clause-areas : goal.returns-clause-areas
-returns-clause-areas g c = IfOk-weaker c.concat.result _ _ (λ v same p are. all_measured p c.args.self.now.windows v.items c.len-2.result c.len-2.ensures.grid c.len-2.ensures.count (joined g c p v.items are (each_same _ _ same))) c.concat.ensures.ok
+returns-clause-areas g c = IfOk-weaker c.collect.result _ _ (λ v h p are.
+    let windows = c.args.self.now.windows in
+    let ends = c.into_par_iter.ensures in
+    let n = c.len.result in
+    let whole : n - 0 ≡ n = omega arith in
+    let chain = rw (c.map.ensures.base, c.map.ensures.f) at h.1 in
+    let below = chain.1 ∙ (λ i. nat_range (ends.0 i) (ends.1 i)) ∙ ap (range_with_len 0) whole in
+    let found = found_in_order p windows n chain.0 h.0 below (AllZip-weaken _ _ (λ k area is. is p are) chain.0 h.0 chain.2) in
+    all_measured p windows v.items n c.len.ensures.grid c.len.ensures.count (h.2 ∙ found)) c.collect.ensures
 
 pub returns-clause-bounded : goal.returns-clause-bounded
-returns-clause-bounded g c = IfOk-weaker c.concat.result _ _ (λ v same k d lt. merely_area c.args.self.now.measured (λ x. all_bounded x.0 c.args.self.now.windows v.items c.len-2.result c.len-2.ensures.grid c.len-2.ensures.count (joined g c x.0 v.items x.1 (each_same _ _ same)) k d lt)) c.concat.ensures.ok
+returns-clause-bounded g c = IfOk-weaker c.collect.result _ _ (λ v h k d lt. merely_area c.args.self.now.measured (λ x.
+    let windows = c.args.self.now.windows in
+    let ends = c.into_par_iter.ensures in
+    let n = c.len.result in
+    let whole : n - 0 ≡ n = omega arith in
+    let chain = rw (c.map.ensures.base, c.map.ensures.f) at h.1 in
+    let below = chain.1 ∙ (λ i. nat_range (ends.0 i) (ends.1 i)) ∙ ap (range_with_len 0) whole in
+    let found = found_in_order x.0 windows n chain.0 h.0 below (AllZip-weaken _ _ (λ k area is. is x.0 x.1) chain.0 h.0 chain.2) in
+    all_bounded x.0 windows v.items n c.len.ensures.grid c.len.ensures.count (h.2 ∙ found) k d lt)) c.collect.ensures
