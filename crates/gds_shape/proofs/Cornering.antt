@@ -1,7 +1,7 @@
 -- What an extent says of the points that it is of.
 use Rattle.std.proofs.Common.{◌≡◌, ℕ, ◌<◌, ℤ, pos, negsuc, ◌+ℤ◌, ◌-ℤ◌, ◌≤ℤ◌, List, length, get_or, map, refl, arith}
 use Rattle.std.specs.Prelude.{All}
-use Rattle.std.proofs.lemmas.Int.{ints}
+use Rattle.std.proofs.lemmas.Int.{ints, clamps}
 use Rattle.std.proofs.lemmas.List.{length-map, get_or_default, get_or-map as mapped_at}
 use Rattle.std.proofs.Math.ListN.{get_or-map}
 use Rattle.fill_base.specs.declared.place.Point.{Point}
@@ -16,7 +16,7 @@ abbrev at : ℤ → ℤ → Point
 at x y = record { x = x; y = y }
 
 pub le_self : (a : ℤ) → a ≤ℤ a
-le_self a = omega (arith, ints)
+le_self a = omega (arith, ints, clamps)
 
 -- what holds of the mapped list at an index, at the point itself
 pub at_index : (P : Bounds → Type 0) (points : List Point) (k : ℕ) (d : Point) → k < length points → All P (map at_point points) → P (at_point (get_or points k d))
@@ -52,13 +52,13 @@ near_points points d b filled stored e =
     }
   where
     far_below : (a : ℤ) → negsuc 2147483647 ≤ℤ a → negsuc 8589934591 ≤ℤ a
-    far_below a h = omega (arith, ints)
+    far_below a h = omega (arith, ints, clamps)
 
     far_above : (a : ℤ) → a ≤ℤ pos 2147483647 → a ≤ℤ pos 8589934592
-    far_above a h = omega (arith, ints)
+    far_above a h = omega (arith, ints, clamps)
 
     through : (a b c : ℤ) → a ≤ℤ b → b ≤ℤ c → a ≤ℤ c
-    through a b c h k = omega (arith, ints)
+    through a b c h k = omega (arith, ints, clamps)
 
 -- moved to the corner, all points are in range
 pub points_within : (points : List Point) (b : Bounds) (by : Point) → IsExtent (map at_point points) b → IsNarrow b → by ≡ corner_move b → All IsPoint (map (moved by) points)
@@ -73,10 +73,10 @@ points_within points b by e narrow is = rw is (λ k d lt.
     }
       where
         least : (a b : ℤ) → b ≤ℤ a → lowest ≤ℤ (a +ℤ (lowest -ℤ b))
-        least a b h = omega (arith, ints)
+        least a b h = omega (arith, ints, clamps)
 
         most : (a b c : ℤ) → a ≤ℤ c → (c -ℤ b) ≤ℤ pos 2147483648 → (a +ℤ (lowest -ℤ b)) ≤ℤ highest
-        most a b c h k = omega (arith, ints)
+        most a b c h k = omega (arith, ints, clamps)
 
     within : (k : ℕ) (d : Point) → k < length points → IsPoint (get_or (map (moved (corner_move b)) points) k d)
     within k d lt =

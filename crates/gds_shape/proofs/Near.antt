@@ -3,7 +3,7 @@ use Rattle.std.proofs.Common.{◌≡◌, ℕ, zero, suc, ◌<◌, ℤ, pos, negs
 use Rattle.std.specs.Prelude.{int_lt, All, unwrap_or, Option}
 use Rattle.std.specs.List.{list_any}
 use Rattle.std.specs.Ordering.{int_eq}
-use Rattle.std.proofs.lemmas.Int.{ints}
+use Rattle.std.proofs.lemmas.Int.{ints, clamps}
 use Rattle.std.proofs.lemmas.Bool.{or_parts}
 use Rattle.std.proofs.lemmas.List.{length-map, get_or-map as mapped_at}
 use Rattle.fill_base.specs.declared.place.Point.{Point}
@@ -35,11 +35,11 @@ ends : (a b before after : ℤ) → negsuc 2147483647 ≤ℤ a → a ≤ℤ pos 
 ends a b before after la ha lb hb rb ra = cases (int_lt a b) refl
   where
     cases : (v : Bool) → int_lt a b ≡ v → AreEnds (cond v (a -ℤ before) (b -ℤ after)) (cond v (b +ℤ after) (a +ℤ before))
-    cases true h = let lt : a ≤ℤ b = grind (arith, ints) in record { least = omega (arith, ints); most = omega (arith, ints); ordered = omega (arith, ints) }
-    cases false h = let le : b ≤ℤ a = grind (arith, ints) in record { least = omega (arith, ints); most = omega (arith, ints); ordered = omega (arith, ints) }
+    cases true h = let lt : a ≤ℤ b = grind (arith, ints) in record { least = omega (arith, ints, clamps); most = omega (arith, ints, clamps); ordered = omega (arith, ints, clamps) }
+    cases false h = let le : b ≤ℤ a = grind (arith, ints) in record { least = omega (arith, ints, clamps); most = omega (arith, ints, clamps); ordered = omega (arith, ints, clamps) }
 
 sides : (a half : ℤ) → negsuc 2147483647 ≤ℤ a → a ≤ℤ pos 2147483647 → IsReach half → AreEnds (a -ℤ half) (a +ℤ half)
-sides a half la ha r = record { least = omega (arith, ints); most = omega (arith, ints); ordered = omega (arith, ints) }
+sides a half la ha r = record { least = omega (arith, ints, clamps); most = omega (arith, ints, clamps); ordered = omega (arith, ints, clamps) }
 
 near_segment : (p q : Point) (half before after : ℤ) → IsStored p → IsStored q → IsReach half → IsReach before → IsReach after → IsNear (segment p q half before after)
 near_segment p q half before after sp sq rh rb ra = cases (int_eq p.x q.x)
@@ -80,7 +80,7 @@ near_segments half before after (p ∷ points) rh rb ra stored =
 -- ---- a path that isn't refused has no negative extension
 
 half_reach : (path : Wire) → IsStretch (half_of path) → IsReach (half_of path)
-half_reach path s = record { some = omega (arith, ints); most = s.most }
+half_reach path s = record { some = omega (arith, ints, clamps); most = s.most }
 
 no_bad : (path : Wire) (points : List Point) → None ≡ fault_among path points → has_bad_extension path ≡ false
 no_bad path points h = last (list_any is_slanted (edges points)) (has_round_end path) (has_odd_width path) (doubles_back points) (has_bad_extension path) h
@@ -110,7 +110,7 @@ extension_reach type half given rh s fine = cases (eqb type 2) (eqb type 4) s fi
       where
         not_below : (z : ℤ) → int_lt z (pos 0) ≡ false → pos 0 ≤ℤ z
         not_below z h = grind (arith, ints)
-    cases false false s h = record { some = omega (arith, ints); most = omega (arith, ints) }
+    cases false false s h = record { some = omega (arith, ints, clamps); most = omega (arith, ints, clamps) }
 
 pub near_made : (path : Wire) (points : List Point) (made : List Bounds) → None ≡ fault_among path points → IsStretch (half_of path) → IsStretch (begin_of path) → IsStretch (end_of path)
     → All IsStored points → made ≡ segments (half_of path) (begin_of path) (end_of path) points → All IsNear made
@@ -134,7 +134,7 @@ near_bounds all d b filled near e =
     }
   where
     through : (a b c d : ℤ) → a ≤ℤ b → b ≤ℤ c → c ≤ℤ d → a ≤ℤ d
-    through a b c d h k l = omega (arith, ints)
+    through a b c d h k l = omega (arith, ints, clamps)
 
 origin : Bounds
 origin = record { left = pos 0; bottom = pos 0; right = pos 0; top = pos 0 }
@@ -146,7 +146,7 @@ bounds_within all b by near e narrow is = rw is (λ k d lt.
     rw (mapped_at (moved_bounds (corner_move b)) all k origin d here) (within k here))
   where
     coordinate : (a b c : ℤ) → b ≤ℤ a → a ≤ℤ c → (c -ℤ b) ≤ℤ pos 2147483648 → IsCoordinate (a +ℤ (lowest -ℤ b))
-    coordinate a b c l h k = record { least = omega (arith, ints); most = omega (arith, ints) }
+    coordinate a b c l h k = record { least = omega (arith, ints, clamps); most = omega (arith, ints, clamps) }
 
     one : (c : Bounds) → IsNear c → b.left ≤ℤ c.left → c.right ≤ℤ b.right → b.bottom ≤ℤ c.bottom → c.top ≤ℤ b.top → AreInRange (moved_bounds (corner_move b) c)
     one c n l r m t = (
@@ -155,7 +155,7 @@ bounds_within all b by near e narrow is = rw is (λ k d lt.
     )
       where
         through : (a b c : ℤ) → a ≤ℤ b → b ≤ℤ c → a ≤ℤ c
-        through a b c h k = omega (arith, ints)
+        through a b c h k = omega (arith, ints, clamps)
 
     within : (k : ℕ) → k < length all → AreInRange (moved_bounds (corner_move b) (get_or all k origin))
     within k lt = one (get_or all k origin) (near k origin lt)

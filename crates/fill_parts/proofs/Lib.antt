@@ -1,0 +1,16 @@
+pub mod Cutting
+pub mod Reporting
+pub mod Sides
+pub mod Agreeing
+pub mod Lines
+pub mod Editing
+pub mod Joining
+pub mod Clipping
+pub mod Telling
+pub mod Running
+pub mod Levels
+pub mod Hulling
+pub mod TileEdges
+pub mod Clamping
+pub mod TileRows
+pub mod Framed

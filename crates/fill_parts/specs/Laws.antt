@@ -1,0 +1,189 @@
+-- What holds of every cut into parts.
+use Rattle.std.specs.Prelude.{◌≡◌, ℕ, ◌<◌, ◌≤◌, ℤ, Bool, true, false, ◌&&◌, List, [], ◌++◌, length, map}
+use Rattle.std.specs.List.{filter, flat_map, range_with_len}
+use Rattle.fill_base.specs.Squares.{squares}
+use Rattle.fill_base.specs.Coordinates.{IsInRange}
+use Rattle.fill_base.specs.Sides.{Sides}
+use Rattle.fill_area.specs.Density.{window_area}
+use Rattle.fill_area.specs.Grid.{Grid}
+use Rattle.fill_raster.specs.Lattice.{tile_of, tiles}
+use Rattle.fill_text.specs.Rules.{Values}
+use Rattle.fill_text.specs.Script.{change_of}
+use Rattle.fill_text.specs.declared.script.Edit.{Edit}
+use Rattle.fill_job.specs.Plans.{Plan, IsPlan, Layers, PointSet, plan_of, low_windows, wanted}
+use Rattle.fill_job.specs.Searches.{some_below}
+use Rattle.fill_core.specs.Boxes.{no_places}
+use Rattle.fill_core.specs.Histories.{edits_in}
+use Rattle.fill_core.specs.Machine.{IsComplete, layers_after, State, opened, replay}
+use Rattle.fill_core.specs.declared.event.Event.{Event}
+use Rattle.fill_core.specs.declared.event.Event.TheVariants as event
+use Rattle.fill_core.specs.Boxes.{low_fill}
+use Rattle.fill_report.specs.BookReport.{fill_report}
+use Rattle.fill_report.specs.RulesReport.{metal_report}
+use Rattle.fill_report.specs.declared.line.Measures.{Measures}
+use Rattle.fill_parts.specs.Cuts.{Part, IsPart, cut, has_row}
+use Rattle.fill_parts.specs.Needs.{IsEnough, HoldsItsWindows, AgreeInside, LayersAgree, in_coordinates, is_inside, layers_met, met_with, needed_sides, window_sides, needs_tile, needs_windows, has_tile}
+use Rattle.fill_parts.specs.PartReport.{rows_lines, part_check, part_report}
+use Rattle.fill_parts.specs.PartFill.{part_fill, near_fill, layers_by, layers_with, rect_of}
+
+abbrev pub part : ℕ → ℕ → Part
+part number count = record { number = number; count = count }
+
+-- ---- cuts
+
+-- the part that has a row, and the only one
+pub record HasOnePart (rows count row : ℕ) : Type 0 where
+  pub number : ℕ
+  pub below : number < count
+  pub has : has_row (part number count) rows row ≡ true
+  pub only : (k : ℕ) → has_row (part k count) rows row ≡ true → k ≡ number
+
+abbrev pub EachRowIsInOnePart : Type 0
+EachRowIsInOnePart = (rows count row : ℕ) → 0 < count → row < rows → HasOnePart rows count row
+
+-- the first part begins at the first row, each ends where the next one begins or is empty, and the last one ends behind the last row
+pub record IsCut (rows count : ℕ) : Type 0 where
+  pub begins : cut rows count 0 ≡ 0
+  pub follow : (k l : ℕ) → k ≤ l → cut rows count k ≤ cut rows count l
+  pub ends : cut rows count count ≡ rows
+
+abbrev pub PartsFollow : Type 0
+PartsFollow = (rows count : ℕ) → 0 < count → IsCut rows count
+
+-- ---- reports
+
+-- the lines of some rows, and then those of the rows behind them, are the lines of all these rows
+abbrev pub RowsFollow : Type 0
+RowsFollow = (g : Grid) (least most : ℤ) (measures : ℕ → ℕ → Measures) (low middle high : ℕ) → low ≤ middle → middle ≤ high
+    → rows_lines g least most measures low middle ++ rows_lines g least most measures middle high ≡ rows_lines g least most measures low high
+
+-- the parts' reports, one after another, are the report
+abbrev pub PartsMakeTheReport : Type 0
+PartsMakeTheReport = (values : Values) (metal fill : PointSet) (count : ℕ) → 0 < count
+    → flat_map (λ k. part_report values metal fill (part k count)) (range_with_len 0 count) ≡ fill_report values metal fill
+
+abbrev pub PartsMakeTheCheck : Type 0
+PartsMakeTheCheck = (values : Values) (metal : PointSet) (count : ℕ) → 0 < count
+    → flat_map (λ k. part_check values metal (part k count)) (range_with_len 0 count) ≡ metal_report metal values
+
+-- ---- what a part needs
+
+-- metal within the coordinates agrees with what of it lies between the sides and within the coordinates
+abbrev pub ClippedAgrees : Type 0
+ClippedAgrees = (s : Sides) (p : PointSet) → ((x y : ℤ) → p x y ≡ true → IsInRange x y) → AgreeInside s p (met_with (in_coordinates s) p)
+
+-- the least rectangle round the part's windows holds them, and lines without fill look at nothing else
+abbrev pub WindowSidesAreEnough : Type 0
+WindowSidesAreEnough = (plan : Plan) (k : Part) → HoldsItsWindows plan k (window_sides plan k)
+
+abbrev pub CheckLinesAgree : Type 0
+CheckLinesAgree = (values : Values) (k : Part) (s : Sides) (p q : PointSet) → IsPlan (plan_of values) → IsPart k → HoldsItsWindows (plan_of values) k s → AgreeInside s p q
+    → part_check values p k ≡ part_check values q k
+
+-- the least rectangle is enough
+abbrev pub NeededSidesAreEnough : Type 0
+NeededSidesAreEnough = (plan : Plan) (k : Part) → IsEnough plan k (needed_sides plan k)
+
+-- Of two sets of metal that agree between sides that are enough, all that a part looks at is the same: the areas of the windows
+-- that it needs,
+abbrev pub AreasAgree : Type 0
+AreasAgree = (plan : Plan) (k : Part) (s : Sides) (p q : PointSet) → IsPlan plan → IsEnough plan k s → AgreeInside s p q
+    → (a b : ℕ) → a < plan.windows.across.count → b < plan.windows.up.count → needs_windows plan k b ≡ true → window_area p plan.windows a b ≡ window_area q plan.windows a b
+
+-- which of them are low,
+abbrev pub LowWindowsAgree : Type 0
+LowWindowsAgree = (plan : Plan) (k : Part) (s : Sides) (p q : PointSet) → IsPlan plan → IsEnough plan k s → AgreeInside s p q
+    → (a b : ℕ) → needs_windows plan k b ≡ true → low_windows plan p a b ≡ low_windows plan q a b
+
+-- the wanted places of the tiles that it needs,
+abbrev pub WantedAgree : Type 0
+WantedAgree = (plan : Plan) (k : Part) (s : Sides) (p q : Layers) → IsPlan plan → IsEnough plan k s → LayersAgree s p q
+    → (tile : ℕ) → tile < tiles plan.raster → needs_tile plan k tile ≡ true → wanted plan p (low_windows plan p.metal) tile ≡ wanted plan q (low_windows plan q.metal) tile
+
+-- its own fill,
+abbrev pub FillsAgree : Type 0
+FillsAgree = (plan : Plan) (k : Part) (s : Sides) (p q : Layers) → IsPlan plan → IsEnough plan k s → LayersAgree s p q → part_fill plan p k ≡ part_fill plan q k
+
+-- and its lines, of which the fill is that of the tiles that it needs alone
+abbrev pub LinesAgree : Type 0
+LinesAgree = (values : Values) (k : Part) (s : Sides) (p q : Layers) → IsPlan (plan_of values) → IsPart k → IsEnough (plan_of values) k s → LayersAgree s p q
+    → part_report values p.metal (near_fill (plan_of values) p k) k ≡ part_report values q.metal (low_fill (plan_of values) q) k
+
+-- ---- edits
+
+-- the same edit of metals that agree gives metals that agree
+abbrev pub EditsAgree : Type 0
+EditsAgree = (s : Sides) (edits : List Edit) (p q : Layers) → LayersAgree s p q → LayersAgree s (layers_with edits p) (layers_with edits q)
+
+-- edits do what the changes of a script say
+abbrev pub EditsAreChanges : Type 0
+EditsAreChanges = (edits : List Edit) (layers : Layers) → layers_with edits layers ≡ layers_by (map change_of edits) layers
+
+-- an edit of no square between the sides may be left out
+abbrev pub EditsOutsideDoNothing : Type 0
+EditsOutsideDoNothing = (s : Sides) (edit : Edit) (p : Layers) → ((x y : ℤ) → is_inside s x y ≡ true → squares (rect_of edit) x y ≡ false) → LayersAgree s p (layers_after edit p)
+
+-- where the edits come first and then every tile, the metal is that after the edits, and the fill is all places that may be filled
+-- and whose box lies wholly in a window that is low in it
+pub record IsEditedFirst (plan : Plan) (layers : Layers) (edits : List Edit) (events : List Event) : Type 0 where
+  pub layers_is : (replay plan layers events).layers ≡ layers_with edits layers
+  pub fill_is : (replay plan layers events).fill ≡ low_fill plan (layers_with edits layers)
+
+abbrev pub FillAfterEdits : Type 0
+FillAfterEdits = (plan : Plan) (layers : Layers) (edits : List Edit) (commits : List Event) → IsPlan plan → edits_in commits ≡ []
+    → IsComplete plan (replay plan layers (map event.Edit edits ++ commits)) → IsEditedFirst plan layers edits (map event.Edit edits ++ commits)
+
+-- so edits that a test leaves out, all of which have no square between the sides, may be left out
+abbrev pub EditsInsideSuffice : Type 0
+EditsInsideSuffice = (s : Sides) (touches : Edit → Bool) (edits : List Edit) (p : Layers) → ((edit : Edit) → touches edit ≡ false → (x y : ℤ) → is_inside s x y ≡ true → squares (rect_of edit) x y ≡ false)
+    → LayersAgree s (layers_with edits p) (layers_with (filter touches edits) p)
+
+-- edits before any tile lead to a version that opens on what they leave, without a box
+abbrev pub EditsOpenAnew : Type 0
+EditsOpenAnew = (plan : Plan) (layers : Layers) (edits : List Edit) → replay plan layers (map event.Edit edits) ≡ opened plan (layers_with edits layers) no_places (length edits)
+
+-- where a version opened without a box and just the tiles that a part needs are in, the fill is that part of it
+abbrev pub FillOfNeededTiles : Type 0
+FillOfNeededTiles = (plan : Plan) (layers : Layers) (events : List Event) (k : Part) → IsPlan plan → let s = replay plan layers events in
+    s.base ≡ no_places → ((tile : ℕ) → tile < tiles plan.raster → s.tiles_in tile ≡ needs_tile plan k tile) → s.fill ≡ near_fill plan s.layers k
+
+-- a part's fill is that of its tiles: in each the wanted places, by the windows that are low in the metal
+abbrev pub PartFillIsWanted : Type 0
+PartFillIsWanted = (plan : Plan) (layers : Layers) (k : Part) (i j : ℤ) → let tile = tile_of plan.raster i j in
+    part_fill plan layers k i j ≡ wanted plan layers (low_windows plan layers.metal) tile i j && has_tile plan k tile
+
+-- ---- all parts together
+
+-- Each part finds its lines in a metal of its own that agrees with the whole one where it looks: one after another they are the
+-- report of the whole.
+abbrev pub PartsTellTheReport : Type 0
+PartsTellTheReport = (values : Values) (layers : Layers) (own : ℕ → Layers) (s : ℕ → Sides) (count : ℕ) → IsPlan (plan_of values) → 0 < count → count ≤ 4096
+    → ((k : ℕ) → k < count → IsEnough (plan_of values) (part k count) (s k) × LayersAgree (s k) (own k) layers)
+    → flat_map (λ k. part_report values (own k).metal (near_fill (plan_of values) (own k) (part k count)) (part k count)) (range_with_len 0 count) ≡ fill_report values layers.metal (low_fill (plan_of values) layers)
+
+-- a place is filled where it is in the fill of some part
+abbrev pub PartsMakeTheFill : Type 0
+PartsMakeTheFill = (plan : Plan) (layers : Layers) (count : ℕ) → IsPlan plan → 0 < count
+    → (λ i j. some_below (λ k. part_fill plan layers (part k count) i j) count) ≡ low_fill plan layers
+
+-- and no place is in the fill of two parts
+abbrev pub PartsAreApart : Type 0
+PartsAreApart = (plan : Plan) (layers : Layers) (count k l : ℕ) (i j : ℤ) → IsPlan plan → 0 < count
+    → part_fill plan layers (part k count) i j ≡ true → part_fill plan layers (part l count) i j ≡ true → k ≡ l
+
+-- ---- one part, whole
+
+-- A book that opened on the clipped layers, whose edits are those with a square between the sides, and in which just the tiles that the part
+-- needs are in, has the part's fill in its tiles, and the lines of the part are those of the whole.
+pub record IsPartOf (values : Values) (k : Part) (layers : Layers) (s : State) : Type 0 where
+  pub places : (λ i j. s.fill i j && has_tile (plan_of values) k (tile_of (plan_of values).raster i j)) ≡ part_fill (plan_of values) layers k
+  pub lines : part_report values s.layers.metal s.fill k ≡ part_report values layers.metal (low_fill (plan_of values) layers) k
+
+abbrev pub PartRunIsThePart : Type 0
+PartRunIsThePart = (values : Values) (k : Part) (s : Sides) (layers : Layers) (touches : Edit → Bool) (edits : List Edit) (events : List Event) → IsPlan (plan_of values) → IsPart k → IsEnough (plan_of values) k s
+    → ((x y : ℤ) → layers.metal x y ≡ true → IsInRange x y) → ((x y : ℤ) → layers.keep x y ≡ true → IsInRange x y)
+    → ((edit : Edit) → touches edit ≡ false → (x y : ℤ) → is_inside s x y ≡ true → squares (rect_of edit) x y ≡ false)
+    → let t = replay (plan_of values) (layers_met (in_coordinates s) layers) events in
+    t.base ≡ no_places → t.layers ≡ layers_with (filter touches edits) (layers_met (in_coordinates s) layers)
+    → ((tile : ℕ) → tile < tiles (plan_of values).raster → t.tiles_in tile ≡ needs_tile (plan_of values) k tile)
+    → IsPartOf values k (layers_by (map change_of edits) layers) t

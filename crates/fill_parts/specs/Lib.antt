@@ -1,0 +1,6 @@
+pub mod Cuts
+pub mod Needs
+pub mod PartReport
+pub mod PartFill
+pub mod Laws
+pub mod steps

@@ -1,0 +1,3 @@
+-- What serves the functions of the crate alone.
+pub mod Edges
+pub mod Hulls

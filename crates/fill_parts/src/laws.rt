@@ -1,0 +1,132 @@
+//! What holds of every cut into parts, whatever the code does. Each function's contract is the law.
+ghost use Rattle.fill_parts.specs.Laws.{AreasAgree, CheckLinesAgree, ClippedAgrees, EachRowIsInOnePart, EditsAgree, EditsAreChanges, EditsInsideSuffice, EditsOpenAnew, EditsOutsideDoNothing, FillOfNeededTiles, PartsMakeTheCheck, PartsTellTheReport, WindowSidesAreEnough, FillAfterEdits, FillsAgree, LinesAgree, LowWindowsAgree, NeededSidesAreEnough, PartFillIsWanted, PartRunIsThePart, PartsAreApart, PartsFollow, PartsMakeTheFill, PartsMakeTheReport, RowsFollow, WantedAgree};
+
+/// Each row is in exactly one part.
+pub fn each_row_is_in_one_part()
+    ensures { EachRowIsInOnePart }
+{}
+
+/// The parts follow one another from the first row to the last.
+pub fn parts_follow()
+    ensures { PartsFollow }
+{}
+
+/// The lines of rows that follow one another are the lines of them all.
+pub fn rows_follow()
+    ensures { RowsFollow }
+{}
+
+/// The reports of the parts, one after another, are the report.
+pub fn parts_make_the_report()
+    ensures { PartsMakeTheReport }
+{}
+
+/// The rectangle that a part asks for holds all that it needs.
+pub fn needed_sides_are_enough()
+    ensures { NeededSidesAreEnough }
+{}
+
+/// Metals that agree where a part looks have the same areas in its windows.
+pub fn areas_agree()
+    ensures { AreasAgree }
+{}
+
+/// And the same of these windows are low.
+pub fn low_windows_agree()
+    ensures { LowWindowsAgree }
+{}
+
+/// And the same places of its tiles are wanted.
+pub fn wanted_agree()
+    ensures { WantedAgree }
+{}
+
+/// And the part's fill is the same.
+pub fn fills_agree()
+    ensures { FillsAgree }
+{}
+
+/// And so are its lines, of which the fill is that of the tiles level with its windows.
+pub fn lines_agree()
+    ensures { LinesAgree }
+{}
+
+/// Edits keep metals that agree in agreement.
+pub fn edits_agree()
+    ensures { EditsAgree }
+{}
+
+/// The fill of one worker, who makes the edits first.
+pub fn fill_after_edits()
+    ensures { FillAfterEdits }
+{}
+
+/// The parts' fills together are the fill.
+pub fn parts_make_the_fill()
+    ensures { PartsMakeTheFill }
+{}
+
+/// No place is in two parts.
+pub fn parts_are_apart()
+    ensures { PartsAreApart }
+{}
+
+/// The checks of the parts, one after another, are the report without fill.
+pub fn parts_make_the_check()
+    ensures { PartsMakeTheCheck }
+{}
+
+/// Metal that is clipped to a rectangle within the coordinates agrees with the whole one there.
+pub fn clipped_agrees()
+    ensures { ClippedAgrees }
+{}
+
+/// The rectangle round a part's windows holds them.
+pub fn window_sides_are_enough()
+    ensures { WindowSidesAreEnough }
+{}
+
+/// Lines without fill look at the part's windows alone.
+pub fn check_lines_agree()
+    ensures { CheckLinesAgree }
+{}
+
+/// An edit beside the rectangle changes nothing there.
+pub fn edits_outside_do_nothing()
+    ensures { EditsOutsideDoNothing }
+{}
+
+/// A worker who makes the edits first and then brings the tiles that a part needs has the part's fill.
+pub fn fill_of_needed_tiles()
+    ensures { FillOfNeededTiles }
+{}
+
+/// Lines that each part finds in its own metal are the report of the whole.
+pub fn parts_tell_the_report()
+    ensures { PartsTellTheReport }
+{}
+
+/// Edits do what the changes of a script say.
+pub fn edits_are_changes()
+    ensures { EditsAreChanges }
+{}
+
+/// Edits before any tile leave a version without a box.
+pub fn edits_open_anew()
+    ensures { EditsOpenAnew }
+{}
+
+/// Edits that have no square where a part looks may be left out.
+pub fn edits_inside_suffice()
+    ensures { EditsInsideSuffice }
+{}
+
+/// A part's fill is the wanted places of its tiles.
+pub fn part_fill_is_wanted()
+    ensures { PartFillIsWanted }
+{}
+
+/// One part's run has the part's fill and lines.
+pub fn part_run_is_the_part()
+    ensures { PartRunIsThePart }
+{}

@@ -1,0 +1,15 @@
+//! A chip in parts: rows of windows and rows of tiles, cut into parts of nearly equal numbers, and what a part has to know of the
+//! metal. The layers above rely on this: each line of the report and each filled place is in exactly one part, and a part that
+//! knows the metal between sides that are enough has the lines and the places of the whole.
+#![tactic(auto)]
+
+mod cover;
+mod hull;
+pub mod laws;
+mod needs;
+mod part;
+#[cfg(test)]
+mod tests;
+
+pub use hull::Hull;
+pub use part::Part;

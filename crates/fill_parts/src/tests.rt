@@ -1,0 +1,109 @@
+//! Cuts, and what parts need, of ten rows of places in three rows of tiles under four rows of windows.
+
+use crate::{Hull, Part};
+use fill_base::Rect;
+use fill_text::{Rules, read_rules};
+use std::alloc::Global;
+use std::test::Fail;
+
+/// Tiles of four rows from 3 to 37, from 43 to 77 and, cut, from 83 to 97; windows of 25 rows each.
+const RULES: &str = "box_w,4
+box_h,4
+spacing,2
+tile_nx,4
+tile_ny,4
+layer,7
+datatype,0
+fill_layer,10
+fill_datatype,1
+top,TOP
+fill_lib,FILL
+fill_cell,BOX4
+fill_top,FILLTOP
+max,800000
+min,300000
+frame_x1,0
+frame_y1,0
+frame_x2,100
+frame_y2,100
+step_x,10
+step_y,10
+origin_x,3
+origin_y,3
+fill_spacing,2
+win_w,100
+win_h,25
+win_step_x,100
+win_step_y,25
+win_x,0
+win_y,0
+win_nx,1
+win_ny,4
+";
+
+/// Part `number` of `count`, which there is.
+fn part(number: u32, count: u32) -> Result<Part, Fail> {
+    Ok(Part::new(number, count).ok_or("no such part")?)
+}
+
+/// The rules of these tests.
+fn rules(alloc: Global) -> Result<Rules, Fail> {
+    Ok(read_rules(alloc, RULES.as_bytes())?)
+}
+
+#[test]
+fn parts_are_numbered_from_one(rt: HostRuntime) -> Result<(), Fail> {
+    assert!(rt; Part::new(0, 4).is_none() && Part::new(5, 4).is_none());
+    assert!(rt; Part::new(1, 0).is_none() && Part::new(1, 4097).is_none());
+    assert!(rt; Part::new(4096, 4096).is_some());
+    Ok(())
+}
+
+#[test]
+fn ten_rows_in_three_parts(rt: HostRuntime) -> Result<(), Fail> {
+    assert!(rt; part(1, 3)?.rows(10) == (0..3));
+    assert!(rt; part(2, 3)?.rows(10) == (3..6));
+    assert!(rt; part(3, 3)?.rows(10) == (6..10));
+    assert!(rt; part(2, 3)?.has_row(10, 3) && !part(2, 3)?.has_row(10, 6));
+    Ok(())
+}
+
+/// How many of the tiles a part needs, and the sum of their numbers.
+fn needed_tiles(rules: &Rules, part: Part) -> (u32, u32) {
+    let (mut count, mut sum) = (0u32, 0u32);
+    for tile in 0..rules.raster().tiles() {
+        if part.needs_tile(rules, tile) {
+            count = count.wrapping_add(1);
+            sum = sum.wrapping_add(tile);
+        }
+    }
+    (count, sum)
+}
+
+/// Tiles 0 to 2 of nine are level with the lowest windows, and 3 to 8 with the highest.
+#[test]
+fn tiles_level_with_the_windows_are_needed(rt: HostRuntime) -> Result<(), Fail> {
+    let rules = rules(rt.alloc())?;
+    assert!(rt; needed_tiles(&rules, part(1, 4)?) == (3, 3));
+    assert!(rt; needed_tiles(&rules, part(4, 4)?) == (6, 33));
+    Ok(())
+}
+
+#[test]
+fn needed_metal_reaches_to_the_windows_level_with_needed_tiles(
+    rt: HostRuntime,
+) -> Result<(), Fail> {
+    let rules = rules(rt.alloc())?;
+    assert!(rt; part(1, 4)?.needed(&rules).rect() == Some(Rect::new(0, 0, 100, 50)?));
+    assert!(rt; part(4, 4)?.needed(&rules).rect() == Some(Rect::new(0, 25, 100, 100)?));
+    assert!(rt; part(4, 4)?.own_windows(&rules).rect() == Some(Rect::new(0, 75, 100, 100)?));
+    Ok(())
+}
+
+#[test]
+fn a_part_without_rows_needs_nothing(rt: HostRuntime) -> Result<(), Fail> {
+    let rules = rules(rt.alloc())?;
+    assert!(rt; part(1, 8)?.needed(&rules).rect().is_none());
+    assert!(rt; Hull::none().rect().is_none());
+    Ok(())
+}

@@ -1,0 +1,9 @@
+pub mod Telling
+pub mod Libraries
+pub mod Places
+pub mod Marking
+pub mod Marked
+pub mod Putting
+pub mod Taking
+pub mod Turns
+pub mod Numbering

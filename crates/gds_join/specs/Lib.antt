@@ -1,0 +1,4 @@
+pub mod Reading
+pub mod Joins
+pub mod Laws
+pub mod steps
