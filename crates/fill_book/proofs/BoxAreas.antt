@@ -1,7 +1,7 @@
 -- The area of boxes in a rectangle is the sum of what each takes of it.
 use Rattle.std.proofs.Common.{◌≡◌, refl, sym, ap, ◌∙◌, ℕ, zero, suc, ◌+◌, ◌*◌, ◌<◌, ℤ, pos, ◌+ℤ◌, ◌≤ℤ◌, arith, Bool, true, false, cond, ◌&&◌, ◌||◌}
 use Rattle.std.proofs.lemmas.Bool.{and_parts}
-use Rattle.std.proofs.lemmas.Int.{ints}
+use Rattle.std.proofs.lemmas.Int.{ints, clamps}
 use Rattle.fill_base.specs.Counts.{is_between, sum_from, sum_between, count_between, span_len}
 use Rattle.fill_base.specs.Squares.{area_between}
 use Rattle.fill_base.proofs.Between.{is_between_above, is_between_below}
@@ -39,7 +39,7 @@ area_some q lo (suc n) left bottom right top wide tall apart =
     turned _ _ _ _ either rest
   where
     later : (lo : ℤ) (k n : ℕ) → k < n → lo +ℤ pos k ≡ lo +ℤ pos n → ⊥
-    later lo k n lt e = omega (arith, ints, e)
+    later lo k n lt e = omega (arith, ints, clamps, e)
 
     turned : (a b c d : ℕ) → a ≡ b + c → c ≡ d → a ≡ d + b
     turned a b c d e h = omega (arith, e, h)
@@ -69,7 +69,7 @@ sum_part g lo hi c d low ordered high none =
     whole (sum_between g lo hi) (sum_between g lo c) (sum_between g c hi) (sum_between g c d) (sum_between g d hi) (span_len lo c) (span_len d hi) split rest before behind
   where
     le : (c d hi : ℤ) → c ≤ℤ d → d ≤ℤ hi → c ≤ℤ hi
-    le c d hi h k = omega (arith, ints)
+    le c d hi h k = omega (arith, ints, clamps)
 
     whole : (a b c d e m n : ℕ) → a ≡ b + c → c ≡ d + e → b ≡ m * 0 → e ≡ n * 0 → a ≡ d
     whole a b c d e m n h k l o = omega (arith, h, k, l, o)

@@ -1,7 +1,7 @@
 -- What boxes take of a window, column by column and row by row.
 use Rattle.std.proofs.Common.{◌≡◌, refl, sym, ap, ◌∙◌, ℕ, suc, ◌+◌, ◌≤◌, ◌<◌, ◌^◌, ℤ, pos, ◌+ℤ◌, ◌≤ℤ◌, ◌<ℤ◌, arith, subst, true, ◌&&◌, w64, FitsSigned}
 use Rattle.std.specs.Prelude.{int_lt}
-use Rattle.std.proofs.lemmas.Int.{ints}
+use Rattle.std.proofs.lemmas.Int.{ints, clamps}
 use Rattle.fill_base.specs.Counts.{sum_from, sum_between, span_len}
 use Rattle.fill_base.specs.Squares.{area_of, squares}
 use Rattle.fill_base.specs.declared.rect.Rect.{Rect}
@@ -18,7 +18,7 @@ use Rattle.fill_book.proofs.BoxAreas.{boxes_area, sum_swap}
 
 pub sum_first : (f : ℤ → ℕ) (lo : ℤ) → sum_between f lo lo ≡ 0
 unfolding sum_from
-sum_first f lo = let e : span_len lo lo ≡ 0 = omega (arith, ints) in rw e refl
+sum_first f lo = let e : span_len lo lo ≡ 0 = omega (arith, ints, clamps) in rw e refl
 
 pub sum_next : (f : ℤ → ℕ) (lo i : ℤ) → lo ≤ℤ i → sum_between f lo (i +ℤ pos 1) ≡ sum_between f lo i + f i
 unfolding sum_from
@@ -28,10 +28,10 @@ sum_next f lo i le =
     rw e (ap (λ x. sum_from f lo (span_len lo i) + f x) at)
   where
     longer : (lo i : ℤ) → lo ≤ℤ i → span_len lo (i +ℤ pos 1) ≡ suc (span_len lo i)
-    longer lo i le = omega (arith, ints)
+    longer lo i le = omega (arith, ints, clamps)
 
     reached : (lo i : ℤ) → lo ≤ℤ i → lo +ℤ pos (span_len lo i) ≡ i
-    reached lo i le = omega (arith, ints)
+    reached lo i le = omega (arith, ints, clamps)
 
 -- ---- no sum exceeds the window
 
@@ -62,7 +62,7 @@ row_few r fill w left right j apart =
     less _ _ _ (rows_few r fill w left right j (j +ℤ pos 1) apart) one none
   where
     same : (j : ℤ) → j ≤ℤ j
-    same j = omega (arith, ints)
+    same j = omega (arith, ints, clamps)
 
     less : (a b c : ℕ) → a ≤ 2 ^ 62 → a ≡ b + c → b ≡ 0 → c ≤ 2 ^ 62
     less a b c few one none = omega (arith, few, one, none)
@@ -105,7 +105,7 @@ added f lo hi i area more lo_fits hi_fits low test is one few =
     }
   where
     next_fits : (a b i : ℤ) → FitsSigned w64 a → FitsSigned w64 b → a ≤ℤ i → i <ℤ b → FitsSigned w64 (i +ℤ pos 1)
-    next_fits a b i fa fb low lt = omega (arith, ints)
+    next_fits a b i fa fb low lt = omega (arith, ints, clamps)
 
     term_small : (a b c : ℕ) → a ≡ b + c → a ≤ 2 ^ 62 → c < 2 ^ 63
     term_small a b c e few = omega (arith, e, few)
@@ -114,10 +114,10 @@ added f lo hi i area more lo_fits hi_fits low test is one few =
     small a few = omega (arith, few)
 
     above : (a i : ℤ) → a ≤ℤ i → a ≤ℤ (i +ℤ pos 1)
-    above a i h = omega (arith, ints)
+    above a i h = omega (arith, ints, clamps)
 
     below : (b i : ℤ) → i <ℤ b → (i +ℤ pos 1) ≤ℤ b
-    below b i h = omega (arith, ints)
+    below b i h = omega (arith, ints, clamps)
 
 pub same_le : (i : ℤ) → i ≤ℤ i
-same_le i = omega (arith, ints)
+same_le i = omega (arith, ints, clamps)

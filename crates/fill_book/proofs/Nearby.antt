@@ -4,7 +4,7 @@ use Rattle.std.specs.Prelude.{int_lt, not}
 use Rattle.std.specs.Ordering.{int_eq}
 use Rattle.std.proofs.lemmas.Bool.{and_from, and_parts, cases_Bool}
 use Rattle.std.proofs.lemmas.Bool.Decides.{Decides-int_eq}
-use Rattle.std.proofs.lemmas.Int.{ints}
+use Rattle.std.proofs.lemmas.Int.{ints, clamps}
 use Rattle.fill_base.specs.Counts.{is_between, sum_between}
 use Rattle.fill_base.specs.Squares.{area_of, squares}
 use Rattle.fill_base.specs.declared.rect.Rect.{Rect}
@@ -85,7 +85,7 @@ no_gap a i k x gap at to =
     ]
   where
     apart : (e b x : ℤ) → (e +ℤ pos 0) ≤ℤ b → x <ℤ e → b ≤ℤ x → ⊥
-    apart e b x gap under over = omega (arith, ints)
+    apart e b x gap under over = omega (arith, ints, clamps)
 
 one_place : (f : Filling) → IsFilling f → (i j k l x y : ℤ) → ((i ≡ k) × (j ≡ l) → ⊥) → box_squares f.raster i j x y ≡ true → box_squares f.raster k l x y ≡ true → ⊥
 one_place f is i j k l x y other at to =

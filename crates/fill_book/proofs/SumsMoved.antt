@@ -1,7 +1,7 @@
 -- Sums that move by one term after another.
 use Rattle.std.proofs.Common.{◌≡◌, refl, ap, sym, ◌∙◌, ℕ, ◌+◌, ◌≤◌, ℤ, pos, ◌+ℤ◌, ◌≤ℤ◌, ◌<ℤ◌, arith, List, true, false}
 use Rattle.std.proofs.Math.Path.{fun_ext}
-use Rattle.std.proofs.lemmas.Int.{ints}
+use Rattle.std.proofs.lemmas.Int.{ints, clamps}
 use Rattle.fill_base.specs.Counts.{sum_between}
 use Rattle.fill_base.specs.Squares.{squares}
 use Rattle.fill_base.specs.declared.rect.Rect.{Rect}
@@ -25,8 +25,8 @@ all_of f lo hi a b = sum_between (λ k. f k a b) lo hi
 -- ---- one number
 
 pub moved_twice : (way : Way) (n : ℤ) (s t : ℕ) → moved way (moved way n s) t ≡ moved way n (s + t)
-moved_twice Up n s t = omega (arith, ints)
-moved_twice Down n s t = omega (arith, ints)
+moved_twice Up n s t = omega (arith, ints, clamps)
+moved_twice Down n s t = omega (arith, ints, clamps)
 
 record Stays (way : Way) (n : ℤ) (s : ℕ) (size : ℤ) : Type 0 where
   least : pos 0 ≤ℤ moved way n s
@@ -34,8 +34,8 @@ record Stays (way : Way) (n : ℤ) (s : ℕ) (size : ℤ) : Type 0 where
 
 -- a part of what may come or go may come or go
 stays_less : (way : Way) (n : ℤ) (s all : ℕ) (size : ℤ) → pos 0 ≤ℤ n → n ≤ℤ size → pos 0 ≤ℤ moved way n all → moved way n all ≤ℤ size → s ≤ all → Stays way n s size
-stays_less Up n s all size low high least most le = record { least = omega (arith, ints); most = omega (arith, ints) }
-stays_less Down n s all size low high least most le = record { least = omega (arith, ints); most = omega (arith, ints) }
+stays_less Up n s all size low high least most le = record { least = omega (arith, ints, clamps); most = omega (arith, ints, clamps) }
+stays_less Down n s all size low high least most le = record { least = omega (arith, ints, clamps); most = omega (arith, ints, clamps) }
 
 -- ---- the numbers of all windows
 
@@ -46,13 +46,13 @@ part_of f lo i hi low high = let e = sum_between_split f lo i hi low high in le 
     le a b c e = omega (arith, e)
 
 up_to : (i hi : ℤ) → i <ℤ hi → (i +ℤ pos 1) ≤ℤ hi
-up_to i hi h = omega (arith, ints)
+up_to i hi h = omega (arith, ints, clamps)
 
 above : (lo i : ℤ) → lo ≤ℤ i → lo ≤ℤ (i +ℤ pos 1)
-above lo i h = omega (arith, ints)
+above lo i h = omega (arith, ints, clamps)
 
 below : (i hi : ℤ) → i <ℤ hi → i ≤ℤ hi
-below i hi h = omega (arith, ints)
+below i hi h = omega (arith, ints, clamps)
 
 pub none_moved : (way : Way) (f : ℤ → ℕ → ℕ → ℕ) (g : Grid) (lo : ℤ) (old : List ℤ) → IsMovedBy way (all_of f lo lo) g old old
 none_moved way f g lo old = record { count = refl; each = λ a b window. sym (ap (moved way (number_at g old a b)) (sum_first (λ k. f k a b) lo) ∙ moved_nothing way (number_at g old a b)) }
@@ -105,7 +105,7 @@ pub next_up : (lo hi i : ℤ) → lo ≤ℤ i → i <ℤ hi → (lo ≤ℤ (i +�
 next_up lo hi i low high = (above lo i low, up_to i hi high)
 
 pub at_end : (i hi : ℤ) → i ≤ℤ hi → hi ≤ℤ i → i ≡ hi
-at_end i hi to past = omega (arith, ints)
+at_end i hi to past = omega (arith, ints, clamps)
 
 pub all_passed : (way : Way) (f : ℤ → ℕ → ℕ → ℕ) (g : Grid) (lo i hi : ℤ) (old new : List ℤ) → i ≤ℤ hi → hi ≤ℤ i → IsMovedBy way (all_of f lo i) g old new → IsMovedBy way (all_of f lo hi) g old new
 all_passed way f g lo i hi old new to past is = rw (← at_end i hi to past) is

@@ -24,7 +24,7 @@ use std::ops::Range;
 
 /// A raster, and the filled places of each of its tiles, with their number.
 #[derive(Drop)]
-pub(crate) struct Filled {
+pub struct Filled {
     raster: Raster,
     tiles: Vec<Marks>,
     count: u32,
@@ -43,7 +43,7 @@ impl Filled {
     ///
     /// # Errors
     /// `AllocError` where memory is refused.
-    pub(crate) fn none(alloc: Global, raster: Raster) -> Result<Filled, AllocError>
+    pub fn none(alloc: Global, raster: Raster) -> Result<Filled, AllocError>
         requires { KeepsPitch raster (pos 0) }
         ensures raster { IfOk result (λ f. f.raster ≡ raster) }
         ensures none { IfOk result (λ f. (i j : ℤ) → is_filled f i j ≡ false) }
@@ -60,7 +60,7 @@ impl Filled {
     }
 
     /// The raster.
-    pub(crate) fn raster(&self) -> Raster
+    pub fn raster(&self) -> Raster
         ensures { result ≡ self.now.raster }
     {
         self.raster
@@ -74,7 +74,7 @@ impl Filled {
     }
 
     /// The filled places of a tile.
-    pub(crate) fn marks(&self, tile: u32) -> &Marks
+    pub fn marks(&self, tile: u32) -> &Marks
         requires { tile < tiles self.now.raster }
         ensures tile { (i j : ℤ) → in_block result.now.block i j ≡ in_tile self.now.raster tile i j }
         ensures marked { (i j : ℤ) → is_marked result.now i j ≡ (in_tile self.now.raster tile i j && is_filled self.now i j) }
@@ -83,21 +83,21 @@ impl Filled {
     }
 
     /// Whether a place is filled.
-    pub(crate) fn has(&self, place: Place) -> bool
+    pub fn has(&self, place: Place) -> bool
         ensures { result ≡ is_filled self.now place.i place.j }
     {
         self.raster.has(place) && self.tiles[self.raster.tile_of(place) as usize].has(place)
     }
 
     /// How many places are filled.
-    pub(crate) fn count(&self) -> u32
+    pub fn count(&self) -> u32
         ensures { result ≡ count_places self.now.raster (is_filled self.now) }
     {
         self.count
     }
 
     /// Fills a place of a tile.
-    fn set(&mut self, tile: u32, place: Place)
+    pub fn set(&mut self, tile: u32, place: Place)
         requires tile { tile < tiles self.old.raster }
         requires place { in_tile self.old.raster tile place.i place.j ≡ true }
         ensures raster { self.new.raster ≡ self.old.raster }
@@ -151,7 +151,7 @@ impl Filled {
     }
 
     /// Fills the marked places of a tile.
-    pub(crate) fn take_in(&mut self, tile: u32, marks: &Marks)
+    pub fn take_in(&mut self, tile: u32, marks: &Marks)
         requires tile { tile < tiles self.old.raster }
         requires marked { (i j : ℤ) → is_marked marks.now i j ≡ true → in_tile self.old.raster tile i j ≡ true }
         ensures raster { self.new.raster ≡ self.old.raster }

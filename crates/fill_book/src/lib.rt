@@ -16,3 +16,4 @@ mod stored;
 mod tiles;
 
 pub use book::{Book, BookOf, PlainBook};
+pub use filled::Filled;

@@ -8,6 +8,7 @@ use Rattle.fill_text.specs.Script.{Change, change_of}
 use Rattle.fill_text.specs.declared.script.Edit.{Edit}
 use Rattle.fill_job.specs.Plans.{Plan, plan_of}
 use Rattle.fill_core.specs.Accounts.{Account, IsKeeping, opening_of, state_of, terms_of}
+use Rattle.fill_core.specs.Boxes.{low_fill}
 use Rattle.fill_core.specs.Histories.{edits_by, edits_in, events_in}
 use Rattle.fill_core.specs.Machine.{State, IsComplete, opening as start, replay_from, step}
 use Rattle.fill_core.specs.Shares.{Held}
@@ -18,7 +19,7 @@ use Rattle.fill_core.specs.declared.event.Event.TheVariants as event
 use Rattle.fill_core.proofs.Counts.{version_counts}
 use Rattle.fill_core.proofs.Unedited.{committed_stays, complete_unedited}
 use Rattle.fill_shared.specs.Passes.{HasCounted}
-use Rattle.fill_shared.specs.Runs.{IsFinished, IsLeft, IsMixed, IsNoBeginning, IsUnedited, IsUnfinished, changes_in, low_fill}
+use Rattle.fill_shared.specs.Runs.{IsFinished, IsLeft, IsMixed, IsNoBeginning, IsUnedited, IsUnfinished, changes_in}
 
 -- no change, no edit
 pub no_change : (xs : List Edit) → map change_of xs ≡ [] → xs ≡ []

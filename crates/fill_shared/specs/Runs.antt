@@ -1,9 +1,10 @@
 -- What a run of workers beside an editor leaves.
-use Rattle.std.specs.Prelude.{◌≡◌, ◌⊎◌, ℕ, ◌<◌, ◌≤◌, ◌&&◌, List, length, map, take}
+use Rattle.std.specs.Prelude.{◌≡◌, ◌⊎◌, ℕ, ◌<◌, ◌≤◌, List, length, map, take}
 use Rattle.fill_text.specs.Script.{Change, change_of}
 use Rattle.fill_text.specs.declared.script.Edit.{Edit}
-use Rattle.fill_job.specs.Plans.{Layers, Plan, PointSet, allowed, in_window_of, low_windows, plan_of}
+use Rattle.fill_job.specs.Plans.{plan_of}
 use Rattle.fill_core.specs.Accounts.{Account, IsKeeping, state_of, terms_of}
+use Rattle.fill_core.specs.Boxes.{low_fill}
 use Rattle.fill_core.specs.Histories.{edits_in, events_in}
 use Rattle.fill_core.specs.Machine.{State, IsComplete}
 use Rattle.fill_core.specs.Shares.{Held}
@@ -45,10 +46,6 @@ pub record IsMixed (terms : Terms) (edits : List Edit) (a : Account) (pass : Hel
   pub other : IsNoBeginning a.history edits
   pub keeping : IsKeeping a
   pub counted : HasCounted a pass
-
--- all places that may be filled and whose box lies wholly in a window that is low in the metal
-abbrev pub low_fill : Plan → Layers → PointSet
-low_fill plan layers i j = allowed plan layers i j && in_window_of plan (low_windows plan layers.metal) i j
 
 -- what is left without edits: metal and keep-outs as they were, and all those places
 pub record IsUnedited (terms : Terms) (s : State) : Type 0 where

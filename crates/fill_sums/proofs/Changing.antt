@@ -5,7 +5,7 @@ use Rattle.std.proofs.Math.Nat.{mod-add-div}
 use Rattle.std.proofs.lemmas.Nat.{div_below, mod_below}
 use Rattle.std.proofs.lemmas.List.Elements.{All-from_get_or}
 use Rattle.std.proofs.Math.Seq.{take-append_seam}
-use Rattle.std.proofs.lemmas.Int.{ints}
+use Rattle.std.proofs.lemmas.Int.{ints, clamps}
 use Rattle.fill_base.specs.Counts.{span_len, count_between}
 use Rattle.fill_base.specs.Limits.{IsLength}
 use Rattle.fill_base.proofs.Counting.{sum_between_le, count_between_le}
@@ -40,8 +40,8 @@ all_areas g numbers are = All-from_get_or IsArea numbers (pos 0) (λ k lt.
 -- a part of a window is at most the window
 long_most : (n : ℕ) (w h : ℤ) (x y : ℤ) → IsLength w → IsLength h → n ≤ span_len y (y +ℤ h) * span_len x (x +ℤ w) → pos n ≤ℤ (w *ℤ h)
 long_most n (pos w) (pos h) x y iw ih le =
-    let e : span_len y (y +ℤ pos h) ≡ h = omega (arith, ints) in
-    let f : span_len x (x +ℤ pos w) ≡ w = omega (arith, ints) in
+    let e : span_len y (y +ℤ pos h) ≡ h = omega (arith, ints, clamps) in
+    let f : span_len x (x +ℤ pos w) ≡ w = omega (arith, ints, clamps) in
     let k : n ≤ h * w = rw (e, f) at le in
     most n w h k
   where
@@ -49,9 +49,9 @@ long_most n (pos w) (pos h) x y iw ih le =
     most n w h k = let e : w * h ≡ h * w = omega arith in rw e (up n (h * w) k)
       where
         up : (a b : ℕ) → a ≤ b → pos a ≤ℤ pos b
-        up a b h = omega (arith, ints)
-long_most n (pos w) (negsuc h) x y iw ih le = absurd (let least : pos 1 ≤ℤ negsuc h = ih.least in omega (arith, ints))
-long_most n (negsuc w) h x y iw ih le = absurd (let least : pos 1 ≤ℤ negsuc w = iw.least in omega (arith, ints))
+        up a b h = omega (arith, ints, clamps)
+long_most n (pos w) (negsuc h) x y iw ih le = absurd (let least : pos 1 ≤ℤ negsuc h = ih.least in omega (arith, ints, clamps))
+long_most n (negsuc w) h x y iw ih le = absurd (let least : pos 1 ≤ℤ negsuc w = iw.least in omega (arith, ints, clamps))
 
 pub area_most : (p : ℤ → ℤ → Bool) (g : Grid) (a b : ℕ) → IsGrid g → pos (window_area p g a b) ≤ℤ window_size g
 area_most p g a b grid =
@@ -73,7 +73,7 @@ measured_numbers p g numbers are = record {
 }
   where
     none : (n : ℕ) → pos 0 ≤ℤ pos n
-    none n = omega (arith, ints)
+    none n = omega (arith, ints, clamps)
 
 -- numbers that were lent, moved and written back
 pub moved_at : (way : Way) (p : ℤ → ℤ → Bool) (g : Grid) (lent old new rest : List ℤ) (len : ℕ) → lent ≡ old → length lent ≡ len → IsMoved way p g lent new → IsMoved way p g old (take len (new ++ rest))

@@ -1,7 +1,7 @@
 -- Windows that share no square with a rectangle.
 use Rattle.std.proofs.Common.{◌<ℤ◌, ◌*◌, ◌≡◌, refl, sym, ◌∙◌, ℕ, ℤ, ◌≤ℤ◌, inl, inr, arith, List, Bool, true, false, ◌&&◌, ◌↔◌}
 use Rattle.std.proofs.lemmas.Bool.{and_from, cases_Bool}
-use Rattle.std.proofs.lemmas.Int.{ints}
+use Rattle.std.proofs.lemmas.Int.{ints, clamps}
 use Rattle.fill_base.specs.Counts.{span_len, count_between}
 use Rattle.fill_base.specs.Squares.{area_between, squares}
 use Rattle.fill_base.specs.declared.rect.Rect.{Rect}
@@ -48,8 +48,8 @@ untouched p r g a b is within apart =
 
 -- nothing comes or goes
 pub moved_nothing : (way : Way) (n : ℤ) → moved way n 0 ≡ n
-moved_nothing Up n = omega (arith, ints)
-moved_nothing Down n = omega (arith, ints)
+moved_nothing Up n = omega (arith, ints, clamps)
+moved_nothing Down n = omega (arith, ints, clamps)
 
 -- the windows that were visited are all that had to move
 pub moved_all : (way : Way) (p : ℤ → ℤ → Bool) (r : Rect) (g : Grid) (left right bottom top : ℕ) (old new : List ℤ) → IsGrid g → ((x y : ℤ) → p x y ≡ true → squares r x y ≡ true)
