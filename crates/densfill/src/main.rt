@@ -1,6 +1,8 @@
 //! The program: it opens what the command line names, runs the engine and prints a fault.
 #![tactic(auto)]
 
+mod target;
+
 ghost use Rattle.std.specs.Prelude.{◌≡◌, ◌⊎◌, ◌↔◌, ◌<◌, ◌≤◌, false, true, Some, map, IfErr, IfOk, IfSome, IsSome, OnErr, OnOk};
 ghost use Rattle.std.specs.IoError.{error_kind};
 ghost use Rattle.std.specs.Process.{exit_status};
@@ -25,6 +27,7 @@ use std::sync::Wait;
 use std::sync::ledger::Blank;
 use std::thread::Threads;
 use std::{env, io};
+use target::{Target, is_in_use};
 
 /// The exit status of a line that the program doesn't take.
 const USAGE: u8 = 1;
@@ -88,13 +91,20 @@ fn opened_design<R: Files>(rt: &R, path: &str) -> Result<Tap<R::File>, Refusal>
     }
 }
 
-/// A file that a path names, created or emptied.
-fn created<R: Files>(rt: &R, path: &str) -> Result<Tap<R::File>, Refusal>
+/// The file that a library goes to. One that is an input of the fill or that standard output goes to is refused.
+fn created<'a, R: Alloc<A = Global> + Files>(
+    rt: &'a R,
+    path: &str,
+    inputs: [&str; 3],
+) -> Result<Tap<Target<'a, R>>, Refusal>
     ensures whole { IfOk result (λ tap. has_failed tap ≡ false) }
     ensures fault { IfErr result (λ e. (e ≡ Refusal.Out) ⊎ (e ≡ Refusal.Run RunFault.Memory)) }
 {
-    match File::create(rt, path) {
-        Ok(file) => Ok(Tap::new(file)),
+    if is_in_use(rt, path, inputs) {
+        return Err(Refusal::Out);
+    }
+    match Target::create(rt, path) {
+        Ok(target) => Ok(Tap::new(target)),
         Err(error) => match open_fault(&error) {
             InputError::Device => Err(Refusal::Out),
             _ => Err(OUT_OF_MEMORY),
@@ -136,8 +146,8 @@ fn prepared<R: Files + Threads + Wait + Sync>(
 }
 
 /// Does what a line of `fill` asks for: the fill of the files that its first three paths name, all opened before one is read. The
-/// library's file is created only where there is a fill, and is written whole before the report begins.
-fn fill<R: Files + Threads + Wait + Sync, W: Write + Drop>(
+/// library's file is created only where there is a fill, and is whole and at its path before the report begins.
+fn fill<R: Alloc<A = Global> + Files + Threads + Wait + Sync, W: Write + Drop>(
     rt: &R,
     alloc: Global,
     rules: &str,
@@ -154,6 +164,7 @@ fn fill<R: Files + Threads + Wait + Sync, W: Write + Drop>(
     ensures refused { IfErr result (IsCause R.File.remaining (Some (said.fill rules.now design.now script.now library.now workers limit))) }
     ensures silent { OnErr result ((has_failed out.new ≡ true) ⊎ (out.new ≡ out.old)) }
 {
+    let inputs = [rules, design, script];
     let mut rules = opened_rules(rt, rules)?;
     let mut design = opened_design(rt, design)?;
     let mut script = opened_script(rt, script)?;
@@ -166,12 +177,12 @@ fn fill<R: Files + Threads + Wait + Sync, W: Write + Drop>(
         workers,
         limit,
     )?;
-    let mut library = created(rt, library)?;
+    let mut library = created(rt, library, inputs)?;
     deliver(&filled, &mut library, out)
 }
 
 /// Does what a line asks for, on the files that its paths name. All inputs are opened before one is read.
-fn run<R: Files + Threads + Wait + Sync, W: Write + Drop>(
+fn run<R: Alloc<A = Global> + Files + Threads + Wait + Sync, W: Write + Drop>(
     rt: &R,
     alloc: Global,
     line: Line,
@@ -244,7 +255,7 @@ fn ended<E: Write>(alloc: Global, err: &mut Tap<E>, done: Result<(), Refusal>) -
 }
 
 /// Does what a line asks for, and gives the exit status: 0 where it is done, and else that of the refusal.
-fn line_status<R: Files + Threads + Wait + Sync, W: Write + Drop, E: Write>(
+fn line_status<R: Alloc<A = Global> + Files + Threads + Wait + Sync, W: Write + Drop, E: Write>(
     rt: &R,
     alloc: Global,
     line: Line,

@@ -1,5 +1,7 @@
 //! Taps, inputs and texts over devices in memory that move few bytes, and that fail for ever or once.
-use fill_device::{DeviceError, InputError, Tap, read_input, write_text, write_texts};
+use fill_device::{
+    DeviceError, InputError, Tap, read_input, write_settled, write_text, write_texts,
+};
 use std::alloc::{AllocError, Global};
 use std::io;
 use std::io::{ErrorKind, Read, Write};
@@ -207,7 +209,7 @@ fn a_writer_that_takes_no_byte_has_failed(rt: HostRuntime) {
 enum Trouble {
     /// The call fails.
     Fails,
-    /// The call is interrupted, which is a failure like any other.
+    /// A signal interrupts the call.
     IsInterrupted,
     /// The call moves no byte.
     MovesNothing,
@@ -262,11 +264,7 @@ impl Write for Once<'_> {
 
 #[test]
 fn a_write_in_trouble_once_is_the_last(rt: HostRuntime) {
-    for trouble in [
-        Trouble::Fails,
-        Trouble::IsInterrupted,
-        Trouble::MovesNothing,
-    ] {
+    for trouble in [Trouble::Fails, Trouble::MovesNothing] {
         for at in 0..4 {
             let mut once = Once {
                 rest: b"",
@@ -286,22 +284,105 @@ fn a_write_in_trouble_once_is_the_last(rt: HostRuntime) {
 
 #[test]
 fn a_read_that_fails_once_is_the_last(rt: HostRuntime) {
-    for trouble in [Trouble::Fails, Trouble::IsInterrupted] {
-        for at in 0..5 {
-            let mut once = Once {
-                rest: b"abcd",
-                taken: Vec::new(rt.alloc()),
-                calls: 0,
-                at,
-                trouble,
-            };
-            let mut tap = Tap::new(&mut once);
-            let input = read_input(rt.alloc(), &mut tap, 4);
-            assert!(rt; matches!(input, Err(InputError::Device)));
-            assert!(rt; tap.failed());
-            assert_eq!(rt; once.calls, at + 1);
-        }
+    for at in 0..5 {
+        let mut once = Once {
+            rest: b"abcd",
+            taken: Vec::new(rt.alloc()),
+            calls: 0,
+            at,
+            trouble: Trouble::Fails,
+        };
+        let mut tap = Tap::new(&mut once);
+        let input = read_input(rt.alloc(), &mut tap, 4);
+        assert!(rt; matches!(input, Err(InputError::Device)));
+        assert!(rt; tap.failed());
+        assert_eq!(rt; once.calls, at + 1);
     }
+}
+
+#[test]
+fn an_interrupted_call_is_made_again(rt: HostRuntime) -> Result<(), Fail> {
+    for at in 0..4 {
+        let mut once = Once {
+            rest: b"abcd",
+            taken: Vec::new(rt.alloc()),
+            calls: 0,
+            at,
+            trouble: Trouble::IsInterrupted,
+        };
+        let mut tap = Tap::new(&mut once);
+        let input = read_input(rt.alloc(), &mut tap, 4)?;
+        assert!(rt; input.as_slice() == b"abcd".as_slice());
+        assert!(rt; !tap.failed());
+        once.calls = 0;
+        let mut tap = Tap::new(&mut once);
+        assert_eq!(rt; write_text(&mut tap, b"text"), Ok(()));
+        assert!(rt; !tap.failed());
+        assert!(rt; once.taken.as_slice() == b"text".as_slice());
+        assert_eq!(rt; once.calls, 5);
+    }
+    Ok(())
+}
+
+/// A device whose every call is interrupted.
+#[derive(Drop)]
+struct Endless;
+
+impl Read for Endless {
+    fn read(&mut self, _buf: &mut [u8]) -> io::Result<usize> {
+        Err(io::Error::from(ErrorKind::Interrupted))
+    }
+}
+
+impl Write for Endless {
+    fn write(&mut self, _buf: &[u8]) -> io::Result<usize> {
+        Err(io::Error::from(ErrorKind::Interrupted))
+    }
+
+    fn flush(&mut self) -> io::Result<()> {
+        Ok(())
+    }
+}
+
+#[test]
+fn a_device_that_is_interrupted_for_ever_fails(rt: HostRuntime) {
+    let mut tap = Tap::new(Endless);
+    let input = read_input(rt.alloc(), &mut tap, 4);
+    assert!(rt; matches!(input, Err(InputError::Device)) && tap.failed());
+    let mut tap = Tap::new(Endless);
+    assert_eq!(rt; write_text(&mut tap, b"text"), Err(DeviceError));
+    assert!(rt; tap.failed());
+}
+
+/// A writer whose flush fails.
+#[derive(Drop)]
+struct Unsettled {
+    taken: Vec<u8>,
+}
+
+impl Write for Unsettled {
+    fn write(&mut self, buf: &[u8]) -> io::Result<usize> {
+        self.taken.extend_from_slice(buf)?;
+        Ok(buf.len())
+    }
+
+    fn flush(&mut self) -> io::Result<()> {
+        Err(io::Error::from(ErrorKind::StorageFull))
+    }
+}
+
+#[test]
+fn a_text_that_is_not_settled_is_a_device_fault(rt: HostRuntime) {
+    let mut unsettled = Unsettled {
+        taken: Vec::new(rt.alloc()),
+    };
+    let mut tap = Tap::new(&mut unsettled);
+    assert_eq!(rt; write_settled(&mut tap, b"text"), Err(DeviceError));
+    assert!(rt; tap.failed());
+    assert!(rt; unsettled.taken.as_slice() == b"text".as_slice());
+    let mut taken = Vec::new(rt.alloc());
+    assert_eq!(rt; write_settled(&mut Tap::new(&mut taken), b"text"), Ok(()));
+    assert!(rt; taken.as_slice() == b"text".as_slice());
 }
 
 #[test]

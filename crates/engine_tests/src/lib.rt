@@ -18,4 +18,6 @@ mod metal;
 #[cfg(test)]
 mod padding;
 #[cfg(test)]
+mod parts;
+#[cfg(test)]
 mod reports;

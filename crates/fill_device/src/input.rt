@@ -8,8 +8,8 @@ use std::alloc::Global;
 use std::io::Read;
 use thiserror::Error;
 
-/// The bytes that one read asks for at most.
-const CHUNK: usize = 65_536;
+/// The bytes that one read asks for at most. They stand on the stack, of which the program is to need little.
+const CHUNK: usize = 16_384;
 
 /// Why an input was not taken.
 #[derive(Clone, Copy, Debug, PartialEq, Eq, Error)]

@@ -35,6 +35,22 @@ pub fn write_text<W: Write>(tap: &mut Tap<W>, text: &[u8]) -> Result<(), DeviceE
     Ok(())
 }
 
+/// Writes the whole text as `write_text`, and flushes it: where no fault is answered, the writer has settled all of it.
+///
+/// # Errors
+/// `DeviceError` exactly where a write fails or takes no byte, or the flush fails.
+pub fn write_settled<W: Write>(tap: &mut Tap<W>, text: &[u8]) -> Result<(), DeviceError>
+    requires { has_failed tap.old ≡ false }
+    ensures device { IsErr result ↔ (has_failed tap.new ≡ true) }
+    ensures whole { OnOk result (Appends (W.contents (under tap.old)) (W.contents (under tap.new)) text.now) }
+    ensures prefix { (k : ℕ) × Appends (W.contents (under tap.old)) (W.contents (under tap.new)) (take k text.now) }
+{
+    if write_text(tap, text).is_err() || tap.flush().is_err() {
+        return Err(DeviceError);
+    }
+    Ok(())
+}
+
 /// Writes texts whole, one after another. Whatever comes of it, what was written is a prefix of all of them together.
 ///
 /// # Errors

@@ -1,12 +1,26 @@
 //! Taps in front of readers and writers.
-ghost use Rattle.std.specs.Prelude.{◌≡◌, ◌||◌, false, is_err};
+ghost use Rattle.std.specs.Prelude.{◌≡◌, ◌||◌, ◌↔◌, false, is_err, IsErrAnd, IsTrue};
+ghost use Rattle.std.specs.IoError.{error_kind};
 ghost use Rattle.std.specs.Io.{ReadsAtMost, WritesAtMost};
 ghost use Rattle.std.specs.Io.KnownBytes.{Keeps, ReadConsumes, WriteAppends};
 
 use std::io;
-use std::io::{Read, Write};
+use std::io::{ErrorKind, Read, Write};
 
-/// A reader or a writer that remembers whether one of its calls has failed.
+/// How often a call that a signal interrupts is made again.
+const TRIES: u32 = 1 << 20;
+
+/// Whether a signal interrupted a call, which is then to be tried again.
+fn is_interrupted<T>(done: &io::Result<T>) -> bool
+    ensures { IsTrue result ↔ IsErrAnd done.now (λ e. error_kind e ≡ ErrorKind.Interrupted) }
+{
+    match done {
+        Ok(_) => false,
+        Err(error) => error.kind() == ErrorKind::Interrupted,
+    }
+}
+
+/// A reader or a writer that remembers whether one of its calls has failed. A call that a signal interrupts is tried again.
 #[derive(Drop)]
 pub struct Tap<T> {
     inner: T,
@@ -40,13 +54,19 @@ impl<R: Read> Read for Tap<R> {
 
     ghost remaining = { λ tap. R.remaining (under tap) };
 
-    /// Passes the read on.
+    /// Passes the read on, again where a signal interrupts it.
     fn read(&mut self, buf: &mut [u8]) -> io::Result<usize>
         ensures bound { ReadsAtMost result buf.new }
         ensures bytes { ReadConsumes (R.remaining (under self.old)) (R.remaining (under self.new)) result buf.new }
         ensures failed { has_failed self.new ≡ has_failed self.old || is_err result }
     {
-        let read = self.inner.read(buf);
+        let mut read = self.inner.read(buf);
+        'trying: for _ in 0..TRIES {
+            if !is_interrupted(&read) {
+                break;
+            }
+            read = self.inner.read(buf);
+        }
         self.failed = self.failed || read.is_err();
         read
     }
@@ -57,13 +77,19 @@ impl<W: Write> Write for Tap<W> {
 
     ghost contents = { λ tap. W.contents (under tap) };
 
-    /// Passes the write on.
+    /// Passes the write on, again where a signal interrupts it.
     fn write(&mut self, buf: &[u8]) -> io::Result<usize>
         ensures bound { WritesAtMost result buf.now }
         ensures bytes { WriteAppends (W.contents (under self.old)) (W.contents (under self.new)) result buf.now }
         ensures failed { has_failed self.new ≡ has_failed self.old || is_refused buf.now result }
     {
-        let written = self.inner.write(buf);
+        let mut written = self.inner.write(buf);
+        'trying: for _ in 0..TRIES {
+            if !is_interrupted(&written) {
+                break;
+            }
+            written = self.inner.write(buf);
+        }
         let refused = match written {
             Ok(count) => count == 0 && !buf.is_empty(),
             Err(_) => true,

@@ -1,8 +1,10 @@
 mod FaultLines
 mod Patches
+mod Replayed
 mod Reasons
 pub mod Checking
 mod TileTurns
 mod Marked
 mod Filling
 mod Preparing
+pub mod PartChecking

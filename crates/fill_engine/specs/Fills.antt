@@ -5,6 +5,7 @@ use Rattle.fill_text.specs.Script.{Change, change_of}
 use Rattle.fill_text.specs.declared.rule_error.RuleError.TheVariants as rule
 use Rattle.fill_text.specs.declared.script.ScriptError.TheVariants as script
 use Rattle.fill_job.specs.Plans.{Layers, plan_of}
+use Rattle.fill_core.specs.Boxes.{low_fill}
 use Rattle.fill_core.specs.Histories.{edits_in}
 use Rattle.fill_core.specs.Machine.{IsComplete, replay}
 use Rattle.fill_core.specs.declared.event.Event.{Event}
@@ -12,7 +13,6 @@ use Rattle.fill_report.specs.BookReport.{fill_report}
 use Rattle.gds_out.specs.FillText.{fill_text}
 use Rattle.fill_engine.specs.Designs.{AreDrawn, IsDesign, IsDesignFault}
 use Rattle.fill_engine.specs.Inputs.{rules_answer, script_answer, IsFaultOf}
-use Rattle.fill_shared.specs.Runs.{low_fill}
 use Rattle.fill_engine.specs.Runs.{IsTooShort, most_commits}
 use Rattle.fill_engine.specs.declared.refusal.RunFault.TheVariants as run
 use Rattle.fill_engine.specs.declared.refusal.Refusal.{Refusal}

@@ -2,6 +2,7 @@
 pub mod Faults
 pub mod Inputs
 pub mod Metal
+pub mod Laws
 pub mod Rects
 pub mod Designs
 pub mod Checks
@@ -9,3 +10,5 @@ pub mod Refusals
 pub mod Runs
 pub mod Fills
 pub mod Shapes
+pub mod PartChecks
+pub mod Joining

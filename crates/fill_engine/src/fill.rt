@@ -20,7 +20,7 @@ use crate::together::fill_together;
 use crate::turns::{edit_all, fill_tiles};
 use fill_book::Book;
 use fill_core::Opened;
-use fill_device::{InputError, Tap, write_text};
+use fill_device::{InputError, Tap, write_settled, write_text};
 use fill_job::laws::rules_make_a_plan;
 use fill_text::{Edit, Rules};
 use std::alloc::Global;
@@ -138,10 +138,10 @@ pub fn prepare<R: Read, D: Read, S: Read>(
     Ok(filled)
 }
 
-/// Writes the fill library whole, and then the report.
+/// Writes the fill library whole and settles it by a flush, and then writes the report.
 ///
 /// # Errors
-/// `Out` where the library could not be written whole: nothing of the report is written then. `Report` where the report
+/// `Out` where the library could not be written whole or settled: nothing of the report is written then. `Report` where the report
 /// could not be.
 pub fn deliver<W: Write, V: Write>(
     filled: &Filled,
@@ -166,7 +166,7 @@ pub fn deliver<W: Write, V: Write>(
     ensures report_prefix { result ≡ Err Refusal.Report
         → (k : ℕ) × Appends (V.contents (under report_out.old)) (V.contents (under report_out.new)) (take k filled.now.report.items) }
 {
-    if write_text(out, &filled.library).is_err() {
+    if write_settled(out, &filled.library).is_err() {
         return Err(Refusal::Out);
     }
     write_text(report_out, &filled.report)?;

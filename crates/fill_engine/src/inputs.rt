@@ -28,7 +28,7 @@ use std::io::Read;
 use std::thread::Threads;
 
 /// How many bytes an input may have.
-const MOST_BYTES: usize = 2_147_483_648;
+pub(crate) const MOST_BYTES: usize = 2_147_483_648;
 
 /// The rules that the reader behind the tap gives.
 pub fn take_rules<R: Read>(alloc: Global, tap: &mut Tap<R>) -> Result<Rules, InputFault<RuleError>>
@@ -58,7 +58,7 @@ pub fn take_edits<S: Read>(
 }
 
 /// The checked layer of a GDSII library.
-fn metal_layer(rules: &Rules) -> Layer
+pub(crate) fn metal_layer(rules: &Rules) -> Layer
     ensures { result ≡ spec.metal_layer (values_of rules.now) }
 {
     Layer {

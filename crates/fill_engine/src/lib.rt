@@ -4,15 +4,21 @@
 mod fault;
 mod fill;
 mod inputs;
+mod joining;
+pub mod laws;
 mod metal;
+mod part;
 mod refusal;
 mod subcommands;
 mod texts;
 mod together;
 mod turns;
+mod within;
 
 pub use fill::{deliver, prepare};
+pub use joining::join_part;
 pub use metal::metal_left;
+pub use part::check_part;
 pub use refusal::{DesignError, InputFault, Refusal, RunFault};
 pub use subcommands::{check, rects};
 pub use texts::{Filled, texts_of};

@@ -10,6 +10,7 @@ use fill_shared::RunError;
 use fill_text::{RuleError, ScriptError};
 use gds_flatten::FlattenError;
 use gds_grammar::LibraryError;
+use gds_join::PartError;
 use std::alloc::{AllocError, Global};
 use std::fmt::Display;
 use thiserror::Error;
@@ -90,6 +91,16 @@ impl From<RuleError> for InputFault<RuleError> {
     ghost from_gives = { λ error fault. fault ≡ Refused error };
 
     fn from(error: RuleError) -> InputFault<RuleError> {
+        InputFault::Refused(error)
+    }
+}
+
+impl From<PartError> for InputFault<PartError> {
+    ghost use Rattle.fill_engine.specs.declared.refusal.InputFault.TheVariants.{Refused};
+
+    ghost from_gives = { λ error fault. fault ≡ Refused error };
+
+    fn from(error: PartError) -> InputFault<PartError> {
         InputFault::Refused(error)
     }
 }

@@ -32,7 +32,7 @@ returns-clause-written g c =
       c.in_ok-design.design.inner,
       c.in_ok-script.script.inner,
       if_three (g.R.File.Read.remaining c.in_ok-rules.rules.inner) (g.R.File.Read.remaining c.in_ok-design.design.inner) (g.R.File.Read.remaining c.in_ok-script.script.inner)
-          (λ r d s is. (c.in_ok-filled.filled.library.items, c.in_ok-filled.filled.report.items, is, (c.in_ok-library.library.inner, c.deliver.new.out.inner, p.0), p.1)) c.in_ok-filled.ensures.filled,
+          (λ r d s is. (c.in_ok-filled.filled.library.items, c.in_ok-filled.filled.report.items, is, (c.in_ok-library.library.inner.file, c.deliver.new.out.inner.file, p.0), p.1)) c.in_ok-filled.ensures.filled,
     ))
     (whole _ _ c.deliver.result (has_failed c.deliver.new.out) c.deliver.ensures.out_device c.deliver.ensures.library c.deliver.ensures.report)
 
