@@ -270,17 +270,19 @@ pub(crate) fn finished<B: FillBook + Send, G: Gate + Sync>(
 }
 
 /// A run of one worker that stays unfinished.
-pub(crate) fn unfinished<B: FillBook + Send>(
+pub(crate) fn unfinished<B: FillBook + Send, G: Gate + Sync>(
     rt: &(impl Abort + Threads + Wait + Sync),
     alloc: Global,
     book: B,
     pass: PassOf<B>,
+    edits: &[Edit],
+    gate: &G,
     limit: u64,
 ) -> (B, PassOf<B>)
     requires ledgers { AllParts B.Calls.parts B.Placed.parts B.Withdrawn.parts }
     requires pass { pass.parts ≡ 1024 }
 {
-    match run(rt, alloc, book, pass, &[], 1, &OpenGate, limit) {
+    match run(rt, alloc, book, pass, edits, 1, gate, limit) {
         Err(RunError::Unfinished { book, pass }) => (book, pass),
         _ => panic!(rt; "the run is not told as unfinished"),
     }

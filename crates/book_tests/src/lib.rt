@@ -11,7 +11,11 @@ mod events;
 #[cfg(test)]
 mod jobs;
 #[cfg(test)]
+mod runs;
+#[cfg(test)]
 mod shared;
+#[cfg(test)]
+mod storms;
 #[cfg(test)]
 mod sums;
 #[cfg(test)]

@@ -4,15 +4,22 @@ ghost use Rattle.fill_core.specs.Shares.{AllParts};
 
 use crate::book::offered;
 use crate::cases::{
-    Count, NO_PLACES, Opening, added, assert_counts, assert_edit, assert_work, close, finished,
-    hundred_places, refuse_to_close, rules_in, shared_alone, shared_by_three, unfinished,
+    Count, NO_PLACES, Opening, added, assert_edit, assert_work, close, hundred_places,
+    refuse_to_close, rules_in, shared_alone, shared_by_three,
 };
-use fill_base::Rect;
+use crate::runs::{
+    edits_beside_a_worker, late_edit, no_turns, three_events, three_workers, two_events,
+    two_rounds, two_workers,
+};
+use crate::storms::{
+    done_beside_an_edit, eight_stale, eight_workers, fifty_edits, four_actors, sixty_four_workers,
+    tired_beside_an_edit,
+};
 use fill_book::Book;
-use fill_core::{BookError, Edit, Entry, Event, FillBook, Opened, Reply};
+use fill_core::{BookError, Edit, FillBook, Opened, Reply};
 use fill_job::Proposal;
 use fill_region::Region;
-use fill_shared::{Gate, Look, PassOf, Seen, Shared, WorkEnd};
+use fill_shared::{Look, PassOf, Seen, Shared, WorkEnd};
 use fill_text::Rules;
 use std::alloc::Global;
 use std::marker::Brand;
@@ -290,168 +297,6 @@ fn no_tile<B: FillBook>(
     Ok(())
 }
 
-/// Holds each of two workers back at its first tile until both are there.
-#[derive(Drop)]
-struct Meeting {
-    begun: Count,
-}
-
-impl Gate for Meeting {
-    fn pass(&self, _worker: u32, _tile: u32) {
-        if self.begun.raise() < 2 {
-            self.begun.wait_for(2);
-        }
-    }
-
-    fn edit(&self, _k: u64) {}
-}
-
-/// Two workers are each at a tile before one of them brings its own.
-fn two_workers<B: FillBook + Send>(
-    rt: &(impl Abort + Threads + Wait + Sync),
-    alloc: Global,
-    book: B,
-    pass: PassOf<B>,
-) -> Result<(), Fail>
-    requires ledgers { AllParts B.Calls.parts B.Placed.parts B.Withdrawn.parts }
-    requires pass { pass.parts ≡ 1024 }
-{
-    let gate = Meeting {
-        begun: Count::new(),
-    };
-    let (book, pass) = finished(rt, alloc, book, pass, &[], 2, &gate, 10);
-    assert!(rt; !gate.begun.is_late());
-    assert_eq!(rt; (pass.placed(), pass.withdrawn()), (100, 0));
-    assert_eq!(rt; book.count(), 100);
-    Ok(())
-}
-
-/// Lets the first edit be made when the worker is at its first tile, and the worker go on when the second one is about to be made.
-#[derive(Drop)]
-struct Between {
-    passes: Count,
-    edits: Count,
-}
-
-impl Gate for Between {
-    fn pass(&self, _worker: u32, _tile: u32) {
-        if self.passes.raise() == 0 {
-            self.edits.wait_for(2);
-        }
-    }
-
-    fn edit(&self, _k: u64) {
-        if self.edits.raise() == 0 {
-            self.passes.wait_for(1);
-        }
-    }
-}
-
-/// Whether places found at version 0 were answered `Stale`.
-fn is_old_and_stale(entry: &Entry) -> bool {
-    matches!(entry.event, Event::Commit { version: 0, .. })
-        && matches!(entry.reply, Reply::Stale { .. })
-}
-
-/// Asserts that an edit stands first, and that places found before it were brought too late.
-fn assert_edited_first<B: FillBook>(rt: &impl Abort, book: &B, edit: Edit) {
-    let entries = book.history().entries();
-    let first = Entry {
-        event: Event::Edit(edit),
-        reply: Reply::Withdrawn(0),
-    };
-    assert!(rt; entries.first() == Some(&first));
-    assert!(rt; entries.iter().any(|entry| is_old_and_stale(entry)));
-}
-
-/// The metal changes twice while a worker is at its first tile, so what it brings is stale.
-fn edits_beside_a_worker<B: FillBook + Send>(
-    rt: &(impl Abort + Threads + Wait + Sync),
-    alloc: Global,
-    book: B,
-    pass: PassOf<B>,
-) -> Result<(), Fail>
-    requires ledgers { AllParts B.Calls.parts B.Placed.parts B.Withdrawn.parts }
-    requires pass { pass.parts ≡ 1024 }
-{
-    let rect = Rect::new(10, 10, 21, 20)?;
-    let gate = Between {
-        passes: Count::new(),
-        edits: Count::new(),
-    };
-    let edits = [Edit::Add(rect), Edit::Cut(rect)];
-    let (book, _) = finished(rt, alloc, book, pass, &edits, 1, &gate, 10);
-    assert!(rt; !gate.passes.is_late() && !gate.edits.is_late());
-    assert_eq!(rt; (book.version(), book.count()), (2, 100));
-    assert_edited_first(rt, &book, Edit::Add(rect));
-    Ok(())
-}
-
-/// Holds the editor back until the worker is at its ninth tile.
-#[derive(Drop)]
-struct Late {
-    passes: Count,
-}
-
-impl Gate for Late {
-    fn pass(&self, _worker: u32, _tile: u32) {
-        self.passes.raise();
-    }
-
-    fn edit(&self, _k: u64) {
-        self.passes.wait_for(9);
-    }
-}
-
-/// An edit comes when the worker is at its last tile: all tiles are worked on once more, and the edit is made once.
-fn late_edit<B: FillBook + Send>(
-    rt: &(impl Abort + Threads + Wait + Sync),
-    alloc: Global,
-    book: B,
-    pass: PassOf<B>,
-) -> Result<(), Fail>
-    requires ledgers { AllParts B.Calls.parts B.Placed.parts B.Withdrawn.parts }
-    requires pass { pass.parts ≡ 1024 }
-{
-    let gate = Late {
-        passes: Count::new(),
-    };
-    let edits = [added()?];
-    let (book, pass) = finished(rt, alloc, book, pass, &edits, 1, &gate, 9);
-    assert!(rt; !gate.passes.is_late());
-    assert_eq!(rt; (book.version(), book.count()), (1, 99));
-    assert_eq!(rt; (pass.calls(), book.history().len()), (19, 19));
-    Ok(())
-}
-
-/// Without turns no tile comes in.
-fn no_turns<B: FillBook + Send>(
-    rt: &(impl Abort + Threads + Wait + Sync),
-    alloc: Global,
-    book: B,
-    pass: PassOf<B>,
-)
-    requires ledgers { AllParts B.Calls.parts B.Placed.parts B.Withdrawn.parts }
-    requires pass { pass.parts ≡ 1024 }
-{
-    let (book, pass) = unfinished(rt, alloc, book, pass, 0);
-    assert_counts(rt, &book, &pass, [0, 0, 0], 0);
-}
-
-/// A history of three events has no room for nine tiles.
-fn three_events<B: FillBook + Send>(
-    rt: &(impl Abort + Threads + Wait + Sync),
-    alloc: Global,
-    book: B,
-    pass: PassOf<B>,
-)
-    requires ledgers { AllParts B.Calls.parts B.Placed.parts B.Withdrawn.parts }
-    requires pass { pass.parts ≡ 1024 }
-{
-    let (book, pass) = unfinished(rt, alloc, book, pass, 10);
-    assert_counts(rt, &book, &pass, [3, 40, 0], 40);
-}
-
 /// What is done with a book.
 #[derive(Clone, Copy)]
 enum Case {
@@ -466,6 +311,16 @@ enum Case {
     LateEdit,
     NoTurns,
     ThreeEvents,
+    ThreeWorkers,
+    TwoRounds,
+    TwoEvents,
+    EightStale,
+    DoneBeside,
+    TiredBeside,
+    FiftyEdits,
+    SixtyFour,
+    EightWorkers,
+    FourActors,
 }
 
 impl Case {
@@ -483,6 +338,10 @@ impl Case {
             },
             Case::ThreeEvents => Opening {
                 max_events: 3,
+                ..opening
+            },
+            Case::TwoEvents => Opening {
+                max_events: 2,
                 ..opening
             },
             _ => opening,
@@ -522,6 +381,39 @@ fn play<B: FillBook + Send>(
             three_events(rt, alloc, book, pass);
             Ok(())
         }
+        Case::ThreeWorkers => three_workers(rt, alloc, book, pass),
+        Case::TwoRounds => two_rounds(rt, alloc, book, pass),
+        Case::TwoEvents => two_events(rt, alloc, book, pass),
+        _ => storm(rt, alloc, book, pass, case),
+    }
+}
+
+/// Plays a storm with a book.
+fn storm<B: FillBook + Send>(
+    rt: &(impl Abort + Threads + Wait + Sync),
+    alloc: Global,
+    book: B,
+    pass: PassOf<B>,
+    case: Case,
+) -> Result<(), Fail>
+    requires ledgers { AllParts B.Calls.parts B.Placed.parts B.Withdrawn.parts }
+    requires pass { pass.parts ≡ 1024 }
+{
+    match case {
+        Case::EightStale => eight_stale(rt, alloc, book, pass),
+        Case::DoneBeside => done_beside_an_edit(rt, alloc, book, pass),
+        Case::TiredBeside => tired_beside_an_edit(rt, alloc, book, pass),
+        Case::FiftyEdits => fifty_edits(rt, alloc, book, pass),
+        Case::SixtyFour => {
+            sixty_four_workers(rt, alloc, book, pass);
+            Ok(())
+        }
+        Case::EightWorkers => {
+            eight_workers(rt, alloc, book, pass);
+            Ok(())
+        }
+        Case::FourActors => four_actors(rt, alloc, book, pass),
+        _ => panic!(rt; "the case is no storm"),
     }
 }
 
@@ -628,4 +520,50 @@ fn a_run_without_turns_is_unfinished(rt: HostRuntime) -> Result<(), Fail> {
 #[test]
 fn a_run_into_a_full_history_is_unfinished(rt: HostRuntime) -> Result<(), Fail> {
     play_by(&rt, rt.alloc(), Case::ThreeEvents)
+}
+
+#[test]
+fn workers_begin_at_their_tiles_and_edits_are_numbered(rt: HostRuntime) -> Result<(), Fail> {
+    play_by(&rt, rt.alloc(), Case::ThreeWorkers)
+}
+
+#[test]
+fn a_second_round_is_by_all_workers(rt: HostRuntime) -> Result<(), Fail> {
+    play_by(&rt, rt.alloc(), Case::TwoRounds)
+}
+
+#[test]
+fn a_history_too_short_for_the_edits_is_unfinished(rt: HostRuntime) -> Result<(), Fail> {
+    play_by(&rt, rt.alloc(), Case::TwoEvents)
+}
+
+#[test]
+fn eight_late_proposals_change_nothing(rt: HostRuntime) -> Result<(), Fail> {
+    play_by(&rt, rt.alloc(), Case::EightStale)
+}
+
+#[test]
+fn a_worker_beside_an_edit_is_done_or_tired(rt: HostRuntime) -> Result<(), Fail> {
+    play_by(&rt, rt.alloc(), Case::DoneBeside)?;
+    play_by(&rt, rt.alloc(), Case::TiredBeside)
+}
+
+#[test]
+fn fifty_edits_beside_four_workers(rt: HostRuntime) -> Result<(), Fail> {
+    play_by(&rt, rt.alloc(), Case::FiftyEdits)
+}
+
+#[test]
+fn sixty_four_workers_fill_a_hundred_places(rt: HostRuntime) -> Result<(), Fail> {
+    play_by(&rt, rt.alloc(), Case::SixtyFour)
+}
+
+#[test]
+fn eight_workers_work_at_once(rt: HostRuntime) -> Result<(), Fail> {
+    play_by(&rt, rt.alloc(), Case::EightWorkers)
+}
+
+#[test]
+fn a_history_has_what_four_threads_did(rt: HostRuntime) -> Result<(), Fail> {
+    play_by(&rt, rt.alloc(), Case::FourActors)
 }

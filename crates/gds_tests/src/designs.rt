@@ -151,7 +151,7 @@ fn put_element(bytes: &mut Vec<u8>, element: Draft<'_>) -> Result<(), Fail> {
 }
 
 /// Appends a cell.
-fn put_cell(bytes: &mut Vec<u8>, cell: u16, elements: &[Draft<'_>]) -> Result<(), Fail> {
+pub(crate) fn put_cell(bytes: &mut Vec<u8>, cell: u16, elements: &[Draft<'_>]) -> Result<(), Fail> {
     begin_cell(bytes, cell)?;
     for element in elements {
         put_element(bytes, *element)?;

@@ -7,6 +7,8 @@ mod designs;
 #[cfg(test)]
 mod grammar;
 #[cfg(test)]
+mod hostile;
+#[cfg(test)]
 mod large;
 #[cfg(test)]
 mod layers;
