@@ -1,16 +1,18 @@
 # make demo               runs check, fill and rects on examples/ and tells how many windows are low or high (by bin/densfill
 #                         where it stands, else unproved, by rt try)
 # make build              proves the program and leaves it, optimized, at bin/densfill
-# make install PREFIX=..  installs the built program and its manual page below PREFIX (by default /usr/local)
+# make install PREFIX=..  installs the built program, its deck and its manual page below PREFIX (by default /usr/local)
 # make check CRATE=name   proves one crate over what earlier runs kept: for work on it
 # make test               the gate: every proof from nothing, the must-fail edits, the tests, the programs, and the program
-#                         run as users do
+#                         and its deck run as users do
+# make test-klayout       what the deck does in KLayout, without a window
 # make bench              times the program on generated input and prints tables
-.PHONY: demo build install check test bench
+.PHONY: demo build install check test test-klayout bench
 
 EXAMPLES := $(CURDIR)/examples
 OUT := $(EXAMPLES)/out
 PREFIX ?= /usr/local
+BUILT := crates/densfill/out/densfill
 RUN := $(if $(wildcard bin/densfill),$(CURDIR)/bin/densfill,cd crates/densfill && rt try --)
 
 demo:
@@ -31,14 +33,22 @@ build:
 install: $(if $(wildcard bin/densfill),,build)
 	install -D -m 755 bin/densfill $(DESTDIR)$(PREFIX)/bin/densfill
 	install -D -m 644 docs/densfill.1 $(DESTDIR)$(PREFIX)/share/man/man1/densfill.1
+	install -D -m 755 deck/densfill-deck $(DESTDIR)$(PREFIX)/bin/densfill-deck
+	install -D -m 644 -t $(DESTDIR)$(PREFIX)/lib/densfill/densfill_deck deck/densfill_deck/*.py
+	install -D -m 644 -t $(DESTDIR)$(PREFIX)/lib/densfill/klayout deck/klayout/*
 
 check:
 	cd crates/$(CRATE) && rt check
 
 test:
 	rt ci
-	tools/test_program.py crates/densfill/out/densfill
-	tools/storm.py crates/densfill/out/densfill
+	tools/test_program.py $(BUILT)
+	tools/refuse.py $(BUILT)
+	tools/storm.py $(BUILT)
+	deck/test_deck.py $(BUILT)
+
+test-klayout:
+	deck/test_klayout.py $(wildcard bin/densfill $(BUILT))
 
 bench: build
 	bench/check/run.sh

@@ -7,6 +7,7 @@ usage: test_program.py [PROGRAM]     (by default bin/densfill, else what the gat
 import os
 import resource
 import shutil
+import signal
 import subprocess
 import sys
 import tempfile
@@ -43,6 +44,12 @@ class Ended:
     status: int
     out: str
     err: str
+
+
+def file_size(most: int) -> None:
+    """Lets no file grow beyond so many bytes, which a write tells then."""
+    signal.signal(signal.SIGXFSZ, signal.SIG_IGN)
+    resource.setrlimit(resource.RLIMIT_FSIZE, (most, most))
 
 
 class Case(unittest.TestCase):
@@ -94,10 +101,38 @@ class Done(Case):
             self.assertEqual((self.folder / "out.gds").read_bytes(), FILL)
 
     def test_an_old_out_is_replaced_whole(self) -> None:
-        (self.folder / "out.gds").write_bytes(b"x" * 100_000)
-        (self.folder / "out.gds").chmod(0o666)
+        out, unfinished = self.folder / "out.gds", self.folder / "out.gds.unfinished"
+        for old in out, unfinished:
+            old.write_bytes(b"x" * 100_000)
+            old.chmod(0o666)
         self.assertEqual(self.fill().status, 0)
-        self.assertEqual((self.folder / "out.gds").read_bytes(), FILL)
+        self.assertEqual((out.read_bytes(), out.stat().st_mode & 0o777), (FILL, 0o666))
+        self.assertFalse(unfinished.exists())
+
+    def test_out_may_be_a_link(self) -> None:
+        (self.folder / "there").mkdir(mode=0o777)
+        (self.folder / "there").chmod(0o777)
+        there = self.folder / "there/fill.gds"
+        there.write_bytes(b"before")
+        there.chmod(0o666)
+        (self.folder / "out.gds").symlink_to(there)
+        self.assertEqual(self.fill().status, 0)
+        self.assertTrue((self.folder / "out.gds").is_symlink())
+        self.assertEqual(there.read_bytes(), FILL)
+
+    def test_out_may_be_a_device_or_a_pipe(self) -> None:
+        self.assertEqual(self.run_words("fill", "rules.csv", "design.gds", "script.csv", "/dev/null"), Ended(0, FILLED, ""))
+        os.mkfifo(self.folder / "pipe", 0o666)
+        (self.folder / "pipe").chmod(0o666)
+        with subprocess.Popen(["cat", "pipe"], cwd=self.folder, stdout=subprocess.PIPE) as reader:
+            self.assertEqual(self.run_words("fill", "rules.csv", "design.gds", "script.csv", "pipe"), Ended(0, FILLED, ""))
+            self.assertEqual(reader.communicate()[0], FILL)
+
+    def test_a_small_stack_is_enough(self) -> None:
+        def small() -> None:
+            resource.setrlimit(resource.RLIMIT_STACK, (96 << 10, 96 << 10))
+
+        self.assertEqual(self.fill(preexec_fn=small), Ended(0, FILLED, ""))
 
     def test_inputs_are_as_before(self) -> None:
         names = ("rules.csv", "design.gds", "script.csv")
@@ -165,6 +200,35 @@ class Files(Case):
         self.assert_fault(self.fill(), 4, "out: 30 Device")
         self.assertEqual((self.folder / "out.gds").read_bytes(), b"before")
 
+    def test_out_is_an_input(self) -> None:
+        for name in "rules.csv", "design.gds", "script.csv":
+            (self.folder / name).chmod(0o666)
+            (self.folder / "soft").symlink_to(name)
+            os.link(self.folder / name, self.folder / "hard")
+            before = (self.folder / name).read_bytes()
+            for out in name, "./" + name, "soft", "hard":
+                self.assert_fault(self.run_words("fill", "rules.csv", "design.gds", "script.csv", out), 4, "out: 30 Device")
+                self.assertEqual((self.folder / name).read_bytes(), before)
+            (self.folder / "soft").unlink()
+            (self.folder / "hard").unlink()
+
+    def test_out_is_where_standard_output_goes(self) -> None:
+        with open(self.folder / "both", "wb") as both:
+            done = subprocess.run([self.program, "fill", "rules.csv", "design.gds", "script.csv", "both"], cwd=self.folder, stdout=both,
+                                  stderr=subprocess.PIPE, check=False)
+        self.assertEqual((done.returncode, done.stderr), (4, b"densfill: out: 30 Device\n"))
+        self.assertEqual((self.folder / "both").read_bytes(), b"")
+
+    def test_a_full_disk_leaves_the_old_library(self) -> None:
+        (self.folder / "out.gds").write_bytes(b"before")
+        (self.folder / "out.gds").chmod(0o666)
+        for room in range(len(FILL)):
+            self.assert_fault(self.fill(preexec_fn=lambda: file_size(room)), 4, "out: 30 Device")
+            self.assertEqual((self.folder / "out.gds").read_bytes(), b"before")
+            self.assertEqual((self.folder / "out.gds.unfinished").read_bytes(), FILL[:room])
+        self.assertEqual(self.fill().status, 0)
+        self.assertEqual((self.folder / "out.gds").read_bytes(), FILL)
+
     def test_out_takes_nothing(self) -> None:
         self.assert_fault(self.run_words("fill", "rules.csv", "design.gds", "script.csv", "/dev/full"), 4, "out: 30 Device")
 
@@ -197,6 +261,11 @@ class Refused(Case):
         self.assert_fault(self.fill(), 2, "design: 1 Truncated")
         self.assert_no_out()
 
+    def test_a_design_cut_anywhere(self) -> None:
+        for length in range(len(DESIGN)):
+            (self.folder / "design.gds").write_bytes(DESIGN[:length])
+            self.assert_fault(self.run_words("check", "rules.csv", "design.gds"), 2, "design: 1 Truncated")
+
     def test_memory_is_refused(self) -> None:
         (self.folder / "script.csv").write_text("add,0,0,2,2\n" * 100_000)
 
@@ -219,6 +288,14 @@ class Refused(Case):
                 done = subprocess.run([self.program, *line], cwd=self.folder, stdout=full, stderr=subprocess.PIPE, check=False)
             self.assertEqual((done.returncode, done.stderr), (4, b"densfill: report: 30 Device\n"))
         self.assertEqual((self.folder / "out.gds").read_bytes(), FILL)
+
+    def test_standard_output_takes_a_part(self) -> None:
+        for room in range(len(DRAWN)):
+            with open(self.folder / "report", "wb") as report:
+                done = subprocess.run([self.program, "check", "rules.csv", "design.gds"], cwd=self.folder, stdout=report,
+                                      stderr=subprocess.PIPE, check=False, preexec_fn=lambda: file_size(room))
+            self.assertEqual((done.returncode, done.stderr), (4, b"densfill: report: 30 Device\n"))
+            self.assertEqual((self.folder / "report").read_text(), DRAWN[:room])
 
     def test_standard_output_is_closed(self) -> None:
         closed = subprocess.run(["sh", "-c", 'exec "$0" check rules.csv design.gds >&-', str(self.program)], cwd=self.folder,

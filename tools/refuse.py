@@ -1,0 +1,160 @@
+#!/usr/bin/env python3
+"""Refuses each growth of memory of the built program in turn, and looks at what comes of it: the texts of a run in which none is refused, or
+the line that tells of want of memory, and an OUT that is as it was.
+
+usage: refuse.py [PROGRAM] [--most N]     (by default bin/densfill, else what the gate left in crates/densfill/out; needs python3 and cc)
+"""
+import argparse
+import os
+import re
+import subprocess
+import sys
+import tempfile
+from concurrent.futures import ThreadPoolExecutor
+from dataclasses import dataclass
+from itertools import count
+from pathlib import Path
+
+ROOT = Path(__file__).resolve().parent.parent
+BUILT = (ROOT / "bin/densfill", ROOT / "crates/densfill/out/densfill")
+EXAMPLES = ROOT / "examples"
+TOLD = re.compile(rb"\Adensfill: (rules|design|script|run): 31 Memory\n\Z")
+
+# Answers the call at REFUSED, counted over malloc, calloc, realloc and aligned_alloc of all threads, with no memory, and every other one as
+# the C library does. At its end a run tells by its file REFUSED_TOLD whether a call was refused.
+SHIM = r"""
+#define _GNU_SOURCE
+#include <dlfcn.h>
+#include <errno.h>
+#include <fcntl.h>
+#include <stdatomic.h>
+#include <stdlib.h>
+#include <unistd.h>
+
+static atomic_long calls;
+static long refused;
+
+__attribute__((constructor)) static void begin(void) {
+    const char *at = getenv("REFUSED");
+    refused = at ? atol(at) : 0;
+    atomic_store(&calls, 0);
+}
+
+static int is_refused(void) {
+    if (refused == 0 || atomic_fetch_add(&calls, 1) + 1 != refused) return 0;
+    const char *told = getenv("REFUSED_TOLD");
+    if (told) close(open(told, O_CREAT | O_WRONLY, 0600));
+    errno = ENOMEM;
+    return 1;
+}
+
+#define NEXT(type, name) static __typeof__(type) next; if (!next) next = (__typeof__(type))dlsym(RTLD_NEXT, name)
+
+void *malloc(size_t n) {
+    NEXT(void *(*)(size_t), "malloc");
+    return is_refused() ? NULL : next(n);
+}
+void *realloc(void *p, size_t n) {
+    NEXT(void *(*)(void *, size_t), "realloc");
+    return is_refused() ? NULL : next(p, n);
+}
+void *aligned_alloc(size_t a, size_t n) {
+    NEXT(void *(*)(size_t, size_t), "aligned_alloc");
+    return is_refused() ? NULL : next(a, n);
+}
+int posix_memalign(void **p, size_t a, size_t n) {
+    NEXT(int (*)(void **, size_t, size_t), "posix_memalign");
+    return is_refused() ? ENOMEM : next(p, a, n);
+}
+"""
+
+# Metal and keep-outs that come and go where the example has boxes.
+LATE = "".join(f"{kind},{x},{x},{x + 3000},{x + 2500}\n" for x in range(9000, 33000, 3000) for kind in ("add", "cut", "keep"))
+
+
+@dataclass(frozen=True)
+class Ended:
+    """What a run left: its status, its two streams and OUT."""
+    status: int
+    out: bytes
+    err: bytes
+    library: bytes
+
+    def told(self) -> str:
+        return f"status {self.status}, {self.err!r}, {len(self.out)} bytes of report, {len(self.library)} of a library"
+
+
+@dataclass(frozen=True)
+class Line:
+    """A command line over the examples, with the paths of OUT and of a script of late changes, and whether its texts may vary."""
+    words: tuple[str, ...]
+    varies: bool = False
+    old: bytes = b"an old library"
+
+    def run(self, program: Path, shim: Path, folder: Path, refused: int) -> tuple[Ended, bool]:
+        """A run in which the growth of this number is refused, and whether it came to it."""
+        out, told = folder / f"{refused}.gds", folder / f"{refused}.told"
+        out.write_bytes(self.old)
+        env = os.environ | {"LD_PRELOAD": str(shim), "REFUSED": str(refused), "REFUSED_TOLD": str(told)}
+        words = [str(program), *(word.format(out=out, script=folder / "late.csv") for word in self.words)]
+        done = subprocess.run(words, cwd=EXAMPLES, env=env, capture_output=True, check=False, timeout=60)
+        ended = Ended(done.returncode, done.stdout, done.stderr, out.read_bytes())
+        out.unlink()
+        (folder / f"{refused}.gds.unfinished").unlink(missing_ok=True)
+        return ended, told.exists()
+
+    def is_right(self, ended: Ended, whole: Ended) -> bool:
+        """All is as without a refusal, or memory was told of and nothing was written. Where changes come while workers fill, a run that
+        ends well may be another one."""
+        if ended == whole or self.varies and (ended.status, ended.err) == (0, b""):
+            return True
+        return (ended.status, ended.out, ended.library) == (3, b"", self.old) and TOLD.match(ended.err) is not None
+
+
+LINES = (
+    Line(("check", "block_rules.csv", "block.gds")),
+    Line(("rects", "rules.csv", "script.csv")),
+    Line(("fill", "block_rules.csv", "block.gds", "/dev/null", "{out}")),
+    Line(("fill", "block_rules.csv", "block.gds", "/dev/null", "{out}", "--workers", "2")),
+    Line(("fill", "block_rules.csv", "block.gds", "{script}", "{out}", "--workers", "2"), varies=True),
+)
+
+
+def sweep(line: Line, program: Path, shim: Path, folder: Path, most: int) -> tuple[int, list[str]]:
+    """How many growths of a line were refused, and what was wrong."""
+    whole, _ = line.run(program, shim, folder, 0)
+    faults = [] if whole.status == 0 else [f"without a refusal: {whole.told()}"]
+    refused = 0
+    with ThreadPoolExecutor(os.cpu_count()) as pool:
+        for first in count(1, 64):
+            numbers = range(first, min(first + 64, most + 1))
+            ran = list(pool.map(lambda number: line.run(program, shim, folder, number), numbers))
+            refused += sum(came for _, came in ran)
+            faults += [f"growth {number}: {ended.told()}" for number, (ended, _) in zip(numbers, ran) if not line.is_right(ended, whole)]
+            if not ran or not any(came for _, came in ran):
+                return refused, faults
+
+
+def main() -> int:
+    parser = argparse.ArgumentParser(description=__doc__, formatter_class=argparse.RawDescriptionHelpFormatter)
+    parser.add_argument("program", nargs="?", type=Path, default=next((path for path in BUILT if path.exists()), None))
+    parser.add_argument("--most", type=int, default=1_000_000, help="refuse no growth past this one")
+    given = parser.parse_args()
+    if given.program is None:
+        sys.exit("no program is built: make build")
+    wrong = 0
+    with tempfile.TemporaryDirectory() as name:
+        folder = Path(name)
+        (folder / "shim.c").write_text(SHIM)
+        (folder / "late.csv").write_text(LATE)
+        subprocess.run(["cc", "-O2", "-shared", "-fPIC", "-o", folder / "shim.so", folder / "shim.c", "-ldl"], check=True)
+        for line in LINES:
+            refused, faults = sweep(line, given.program.resolve(), folder / "shim.so", folder, given.most)
+            print(f"{' '.join(line.words)}: {refused} growths refused, {len(faults)} wrong", flush=True)
+            print(*faults[:5], sep="\n", end="\n" if faults else "")
+            wrong += len(faults)
+    return 1 if wrong else 0
+
+
+if __name__ == "__main__":
+    sys.exit(main())
