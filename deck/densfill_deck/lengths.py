@@ -1,0 +1,57 @@
+"""Lengths of a deck in database units, shares in parts of a million: converted exactly, or refused."""
+import re
+from decimal import Decimal
+from fractions import Fraction
+
+METRES = {"m": Fraction(1), "mm": Fraction(1, 10**3), "um": Fraction(1, 10**6), "µm": Fraction(1, 10**6), "μm": Fraction(1, 10**6),
+          "nm": Fraction(1, 10**9), "pm": Fraction(1, 10**12)}
+LENGTH = re.compile(r"\s*([+-]?(?:\d+\.?\d*|\.\d+))\s*([a-zµμ]*)\s*\Z")
+SHARE = re.compile(r"\s*([+-]?(?:\d+\.?\d*|\.\d+))\s*%?\s*\Z")
+
+
+class Unfit(ValueError):
+    """A value of a deck that can't be used, with what would be right."""
+
+
+def metres(value: object) -> Fraction:
+    """A length in metres: "0.5 um", "120 nm", or a number of micrometres."""
+    if isinstance(value, bool) or not isinstance(value, (int, Decimal, str)):
+        raise Unfit(f'{value!r} is no length: write "0.5 um", "120 nm" or a number of micrometres')
+    if not isinstance(value, str):
+        return Fraction(value) * METRES["um"]
+    found = LENGTH.match(value)
+    if not found:
+        raise Unfit(f'"{value}" is no length: write "0.5 um", "120 nm" or a number of micrometres')
+    number, unit = found.groups()
+    if (unit or "um") not in METRES:
+        raise Unfit(f'"{value}" has the unit "{unit}": write um, nm, mm, pm or m')
+    return Fraction(number) * METRES[unit or "um"]
+
+
+def in_units(value: object, unit: Fraction) -> int:
+    """A length as a whole number of database units of so many metres."""
+    count = metres(value) / unit
+    if count.denominator != 1:
+        raise Unfit(f"{value} is {float(count):.6g} database units of {told(unit)}: write a whole number of them")
+    return int(count)
+
+
+def in_millionths(value: object) -> int:
+    """A share of a window in parts of a million: "25 %", or a number of percent."""
+    if isinstance(value, bool) or not isinstance(value, (int, Decimal, str)):
+        raise Unfit(f'{value!r} is no share: write "25 %" or a number of percent')
+    found = SHARE.match(value) if isinstance(value, str) else None
+    if isinstance(value, str) and not found:
+        raise Unfit(f'"{value}" is no share: write "25 %" or a number of percent')
+    share = Fraction(found.group(1) if found else value) * 10**4
+    if share.denominator != 1 or not 0 <= share <= 10**6:
+        raise Unfit(f"{value} is no whole number of parts of a million from 0 % to 100 %")
+    return int(share)
+
+
+def told(unit: Fraction) -> str:
+    """A length for people: 1 nm, 0.5 nm, 1 um."""
+    for name in ("um", "nm", "pm"):
+        if unit >= METRES[name]:
+            return f"{float(unit / METRES[name]):g} {name}"
+    return f"{float(unit):g} m"

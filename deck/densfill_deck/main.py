@@ -1,0 +1,177 @@
+"""densfill-deck: runs densfill on all layers of a design, as a deck says, and writes what people look at."""
+import argparse
+import json
+import os
+import shutil
+import sys
+from fractions import Fraction
+from pathlib import Path
+
+from .deck import Deck, Layer, Refused, read_deck
+from .lengths import told
+from .markers import database
+from .merge import NotMerged, merge
+from .page import Section, page
+from .reports import Limits, NoReport, figures, read_report
+from .runs import Inputs, Ran, Runner, jobs_for
+from .summary import STATUS, Outcome, outcome_of, summary, text, write_lines
+
+DONE, USAGE, FAILED, MISSED, INTERRUPTED = 0, 1, 2, 3, 130
+
+
+class Parser(argparse.ArgumentParser):
+    """A command line whose faults end with status 1."""
+
+    def error(self, message: str):
+        self.print_usage(sys.stderr)
+        self.exit(USAGE, f"{self.prog}: {message}\n")
+
+
+def positive(word: str) -> int:
+    number = int(word)
+    if number < 1:
+        raise argparse.ArgumentTypeError("1 or more")
+    return number
+
+
+def parser() -> Parser:
+    whole = Parser(prog="densfill-deck", description=__doc__)
+    commands = whole.add_subparsers(dest="command", required=True, parser_class=Parser)
+    run = commands.add_parser("run", help="check and fill all layers of a deck")
+    run.add_argument("deck", type=Path)
+    run.add_argument("design", type=Path)
+    run.add_argument("--out", type=Path, help="the folder of results (by default DECK.out beside the deck)")
+    run.add_argument("--jobs", type=positive, help="how many layers run side by side (by default by processors and memory)")
+    run.add_argument("--only", nargs="+", metavar="LAYER", help="these layers alone")
+    run.add_argument("--resume", action="store_true", help="keep what an earlier run left of the same inputs")
+    run.add_argument("--fail-on", choices=("low", "high", "any"), help="status 3 where a window stays so")
+    run.add_argument("--quiet", action="store_true", help="no progress and no summary on the terminal")
+    run.add_argument("--program", type=Path, help="the program densfill (by default beside this one, else on the path)")
+    check = commands.add_parser("check", help="tell all faults of a deck at once")
+    check.add_argument("deck", type=Path)
+    check.add_argument("design", type=Path, nargs="?", help="a design to take the database unit from")
+    explain = commands.add_parser("explain", help="summary and map of one report")
+    explain.add_argument("report", type=Path)
+    explain.add_argument("--out", type=Path, help="the page (by default REPORT.html)")
+    explain.add_argument("--unit", default="1 nm", help="the database unit")
+    joined = commands.add_parser("merge", help="the design and its fill in one file, by KLayout")
+    joined.add_argument("deck", type=Path)
+    joined.add_argument("design", type=Path)
+    joined.add_argument("out", type=Path)
+    joined.add_argument("--results", type=Path, help="the folder of results (by default DECK.out beside the deck)")
+    return whole
+
+
+def results_of(deck: Path, given: Path | None) -> Path:
+    return given or deck.with_suffix(".out")
+
+
+def program_of(given: Path | None) -> Path:
+    """The program densfill: the one given, the one beside this, or the one on the path."""
+    beside = Path(sys.argv[0]).resolve().parent
+    for path in (given, beside / "densfill", beside.parent / "bin/densfill", shutil.which("densfill")):
+        if path and os.access(path, os.X_OK):
+            return Path(path).resolve()
+    raise FileNotFoundError("densfill is not on the path: make build, make install, or --program PATH")
+
+
+def chosen(deck: Deck, only: list[str] | None) -> list[Layer]:
+    """The layers that are asked for, in the deck's order."""
+    names = {layer.name for layer in deck.layers}
+    unknown = sorted(set(only or ()) - names)
+    if unknown:
+        raise KeyError(f"no layer {', '.join(unknown)} in the deck: it has {', '.join(sorted(names))}")
+    return [layer for layer in deck.layers if not only or layer.name in only]
+
+
+def section_of(outcome: Outcome) -> Section:
+    layer, ran = outcome.layer, outcome.ran
+    if not outcome.is_whole:
+        note = f"failed: {STATUS.get(ran.status, f'status {ran.status}')}: {ran.told}"
+        return Section(layer.name, note, outcome.limits, None, [])
+    note = (f"layer {layer.numbers['layer']}/{layer.numbers['datatype']}, {len(outcome.after)} windows, "
+            + (f"{outcome.boxes} boxes, " if layer.fills else "checked alone, ") + f"{ran.seconds:.2f} s, {ran.memory / 2**20:.0f} MB")
+    return Section(layer.name, note, outcome.limits, outcome.before if layer.fills else None, outcome.after)
+
+
+def write_results(inputs: Inputs, deck: Deck, outcomes: list[Outcome]) -> str:
+    """Writes summary, page and markers, and gives the summary's text."""
+    words = text(deck, outcomes)
+    folder = inputs.folder
+    write_lines(folder / "summary.txt", words)
+    write_lines(folder / "summary.json", json.dumps(summary(inputs, deck, outcomes), indent=1) + "\n")
+    facts = [("design", str(inputs.design)), ("deck", str(deck.path)), ("database unit", told(deck.unit)),
+             ("windows low at the end", str(sum(figures(o.after).low for o in outcomes))),
+             ("windows high at the end", str(sum(figures(o.after).high for o in outcomes)))]
+    write_lines(folder / "report.html", page(f"Density of {inputs.design.name}", facts, [section_of(o) for o in outcomes], deck.unit))
+    missed = {outcome.layer.name: outcome.after for outcome in outcomes if outcome.is_whole}
+    write_lines(folder / "markers.lyrdb", database(inputs.design.name, deck.top, missed, deck.unit))
+    return words
+
+
+def run(given: argparse.Namespace) -> int:
+    deck = read_deck(given.deck, given.design)
+    layers = chosen(deck, given.only)
+    folder = results_of(given.deck, given.out)
+    folder.mkdir(parents=True, exist_ok=True)
+    inputs = Inputs(program_of(given.program), given.design.resolve(), folder)
+    ran: list[Ran] = Runner(inputs, given.quiet).run_all(layers, jobs_for(given.design, len(layers), given.jobs), given.resume)
+    outcomes = [outcome_of(inputs, layer, one) for layer, one in zip(layers, ran)]
+    words = write_results(inputs, deck, outcomes)
+    if not given.quiet:
+        print(words, end="")
+        print(f"results: {folder}/report.html, summary.json, markers.lyrdb")
+    if not all(outcome.is_whole for outcome in outcomes):
+        return FAILED
+    return MISSED if given.fail_on and any(outcome.misses(given.fail_on) for outcome in outcomes) else DONE
+
+
+def check(given: argparse.Namespace) -> int:
+    deck = read_deck(given.deck, given.design)
+    for layer in deck.layers:
+        n = layer.numbers
+        print(f"{layer.name}: layer {n['layer']}/{n['datatype']}, {n['win_nx']} by {n['win_ny']} windows, "
+              f"{n['min'] / 10**4:g} to {n['max'] / 10**4:g} %" + ("" if layer.fills else ", checked alone"))
+    return DONE
+
+
+def explain(given: argparse.Namespace) -> int:
+    from .lengths import metres
+    windows = read_report(given.report)
+    low, high = ([w.share for w in windows if w.state == state] for state in ("LOW", "HIGH"))
+    limits = Limits(max(low, default=-1) + 1, min(high, default=10**6 + 1) - 1)
+    of, unit = figures(windows), Fraction(metres(given.unit))
+    print(f"{given.report}: {of.windows} windows, {of.low} low, {of.high} high, mean {of.mean / 10**4:.2f} %")
+    for name, window in (("least", of.least), ("greatest", of.greatest)):
+        if window:
+            print(f"{name}: {window.share / 10**4:.2f} % in column {window.column}, row {window.row}")
+    out = given.out or given.report.with_suffix(".html")
+    one = Section(given.report.name, "limits as the states tell them", limits, None, windows)
+    write_lines(out, page(f"Density of {given.report.name}", [("report", str(given.report))], [one], unit))
+    print(f"page: {out}")
+    return DONE
+
+
+def merged(given: argparse.Namespace) -> int:
+    deck = read_deck(given.deck, given.design)
+    folder = results_of(given.deck, given.results)
+    libraries = {layer.texts["fill_top"]: folder / f"{layer.name}.fill.gds" for layer in deck.layers if layer.fills}
+    missing = [str(path) for path in libraries.values() if not path.exists()]
+    if missing:
+        raise NotMerged(f"{', '.join(missing)} is missing: densfill-deck run {given.deck} {given.design}")
+    merge(given.design, deck.top, libraries, given.out)
+    return DONE
+
+
+def main() -> int:
+    given = parser().parse_args()
+    try:
+        return {"run": run, "check": check, "explain": explain, "merge": merged}[given.command](given)
+    except Refused as refused:
+        print(refused, file=sys.stderr)
+    except (OSError, KeyError, NoReport, NotMerged, ValueError) as error:
+        print(f"densfill-deck: {error.args[0] if isinstance(error, KeyError) else error}", file=sys.stderr)
+    except KeyboardInterrupt:
+        print("densfill-deck: interrupted; whole files are kept, --resume goes on", file=sys.stderr)
+        return INTERRUPTED
+    return FAILED

@@ -1,0 +1,103 @@
+"""The lines of a density report, and what they come to."""
+from collections.abc import Iterable
+from dataclasses import dataclass, replace
+from pathlib import Path
+from statistics import fmean
+
+WORST = 20
+
+
+@dataclass(frozen=True, slots=True)
+class Window:
+    """A line of a report: a window by its column and row, its edges, its areas in unit squares, its share in parts of a million, and its
+    state."""
+    column: int
+    row: int
+    left: int
+    bottom: int
+    right: int
+    top: int
+    metal: int
+    boxes: int
+    total: int
+    share: int
+    state: str
+
+
+class NoReport(ValueError):
+    """A line that no report of densfill has."""
+
+
+def read_report(path: Path) -> list[Window]:
+    """The windows of a report, row by row."""
+    windows = []
+    with open(path, encoding="ascii") as file:
+        for number, line in enumerate(file, 1):
+            words = line.rstrip("\n").split(",")
+            try:
+                windows.append(Window(*map(int, words[:10]), words[10]))
+            except (ValueError, IndexError, TypeError) as error:
+                raise NoReport(f"{path}:{number}: no line of a density report") from error
+    return windows
+
+
+@dataclass(frozen=True)
+class Limits:
+    """The limits of a layer in parts of a million, and the frame where nothing counts beside it."""
+    least: int
+    most: int
+    frame: tuple[int, int, int, int] | None = None
+
+    def counted(self, window: Window) -> int:
+        """The area of what counts of a window."""
+        left, bottom, right, top = self.frame or (window.left, window.bottom, window.right, window.top)
+        wide = min(window.right, right) - max(window.left, left)
+        tall = min(window.top, top) - max(window.bottom, bottom)
+        return max(wide, 0) * max(tall, 0)
+
+    def state(self, area: int, counted: int) -> str:
+        if area * 10**6 < self.least * counted:
+            return "LOW"
+        return "HIGH" if area * 10**6 > self.most * counted else "OK"
+
+    def without_boxes(self, window: Window) -> Window:
+        """A window with its metal alone."""
+        counted = self.counted(window)
+        share = window.metal * 10**6 // counted if counted else 0
+        return replace(window, boxes=0, total=window.metal, share=share, state=self.state(window.metal, counted))
+
+
+@dataclass(frozen=True)
+class Figures:
+    """What the windows of a report come to."""
+    windows: int
+    low: int
+    high: int
+    least: Window | None
+    greatest: Window | None
+    mean: float
+
+
+def figures(windows: list[Window]) -> Figures:
+    return Figures(
+        windows=len(windows),
+        low=sum(window.state == "LOW" for window in windows),
+        high=sum(window.state == "HIGH" for window in windows),
+        least=min(windows, key=lambda window: window.share, default=None),
+        greatest=max(windows, key=lambda window: window.share, default=None),
+        mean=fmean(window.share for window in windows) if windows else 0.0)
+
+
+def worst(windows: list[Window]) -> list[Window]:
+    """The windows that are farthest from their limits: the emptiest low ones, then the fullest high ones."""
+    low = sorted((w for w in windows if w.state == "LOW"), key=lambda w: (w.share, w.row, w.column))[:WORST]
+    high = sorted((w for w in windows if w.state == "HIGH"), key=lambda w: (-w.share, w.row, w.column))[:WORST]
+    return low + high
+
+
+def histogram(windows: Iterable[Window], bins: int = 20) -> list[int]:
+    """How many windows have a share in each of so many equal parts of 0 to 100 %; all of 100 % is in the last."""
+    counts = [0] * bins
+    for window in windows:
+        counts[min(window.share * bins // 10**6, bins - 1)] += 1
+    return counts

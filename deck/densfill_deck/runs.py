@@ -1,0 +1,193 @@
+"""Runs of densfill, layer by layer and side by side."""
+import hashlib
+import json
+import os
+import signal
+import subprocess
+import sys
+import threading
+import time
+from concurrent.futures import ThreadPoolExecutor, as_completed
+from dataclasses import asdict, dataclass
+from pathlib import Path
+
+from .deck import Layer
+
+# What a run takes beside the bytes of its file, measured on flat designs: twice the file and a little more.
+MEMORY_FOR_A_BYTE = 2.5
+MEMORY_AT_LEAST = 64 << 20
+
+
+@dataclass(frozen=True)
+class Inputs:
+    """What all layers have in common."""
+    program: Path
+    design: Path
+    folder: Path
+
+
+@dataclass(frozen=True)
+class Ran:
+    """How a layer's run ended: its status, what it told, its seconds and its greatest memory in bytes; or that an earlier run was taken."""
+    layer: str
+    status: int
+    told: str
+    seconds: float
+    memory: int
+    taken: bool = False
+
+
+@dataclass(frozen=True)
+class Files:
+    """The files of a layer in the folder of results."""
+    rules: Path
+    report: Path
+    library: Path
+    log: Path
+    record: Path
+
+    @staticmethod
+    def of(folder: Path, layer: Layer) -> "Files":
+        return Files(*(folder / f"{layer.name}{ending}" for ending in (".rules.csv", ".report.csv", ".fill.gds", ".log", ".run.json")))
+
+
+def digest(path: Path) -> str:
+    with open(path, "rb") as file:
+        return hashlib.file_digest(file, "sha256").hexdigest()
+
+
+def fingerprint(inputs: Inputs, layer: Layer, digests: dict[Path, str]) -> dict[str, str]:
+    """What a layer's results depend on: the rules, the design, the script, the program and what is run."""
+    return {"rules": hashlib.sha256(layer.rules().encode()).hexdigest(), "design": digests[inputs.design],
+            "program": digests[inputs.program], "script": digests[layer.script] if layer.script else "",
+            "does": "fill" if layer.fills else "check"}
+
+
+def words(inputs: Inputs, layer: Layer, files: Files, library: Path) -> list[str]:
+    if not layer.fills:
+        return [str(inputs.program), "check", str(files.rules), str(inputs.design)]
+    return [str(inputs.program), "fill", str(files.rules), str(inputs.design), str(layer.script or os.devnull), str(library)]
+
+
+class Runner:
+    """Runs layers, keeps whole files alone, and ends its children when it is interrupted."""
+
+    def __init__(self, inputs: Inputs, quiet: bool) -> None:
+        self.inputs = inputs
+        self.quiet = quiet
+        self.children: set[subprocess.Popen[bytes]] = set()
+        self.lock = threading.Lock()
+        self.stopped = False
+        self.begun = time.monotonic()
+
+    def tell(self, done: int, of: int, running: list[str]) -> None:
+        """Progress: one line that changes on a terminal, else a line each time."""
+        if self.quiet:
+            return
+        line = f"{done} of {of} layers done, {time.monotonic() - self.begun:.0f} s" + (f", running {', '.join(running)}" if running else "")
+        if sys.stderr.isatty():
+            print(f"\r\x1b[K{line}", end="\n" if done == of else "", file=sys.stderr, flush=True)
+        else:
+            print(line, file=sys.stderr, flush=True)
+
+    def stop(self) -> None:
+        with self.lock:
+            self.stopped = True
+            for child in self.children:
+                child.send_signal(signal.SIGTERM)
+
+    def start(self, words: list[str], out: Path, err: Path) -> subprocess.Popen[bytes] | None:
+        with self.lock:
+            if self.stopped:
+                return None
+            with open(out, "wb") as stdout, open(err, "wb") as stderr:
+                child = subprocess.Popen(words, stdin=subprocess.DEVNULL, stdout=stdout, stderr=stderr, start_new_session=True)
+            self.children.add(child)
+            return child
+
+    def run(self, layer: Layer) -> Ran:
+        """A layer's run: its report and its library are there whole, or not at all."""
+        files = Files.of(self.inputs.folder, layer)
+        report, library = (path.with_name(path.name + ".part") for path in (files.report, files.library))
+        files.rules.write_text(layer.rules())
+        begun = time.monotonic()
+        child = self.start(words(self.inputs, layer, files, library), report, files.log)
+        if child is None:
+            return Ran(layer.name, -signal.SIGTERM, "not begun", 0.0, 0)
+        _, status, usage = os.wait4(child.pid, 0)
+        child.returncode = os.waitstatus_to_exitcode(status)
+        with self.lock:
+            self.children.discard(child)
+        if child.returncode == 0:
+            report.replace(files.report)
+            if layer.fills:
+                library.replace(files.library)
+        for part in (report, library, library.with_name(library.name + ".unfinished")):
+            part.unlink(missing_ok=True)
+        told = files.log.read_text(errors="replace").strip()
+        return Ran(layer.name, child.returncode, told, time.monotonic() - begun, usage.ru_maxrss * 1024)
+
+    def run_all(self, layers: list[Layer], jobs: int, resume: bool) -> list[Ran]:
+        """Runs all layers, so many side by side, those of an earlier run with the same inputs left out where that is asked for."""
+        digests = {path: digest(path) for path in {self.inputs.design, self.inputs.program, *(layer.script for layer in layers if layer.script)}}
+        prints = {layer.name: fingerprint(self.inputs, layer, digests) for layer in layers}
+        ran = {layer.name: earlier for layer in layers if resume and (earlier := self.earlier(layer, prints[layer.name]))}
+        waiting = [layer for layer in layers if layer.name not in ran]
+        with ThreadPoolExecutor(jobs) as pool:
+            futures = {pool.submit(self.run, layer): layer for layer in waiting}
+            self.tell(len(ran), len(layers), [layer.name for layer in waiting[:jobs]])
+            try:
+                for future in as_completed(futures):
+                    done = future.result()
+                    ran[done.layer] = done
+                    self.keep(futures[future], done, prints[done.layer])
+                    self.tell(len(ran), len(layers), [layer.name for f, layer in futures.items() if f.running()])
+            except KeyboardInterrupt:
+                self.stop()
+                pool.shutdown(cancel_futures=True)
+                raise
+        return [ran[layer.name] for layer in layers]
+
+    def keep(self, layer: Layer, ran: Ran, prints: dict[str, str]) -> None:
+        """Notes what a whole run was made of, and forgets an earlier one that is whole no more."""
+        files = Files.of(self.inputs.folder, layer)
+        if ran.status == 0:
+            outputs = {path.name: digest(path) for path in (files.report, files.library) if path.exists()}
+            record = {"inputs": prints, "outputs": outputs, "ran": asdict(ran)}
+            part = files.record.with_name(files.record.name + ".part")
+            part.write_text(json.dumps(record, indent=1) + "\n")
+            part.replace(files.record)
+        else:
+            for path in (files.record, files.report, files.library):
+                path.unlink(missing_ok=True)
+
+    def earlier(self, layer: Layer, prints: dict[str, str]) -> Ran | None:
+        """An earlier run of the same inputs whose files are all there as it left them."""
+        files = Files.of(self.inputs.folder, layer)
+        try:
+            record = json.loads(files.record.read_text())
+            same = record["inputs"] == prints and record["outputs"]
+            if same and all(digest(self.inputs.folder / name) == was for name, was in record["outputs"].items()):
+                return Ran(**(record["ran"] | {"taken": True}))
+        except (OSError, ValueError, KeyError, TypeError):
+            pass
+        return None
+
+
+def jobs_for(design: Path, layers: int, asked: int | None) -> int:
+    """How many layers run side by side: as many as asked for, else as there are processors and memory for."""
+    if asked:
+        return asked
+    each = max(MEMORY_AT_LEAST, int(design.stat().st_size * MEMORY_FOR_A_BYTE))
+    return max(1, min(layers, os.cpu_count() or 1, free_memory() // each))
+
+
+def free_memory() -> int:
+    """Bytes of memory that are free, or a great many where the system doesn't tell."""
+    try:
+        for line in Path("/proc/meminfo").read_text().splitlines():
+            if line.startswith("MemAvailable:"):
+                return int(line.split()[1]) * 1024
+    except (OSError, ValueError, IndexError):
+        pass
+    return 1 << 40

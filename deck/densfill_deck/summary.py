@@ -1,0 +1,113 @@
+"""What a run comes to, layer by layer, for people and for programs."""
+from dataclasses import dataclass
+from datetime import datetime, timezone
+from fractions import Fraction
+from pathlib import Path
+
+from .deck import Deck, Layer
+from .gds import boxes
+from .lengths import told
+from .reports import Figures, Limits, Window, figures, read_report
+from .runs import Files, Inputs, Ran, digest
+
+STATUS = {1: "usage", 2: "an input is refused", 3: "out of memory", 4: "a file could not be opened, read or written",
+          5: "the fill is unfinished", 6: "the workers gave back other edits"}
+
+
+@dataclass(frozen=True)
+class Outcome:
+    """A layer's run with its windows before and after fill; without windows where it failed."""
+    layer: Layer
+    ran: Ran
+    limits: Limits
+    before: list[Window]
+    after: list[Window]
+    boxes: int
+    files: Files
+
+    @property
+    def is_whole(self) -> bool:
+        return self.ran.status == 0
+
+    def misses(self, kind: str) -> bool:
+        """Whether a window is below or above its limits at the end."""
+        states = {"low": ("LOW",), "high": ("HIGH",), "any": ("LOW", "HIGH")}[kind]
+        return any(window.state in states for window in self.after)
+
+
+def limits_of(layer: Layer) -> Limits:
+    n = layer.numbers
+    frame = (n["frame_x1"], n["frame_y1"], n["frame_x2"], n["frame_y2"]) if layer.texts["padding"] == "ignore" else None
+    return Limits(n["min"], n["max"], frame)
+
+
+def outcome_of(inputs: Inputs, layer: Layer, ran: Ran) -> Outcome:
+    files, limits = Files.of(inputs.folder, layer), limits_of(layer)
+    if ran.status != 0:
+        return Outcome(layer, ran, limits, [], [], 0, files)
+    after = read_report(files.report)
+    before = [limits.without_boxes(window) for window in after]
+    return Outcome(layer, ran, limits, before, after, boxes(files.library) if layer.fills else 0, files)
+
+
+def place(window: Window | None, unit: Fraction) -> dict[str, object] | None:
+    """A window for programs: its column and row, its edges in database units and in micrometres, and its density."""
+    if window is None:
+        return None
+    edges = [window.left, window.bottom, window.right, window.top]
+    return {"column": window.column, "row": window.row, "box": edges, "box_um": [float(edge * unit * 10**6) for edge in edges],
+            "density": window.share / 10**6}
+
+
+def told_figures(of: Figures, unit: Fraction) -> dict[str, object]:
+    return {"low": of.low, "high": of.high, "least": place(of.least, unit), "greatest": place(of.greatest, unit), "mean": of.mean / 10**6}
+
+
+def told_layer(outcome: Outcome, unit: Fraction) -> dict[str, object]:
+    """A layer of the summary."""
+    layer, ran = outcome.layer, outcome.ran
+    told: dict[str, object] = {"name": layer.name, "layer": f"{layer.numbers['layer']}/{layer.numbers['datatype']}", "fills": layer.fills,
+                               "status": ran.status, "told": ran.told, "seconds": round(ran.seconds, 3), "memory": ran.memory,
+                               "from_an_earlier_run": ran.taken}
+    if outcome.is_whole:
+        told |= {"windows": len(outcome.after), "boxes": outcome.boxes, "min": layer.numbers["min"] / 10**6,
+                 "max": layer.numbers["max"] / 10**6, "before": told_figures(figures(outcome.before), unit),
+                 "after": told_figures(figures(outcome.after), unit),
+                 "files": {path.name: digest(path) for path in (outcome.files.rules, outcome.files.report, outcome.files.library)
+                           if path.exists()}}
+    return told
+
+
+def summary(inputs: Inputs, deck: Deck, outcomes: list[Outcome]) -> dict[str, object]:
+    """The whole summary."""
+    return {"deck": str(deck.path), "design": str(inputs.design), "top": deck.top, "unit_m": float(deck.unit),
+            "time": datetime.now(timezone.utc).isoformat(timespec="seconds"),
+            "hashes": {"deck": digest(deck.path), "design": digest(inputs.design), "program": digest(inputs.program)},
+            "layers": [told_layer(outcome, deck.unit) for outcome in outcomes]}
+
+
+def percent(window: Window | None) -> str:
+    return "-" if window is None else f"{window.share / 10**4:.2f}"
+
+
+def text(deck: Deck, outcomes: list[Outcome]) -> str:
+    """The summary for people: a line for each layer, and one for what failed."""
+    lines = [f"{deck.path.name}: {len(outcomes)} layers, database unit {told(deck.unit)}", "",
+             f"{'layer':<16}{'windows':>9}{'low':>14}{'high':>14}{'least %':>16}{'greatest %':>16}{'boxes':>11}{'s':>9}{'MB':>7}"]
+    for outcome in outcomes:
+        ran = outcome.ran
+        if not outcome.is_whole:
+            lines.append(f"{outcome.layer.name:<16}failed: {STATUS.get(ran.status, f'status {ran.status}')}: {ran.told}")
+            continue
+        before, after = figures(outcome.before), figures(outcome.after)
+        lines.append(f"{outcome.layer.name:<16}{after.windows:>9}{f'{before.low} > {after.low}':>14}{f'{before.high} > {after.high}':>14}"
+                     f"{f'{percent(before.least)} > {percent(after.least)}':>16}{f'{percent(before.greatest)} > {percent(after.greatest)}':>16}"
+                     f"{outcome.boxes:>11}{ran.seconds:>9.2f}{ran.memory / 2**20:>7.0f}" + (" (kept)" if ran.taken else ""))
+    return "\n".join(lines + ["", "a > b: before and after fill"]) + "\n"
+
+
+def write_lines(path: Path, content: str) -> None:
+    """Writes a file aside and puts it in its place."""
+    part = path.with_name(path.name + ".part")
+    part.write_text(content, encoding="utf-8")
+    part.replace(path)

@@ -1,0 +1,105 @@
+#!/usr/bin/env python3
+"""Tests of what the deck does in KLayout, without a window: the macro's code, markers, the map, merging and the comparison.
+
+usage: test_klayout.py [PROGRAM]     (by default bin/densfill, else what the gate left in crates/densfill/out; needs klayout)
+"""
+import os
+import shutil
+import subprocess
+import sys
+import tempfile
+import unittest
+import xml.etree.ElementTree as ET
+from pathlib import Path
+
+DECK = Path(__file__).resolve().parent
+ROOT = DECK.parent
+EXAMPLES = ROOT / "examples"
+BUILT = (ROOT / "bin/densfill", ROOT / "crates/densfill/out/densfill")
+MACRO = DECK / "klayout/densfill.lym"
+
+# Runs a check by rules and a fill by a deck with the macro's own functions, and shows both in a view without a window.
+USE = """
+import json
+left = {}
+report, library = run(design, rules, "31/0", folder, False)
+left["check"] = open(report).read()
+report, library = run(design, deck, "31/0", folder, True)
+left["fill"], left["library"] = open(report).read(), library
+windows = read_windows(report)
+left["items"] = markers(windows, "BLOCK", 0.001, "fill").num_items()
+view = pya.LayoutView()
+view.load_layout(design, True)
+view.max_hier()
+image = density_image(windows, 0.001)
+view.insert_image(image)
+view.load_layout(library, True)
+left["layouts"], left["pixels"] = view.cellviews(), [image.width(), image.height()]
+view.zoom_fit()
+view.save_image(folder + "/view.png", 400, 300)
+json.dump(left, open(folder + "/left.json", "w"))
+"""
+
+
+class Klayout(unittest.TestCase):
+    """The example block, in a folder for each test."""
+    program: Path
+
+    def setUp(self) -> None:
+        folder = tempfile.TemporaryDirectory()
+        self.addCleanup(folder.cleanup)
+        self.folder = Path(folder.name)
+        self.env = os.environ | {"QT_QPA_PLATFORM": "offscreen", "DENSFILL": str(self.program), "DENSFILL_DECK": str(self.linked())}
+
+    def linked(self) -> Path:
+        """The deck's program with densfill beside it, as make install puts them."""
+        shutil.copytree(DECK / "densfill_deck", self.folder / "bin/densfill_deck", ignore=shutil.ignore_patterns("__pycache__"))
+        for path in (DECK / "densfill-deck", self.program):
+            shutil.copy(path, self.folder / "bin" / path.name)
+        return self.folder / "bin/densfill-deck"
+
+    def klayout(self, script: Path, **values: object) -> str:
+        words = ["klayout", "-b", "-r", str(script), *(word for key, value in values.items() for word in ("-rd", f"{key}={value}"))]
+        done = subprocess.run(words, capture_output=True, text=True, check=False, env=self.env, timeout=120)
+        self.assertEqual(done.returncode, 0, done.stderr)
+        return done.stdout
+
+    def densfill(self, *words: object) -> str:
+        return subprocess.run([self.program, *words], capture_output=True, text=True, check=True).stdout
+
+    def test_the_macro_checks_fills_and_shows(self) -> None:
+        import json
+        script = self.folder / "use.py"
+        script.write_text(ET.parse(MACRO).getroot().findtext("text") + USE)
+        design, rules = EXAMPLES / "block.gds", EXAMPLES / "block_rules.csv"
+        self.klayout(script, design=design, rules=rules, deck=EXAMPLES / "block.toml", folder=self.folder)
+        left = json.loads((self.folder / "left.json").read_text())
+        self.assertEqual(left["check"], self.densfill("check", rules, design))
+        self.assertEqual(left["fill"], self.densfill("fill", rules, design, "/dev/null", self.folder / "own.gds"))
+        self.assertEqual(Path(left["library"]).read_bytes(), (self.folder / "own.gds").read_bytes())
+        self.assertEqual(left["items"], sum(not line.endswith(",OK") for line in left["fill"].splitlines()))
+        self.assertEqual((left["layouts"], left["pixels"]), (2, [11, 8]))
+        self.assertGreater((self.folder / "view.png").stat().st_size, 1000)
+
+    def test_no_window_differs(self) -> None:
+        design, rules = EXAMPLES / "block.gds", EXAMPLES / "block_rules.csv"
+        (self.folder / "check.csv").write_text(self.densfill("check", rules, design))
+        fill = self.folder / "fill.gds"
+        (self.folder / "fill.csv").write_text(self.densfill("fill", rules, design, "/dev/null", fill))
+        compare = DECK / "klayout/compare.drc"
+        given = {"design": design, "rules": rules}
+        self.assertIn("windows that differ: 0 of 88", self.klayout(compare, report=self.folder / "check.csv", **given))
+        self.assertIn("windows that differ: 0 of 88", self.klayout(compare, report=self.folder / "fill.csv", fill=fill, **given))
+        ignored = self.folder / "ignored.csv"
+        ignored.write_text(rules.read_text() + "padding,ignore\n")
+        (self.folder / "ignored_report.csv").write_text(self.densfill("check", ignored, design))
+        seen = self.klayout(compare, design=design, rules=ignored, report=self.folder / "ignored_report.csv")
+        self.assertIn("windows that differ: 0 of 88", seen)
+
+
+if __name__ == "__main__":
+    given = sys.argv[1:2] or [str(path) for path in BUILT if path.exists()][:1]
+    if not given or not shutil.which("klayout"):
+        sys.exit("no program is built: make build" if not given else "klayout is not on the path")
+    Klayout.program = Path(given[0]).resolve()
+    unittest.main(argv=sys.argv[:1])
