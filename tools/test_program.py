@@ -212,6 +212,13 @@ class Files(Case):
             (self.folder / "soft").unlink()
             (self.folder / "hard").unlink()
 
+    def test_an_input_stands_where_out_is_written(self) -> None:
+        (self.folder / "out.gds.unfinished").write_bytes(DESIGN)
+        ended = self.run_words("fill", "rules.csv", "out.gds.unfinished", "script.csv", "out.gds")
+        self.assert_fault(ended, 4, "out: 30 Device")
+        self.assertEqual((self.folder / "out.gds.unfinished").read_bytes(), DESIGN)
+        self.assert_no_out()
+
     def test_out_is_where_standard_output_goes(self) -> None:
         with open(self.folder / "both", "wb") as both:
             done = subprocess.run([self.program, "fill", "rules.csv", "design.gds", "script.csv", "both"], cwd=self.folder, stdout=both,

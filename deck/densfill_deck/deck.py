@@ -62,6 +62,7 @@ class Deck:
     """A deck that can be run."""
     path: Path
     unit: Fraction
+    of_the_file: bool
     top: str
     layers: list[Layer]
 
@@ -276,4 +277,4 @@ def read_deck(path: Path, design: Path | None = None) -> Deck:
     faults += [Fault(path, None, f"layer {name}", "two layers have this name") for name in sorted(doubled)]
     if faults:
         raise Refused(faults)
-    return Deck(path, unit, str(deck["top"]), [layer for layer in read if layer])
+    return Deck(path, unit, deck.get("unit", "file") == "file", str(deck["top"]), [layer for layer in read if layer])

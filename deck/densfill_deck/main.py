@@ -8,7 +8,7 @@ from fractions import Fraction
 from pathlib import Path
 
 from .deck import Deck, Layer, Refused, read_deck
-from .lengths import told
+from .lengths import metres, told
 from .markers import database
 from .merge import NotMerged, merge
 from .page import Section, page
@@ -128,6 +128,7 @@ def run(given: argparse.Namespace) -> int:
 
 def check(given: argparse.Namespace) -> int:
     deck = read_deck(given.deck, given.design)
+    print(f"database unit {told(deck.unit)}" + (", unless the design has another one" if given.design is None and deck.of_the_file else ""))
     for layer in deck.layers:
         n = layer.numbers
         print(f"{layer.name}: layer {n['layer']}/{n['datatype']}, {n['win_nx']} by {n['win_ny']} windows, "
@@ -136,7 +137,6 @@ def check(given: argparse.Namespace) -> int:
 
 
 def explain(given: argparse.Namespace) -> int:
-    from .lengths import metres
     windows = read_report(given.report)
     low, high = ([w.share for w in windows if w.state == state] for state in ("LOW", "HIGH"))
     limits = Limits(max(low, default=-1) + 1, min(high, default=10**6 + 1) - 1)
