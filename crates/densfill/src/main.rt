@@ -27,7 +27,7 @@ use std::sync::Wait;
 use std::sync::ledger::Blank;
 use std::thread::Threads;
 use std::{env, io};
-use target::{Target, is_in_use};
+use target::Target;
 
 /// The exit status of a line that the program doesn't take.
 const USAGE: u8 = 1;
@@ -100,10 +100,7 @@ fn created<'a, R: Alloc<A = Global> + Files>(
     ensures whole { IfOk result (λ tap. has_failed tap ≡ false) }
     ensures fault { IfErr result (λ e. (e ≡ Refusal.Out) ⊎ (e ≡ Refusal.Run RunFault.Memory)) }
 {
-    if is_in_use(rt, path, inputs) {
-        return Err(Refusal::Out);
-    }
-    match Target::create(rt, path) {
+    match Target::create(rt, path, inputs) {
         Ok(target) => Ok(Tap::new(target)),
         Err(error) => match open_fault(&error) {
             InputError::Device => Err(Refusal::Out),

@@ -34,10 +34,11 @@ impl<R: Files> Write for Target<'_, R> {
     /// Puts a file that was written aside in its place, once all of it is on the device.
     fn flush(&mut self) -> io::Result<()> {
         self.file.flush()?;
-        if let Some(aside) = self.aside.take() {
+        if let Some(aside) = &self.aside {
             self.file.sync_all()?;
             fs::rename(self.rt, aside.from.as_str(), aside.to.as_str())?;
         }
+        self.aside = None;
         Ok(())
     }
 }
@@ -45,8 +46,8 @@ impl<R: Files> Write for Target<'_, R> {
 impl<'a, R: Files + Alloc<A = Global>> Target<'a, R> {
     /// The file at a path. One that is there and isn't regular is written in place. Any other is written aside, under the
     /// name that links lead to, with `.unfinished` behind it; it has the rights of the one that is there, which must be open to
-    /// writers.
-    pub(crate) fn create(rt: &'a R, path: &str) -> io::Result<Target<'a, R>> {
+    /// writers. Neither of the two may be in use.
+    pub(crate) fn create(rt: &'a R, path: &str, inputs: [&str; 3]) -> io::Result<Target<'a, R>> {
         match fs::metadata(rt, path) {
             Ok(found) if !found.is_file() => Ok(Target {
                 rt,
@@ -54,23 +55,27 @@ impl<'a, R: Files + Alloc<A = Global>> Target<'a, R> {
                 aside: None,
             }),
             Ok(found) => {
+                refuse_in_use(rt, path, inputs)?;
                 OpenOptions::new().write(true).open(rt, path)?;
                 let path = fs::canonicalize(rt, path)?;
-                let target = Target::create_aside(rt, path.as_str())?;
+                let target = Target::create_aside(rt, path.as_str(), inputs)?;
                 target.file.set_permissions(found.permissions())?;
                 Ok(target)
             }
-            Err(error) if error.kind() == ErrorKind::NotFound => Target::create_aside(rt, path),
+            Err(error) if error.kind() == ErrorKind::NotFound => {
+                Target::create_aside(rt, path, inputs)
+            }
             Err(error) => Err(error),
         }
     }
 
-    fn create_aside(rt: &'a R, path: &str) -> io::Result<Target<'a, R>> {
+    fn create_aside(rt: &'a R, path: &str, inputs: [&str; 3]) -> io::Result<Target<'a, R>> {
         let alloc = rt.alloc();
         let aside = Aside {
             from: format!(in alloc; "{path}.unfinished")?,
             to: String::from_str(alloc, path)?,
         };
+        refuse_in_use(rt, aside.from.as_str(), inputs)?;
         // What a killed run left may be another's.
         let _ = fs::remove_file(rt, aside.from.as_str());
         Ok(Target {
@@ -86,15 +91,18 @@ fn are_one(a: &Metadata, b: &Metadata) -> bool {
     a.dev() == b.dev() && a.ino() == b.ino()
 }
 
-/// Whether the regular file at a path is one of these inputs, or the one that standard output goes to.
-pub(crate) fn is_in_use<R: Files>(rt: &R, path: &str, inputs: [&str; 3]) -> bool {
+/// An error where the regular file at a path is one of these inputs, or the one that standard output goes to.
+fn refuse_in_use<R: Files>(rt: &R, path: &str, inputs: [&str; 3]) -> io::Result<()> {
     let Ok(target) = fs::metadata(rt, path) else {
-        return false;
+        return Ok(());
     };
     let [rules, design, script] = inputs;
     let others = [rules, design, script, STANDARD_OUTPUT];
-    target.is_file()
-        && others.iter().any(|other| fs::metadata(rt, *other).is_ok_and(|other| are_one(
-            &target, &other,
-        )))
+    let is_other = |other: &&str| fs::metadata(rt, *other).is_ok_and(|other| are_one(
+        &target, &other,
+    ));
+    if target.is_file() && others.iter().any(is_other) {
+        return Err(io::Error::from(ErrorKind::ResourceBusy));
+    }
+    Ok(())
 }
