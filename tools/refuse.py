@@ -1,8 +1,10 @@
 #!/usr/bin/env python3
 """Refuses each growth of memory of the built program in turn, and looks at what comes of it: the texts of a run in which none is refused, or
-the line that tells of want of memory, and an OUT that is as it was.
+the line that tells of want of memory, and an OUT that is as it was. It does the same to calls of books, by the tests of crates/book_tests that
+look at a book after a refused call and make it once more.
 
-usage: refuse.py [PROGRAM] [--most N]     (by default bin/densfill, else what the gate left in crates/densfill/out; needs python3 and cc)
+usage: refuse.py [PROGRAM] [--tests TESTS] [--most N]     (by default bin/densfill, else what the gate left in crates/densfill/out, and the
+                                                           tests that it left in crates/book_tests/out; needs python3 and cc)
 """
 import argparse
 import os
@@ -10,6 +12,7 @@ import re
 import subprocess
 import sys
 import tempfile
+from collections.abc import Callable
 from concurrent.futures import ThreadPoolExecutor
 from dataclasses import dataclass
 from itertools import count
@@ -18,10 +21,15 @@ from pathlib import Path
 ROOT = Path(__file__).resolve().parent.parent
 BUILT = (ROOT / "bin/densfill", ROOT / "crates/densfill/out/densfill")
 EXAMPLES = ROOT / "examples"
+TESTS = ROOT / "crates/book_tests/out/book_tests_tests"
+# The tests of refused calls, and the most growths that the calls of one of them may meet: one for each of four commits of two books.
+REFUSED_CALLS = re.compile(r"\S*(?:memory_is_refused|want_of_memory)(?=: test)")
+MOST_GROWTHS = {"refused::commits_where_memory_is_refused": 8}
 TOLD = re.compile(rb"\Adensfill: (rules|design|script|run): 31 Memory\n\Z")
 
-# Answers the call at REFUSED, counted over malloc, calloc, realloc and aligned_alloc of all threads, with no memory, and every other one as
-# the C library does. At its end a run tells by its file REFUSED_TOLD whether a call was refused.
+# Answers the call at REFUSED, counted over malloc, realloc and aligned_alloc of all threads, with no memory, and every other one as the C
+# library does. Under REFUSED_MARKED only calls between two marks count: a call for 2^46 bytes, and one for a byte more. A run in which the
+# call came makes the file REFUSED_TOLD.
 SHIM = r"""
 #define _GNU_SOURCE
 #include <dlfcn.h>
@@ -31,17 +39,26 @@ SHIM = r"""
 #include <stdlib.h>
 #include <unistd.h>
 
+#define BEGIN ((size_t)1 << 46)
+#define END (BEGIN + 1)
+
 static atomic_long calls;
+static atomic_int counts;
 static long refused;
 
 __attribute__((constructor)) static void begin(void) {
     const char *at = getenv("REFUSED");
     refused = at ? atol(at) : 0;
     atomic_store(&calls, 0);
+    atomic_store(&counts, getenv("REFUSED_MARKED") == NULL);
 }
 
-static int is_refused(void) {
-    if (refused == 0 || atomic_fetch_add(&calls, 1) + 1 != refused) return 0;
+static int is_refused(size_t n) {
+    if (n == BEGIN || n == END) {
+        atomic_store(&counts, n == BEGIN);
+        return 1;
+    }
+    if (refused == 0 || !atomic_load(&counts) || atomic_fetch_add(&calls, 1) + 1 != refused) return 0;
     const char *told = getenv("REFUSED_TOLD");
     if (told) close(open(told, O_CREAT | O_WRONLY, 0600));
     errno = ENOMEM;
@@ -52,19 +69,19 @@ static int is_refused(void) {
 
 void *malloc(size_t n) {
     NEXT(void *(*)(size_t), "malloc");
-    return is_refused() ? NULL : next(n);
+    return is_refused(n) ? NULL : next(n);
 }
 void *realloc(void *p, size_t n) {
     NEXT(void *(*)(void *, size_t), "realloc");
-    return is_refused() ? NULL : next(p, n);
+    return is_refused(n) ? NULL : next(p, n);
 }
 void *aligned_alloc(size_t a, size_t n) {
     NEXT(void *(*)(size_t, size_t), "aligned_alloc");
-    return is_refused() ? NULL : next(a, n);
+    return is_refused(n) ? NULL : next(a, n);
 }
 int posix_memalign(void **p, size_t a, size_t n) {
     NEXT(int (*)(void **, size_t, size_t), "posix_memalign");
-    return is_refused() ? ENOMEM : next(p, a, n);
+    return is_refused(n) ? ENOMEM : next(p, a, n);
 }
 """
 
@@ -120,37 +137,74 @@ LINES = (
 )
 
 
-def sweep(line: Line, program: Path, shim: Path, folder: Path, most: int) -> tuple[int, list[str]]:
-    """How many growths of a line were refused, and what was wrong."""
+# What is wrong with a run in which the growth of this number is refused, if anything, and whether it came to it.
+Attempt = Callable[[int], tuple[str | None, bool]]
+
+
+def of_line(line: Line, program: Path, shim: Path, folder: Path) -> Attempt:
+    """Runs of a command line."""
     whole, _ = line.run(program, shim, folder, 0)
-    faults = [] if whole.status == 0 else [f"without a refusal: {whole.told()}"]
-    refused = 0
+
+    def attempt(number: int) -> tuple[str | None, bool]:
+        ended, came = line.run(program, shim, folder, number)
+        is_right = whole.status == 0 and line.is_right(ended, whole)
+        return None if is_right else f"growth {number}: {ended.told()}", came
+    return attempt
+
+
+def of_test(name: str, tests: Path, shim: Path, folder: Path) -> Attempt:
+    """Runs of a test, of which growths between its marks count."""
+    def attempt(number: int) -> tuple[str | None, bool]:
+        told = folder / f"{number}.told"
+        told.unlink(missing_ok=True)
+        env = os.environ | {"LD_PRELOAD": str(shim), "REFUSED": str(number), "REFUSED_TOLD": str(told), "REFUSED_MARKED": "1"}
+        done = subprocess.run([str(tests), name], env=env, capture_output=True, check=False, timeout=60)
+        said = (done.stdout + done.stderr).decode(errors="replace").strip()
+        return None if done.returncode == 0 else f"growth {number}: {said[-300:]}", told.exists()
+    return attempt
+
+
+def sweep(attempt: Attempt, most: int) -> tuple[int, list[str]]:
+    """How many growths were refused, and what was wrong."""
+    refused, faults = 0, []
     with ThreadPoolExecutor(os.cpu_count()) as pool:
         for first in count(1, 64):
-            numbers = range(first, min(first + 64, most + 1))
-            ran = list(pool.map(lambda number: line.run(program, shim, folder, number), numbers))
-            refused += sum(came for _, came in ran)
-            faults += [f"growth {number}: {ended.told()}" for number, (ended, _) in zip(numbers, ran) if not line.is_right(ended, whole)]
-            if not ran or not any(came for _, came in ran):
+            tried = list(pool.map(attempt, range(first, min(first + 64, most + 1))))
+            refused += sum(came for _, came in tried)
+            faults += [fault for fault, _ in tried if fault]
+            if not any(came for _, came in tried):
                 return refused, faults
+
+
+def attempts(program: Path, tests: Path | None, shim: Path, folder: Path) -> dict[str, Attempt]:
+    """All that is swept, by its name."""
+    found = {" ".join(line.words): of_line(line, program, shim, folder) for line in LINES}
+    if tests:
+        told = subprocess.run([str(tests), "--list"], capture_output=True, text=True, check=True).stdout
+        found |= {name: of_test(name, tests, shim, folder) for name in REFUSED_CALLS.findall(told)}
+    return found
 
 
 def main() -> int:
     parser = argparse.ArgumentParser(description=__doc__, formatter_class=argparse.RawDescriptionHelpFormatter)
     parser.add_argument("program", nargs="?", type=Path, default=next((path for path in BUILT if path.exists()), None))
+    parser.add_argument("--tests", type=Path, default=TESTS if TESTS.exists() else None, help="the built tests of books")
     parser.add_argument("--most", type=int, default=1_000_000, help="refuse no growth past this one")
     given = parser.parse_args()
     if given.program is None:
         sys.exit("no program is built: make build")
+    tests = given.tests.resolve() if given.tests else None
     wrong = 0
     with tempfile.TemporaryDirectory() as name:
         folder = Path(name)
         (folder / "shim.c").write_text(SHIM)
         (folder / "late.csv").write_text(LATE)
         subprocess.run(["cc", "-O2", "-shared", "-fPIC", "-o", folder / "shim.so", folder / "shim.c", "-ldl"], check=True)
-        for line in LINES:
-            refused, faults = sweep(line, given.program.resolve(), folder / "shim.so", folder, given.most)
-            print(f"{' '.join(line.words)}: {refused} growths refused, {len(faults)} wrong", flush=True)
+        for subject, attempt in attempts(given.program.resolve(), tests, folder / "shim.so", folder).items():
+            refused, faults = sweep(attempt, given.most)
+            if refused > MOST_GROWTHS.get(subject, refused):
+                faults.append(f"{refused} growths, where {MOST_GROWTHS[subject]} are allowed")
+            print(f"{subject}: {refused} growths refused, {len(faults)} wrong", flush=True)
             print(*faults[:5], sep="\n", end="\n" if faults else "")
             wrong += len(faults)
     return 1 if wrong else 0

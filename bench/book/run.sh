@@ -20,7 +20,7 @@ set -eu
 . "$(dirname "$0")/../common.sh"
 
 build_over_layer book plans.py \
-    "fill_base fill_spans fill_region fill_size fill_area fill_cells fill_measure fill_sums fill_raster fill_text fill_job fill_core fill_book"
+    "fill_base fill_spans fill_region fill_size fill_area fill_cells fill_measure fill_sums fill_raster fill_text fill_job fill_core fill_state fill_book"
 
 for processors in $(one_and_all); do
     for round in 1 2 3; do

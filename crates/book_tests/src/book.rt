@@ -3,6 +3,7 @@ ghost use Rattle.std.specs.Prelude.{◌≡◌, ◌≤◌, ◌^◌};
 ghost use Rattle.fill_text.specs.ValuesOfRules.{values_of};
 ghost use Rattle.fill_core.specs.Shares.{AllParts};
 
+use crate::refused::{begin, committed, edited, end};
 use fill_base::Rect;
 use fill_book::{Book, PlainBook};
 use fill_core::{BookError, Edit, FillBook, Opened, Pass, Reply};
@@ -149,9 +150,13 @@ pub(crate) enum Step {
     Counts(u32, u64),
     /// The version, and whether it is complete.
     Version(u64, bool),
+    /// From here on growths count.
+    Begin,
+    /// From here on they don't.
+    End,
 }
 
-/// The proposal of a tile.
+/// The proposal of a tile. A job or a proposal that is refused memory is asked for again.
 pub(crate) fn proposal_of<B: FillBook>(
     rt: &impl Abort,
     alloc: Global,
@@ -161,8 +166,16 @@ pub(crate) fn proposal_of<B: FillBook>(
     if tile >= book.rules().raster().tiles() {
         panic!(rt; "no tile {tile}");
     }
-    let Ok(proposal) = book.job(alloc, tile)?.propose(alloc) else {
-        panic!(rt; "memory was refused");
+    let job = match book.job(alloc, tile) {
+        Ok(job) => job,
+        Err(_) => book.job(alloc, tile)?,
+    };
+    let proposal = match job.propose(alloc) {
+        Ok(proposal) => Ok(proposal),
+        Err(job) => job.propose(alloc),
+    };
+    let Ok(proposal) = proposal else {
+        panic!(rt; "memory was refused twice");
     };
     Ok(proposal)
 }
@@ -260,26 +273,37 @@ pub(crate) fn take<B: FillBook>(
     match step {
         Step::Commit(tile, want) => {
             let proposal = proposal_of(rt, alloc, book, tile)?;
-            assert_eq!(rt; book.commit(alloc, pass, &proposal)?, want);
+            assert_eq!(rt; committed(rt, alloc, book, pass, &proposal)?, want);
         }
         Step::Hold(tile) => held.push(proposal_of(rt, alloc, book, tile)?)?,
         Step::Late(k, want) => {
             let proposal = held_at(rt, held, k);
-            assert_eq!(rt; book.commit(alloc, pass, proposal)?, want);
+            assert_eq!(rt; committed(rt, alloc, book, pass, proposal)?, want);
         }
         Step::Fill => fill_all(rt, alloc, book, pass)?,
         Step::Add(corners, want) => {
             let edit = Edit::Add(rect_of(corners)?);
-            assert_eq!(rt; book.edit(alloc, pass, edit)?, Reply::Withdrawn(want));
+            assert_eq!(rt;
+                edited(rt, alloc, book, pass, edit)?,
+                Reply::Withdrawn(want)
+            );
         }
         Step::Cut(corners, want) => {
             let edit = Edit::Cut(rect_of(corners)?);
-            assert_eq!(rt; book.edit(alloc, pass, edit)?, Reply::Withdrawn(want));
+            assert_eq!(rt;
+                edited(rt, alloc, book, pass, edit)?,
+                Reply::Withdrawn(want)
+            );
         }
         Step::Keep(corners, want) => {
             let edit = Edit::Keep(rect_of(corners)?);
-            assert_eq!(rt; book.edit(alloc, pass, edit)?, Reply::Withdrawn(want));
+            assert_eq!(rt;
+                edited(rt, alloc, book, pass, edit)?,
+                Reply::Withdrawn(want)
+            );
         }
+        Step::Begin => begin(alloc),
+        Step::End => end(alloc),
         Step::Full(k) => assert_full(rt, alloc, book, pass, held_at(rt, held, k))?,
         Step::Counts(places, calls) => {
             assert_eq!(rt; (book.count(), pass.calls()), (places, calls));

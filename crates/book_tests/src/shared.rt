@@ -7,6 +7,7 @@ use crate::cases::{
     Count, NO_PLACES, Opening, added, assert_edit, assert_work, close, hundred_places,
     refuse_to_close, rules_in, shared_alone, shared_by_three,
 };
+use crate::refused::{refused_run, shared_calls};
 use crate::runs::{
     edits_beside_a_worker, late_edit, no_turns, three_events, three_workers, two_events,
     two_rounds, two_workers,
@@ -321,6 +322,8 @@ enum Case {
     SixtyFour,
     EightWorkers,
     FourActors,
+    RefusedCalls,
+    RefusedRun,
 }
 
 impl Case {
@@ -413,6 +416,8 @@ fn storm<B: FillBook + Send>(
             Ok(())
         }
         Case::FourActors => four_actors(rt, alloc, book, pass),
+        Case::RefusedCalls => shared_calls(rt, alloc, book, pass),
+        Case::RefusedRun => refused_run(rt, alloc, book, pass),
         _ => panic!(rt; "the case is no storm"),
     }
 }
@@ -566,4 +571,14 @@ fn eight_workers_work_at_once(rt: HostRuntime) -> Result<(), Fail> {
 #[test]
 fn a_history_has_what_four_threads_did(rt: HostRuntime) -> Result<(), Fail> {
     play_by(&rt, rt.alloc(), Case::FourActors)
+}
+
+#[test]
+fn a_shared_book_is_as_it_was_where_memory_is_refused(rt: HostRuntime) -> Result<(), Fail> {
+    play_by(&rt, rt.alloc(), Case::RefusedCalls)
+}
+
+#[test]
+fn a_run_is_complete_or_tells_of_want_of_memory(rt: HostRuntime) -> Result<(), Fail> {
+    play_by(&rt, rt.alloc(), Case::RefusedRun)
 }

@@ -21,9 +21,9 @@ use Rattle.fill_core.specs.declared.event.Event.TheVariants as event
 use Rattle.fill_core.specs.declared.event.Reply.{Reply}
 use Rattle.fill_core.specs.declared.event.Reply.TheVariants.{Placed, Withdrawn}
 use Rattle.fill_core.proofs.Written.{keeping_of}
-use Rattle.fill_book.specs.Filling.{KeepsClear, is_filled, left_by, metal_or_box}
+use Rattle.fill_state.specs.Filling.{KeepsClear, is_filled, left_by, metal_or_box}
 use Rattle.fill_book.specs.Keeping.{Fits, Keeps, state_by}
-use Rattle.fill_book.specs.Pieces.{ArePieces}
+use Rattle.fill_state.specs.Pieces.{ArePieces}
 use Rattle.fill_book.specs.Standing.{squares_in}
 use Rattle.fill_book.specs.declared.stored.Change.{Change}
 use Rattle.fill_book.specs.declared.stored.Stored.{Stored}

@@ -20,12 +20,12 @@ use Rattle.fill_sums.proofs.Following.{AreParts, down_measured, down_stays, up_m
 use Rattle.fill_job.specs.Plans.{PointSet}
 use Rattle.fill_job.specs.Searches.{some_within}
 use Rattle.fill_job.proofs.Conflicts.{some_within_decides}
-use Rattle.fill_book.specs.Filling.{Filling, IsFilling, KeepsClear, boxes_of, in_places, is_filled, left_by, metal_or_box}
-use Rattle.fill_book.specs.declared.places.Places.{Places}
-use Rattle.fill_book.proofs.Nearby.{filled_on, left_apart}
+use Rattle.fill_state.specs.Filling.{Filling, IsFilling, KeepsClear, boxes_of, in_places, is_filled, left_by, metal_or_box}
+use Rattle.fill_state.specs.declared.places.Places.{Places}
+use Rattle.fill_state.proofs.Nearby.{filled_on, left_apart}
 use Rattle.fill_book.specs.steps.Following.{taken_at, taken_of_rows}
-use Rattle.fill_book.specs.steps.Taken.{AreApart}
-use Rattle.fill_book.proofs.BoxAreas.{boxes_area, sum_swap}
+use Rattle.fill_state.specs.steps.Taken.{AreApart}
+use Rattle.fill_state.proofs.BoxAreas.{boxes_area, sum_swap}
 
 -- ---- places and squares
 

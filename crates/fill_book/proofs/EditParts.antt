@@ -1,7 +1,7 @@
 -- What an edit makes of the squares that are stored, as sets of which one is part of the other.
 use Rattle.std.proofs.Common.{◌&&◌, ◌||◌}
 use Rattle.fill_region.specs.Bands.{holds}
-use Rattle.fill_book.specs.Filling.{IsFilling, boxes_of, in_places, is_filled, left_by}
+use Rattle.fill_state.specs.Filling.{IsFilling, boxes_of, in_places, is_filled, left_by}
 use Rattle.fill_book.specs.Standing.{IsEdited}
 use Rattle.fill_book.specs.declared.edited.Edited.{Edited}
 use Rattle.fill_book.specs.declared.stored.Stored.{Stored}

@@ -27,10 +27,10 @@ use Rattle.fill_core.specs.declared.event.Reply.TheVariants.{Placed, Withdrawn}
 use Rattle.fill_core.proofs.Counts.{balanced}
 use Rattle.fill_core.proofs.Replays.{same_state}
 use Rattle.fill_core.proofs.Written.{state_with, legal_with}
-use Rattle.fill_book.specs.Filling.{is_filled, left_by}
+use Rattle.fill_state.specs.Filling.{is_filled, left_by}
 use Rattle.fill_book.specs.Keeping.{Keeps, state_by}
-use Rattle.fill_book.specs.Pieces.{ArePieces}
-use Rattle.fill_book.specs.Tiles.{is_in}
+use Rattle.fill_state.specs.Pieces.{ArePieces}
+use Rattle.fill_state.specs.Tiles.{is_in}
 use Rattle.fill_book.specs.declared.stored.Change.{Change}
 use Rattle.fill_book.specs.declared.stored.Stored.{Stored}
 

@@ -24,13 +24,13 @@ use Rattle.fill_core.specs.Soundness.{IsSound}
 use Rattle.fill_core.specs.declared.event.Event.TheVariants as event
 use Rattle.fill_core.proofs.Replays.{no_boxes, replay_push, same_state}
 use Rattle.fill_core.proofs.Sound.{replay_sound}
-use Rattle.fill_book.specs.Filling.{Filling, KeepsClear, in_places, is_filled, left_by, metal_or_box}
+use Rattle.fill_state.specs.Filling.{Filling, KeepsClear, in_places, is_filled, left_by, metal_or_box}
 use Rattle.fill_book.specs.Keeping.{state_by}
-use Rattle.fill_book.specs.Low.{low_by}
-use Rattle.fill_book.specs.Tiles.{is_in}
+use Rattle.fill_state.specs.Low.{low_by}
+use Rattle.fill_state.specs.Tiles.{is_in}
 use Rattle.fill_book.proofs.Kept.{accepted, wanted_marks}
-use Rattle.fill_book.proofs.Nearby.{filled_on}
-use Rattle.fill_book.specs.declared.places.Places.{Places}
+use Rattle.fill_state.proofs.Nearby.{filled_on}
+use Rattle.fill_state.specs.declared.places.Places.{Places}
 use Rattle.fill_book.specs.declared.stored.Stored.{Stored}
 
 -- ---- low windows

@@ -16,7 +16,7 @@ use Rattle.fill_sums.specs.Numbers.{AreNumbers, IsMovedBy, StaysBy, moved, numbe
 use Rattle.fill_sums.proofs.Untouched.{moved_nothing, still_numbers}
 use Rattle.fill_job.specs.Plans.{PointSet}
 use Rattle.fill_book.specs.steps.Following.{taken_at}
-use Rattle.fill_book.proofs.BoxSums.{sum_first, sum_next}
+use Rattle.fill_state.proofs.BoxSums.{sum_first, sum_next}
 
 -- the terms from one number on and below another, window by window
 abbrev pub all_of : (ℤ → ℕ → ℕ → ℕ) → ℤ → ℤ → ℕ → ℕ → ℕ

@@ -7,9 +7,9 @@ use Rattle.fill_job.specs.Plans.{Plan, IsPlan, PointSet, plan_of}
 use Rattle.fill_core.specs.Accounts.{Account, IsLegal, state_of}
 use Rattle.fill_core.specs.Machine.{State}
 use Rattle.fill_core.specs.Shares.{Totals, totals_of}
-use Rattle.fill_book.specs.Filling.{is_filled}
-use Rattle.fill_book.specs.Pieces.{ArePieces}
-use Rattle.fill_book.specs.Tiles.{is_in}
+use Rattle.fill_state.specs.Filling.{is_filled}
+use Rattle.fill_state.specs.Pieces.{ArePieces}
+use Rattle.fill_state.specs.Tiles.{is_in}
 use Rattle.fill_book.specs.declared.stored.Stored.{Stored}
 
 -- what is stored, as a state; the places that were filled when the version opened are not stored

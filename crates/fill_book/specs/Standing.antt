@@ -8,7 +8,7 @@ use Rattle.fill_sums.specs.Numbers.{WindowNumbers}
 use Rattle.fill_raster.specs.Lattice.{in_raster}
 use Rattle.fill_job.specs.Plans.{PointSet}
 use Rattle.fill_core.specs.Machine.{metal_after}
-use Rattle.fill_book.specs.Filling.{KeepsClear, in_places, is_filled, left_by, metal_or_box}
+use Rattle.fill_state.specs.Filling.{KeepsClear, in_places, is_filled, left_by, metal_or_box}
 use Rattle.fill_book.specs.steps.Following.{opposite_of, part_by, way_of}
 use Rattle.fill_book.specs.declared.edited.Edited.{Edited}
 use Rattle.fill_book.specs.declared.stored.Stored.{Stored}

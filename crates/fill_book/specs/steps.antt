@@ -1,4 +1,1 @@
-pub mod Taken
-pub mod Empty
 pub mod Following
-pub mod Words

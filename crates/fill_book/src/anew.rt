@@ -1,13 +1,12 @@
 //! Areas that are measured whenever they are asked for.
 use crate::areas::Totals;
 use crate::edited::Edited;
-use crate::low::low_windows;
-use crate::places::Places;
 use crate::stored::Stored;
 use fill_area::{Windows, area_in};
 use fill_job::SharedRules;
 use fill_raster::Marks;
 use fill_region::Region;
+use fill_state::{Places, low_windows};
 use std::alloc::{AllocError, Global};
 
 /// No areas: each is measured whenever it is asked for.

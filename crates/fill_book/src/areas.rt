@@ -7,7 +7,7 @@ ghost use Rattle.fill_raster.specs.Lattice.{in_tile, tiles};
 ghost use Rattle.fill_raster.specs.Marks.{is_marked};
 ghost use Rattle.fill_job.specs.Basis.{windows_in};
 ghost use Rattle.fill_job.specs.Plans.{PointSet, low_windows, plan_of};
-ghost use Rattle.fill_book.specs.Filling.{KeepsClear, is_filled, metal_or_box};
+ghost use Rattle.fill_state.specs.Filling.{KeepsClear, is_filled, metal_or_box};
 ghost use Rattle.fill_book.specs.Standing.{IsEdited, squares_in, squares_left};
 
 use crate::edited::Edited;

@@ -5,9 +5,9 @@ ghost use Rattle.fill_region.specs.Bands.{holds};
 ghost use Rattle.fill_core.specs.Machine.{metal_after};
 ghost use Rattle.fill_book.specs.steps.Following.{opposite_of, part_by, way_of};
 
-use crate::places::Places;
 use fill_base::Rect;
 use fill_region::Region;
+use fill_state::Places;
 use fill_sums::Way;
 use fill_text::Edit;
 use std::alloc::{AllocError, Global};

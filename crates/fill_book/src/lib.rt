@@ -6,14 +6,8 @@ mod anew;
 mod areas;
 mod book;
 mod edited;
-mod filled;
-mod low;
 mod origin;
-mod pieces;
-mod places;
 mod running;
 mod stored;
-mod tiles;
 
 pub use book::{Book, BookOf, PlainBook};
-pub use filled::Filled;

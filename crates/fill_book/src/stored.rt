@@ -10,24 +10,23 @@ ghost use Rattle.fill_core.specs.Accounts.{IsSame};
 ghost use Rattle.fill_core.specs.Boxes.{count_places, no_places, with_boxes};
 ghost use Rattle.fill_core.specs.Machine.{commit_reply, fill_after, keep_after, metal_after, opening};
 ghost use Rattle.fill_core.specs.declared.event.Reply.TheVariants.{Placed};
-ghost use Rattle.fill_book.specs.Filling.{KeepsClear, in_places, is_filled, left_by, metal_or_box};
+ghost use Rattle.fill_state.specs.Filling.{KeepsClear, in_places, is_filled, left_by, metal_or_box};
 ghost use Rattle.fill_book.specs.Keeping.{Fits, state_by};
-ghost use Rattle.fill_book.specs.Pieces.{ArePieces};
+ghost use Rattle.fill_state.specs.Pieces.{ArePieces};
 ghost use Rattle.fill_book.specs.Standing.{IsEdited, squares_in, squares_left};
-ghost use Rattle.fill_book.specs.Tiles.{is_in};
+ghost use Rattle.fill_state.specs.Tiles.{is_in};
 
 use crate::areas::Totals;
 use crate::edited::{Edited, metal_edited, part_of};
-use crate::filled::Filled;
-use crate::low::low_windows;
-use crate::pieces::{keep_pieces, keep_pieces_after, metal_pieces, metal_pieces_after};
-use crate::places::Places;
-use crate::tiles::TileSet;
 use fill_area::Windows;
 use fill_core::Reply;
 use fill_job::{Piece, Proposal, SharedRules};
 use fill_raster::{Marks, Raster};
 use fill_region::Region;
+use fill_state::{
+    Filled, Places, TileSet, keep_pieces, keep_pieces_after, low_windows, metal_pieces,
+    metal_pieces_after,
+};
 use fill_text::Edit;
 use std::alloc::{AllocError, Global};
 use std::thread::Threads;

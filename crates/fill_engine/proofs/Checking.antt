@@ -8,8 +8,8 @@ use Rattle.gds_grammar.specs.Layers.{has_layer, of_layers}
 use Rattle.gds_grammar.specs.declared.wanted.Layer.{Layer}
 use Rattle.fill_job.specs.Plans.{PointSet}
 use Rattle.gds_grammar.specs.Outcomes.{Spells}
-use Rattle.gds_flatten.specs.declared.error.FlattenError.{FlattenError}
-use Rattle.gds_flatten.specs.Copies.{drawn, AllStayInRange}
+use Rattle.gds_cells.specs.declared.error.FlattenError.{FlattenError}
+use Rattle.gds_cells.specs.Copies.{drawn, AllStayInRange}
 use Rattle.gds_flatten.specs.Flattening.{IsRefused}
 use Rattle.gds_flatten.specs.Layers.{TellsOf, LayersSuffice}
 use Rattle.std.proofs.lemmas.Bool.{eq-eqb}

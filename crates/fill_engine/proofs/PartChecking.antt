@@ -12,11 +12,11 @@ use Rattle.gds_grammar.specs.Values.{Contents}
 use Rattle.gds_grammar.specs.Layers.{has_layer, of_layers}
 use Rattle.gds_grammar.specs.declared.wanted.Layer.{Layer}
 use Rattle.gds_grammar.specs.Outcomes.{Spells}
-use Rattle.gds_flatten.specs.Copies.{drawn, AllStayInRange}
-use Rattle.gds_flatten.specs.Designs.{AllFine, index_of}
+use Rattle.gds_cells.specs.Copies.{drawn, AllStayInRange}
+use Rattle.gds_cells.specs.Designs.{AllFine, index_of}
 use Rattle.gds_flatten.specs.Flattening.{IsCountableOn, IsRefusedOn, copies_of}
 use Rattle.gds_flatten.specs.Layers.{TellsOfWithin, LayersSufficeWithin}
-use Rattle.gds_flatten.specs.declared.error.FlattenError.{FlattenError}
+use Rattle.gds_cells.specs.declared.error.FlattenError.{FlattenError}
 use Rattle.fill_engine.specs.Designs.{IsFaultBy, metal_layer}
 use Rattle.fill_engine.specs.Inputs.{rules_answer}
 use Rattle.fill_engine.specs.PartChecks.{Frames, IsDrawnWithin, IsPartChecked, IsPartCheckReason, IsUnflattenedFor, IsUnflattenedWithin, IsWholeDrawn}

@@ -7,9 +7,9 @@ use Rattle.fill_job.specs.Plans.{Layers, PointSet}
 use Rattle.gds_grammar.specs.Values.{Cell, Contents}
 use Rattle.gds_grammar.specs.Outcomes as library
 use Rattle.gds_grammar.specs.declared.wanted.Layer.{Layer}
-use Rattle.gds_flatten.specs.Copies.{drawn, AllStayInRange}
+use Rattle.gds_cells.specs.Copies.{drawn, AllStayInRange}
 use Rattle.gds_flatten.specs.Flattening as flatten
-use Rattle.gds_flatten.specs.declared.error.FlattenError.{FlattenError}
+use Rattle.gds_cells.specs.declared.error.FlattenError.{FlattenError}
 use Rattle.fill_engine.specs.declared.refusal.DesignError.{DesignError}
 use Rattle.fill_engine.specs.declared.refusal.DesignError.TheVariants.{Library, Flatten}
 use Rattle.fill_engine.specs.declared.refusal.InputFault.{InputFault}

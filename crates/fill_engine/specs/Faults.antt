@@ -7,8 +7,8 @@ use Rattle.fill_text.specs.declared.script.ScriptError.{ScriptError}
 use Rattle.fill_text.specs.declared.script.ScriptError.TheVariants as script
 use Rattle.gds_grammar.specs.declared.error.LibraryError.{LibraryError}
 use Rattle.gds_grammar.specs.declared.error.LibraryError.TheVariants as library
-use Rattle.gds_flatten.specs.declared.error.FlattenError.{FlattenError}
-use Rattle.gds_flatten.specs.declared.error.FlattenError.TheVariants as flatten
+use Rattle.gds_cells.specs.declared.error.FlattenError.{FlattenError}
+use Rattle.gds_cells.specs.declared.error.FlattenError.TheVariants as flatten
 use Rattle.fill_core.specs.declared.book.BookError.{BookError}
 use Rattle.fill_core.specs.declared.book.BookError.TheVariants as book
 use Rattle.fill_device.specs.declared.input.InputError.{InputError}

@@ -8,10 +8,10 @@ use Rattle.fill_job.specs.Plans.{PointSet}
 use Rattle.fill_parts.specs.Cuts.{Part}
 use Rattle.fill_parts.specs.PartReport.{part_check}
 use Rattle.gds_grammar.specs.Values.{Contents}
-use Rattle.gds_flatten.specs.Copies.{drawn, AllStayInRange}
-use Rattle.gds_flatten.specs.Designs.{AllFine, index_of}
+use Rattle.gds_cells.specs.Copies.{drawn, AllStayInRange}
+use Rattle.gds_cells.specs.Designs.{AllFine, index_of}
 use Rattle.gds_flatten.specs.Flattening as flatten
-use Rattle.gds_flatten.specs.declared.error.FlattenError.{FlattenError}
+use Rattle.gds_cells.specs.declared.error.FlattenError.{FlattenError}
 use Rattle.fill_engine.specs.Designs.{IsFaultBy, IsRead, metal_layer}
 use Rattle.fill_engine.specs.Inputs.{rules_answer, IsFaultOf}
 use Rattle.fill_engine.specs.declared.refusal.DesignError.{DesignError}

@@ -1,15 +1,15 @@
 //! The fill libraries of parts, joined: each is read and judged behind those of the parts before it.
 ghost use Rattle.std.specs.Prelude.{◌≡◌, ◌↔◌, false, true, IfErr, IfOk, IfSome, IsErrOf};
-ghost use Rattle.fill_book.specs.Filling.{is_filled};
+ghost use Rattle.fill_state.specs.Filling.{is_filled};
 ghost use Rattle.fill_device.specs.Taps.{has_failed, under};
 ghost use Rattle.gds_out.specs.Laws.{raster_in};
 ghost use Rattle.fill_engine.specs.Joining.{IsPartTaken, IsUntaken};
 
 use crate::inputs::MOST_BYTES;
 use crate::refusal::InputFault;
-use fill_book::Filled;
 use fill_device::{InputError, Tap, read_input};
 use fill_parts::Part;
+use fill_state::Filled;
 use fill_text::Rules;
 use gds_join::{PartError, take_part};
 use std::alloc::Global;

@@ -6,23 +6,23 @@ use Rattle.std.specs.Str.{bytes_eq}
 use Rattle.std.proofs.lemmas.List.{length-map}
 use Rattle.std.proofs.lemmas.Grind.{common_steps}
 use Rattle.gds_grammar.specs.Values.{Shape as Element}
-use Rattle.gds_flatten.specs.Designs.{Entry}
-use Rattle.gds_flatten.specs.declared.cell.Cell.{Cell}
-use Rattle.gds_flatten.specs.declared.link.Link.{Link}
-use Rattle.gds_flatten.specs.declared.placement.Placement.{Placement}
-use Rattle.gds_flatten.specs.Graphs.{next, item, IsReached, IsDeep, IsWhole}
-use Rattle.gds_flatten.specs.References.{placements_of, name_of}
-use Rattle.gds_flatten.specs.Copies.{Copy, own_copy, carry_copy, copies}
-use Rattle.gds_flatten.specs.Designs.{index_of, elements_at, target_if, targets, graph_of, singles_to, singles_among, hierarchy_of}
-use Rattle.gds_flatten.specs.steps.Searches.{State}
-use Rattle.gds_flatten.specs.steps.Surveys.{IsSurveyed}
-use Rattle.gds_flatten.specs.steps.Walks.{own_in, singles_in, hierarchy}
-use Rattle.gds_flatten.specs.steps.Built.{IsCellAt, AreBuilt}
-use Rattle.gds_flatten.specs.steps.Counting.{IsCapped, links_in, IsTied, IsCount, AreCounted}
+use Rattle.gds_cells.specs.Designs.{Entry}
+use Rattle.gds_cells.specs.declared.cell.Cell.{Cell}
+use Rattle.gds_cells.specs.declared.link.Link.{Link}
+use Rattle.gds_cells.specs.declared.placement.Placement.{Placement}
+use Rattle.gds_cells.specs.Graphs.{next, item, IsReached, IsDeep, IsWhole}
+use Rattle.gds_cells.specs.References.{placements_of, name_of}
+use Rattle.gds_cells.specs.Copies.{Copy, own_copy, carry_copy, copies}
+use Rattle.gds_cells.specs.Designs.{index_of, elements_at, target_if, targets, graph_of, singles_to, singles_among, hierarchy_of}
+use Rattle.gds_cells.specs.steps.Searches.{State}
+use Rattle.gds_cells.specs.steps.Surveys.{IsSurveyed}
+use Rattle.gds_cells.specs.steps.Walks.{own_in, singles_in, hierarchy}
+use Rattle.gds_cells.specs.steps.Built.{IsCellAt, AreBuilt}
+use Rattle.gds_cells.specs.steps.Counting.{IsCapped, links_in, IsTied, IsCount, AreCounted}
 use Rattle.gds_shape.specs.declared.bounds.Bounds.{Bounds}
 use Rattle.gds_flatten.specs.steps.Framing.{IsRight, AreHeld, IsTight, IsExtentOf, extent_at}
-use Rattle.gds_flatten.proofs.Chains.{chain_joins, reached_next}
-use Rattle.gds_flatten.proofs.Naming.{no_more}
+use Rattle.gds_cells.proofs.Chains.{chain_joins, reached_next}
+use Rattle.gds_cells.proofs.Naming.{no_more}
 
 -- ---- the graph
 

@@ -9,17 +9,17 @@ use Rattle.std.proofs.lemmas.Option.{slice_get_cases, slice_get-get_or}
 use Rattle.std.proofs.lemmas.Bool.{cases_eq}
 use Rattle.std.specs.Vec.{vec_items}
 use Rattle.gds_grammar.specs.Values.{shape_of}
-use Rattle.gds_flatten.specs.declared.shape.Shape.{Shape}
+use Rattle.gds_cells.specs.declared.shape.Shape.{Shape}
 use Rattle.std.proofs.lemmas.Bool.Decides.{nat_tests}
-use Rattle.gds_flatten.specs.declared.cell.Cell.{Cell}
-use Rattle.gds_flatten.specs.declared.link.Link.{Link}
-use Rattle.gds_flatten.specs.declared.placement.Placement.{Placement}
-use Rattle.gds_flatten.specs.Copies.{Copy, own_copy, carry_copy, copies}
-use Rattle.gds_flatten.specs.Graphs.{item}
-use Rattle.gds_flatten.specs.Links.{singles}
-use Rattle.gds_flatten.specs.steps.Counting.{links_in, IsCapped, AreCounted}
+use Rattle.gds_cells.specs.declared.cell.Cell.{Cell}
+use Rattle.gds_cells.specs.declared.link.Link.{Link}
+use Rattle.gds_cells.specs.declared.placement.Placement.{Placement}
+use Rattle.gds_cells.specs.Copies.{Copy, own_copy, carry_copy, copies}
+use Rattle.gds_cells.specs.Graphs.{item}
+use Rattle.gds_cells.specs.Links.{singles}
+use Rattle.gds_cells.specs.steps.Counting.{links_in, IsCapped, AreCounted}
 use Rattle.gds_flatten.specs.steps.Idle.{is_busy, IsBusy, AreBusy}
-use Rattle.gds_flatten.specs.steps.Walks.{singles_of, singles_in, own_in, hierarchy}
+use Rattle.gds_cells.specs.steps.Walks.{singles_of, singles_in, own_in, hierarchy}
 use Rattle.gds_flatten.proofs.Tight.{all_first, all_rest}
 
 abbrev pub through : (ℕ → List Copy) → ℕ × Placement → List Copy

@@ -7,11 +7,11 @@ use Rattle.std.proofs.lemmas.Nat.{le-div}
 use Rattle.std.proofs.lemmas.Nat.{div-mul-add, mod-mul-add, mod_below, div-add-mod'}
 use Rattle.gds_shape.specs.declared.bounds.Bounds.{Bounds}
 use Rattle.gds_shape.specs.Extents.{joined}
-use Rattle.gds_flatten.specs.declared.link.Link.{Link}
-use Rattle.gds_flatten.specs.Links.{stepped, single}
-use Rattle.gds_flatten.specs.Placements.{signed, carried_bounds}
-use Rattle.gds_flatten.specs.steps.Framing.{IsPart}
-use Rattle.gds_flatten.proofs.Stepping.{row_below}
+use Rattle.gds_cells.specs.declared.link.Link.{Link}
+use Rattle.gds_cells.specs.Links.{stepped, single}
+use Rattle.gds_cells.specs.Placements.{signed, carried_bounds}
+use Rattle.gds_cells.specs.steps.Prepared.{IsPart}
+use Rattle.gds_cells.proofs.Stepping.{row_below}
 
 -- some of so many steps go no further than the least and the most of them, to either side
 some_steps : (d : ℤ) (i c m : ℕ) → i ≤ c → c ≤ m → (((pos i *ℤ d) ≤ℤ (pos c *ℤ d)) × ((pos c *ℤ d) ≤ℤ (pos m *ℤ d))) ⊎ (((pos m *ℤ d) ≤ℤ (pos c *ℤ d)) × ((pos c *ℤ d) ≤ℤ (pos i *ℤ d)))

@@ -9,20 +9,20 @@ use Rattle.std.proofs.lemmas.Grind.{common_steps, flat_map-append}
 use Rattle.fill_base.specs.declared.rect.Rect.{Rect}
 use Rattle.fill_region.specs.Squares.{covered}
 use Rattle.gds_grammar.specs.Values.{Shape as Element, shape_of}
-use Rattle.gds_flatten.specs.declared.error.FlattenError.{FlattenError}
-use Rattle.gds_flatten.specs.declared.error.FlattenError.TheVariants.{Memory, OutOfRange}
-use Rattle.gds_flatten.specs.declared.placement.Placement.{Placement}
-use Rattle.gds_flatten.specs.Placements.{carried, composed}
-use Rattle.gds_flatten.specs.Shapes.{covers_of, StaysInRange}
-use Rattle.gds_flatten.specs.Copies.{Copy, own_copy, carry_copy, copies, copy_covers, drawn, AllStayInRange}
-use Rattle.gds_flatten.specs.steps.Walks.{shapes_in, singles_of, own_in, singles_in, hierarchy, shape_copies, single_copies, link_copies, cell_copies, IsDrawn}
-use Rattle.gds_flatten.specs.declared.cell.Cell.{Cell}
-use Rattle.gds_flatten.specs.declared.link.Link.{Link}
-use Rattle.gds_flatten.specs.declared.shape.Shape.{Shape}
-use Rattle.gds_flatten.specs.Links.{single}
-use Rattle.gds_flatten.specs.steps.Ranges.{IsWithin}
-use Rattle.gds_flatten.proofs.Composing.{composed_groups, composed_still}
-use Rattle.gds_flatten.proofs.Within.{within_next}
+use Rattle.gds_cells.specs.declared.error.FlattenError.{FlattenError}
+use Rattle.gds_cells.specs.declared.error.FlattenError.TheVariants.{Memory, OutOfRange}
+use Rattle.gds_cells.specs.declared.placement.Placement.{Placement}
+use Rattle.gds_cells.specs.Placements.{carried, composed}
+use Rattle.gds_cells.specs.Shapes.{covers_of, StaysInRange}
+use Rattle.gds_cells.specs.Copies.{Copy, own_copy, carry_copy, copies, copy_covers, drawn, AllStayInRange}
+use Rattle.gds_cells.specs.steps.Walks.{shapes_in, singles_of, own_in, singles_in, hierarchy, shape_copies, single_copies, link_copies, cell_copies, IsDrawn}
+use Rattle.gds_cells.specs.declared.cell.Cell.{Cell}
+use Rattle.gds_cells.specs.declared.link.Link.{Link}
+use Rattle.gds_cells.specs.declared.shape.Shape.{Shape}
+use Rattle.gds_cells.specs.Links.{single}
+use Rattle.gds_cells.specs.steps.Ranges.{IsWithin}
+use Rattle.gds_cells.proofs.Composing.{composed_groups, composed_still}
+use Rattle.gds_cells.proofs.Within.{within_next}
 
 append_nil : {X : Type 0} (xs : List X) → xs ++ [] ≡ xs
 append_nil [] = refl

@@ -6,13 +6,13 @@ use Rattle.std.proofs.lemmas.Bool.{cases_eq}
 use Rattle.std.proofs.lemmas.List.{get_or-take, length-take-le, length-set, get_or-set_same, get_or-set_other}
 use Rattle.std.proofs.lemmas.Grind.{common_steps}
 use Rattle.gds_shape.specs.declared.bounds.Bounds.{Bounds}
-use Rattle.gds_flatten.specs.declared.cell.Cell.{Cell}
-use Rattle.gds_flatten.specs.declared.link.Link.{Link}
-use Rattle.gds_flatten.specs.Graphs.{Graph, next, item, IsDeep}
-use Rattle.gds_flatten.specs.Copies.{Copy, copies}
-use Rattle.gds_flatten.specs.steps.Searches.{IsOrdered}
-use Rattle.gds_flatten.specs.steps.Walks.{hierarchy}
-use Rattle.gds_flatten.specs.steps.Counting.{links_in, IsTied}
+use Rattle.gds_cells.specs.declared.cell.Cell.{Cell}
+use Rattle.gds_cells.specs.declared.link.Link.{Link}
+use Rattle.gds_cells.specs.Graphs.{Graph, next, item, IsDeep}
+use Rattle.gds_cells.specs.Copies.{Copy, copies}
+use Rattle.gds_cells.specs.steps.Searches.{IsOrdered}
+use Rattle.gds_cells.specs.steps.Walks.{hierarchy}
+use Rattle.gds_cells.specs.steps.Counting.{links_in, IsTied}
 use Rattle.gds_flatten.specs.steps.Framing.{IsFineIf, IsRight, cell_draws, AllFit, square, AreRightlyHeld, IsExtentOf, extent_at}
 use Rattle.gds_flatten.proofs.Sized.{copies_sized}
 

@@ -6,28 +6,28 @@ use Rattle.std.proofs.lemmas.Grind.{common_steps}
 use Rattle.fill_base.specs.declared.rect.Rect.{Rect}
 use Rattle.fill_region.specs.Squares.{covered}
 use Rattle.gds_grammar.specs.Values.{boundary, path, reference, array, Shape as Element}
-use Rattle.gds_flatten.specs.Designs.{Entry}
+use Rattle.gds_cells.specs.Designs.{Entry}
 use Rattle.gds_shape.specs.declared.error.ShapeError.{ShapeError}
 use Rattle.gds_shape.specs.declared.error.ShapeError.TheVariants as shapes
 use Rattle.gds_shape.specs.Winding.{edges}
 use Rattle.gds_shape.specs.Paths.{is_slanted, is_drawn, corners_of, has_round_end, has_odd_width, doubles_back, has_bad_extension, fault_among, first_of}
-use Rattle.gds_flatten.specs.declared.cell.Cell.{Cell}
-use Rattle.gds_flatten.specs.declared.error.FlattenError.{FlattenError}
-use Rattle.gds_flatten.specs.declared.error.FlattenError.TheVariants.{Memory, NoTop, MissingCell, Cycle, TooDeep, BadTransform, BadArray, NotManhattan, RoundEnd, OddWidth, DoublesBack, BadExtension, TooManyShapes, OutOfRange}
-use Rattle.gds_flatten.specs.declared.placement.Placement.{Placement}
-use Rattle.gds_flatten.specs.Graphs.{Graph, item, IsReached}
-use Rattle.gds_flatten.specs.References.{reference_fault, is_bad_transform, is_bad_array}
-use Rattle.gds_flatten.specs.Shapes.{is_shape, shape_fault, refusal_if}
-use Rattle.gds_flatten.specs.Copies.{Copy, carry_copy, copies, drawn, AllStayInRange}
-use Rattle.gds_flatten.specs.Placements.{still}
-use Rattle.gds_flatten.specs.Designs.{index_of, graph_of, element_fault, IsFirstFault, AllFine}
+use Rattle.gds_cells.specs.declared.cell.Cell.{Cell}
+use Rattle.gds_cells.specs.declared.error.FlattenError.{FlattenError}
+use Rattle.gds_cells.specs.declared.error.FlattenError.TheVariants.{Memory, NoTop, MissingCell, Cycle, TooDeep, BadTransform, BadArray, NotManhattan, RoundEnd, OddWidth, DoublesBack, BadExtension, TooManyShapes, OutOfRange}
+use Rattle.gds_cells.specs.declared.placement.Placement.{Placement}
+use Rattle.gds_cells.specs.Graphs.{Graph, item, IsReached}
+use Rattle.gds_cells.specs.References.{reference_fault, is_bad_transform, is_bad_array}
+use Rattle.gds_cells.specs.Shapes.{is_shape, shape_fault, refusal_if}
+use Rattle.gds_cells.specs.Copies.{Copy, carry_copy, copies, drawn, AllStayInRange}
+use Rattle.gds_cells.specs.Placements.{still}
+use Rattle.gds_cells.specs.Designs.{index_of, graph_of, element_fault, IsFirstFault, AllFine}
 use Rattle.gds_flatten.specs.Flattening.{HasTop, LacksCell, IsSound, copies_of, IsCountable, IsRefused}
-use Rattle.gds_flatten.specs.steps.Searches.{State, IsOrdered}
-use Rattle.gds_flatten.specs.steps.Surveys.{IsSurveyed, IsUnsound}
-use Rattle.gds_flatten.specs.steps.Walks.{hierarchy, IsDrawn}
-use Rattle.gds_flatten.specs.steps.Built.{AreBuilt, IsFaultAmong}
-use Rattle.gds_flatten.specs.steps.Counting.{IsCapped, IsTied, IsCount, AreCounted}
-use Rattle.gds_flatten.proofs.Composing.{still_composed}
+use Rattle.gds_cells.specs.steps.Searches.{State, IsOrdered}
+use Rattle.gds_cells.specs.steps.Surveys.{IsSurveyed, IsUnsound}
+use Rattle.gds_cells.specs.steps.Walks.{hierarchy, IsDrawn}
+use Rattle.gds_cells.specs.steps.Built.{AreBuilt, IsFaultAmong}
+use Rattle.gds_cells.specs.steps.Counting.{IsCapped, IsTied, IsCount, AreCounted}
+use Rattle.gds_cells.proofs.Composing.{still_composed}
 use Rattle.gds_flatten.proofs.Agreeing.{agree, count_is, tied, top_counted}
 
 -- ---- which refusals are an element's own

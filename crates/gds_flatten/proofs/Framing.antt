@@ -2,24 +2,24 @@
 use Rattle.std.proofs.Common.{◌≡◌, ◌⊎◌, inl, inr, ℕ, ℤ, ◌<◌, ◌≤◌, arith, Bool, true, false, ◌&&◌, ◌||◌, List, [], length, refl, sym, ap, subst, ◌∙◌}
 use Rattle.std.specs.Prelude.{Option}
 use Rattle.gds_shape.specs.declared.bounds.Bounds.{Bounds}
-use Rattle.gds_flatten.specs.Designs.{Entry, index_of, graph_of, AllFine}
-use Rattle.gds_flatten.specs.declared.cell.Cell.{Cell}
-use Rattle.gds_flatten.specs.Graphs.{Graph, item, IsDeep}
-use Rattle.gds_flatten.specs.Copies.{Copy, copies, drawn}
+use Rattle.gds_cells.specs.Designs.{Entry, index_of, graph_of, AllFine}
+use Rattle.gds_cells.specs.declared.cell.Cell.{Cell}
+use Rattle.gds_cells.specs.Graphs.{Graph, item, IsDeep}
+use Rattle.gds_cells.specs.Copies.{Copy, copies, drawn}
 use Rattle.gds_flatten.specs.Frames.{met}
 use Rattle.gds_flatten.specs.Flattening.{HasTop, IsSound, copies_of, IsCountableOn, IsRefused, IsRefusedOn}
-use Rattle.gds_flatten.specs.steps.Searches.{State, IsOrdered}
-use Rattle.gds_flatten.specs.steps.Surveys.{IsSurveyed}
-use Rattle.gds_flatten.specs.steps.Built.{AreBuilt}
-use Rattle.gds_flatten.specs.steps.Counting.{IsTied}
+use Rattle.gds_cells.specs.steps.Searches.{State, IsOrdered}
+use Rattle.gds_cells.specs.steps.Surveys.{IsSurveyed}
+use Rattle.gds_cells.specs.steps.Built.{AreBuilt}
+use Rattle.gds_cells.specs.steps.Counting.{IsTied}
 use Rattle.gds_flatten.specs.steps.Framing.{IsDrawnOn, IsFound, IsRefusalOn, AreHeld, IsTight, IsExtentOf, extent_at}
-use Rattle.gds_flatten.specs.steps.Walks.{hierarchy}
+use Rattle.gds_cells.specs.steps.Walks.{hierarchy}
 use Rattle.gds_flatten.specs.declared.found.Found.{Found}
 use Rattle.fill_base.specs.declared.rect.Rect.{Rect}
 use Rattle.fill_base.specs.Squares.{squares}
 use Rattle.fill_region.specs.Squares.{covered}
-use Rattle.gds_flatten.specs.declared.error.FlattenError.{FlattenError}
-use Rattle.gds_flatten.specs.declared.error.FlattenError.TheVariants.{Memory, NoTop, MissingCell, Cycle, TooDeep, BadTransform, BadArray, NotManhattan, RoundEnd, OddWidth, DoublesBack, BadExtension, TooManyShapes, OutOfRange}
+use Rattle.gds_cells.specs.declared.error.FlattenError.{FlattenError}
+use Rattle.gds_cells.specs.declared.error.FlattenError.TheVariants.{Memory, NoTop, MissingCell, Cycle, TooDeep, BadTransform, BadArray, NotManhattan, RoundEnd, OddWidth, DoublesBack, BadExtension, TooManyShapes, OutOfRange}
 use Rattle.gds_flatten.proofs.Agreeing.{agree, tied, shallow, top_held, top_tight}
 use Rattle.gds_flatten.proofs.Flattened.{sound, long}
 

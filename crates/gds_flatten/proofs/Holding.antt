@@ -16,21 +16,21 @@ use Rattle.gds_grammar.specs.Values.{shape_of, Shape as Element}
 use Rattle.gds_shape.specs.declared.bounds.Bounds.{Bounds}
 use Rattle.gds_shape.specs.Extents.{joined, IsNear}
 use Rattle.gds_shape.proofs.Inside.{one_inside}
-use Rattle.gds_flatten.specs.declared.link.Link.{Link}
-use Rattle.gds_flatten.specs.declared.shape.Shape.{Shape}
-use Rattle.gds_flatten.specs.declared.placement.Placement.{Placement}
-use Rattle.gds_flatten.specs.Placements.{back_x, back_y, carried, carried_bounds, composed, still}
-use Rattle.gds_flatten.specs.Copies.{Copy, own_copy, carry_copy, drawn}
-use Rattle.gds_flatten.specs.Links.{single}
-use Rattle.gds_flatten.specs.Shapes.{covers_of}
+use Rattle.gds_cells.specs.declared.link.Link.{Link}
+use Rattle.gds_cells.specs.declared.shape.Shape.{Shape}
+use Rattle.gds_cells.specs.declared.placement.Placement.{Placement}
+use Rattle.gds_cells.specs.Placements.{back_x, back_y, carried, carried_bounds, composed, still}
+use Rattle.gds_cells.specs.Copies.{Copy, own_copy, carry_copy, drawn}
+use Rattle.gds_cells.specs.Links.{single}
+use Rattle.gds_cells.specs.Shapes.{covers_of}
 use Rattle.gds_flatten.specs.Frames.{meets}
-use Rattle.gds_flatten.specs.steps.Framing.{IsUnseen, IsPart, IsAround, IsFine, IsFineIf, IsHeld, links_draw}
-use Rattle.gds_flatten.specs.steps.Prepared.{IsOrdered, IsPrepared}
-use Rattle.gds_flatten.specs.steps.Built.{own_of}
-use Rattle.gds_flatten.specs.steps.Walks.{singles_of}
-use Rattle.gds_flatten.proofs.Carrying.{bounds_back}
+use Rattle.gds_flatten.specs.steps.Framing.{IsUnseen, IsAround, IsFine, IsFineIf, IsHeld, links_draw}
+use Rattle.gds_cells.specs.steps.Prepared.{IsOrdered, IsPrepared, IsPart}
+use Rattle.gds_cells.specs.steps.Built.{own_of}
+use Rattle.gds_cells.specs.steps.Walks.{singles_of}
+use Rattle.gds_cells.proofs.Carrying.{bounds_back}
 use Rattle.gds_flatten.proofs.Drawing.{drawn_joins, range_more, carried_twice}
-use Rattle.gds_flatten.proofs.Pointing.{near_fours}
+use Rattle.gds_cells.proofs.Pointing.{near_fours}
 use Rattle.gds_flatten.proofs.Seen.{drawn_carried, held_unseen, none_unseen, both_unseen}
 
 -- ---- rectangles within a frame

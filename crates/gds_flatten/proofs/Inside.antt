@@ -9,14 +9,14 @@ use Rattle.std.proofs.lemmas.List.{take-append-drop}
 use Rattle.fill_base.specs.declared.rect.Rect.{Rect}
 use Rattle.gds_grammar.specs.Values.{Shape as Element}
 use Rattle.gds_shape.specs.declared.bounds.Bounds.{Bounds}
-use Rattle.gds_flatten.specs.declared.error.FlattenError.{FlattenError}
+use Rattle.gds_cells.specs.declared.error.FlattenError.{FlattenError}
 use Rattle.gds_flatten.specs.declared.found.Found.{Found}
-use Rattle.gds_flatten.specs.declared.placement.Placement.{Placement}
-use Rattle.gds_flatten.specs.Placements.{carried_bounds}
-use Rattle.gds_flatten.specs.Copies.{Copy, own_copy, carry_copy}
+use Rattle.gds_cells.specs.declared.placement.Placement.{Placement}
+use Rattle.gds_cells.specs.Placements.{carried_bounds}
+use Rattle.gds_cells.specs.Copies.{Copy, own_copy, carry_copy}
 use Rattle.gds_flatten.specs.Frames.{meets}
-use Rattle.gds_flatten.specs.steps.Framing.{IsPart, IsRight, IsStrictly, AreInside, IsFound, IsRefusalOn}
-use Rattle.gds_flatten.specs.steps.Prepared.{IsOrdered, IsPrepared}
+use Rattle.gds_flatten.specs.steps.Framing.{IsRight, IsStrictly, AreInside, IsFound, IsRefusalOn}
+use Rattle.gds_cells.specs.steps.Prepared.{IsOrdered, IsPrepared, IsPart}
 use Rattle.gds_flatten.proofs.Drawing.{list_more, range_more}
 use Rattle.gds_flatten.proofs.Holding.{turns_join}
 use Rattle.gds_flatten.proofs.Tight.{carried_ordered, fit_first, fit_later, turn_fits, shape_tight, single_fits}

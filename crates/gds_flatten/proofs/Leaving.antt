@@ -7,12 +7,12 @@ use Rattle.std.proofs.lemmas.List.{length-map}
 use Rattle.fill_base.specs.declared.rect.Rect.{Rect}
 use Rattle.gds_grammar.specs.Values.{boundary, path, reference, array, Shape as Element}
 use Rattle.gds_grammar.specs.Layers.{is_kept, kept_shapes, kept_cell}
-use Rattle.gds_flatten.specs.declared.error.FlattenError.{FlattenError}
-use Rattle.gds_flatten.specs.declared.error.FlattenError.TheVariants as errors
-use Rattle.gds_flatten.specs.Graphs.{Graph, IsReached, IsCyclic, IsTooDeep}
-use Rattle.gds_flatten.specs.Shapes.{is_shape}
-use Rattle.gds_flatten.specs.Copies.{Hierarchy, copies, AllStayInRange}
-use Rattle.gds_flatten.specs.Designs.{Entry, index_of, elements_at, targets, graph_of, singles_among, hierarchy_of, element_fault, AreFine, AllFine, IsFirstFault}
+use Rattle.gds_cells.specs.declared.error.FlattenError.{FlattenError}
+use Rattle.gds_cells.specs.declared.error.FlattenError.TheVariants as errors
+use Rattle.gds_cells.specs.Graphs.{Graph, IsReached, IsCyclic, IsTooDeep}
+use Rattle.gds_cells.specs.Shapes.{is_shape}
+use Rattle.gds_cells.specs.Copies.{Hierarchy, copies, AllStayInRange}
+use Rattle.gds_cells.specs.Designs.{Entry, index_of, elements_at, targets, graph_of, singles_among, hierarchy_of, element_fault, AreFine, AllFine, IsFirstFault}
 use Rattle.gds_flatten.specs.Flattening.{IsSound, copies_of, IsCountable, IsCountableOn, IsRefused, IsRefusedOn}
 use Rattle.gds_flatten.specs.Frames.{met}
 use Rattle.gds_flatten.specs.Layers.{TellsOf, TellsOfWithin, LayersSuffice, LayersSufficeWithin}

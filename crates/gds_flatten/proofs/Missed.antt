@@ -10,23 +10,23 @@ use Rattle.fill_base.specs.declared.rect.Rect.{Rect}
 use Rattle.gds_grammar.specs.Values.{Shape as Element}
 use Rattle.gds_shape.specs.declared.bounds.Bounds.{Bounds}
 use Rattle.gds_shape.proofs.Counting.{count_cons}
-use Rattle.gds_flatten.specs.declared.error.FlattenError.{FlattenError}
-use Rattle.gds_flatten.specs.declared.error.FlattenError.TheVariants.{TooManyShapes}
+use Rattle.gds_cells.specs.declared.error.FlattenError.{FlattenError}
+use Rattle.gds_cells.specs.declared.error.FlattenError.TheVariants.{TooManyShapes}
 use Rattle.gds_flatten.specs.declared.found.Found.{Found}
-use Rattle.gds_flatten.specs.declared.link.Link.{Link}
-use Rattle.gds_flatten.specs.declared.placement.Placement.{Placement}
-use Rattle.gds_flatten.specs.Placements.{carried_bounds, composed, still}
-use Rattle.gds_flatten.specs.Copies.{Copy, own_copy, carry_copy, AllStayInRange}
+use Rattle.gds_cells.specs.declared.link.Link.{Link}
+use Rattle.gds_cells.specs.declared.placement.Placement.{Placement}
+use Rattle.gds_cells.specs.Placements.{carried_bounds, composed, still}
+use Rattle.gds_cells.specs.Copies.{Copy, own_copy, carry_copy, AllStayInRange}
 use Rattle.gds_flatten.specs.Frames.{meets, meets_if, joined_if, extent_of, parts_at, is_met, met}
-use Rattle.gds_flatten.specs.Links.{single}
-use Rattle.gds_flatten.specs.Shapes.{parts_of}
-use Rattle.gds_flatten.specs.steps.Framing.{IsPart, Fits, FitsCopy, FitAll, IsRight, IsFine, IsMissed, IsFound, IsRefusalOn}
-use Rattle.gds_flatten.specs.steps.Prepared.{IsOrdered, IsPrepared}
+use Rattle.gds_cells.specs.Links.{single}
+use Rattle.gds_cells.specs.Shapes.{parts_of}
+use Rattle.gds_flatten.specs.steps.Framing.{Fits, FitsCopy, FitAll, IsRight, IsFine, IsMissed, IsFound, IsRefusalOn}
+use Rattle.gds_cells.specs.steps.Prepared.{IsOrdered, IsPrepared, IsPart}
 use Rattle.gds_flatten.proofs.Drawing.{carried_twice, list_more, shape_drawn}
-use Rattle.gds_flatten.proofs.Composing.{composed_still}
+use Rattle.gds_cells.proofs.Composing.{composed_still}
 use Rattle.fill_region.specs.Squares.{covered}
-use Rattle.gds_flatten.specs.Placements.{carried}
-use Rattle.gds_flatten.specs.Shapes.{covers_of, StaysInRange}
+use Rattle.gds_cells.specs.Placements.{carried}
+use Rattle.gds_cells.specs.Shapes.{covers_of, StaysInRange}
 use Rattle.gds_flatten.proofs.Seen.{not_true, none_on, more_on, unseen_on, held_unseen, nothing_held, nothing_unseen, none_unseen, both_unseen, shape_unseen, bare_unseen}
 use Rattle.gds_flatten.proofs.Holding.{single_unseen}
 use Rattle.gds_flatten.proofs.Tight.{joined_fits, part_of_part, all_from, all_first, all_rest, none_fit, fit_first, fit_later, four_same, shape_tight, back_fits, window, carry_forth, nothing_fits, single_fits, all_coordinates, fit_stay, stay_fit}

@@ -10,20 +10,20 @@ use Rattle.fill_region.specs.Squares.{covered}
 use Rattle.gds_shape.specs.declared.bounds.Bounds.{Bounds}
 use Rattle.gds_shape.specs.Paths.{in_bounds}
 use Rattle.gds_shape.specs.Extents.{LiesWithin}
-use Rattle.gds_flatten.specs.declared.cell.Cell.{Cell}
-use Rattle.gds_flatten.specs.declared.link.Link.{Link}
-use Rattle.gds_flatten.specs.declared.placement.Placement.{Placement}
-use Rattle.gds_flatten.specs.Placements.{back_x, back_y, carried, carried_bounds}
-use Rattle.gds_flatten.specs.Copies.{Copy, carry_copy, copy_covers, drawn, copies}
-use Rattle.gds_flatten.specs.Shapes.{covers_of}
+use Rattle.gds_cells.specs.declared.cell.Cell.{Cell}
+use Rattle.gds_cells.specs.declared.link.Link.{Link}
+use Rattle.gds_cells.specs.declared.placement.Placement.{Placement}
+use Rattle.gds_cells.specs.Placements.{back_x, back_y, carried, carried_bounds}
+use Rattle.gds_cells.specs.Copies.{Copy, carry_copy, copy_covers, drawn, copies}
+use Rattle.gds_cells.specs.Shapes.{covers_of}
 use Rattle.gds_flatten.specs.Frames.{meets}
 use Rattle.gds_flatten.specs.steps.Framing.{IsUnseen, IsDrawnOn, IsFine, IsFineIf, IsHeld, IsRight, AreHeld, extent_at}
-use Rattle.gds_flatten.specs.steps.Ranges.{IsWithin}
-use Rattle.gds_flatten.specs.steps.Prepared.{IsOrdered}
-use Rattle.gds_flatten.specs.steps.Walks.{hierarchy}
-use Rattle.gds_flatten.specs.steps.Counting.{links_in}
-use Rattle.gds_flatten.proofs.Carrying.{bounds_back}
-use Rattle.gds_flatten.proofs.Composing.{carried_together}
+use Rattle.gds_cells.specs.steps.Ranges.{IsWithin}
+use Rattle.gds_cells.specs.steps.Prepared.{IsOrdered}
+use Rattle.gds_cells.specs.steps.Walks.{hierarchy}
+use Rattle.gds_cells.specs.steps.Counting.{links_in}
+use Rattle.gds_cells.proofs.Carrying.{bounds_back}
+use Rattle.gds_cells.proofs.Composing.{carried_together}
 use Rattle.gds_flatten.proofs.Drawing.{drawn_joins, or_joins, or_false, list_more, range_more, whole_flat}
 
 -- ---- one after another

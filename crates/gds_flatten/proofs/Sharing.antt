@@ -16,14 +16,14 @@ use Rattle.fill_base.specs.declared.rect.Rect.{Rect}
 use Rattle.fill_base.specs.Squares.{squares}
 use Rattle.fill_region.specs.Squares.{covered}
 use Rattle.gds_grammar.specs.Values.{shape_of}
-use Rattle.gds_flatten.specs.declared.cell.Cell.{Cell}
-use Rattle.gds_flatten.specs.declared.link.Link.{Link}
-use Rattle.gds_flatten.specs.declared.placement.Placement.{Placement}
-use Rattle.gds_flatten.specs.declared.shape.Shape.{Shape}
-use Rattle.gds_flatten.specs.Shapes.{StaysInRange}
-use Rattle.gds_flatten.specs.Copies.{Copy, own_copy, carry_copy, copies, AllStayInRange}
-use Rattle.gds_flatten.specs.steps.Walks.{shapes_in, hierarchy, shape_copies, single_copies, link_copies, part, IsDrawn}
-use Rattle.gds_flatten.specs.steps.Counting.{IsCapped}
+use Rattle.gds_cells.specs.declared.cell.Cell.{Cell}
+use Rattle.gds_cells.specs.declared.link.Link.{Link}
+use Rattle.gds_cells.specs.declared.placement.Placement.{Placement}
+use Rattle.gds_cells.specs.declared.shape.Shape.{Shape}
+use Rattle.gds_cells.specs.Shapes.{StaysInRange}
+use Rattle.gds_cells.specs.Copies.{Copy, own_copy, carry_copy, copies, AllStayInRange}
+use Rattle.gds_cells.specs.steps.Walks.{shapes_in, hierarchy, shape_copies, single_copies, link_copies, part, IsDrawn}
+use Rattle.gds_cells.specs.steps.Counting.{IsCapped}
 use Rattle.gds_flatten.proofs.Drawing.{all_copies, drawn_more, nothing_drawn, range_more, list_more, first_leaves, next_leaves, whole_flat}
 
 -- ---- parts of lists

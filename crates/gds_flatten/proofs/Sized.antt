@@ -9,20 +9,20 @@ use Rattle.std.proofs.Math.Nat.{mul-le-mul}
 use Rattle.gds_grammar.specs.Values.{shape_of}
 use Rattle.gds_shape.specs.declared.bounds.Bounds.{Bounds}
 use Rattle.gds_shape.specs.Extents.{IsNear}
-use Rattle.gds_flatten.specs.declared.cell.Cell.{Cell}
-use Rattle.gds_flatten.specs.declared.link.Link.{Link}
-use Rattle.gds_flatten.specs.declared.shape.Shape.{Shape}
-use Rattle.gds_flatten.specs.declared.placement.Placement.{Placement}
-use Rattle.gds_flatten.specs.Copies.{Copy, own_copy, carry_copy, copies}
-use Rattle.gds_flatten.specs.Placements.{carried_bounds}
-use Rattle.gds_flatten.specs.Links.{single}
-use Rattle.gds_flatten.specs.steps.Built.{own_of}
-use Rattle.gds_flatten.specs.steps.Filled.{rects_in, extent_in}
-use Rattle.gds_flatten.specs.steps.Framing.{IsPart, FitAll, square, links_draw}
-use Rattle.gds_flatten.specs.steps.Prepared.{IsOrdered, IsPrepared}
-use Rattle.gds_flatten.specs.steps.Ranges.{IsWithin}
-use Rattle.gds_flatten.specs.steps.Walks.{shapes_in, singles_of, hierarchy}
-use Rattle.gds_flatten.proofs.Stepping.{row_below}
+use Rattle.gds_cells.specs.declared.cell.Cell.{Cell}
+use Rattle.gds_cells.specs.declared.link.Link.{Link}
+use Rattle.gds_cells.specs.declared.shape.Shape.{Shape}
+use Rattle.gds_cells.specs.declared.placement.Placement.{Placement}
+use Rattle.gds_cells.specs.Copies.{Copy, own_copy, carry_copy, copies}
+use Rattle.gds_cells.specs.Placements.{carried_bounds}
+use Rattle.gds_cells.specs.Links.{single}
+use Rattle.gds_cells.specs.steps.Built.{own_of}
+use Rattle.gds_cells.specs.steps.Filled.{rects_in, extent_in}
+use Rattle.gds_flatten.specs.steps.Framing.{FitAll, square, links_draw}
+use Rattle.gds_cells.specs.steps.Prepared.{IsOrdered, IsPrepared, IsPart}
+use Rattle.gds_cells.specs.steps.Ranges.{IsWithin}
+use Rattle.gds_cells.specs.steps.Walks.{shapes_in, singles_of, hierarchy}
+use Rattle.gds_cells.proofs.Stepping.{row_below}
 use Rattle.gds_flatten.proofs.Tight.{none_fit, fit_joins, shape_tight, part_of_part, window, carry_forth, link_fits, link_draws, back_fits}
 
 -- ---- shapes

@@ -10,20 +10,21 @@ use Rattle.fill_region.specs.Squares.{covered}
 use Rattle.gds_grammar.specs.Values.{Shape as Element, boundary, path, reference, array}
 use Rattle.gds_shape.specs.declared.bounds.Bounds.{Bounds}
 use Rattle.gds_shape.proofs.Counting.{count_cons}
-use Rattle.gds_flatten.specs.declared.cell.Cell.{Cell}
-use Rattle.gds_flatten.specs.declared.error.FlattenError.{FlattenError}
+use Rattle.gds_cells.specs.declared.cell.Cell.{Cell}
+use Rattle.gds_cells.specs.declared.error.FlattenError.{FlattenError}
 use Rattle.gds_flatten.specs.declared.found.Found.{Found}
-use Rattle.gds_flatten.specs.declared.link.Link.{Link}
-use Rattle.gds_flatten.specs.declared.placement.Placement.{Placement}
-use Rattle.gds_flatten.specs.Copies.{Copy, own_copy, carry_copy, copies, copy_covers, drawn, AllStayInRange}
+use Rattle.gds_cells.specs.declared.link.Link.{Link}
+use Rattle.gds_cells.specs.declared.placement.Placement.{Placement}
+use Rattle.gds_cells.specs.Copies.{Copy, own_copy, carry_copy, copies, copy_covers, drawn, AllStayInRange}
 use Rattle.gds_flatten.specs.Frames.{meets_if, extent_of, is_met, met}
-use Rattle.gds_flatten.specs.Links.{singles}
-use Rattle.gds_flatten.specs.Placements.{back_x, back_y, carried_bounds}
-use Rattle.gds_flatten.specs.Shapes.{covers_of, parts_of}
-use Rattle.gds_flatten.specs.steps.Counting.{links_in}
-use Rattle.gds_flatten.specs.steps.Framing.{IsPart, FitsCopy, FitAll, IsRight, AreHeld, IsFound, IsRefusalOn, extent_at}
+use Rattle.gds_cells.specs.Links.{singles}
+use Rattle.gds_cells.specs.Placements.{back_x, back_y, carried_bounds}
+use Rattle.gds_cells.specs.Shapes.{covers_of, parts_of}
+use Rattle.gds_cells.specs.steps.Counting.{links_in}
+use Rattle.gds_flatten.specs.steps.Framing.{FitsCopy, FitAll, IsRight, AreHeld, IsFound, IsRefusalOn, extent_at}
+use Rattle.gds_cells.specs.steps.Prepared.{IsPart}
 use Rattle.gds_flatten.specs.steps.Idle.{is_seen, AreBusy, IsBare, AreBut}
-use Rattle.gds_flatten.specs.steps.Walks.{singles_of, own_in, hierarchy}
+use Rattle.gds_cells.specs.steps.Walks.{singles_of, own_in, hierarchy}
 use Rattle.gds_flatten.proofs.Busy.{through, single_links}
 use Rattle.gds_flatten.proofs.Tight.{all_from, all_first, all_rest, all_coordinates, fit_stay, stay_fit}
 

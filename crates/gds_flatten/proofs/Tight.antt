@@ -12,16 +12,16 @@ use Rattle.gds_grammar.specs.Values.{Shape as Element}
 use Rattle.gds_shape.specs.declared.bounds.Bounds.{Bounds}
 use Rattle.gds_shape.specs.Paths.{AreInRange}
 use Rattle.gds_shape.specs.Extents.{joined, IsExtent}
-use Rattle.gds_flatten.specs.declared.link.Link.{Link}
-use Rattle.gds_flatten.specs.declared.placement.Placement.{Placement}
-use Rattle.gds_flatten.specs.Placements.{signed, point_x, point_y, carried_bounds, composed, still}
-use Rattle.gds_flatten.specs.Copies.{Copy, own_copy, carry_copy, AllStayInRange}
-use Rattle.gds_flatten.specs.Links.{single}
-use Rattle.gds_flatten.specs.Shapes.{parts_of}
-use Rattle.gds_flatten.specs.steps.Framing.{IsPart, Fits, FitsCopy, FitAll, IsTight}
-use Rattle.gds_flatten.specs.steps.Prepared.{IsOrdered, IsPrepared}
-use Rattle.gds_flatten.specs.steps.Walks.{singles_of}
-use Rattle.gds_flatten.proofs.Composing.{point_together_x, point_together_y}
+use Rattle.gds_cells.specs.declared.link.Link.{Link}
+use Rattle.gds_cells.specs.declared.placement.Placement.{Placement}
+use Rattle.gds_cells.specs.Placements.{signed, point_x, point_y, carried_bounds, composed, still}
+use Rattle.gds_cells.specs.Copies.{Copy, own_copy, carry_copy, AllStayInRange}
+use Rattle.gds_cells.specs.Links.{single}
+use Rattle.gds_cells.specs.Shapes.{parts_of}
+use Rattle.gds_flatten.specs.steps.Framing.{Fits, FitsCopy, FitAll, IsTight}
+use Rattle.gds_cells.specs.steps.Prepared.{IsOrdered, IsPrepared, IsPart}
+use Rattle.gds_cells.specs.steps.Walks.{singles_of}
+use Rattle.gds_cells.proofs.Composing.{point_together_x, point_together_y}
 use Rattle.gds_flatten.proofs.Drawing.{range_more}
 use Rattle.gds_flatten.proofs.Holding.{turns_drawn}
 

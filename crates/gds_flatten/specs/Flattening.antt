@@ -1,12 +1,12 @@
 -- What flattening answers, and when each refusal comes.
 use Rattle.std.specs.Prelude.{ℕ, ◌<◌, ◌≤◌, List, length}
 use Rattle.fill_base.specs.declared.rect.Rect.{Rect}
-use Rattle.gds_flatten.specs.declared.error.FlattenError.{FlattenError}
-use Rattle.gds_flatten.specs.declared.error.FlattenError.TheVariants.{Memory, NoTop, MissingCell, Cycle, TooDeep, TooManyShapes, OutOfRange}
-use Rattle.gds_flatten.specs.Graphs.{IsReached, IsCyclic, IsTooDeep}
-use Rattle.gds_flatten.specs.Copies.{Copy, copies, AllStayInRange}
+use Rattle.gds_cells.specs.declared.error.FlattenError.{FlattenError}
+use Rattle.gds_cells.specs.declared.error.FlattenError.TheVariants.{Memory, NoTop, MissingCell, Cycle, TooDeep, TooManyShapes, OutOfRange}
+use Rattle.gds_cells.specs.Graphs.{IsReached, IsCyclic, IsTooDeep}
+use Rattle.gds_cells.specs.Copies.{Copy, copies, AllStayInRange}
 use Rattle.gds_flatten.specs.Frames.{met}
-use Rattle.gds_flatten.specs.Designs.{Entry, index_of, graph_of, hierarchy_of, IsFirstFault, AllFine}
+use Rattle.gds_cells.specs.Designs.{Entry, index_of, graph_of, hierarchy_of, IsFirstFault, AllFine}
 
 abbrev pub HasTop : List Entry → List ℕ → Type 0
 HasTop cells top = index_of cells top < length cells

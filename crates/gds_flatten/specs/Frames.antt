@@ -5,9 +5,9 @@ use Rattle.fill_base.specs.declared.rect.Rect.{Rect}
 use Rattle.fill_base.specs.Squares.{squares}
 use Rattle.gds_shape.specs.declared.bounds.Bounds.{Bounds}
 use Rattle.gds_shape.specs.Extents.{joined}
-use Rattle.gds_flatten.specs.Placements.{carried_bounds}
-use Rattle.gds_flatten.specs.Shapes.{parts_of}
-use Rattle.gds_flatten.specs.Copies.{Copy}
+use Rattle.gds_cells.specs.Placements.{carried_bounds}
+use Rattle.gds_cells.specs.Shapes.{parts_of}
+use Rattle.gds_cells.specs.Copies.{Copy}
 
 -- the numbers from a up to b and those from c up to d overlap
 abbrev pub overlap : ℤ → ℤ → ℤ → ℤ → Bool

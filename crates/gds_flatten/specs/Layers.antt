@@ -2,8 +2,8 @@
 use Rattle.std.specs.Prelude.{◌≡◌, ℕ, Bool, true, List, map}
 use Rattle.gds_grammar.specs.Layers.{kept_cell}
 use Rattle.fill_base.specs.declared.rect.Rect.{Rect}
-use Rattle.gds_flatten.specs.declared.error.FlattenError.{FlattenError}
-use Rattle.gds_flatten.specs.Designs.{Entry}
+use Rattle.gds_cells.specs.declared.error.FlattenError.{FlattenError}
+use Rattle.gds_cells.specs.Designs.{Entry}
 use Rattle.gds_flatten.specs.Flattening.{copies_of, IsCountable, IsCountableOn, IsRefused, IsRefusedOn}
 
 -- what is told of the second library is told of the first one: the same copies, and the same refusals

@@ -1,12 +1,4 @@
-pub mod Placements
-pub mod Shapes
-pub mod References
-pub mod Graphs
-pub mod Links
-pub mod Copies
-pub mod Designs
 pub mod Frames
 pub mod Flattening
 pub mod Layers
-pub mod Laws
 pub mod steps

@@ -1,14 +1,14 @@
 //! The extent of some of the single references of a link: that of the four corners of the rows and columns that hold them.
 
 ghost use Rattle.std.specs.Prelude.{ℕ, ◌*◌, ◌/◌, ◌%◌, ◌<◌, ◌≤◌, ◌≡◌, true, IsTrue};
-ghost use Rattle.gds_flatten.specs.Links.{single};
-ghost use Rattle.gds_flatten.specs.Placements.{carried_bounds};
-ghost use Rattle.gds_flatten.specs.steps.Framing.{IsFine, IsPart};
-ghost use Rattle.gds_flatten.specs.steps.Prepared.{IsOrdered};
-ghost use Rattle.gds_flatten.specs.steps.Ranges.{IsClose};
+ghost use Rattle.gds_cells.specs.Links.{single};
+ghost use Rattle.gds_cells.specs.Placements.{carried_bounds};
+ghost use Rattle.gds_flatten.specs.steps.Framing.{IsFine};
+ghost use Rattle.gds_cells.specs.steps.Prepared.{IsOrdered, IsPart};
+ghost use Rattle.gds_cells.specs.steps.Ranges.{IsClose};
 
 use crate::framed::carried_extent;
-use crate::link::Link;
+use gds_cells::Link;
 use gds_shape::{Bounds, joined};
 
 /// Numbers are close up to here: 2^45.

@@ -3,16 +3,14 @@
 ghost use Rattle.std.specs.Prelude.{◌≡◌, ◌+◌, ◌*◌, ◌≤◌, ◌<◌, [], length, IfOk, IfErr};
 ghost use Rattle.std.specs.List.{flat_map};
 ghost use Rattle.std.specs.Vec.{vec_items};
-ghost use Rattle.gds_flatten.specs.steps.Counting.{AreCounted};
-ghost use Rattle.gds_flatten.specs.steps.Walks.{part, top_copies, IsDrawn, IsRefusal};
+ghost use Rattle.gds_cells.specs.steps.Counting.{AreCounted};
+ghost use Rattle.gds_cells.specs.steps.Walks.{part, top_copies, IsDrawn, IsRefusal};
 
-use crate::cell::Cell;
-use crate::error::FlattenError;
 use crate::idle::drop_idle;
-use crate::placement::Placement;
 use crate::share::Share;
 use crate::walk::carry_cell;
 use fill_base::Rect;
+use gds_cells::{Cell, FlattenError, Placement};
 use rayon::prelude::*;
 use std::alloc::Global;
 use std::thread::Threads;

@@ -3,21 +3,19 @@
 ghost use Rattle.std.specs.Prelude.{◌≡◌, ◌⊎◌, ◌↔◌, ℕ, ◌*◌, ◌<◌, ◌≤◌, ◌^◌, List, length, map, Some, All, IfOk, IfErr};
 ghost use Rattle.std.specs.List.{flat_map};
 ghost use Rattle.std.specs.Vec.{vec_items};
-ghost use Rattle.gds_flatten.specs.Copies.{Copy, own_copy, carry_copy};
-ghost use Rattle.gds_flatten.specs.Graphs.{Graph, IsDeep, item};
-ghost use Rattle.gds_flatten.specs.Links.{single};
-ghost use Rattle.gds_flatten.specs.Placements.{carried_bounds};
-ghost use Rattle.gds_flatten.specs.steps.Built.{own_of};
-ghost use Rattle.gds_flatten.specs.steps.Counting.{IsTied};
-ghost use Rattle.gds_flatten.specs.steps.Framing.{extent_at, IsFine, IsFineIf, IsAround, IsHeld, IsPart, IsRight, IsTight, Fits, FitAll, AllFit, square, links_draw, cell_draws, AreRightlyHeld, IsExtentOf};
-ghost use Rattle.gds_flatten.specs.steps.Searches.{IsOrdered};
+ghost use Rattle.gds_cells.specs.Copies.{Copy, own_copy, carry_copy};
+ghost use Rattle.gds_cells.specs.Graphs.{Graph, IsDeep, item};
+ghost use Rattle.gds_cells.specs.Links.{single};
+ghost use Rattle.gds_cells.specs.Placements.{carried_bounds};
+ghost use Rattle.gds_cells.specs.steps.Built.{own_of};
+ghost use Rattle.gds_cells.specs.steps.Counting.{IsTied};
+ghost use Rattle.gds_flatten.specs.steps.Framing.{extent_at, IsFine, IsFineIf, IsAround, IsHeld, IsRight, IsTight, Fits, FitAll, AllFit, square, links_draw, cell_draws, AreRightlyHeld, IsExtentOf};
+ghost use Rattle.gds_cells.specs.steps.Prepared.{IsPart};
+ghost use Rattle.gds_cells.specs.steps.Searches.{IsOrdered};
 
-use crate::cell::Cell;
 use crate::corners::{are_close, corners_extent};
-use crate::error::FlattenError;
 use crate::framed::extent_at;
-use crate::link::Link;
-use crate::shape::Shape;
+use gds_cells::{Cell, FlattenError, Link, Shape};
 use gds_shape::{Bounds, joined};
 use std::alloc::Global;
 

@@ -6,31 +6,26 @@ ghost use Rattle.std.specs.Vec.{vec_items};
 ghost use Rattle.fill_region.specs.Bands.{holds, IsRegion};
 ghost use Rattle.fill_region.specs.Squares.{covered};
 ghost use Rattle.gds_grammar.specs.Values.{cell_of, contents_of};
-ghost use Rattle.gds_flatten.specs.Copies.{Copy, drawn, AllStayInRange};
-ghost use Rattle.gds_flatten.specs.Designs.{index_of, AllFine};
+ghost use Rattle.gds_cells.specs.Copies.{Copy, drawn, AllStayInRange};
+ghost use Rattle.gds_cells.specs.Designs.{index_of, AllFine};
 ghost use Rattle.gds_flatten.specs.Flattening.{HasTop, copies_of, IsSound, IsCountable, IsCountableOn, IsRefused, IsRefusedOn};
-ghost use Rattle.gds_flatten.specs.steps.Counting.{AreCounted};
+ghost use Rattle.gds_cells.specs.steps.Counting.{AreCounted};
 ghost use Rattle.gds_flatten.specs.steps.Framing.{IsFineIf, IsTight, AreHeld, extent_at};
 ghost use Rattle.gds_flatten.specs.steps.Idle.{AreBut};
-ghost use Rattle.gds_flatten.specs.steps.Walks.{top_copies};
+ghost use Rattle.gds_cells.specs.steps.Walks.{top_copies};
 ghost use Rattle.fill_base.specs.Squares.{squares};
 
-use crate::builder::{Alone, Builder, Together};
-use crate::cell::Cell;
-use crate::cells::cells_of;
-use crate::counts::{TOO_MANY, counts_of};
 use crate::design::{DEEPEST, Design};
-use crate::error::FlattenError;
 use crate::extents::extents_of;
 use crate::found::Found;
 use crate::framed::{carry_cell_on, clipped, extent_at};
-use crate::graph::{graph_of, index_of};
 use crate::idle::drop_unseen;
-use crate::placement::Placement;
-use crate::search::number_at;
-use crate::survey::survey;
 use fill_base::Rect;
 use fill_region::Region;
+use gds_cells::{
+    Alone, Builder, Cell, FlattenError, Placement, TOO_MANY, Together, cells_of, counts_of,
+    graph_of, index_of, number_at, survey,
+};
 use gds_grammar::{Element, Library};
 use gds_shape::{Bounds, is_in_range};
 use indexmap::IndexMap;

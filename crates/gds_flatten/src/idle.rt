@@ -3,10 +3,8 @@
 ghost use Rattle.std.specs.Prelude.{◌≡◌};
 ghost use Rattle.gds_flatten.specs.steps.Idle.{is_busy, is_seen, IsBusy, AreBusy};
 
-use crate::cell::Cell;
 use crate::framed::extent_at;
-use crate::link::Link;
-use crate::search::number_at;
+use gds_cells::{Cell, Link, number_at};
 use gds_shape::Bounds;
 
 /// Whether the cell that the link refers to has copies of shapes.

@@ -3,40 +3,20 @@
 //! references say, and each refusal comes exactly where its cause is the first.
 #![tactic(auto)]
 
-mod builder;
-mod cell;
-mod cells;
 mod corners;
-mod counts;
 mod design;
-mod error;
 mod extents;
-mod filled;
 mod flattening;
 mod found;
 mod framed;
-mod graph;
-mod heights;
 mod idle;
 pub mod laws;
-mod link;
-mod one_rect;
-mod placement;
-mod reference;
-mod runs;
-mod search;
-mod shape;
-mod shapes;
 mod share;
-mod survey;
 mod walk;
 mod whole;
 
-pub use error::FlattenError;
 pub use flattening::{
     flatten, flatten_parts, flatten_parts_within, flatten_rects, flatten_region_within,
     flatten_within,
 };
-pub use link::Link;
-pub use placement::Placement;
-pub use reference::{array_link, reference_link};
+pub use gds_cells::FlattenError;

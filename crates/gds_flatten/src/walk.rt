@@ -3,21 +3,14 @@
 ghost use Rattle.std.specs.Prelude.{◌≡◌, ◌⊎◌, ◌-◌, ◌*◌, ◌≤◌, ◌<◌, [], length, Some, map, slice_get, IfOk, IfErr, IfNone, IfSome, OnOk};
 ghost use Rattle.std.specs.List.{flat_map};
 ghost use Rattle.std.specs.Vec.{vec_items};
-ghost use Rattle.gds_flatten.specs.Copies.{carry_copy, copies};
-ghost use Rattle.gds_flatten.specs.steps.Counting.{AreCounted};
-ghost use Rattle.gds_flatten.specs.steps.Ranges.{IsWithin};
-ghost use Rattle.gds_flatten.specs.steps.Walks.{shape_copies, link_copies, hierarchy, part, IsDrawn, IsRefusal};
+ghost use Rattle.gds_cells.specs.Copies.{carry_copy, copies};
+ghost use Rattle.gds_cells.specs.steps.Counting.{AreCounted};
+ghost use Rattle.gds_cells.specs.steps.Ranges.{IsWithin};
+ghost use Rattle.gds_cells.specs.steps.Walks.{shape_copies, link_copies, hierarchy, part, IsDrawn, IsRefusal};
 
-use crate::cell::Cell;
-use crate::counts::count_link;
-use crate::error::FlattenError;
-use crate::link::Link;
-use crate::placement::Placement;
-use crate::search::number_at;
-use crate::shape::Shape;
-use crate::shapes::carry_shape;
 use crate::share::Share;
 use fill_base::Rect;
+use gds_cells::{Cell, FlattenError, Link, Placement, Shape, carry_shape, count_link, number_at};
 
 /// Appends what the shapes cover, carried so.
 fn carry_shapes(

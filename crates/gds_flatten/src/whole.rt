@@ -5,22 +5,17 @@ ghost use Rattle.std.specs.List.{flat_map};
 ghost use Rattle.std.specs.Vec.{vec_items};
 ghost use Rattle.fill_region.specs.Squares.{covered};
 ghost use Rattle.gds_grammar.specs.Values.{shape_of};
-ghost use Rattle.gds_flatten.specs.Copies.{carry_copy, copies};
-ghost use Rattle.gds_flatten.specs.Placements.{carried};
-ghost use Rattle.gds_flatten.specs.Shapes.{covers_of, StaysInRange};
+ghost use Rattle.gds_cells.specs.Copies.{carry_copy, copies};
+ghost use Rattle.gds_cells.specs.Placements.{carried};
+ghost use Rattle.gds_cells.specs.Shapes.{covers_of, StaysInRange};
 ghost use Rattle.gds_flatten.specs.steps.Framing.{IsFound, IsRefusalOn, AreInside};
-ghost use Rattle.gds_flatten.specs.steps.Ranges.{IsWithin};
-ghost use Rattle.gds_flatten.specs.steps.Walks.{shape_copies, link_copies, hierarchy};
+ghost use Rattle.gds_cells.specs.steps.Ranges.{IsWithin};
+ghost use Rattle.gds_cells.specs.steps.Walks.{shape_copies, link_copies, hierarchy};
 
-use crate::cell::Cell;
-use crate::error::FlattenError;
 use crate::found::{Found, MOST};
-use crate::link::Link;
-use crate::placement::Placement;
-use crate::shape::Shape;
-use crate::shapes::carry_shape;
 use crate::walk::cell_at;
 use fill_base::Rect;
+use gds_cells::{Cell, FlattenError, Link, Placement, Shape, carry_shape};
 
 /// Counts one copy more.
 ///

@@ -10,15 +10,15 @@ use Rattle.std.proofs.lemmas.List.FromFn.{map-range_with_len_more}
 use Rattle.fill_base.specs.declared.place.Point.{Point}
 use Rattle.gds_grammar.specs.declared.element.Transform.{Transform}
 use Rattle.gds_grammar.specs.declared.element.Element.{Element}
-use Rattle.gds_flatten.specs.Designs.{elements_at}
+use Rattle.gds_cells.specs.Designs.{elements_at}
 use Rattle.gds_grammar.specs.Values.{Cell, Shape, array, reference, shape_of}
-use Rattle.gds_flatten.specs.declared.error.FlattenError.{FlattenError}
-use Rattle.gds_flatten.specs.declared.error.FlattenError.TheVariants.{BadArray, BadTransform}
-use Rattle.gds_flatten.specs.declared.link.Link.{Link}
-use Rattle.gds_flatten.specs.declared.placement.Placement.{Placement}
-use Rattle.gds_flatten.specs.Links.{single}
-use Rattle.gds_flatten.specs.Placements.{placed}
-use Rattle.gds_flatten.specs.References.{array_fault, array_placements, grid_point, is_bad_array, is_bad_transform, placement_of, placements_of, reference_fault}
+use Rattle.gds_cells.specs.declared.error.FlattenError.{FlattenError}
+use Rattle.gds_cells.specs.declared.error.FlattenError.TheVariants.{BadArray, BadTransform}
+use Rattle.gds_cells.specs.declared.link.Link.{Link}
+use Rattle.gds_cells.specs.declared.placement.Placement.{Placement}
+use Rattle.gds_cells.specs.Links.{single}
+use Rattle.gds_cells.specs.Placements.{placed}
+use Rattle.gds_cells.specs.References.{array_fault, array_placements, grid_point, is_bad_array, is_bad_transform, placement_of, placements_of, reference_fault}
 use Rattle.std.proofs.lemmas.Bool.{and_from, and_parts}
 use Rattle.std.proofs.lemmas.Bool.Decides.{Decides-int_eq}
 use Rattle.fill_raster.specs.Axes.{IsAxis, box_begin}

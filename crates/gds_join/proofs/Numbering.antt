@@ -10,8 +10,8 @@ use Rattle.fill_raster.specs.Axes.{extent, first}
 use Rattle.fill_raster.specs.Lattice.{Lattice, IsLattice}
 use Rattle.fill_stacks.specs.Places.{PlaceSet, filled_places, places_along}
 use Rattle.fill_stacks.specs.Runs.{numbers_from}
-use Rattle.gds_flatten.specs.Links.{single, singles}
-use Rattle.gds_flatten.specs.declared.link.Link.{Link}
+use Rattle.gds_cells.specs.Links.{single, singles}
+use Rattle.gds_cells.specs.declared.link.Link.{Link}
 use Rattle.gds_join.specs.steps.Far.{origin_of}
 
 pub link_counted : (l : Link) (points : List Point) → map origin_of (singles l) ≡ points → l.columns * l.rows ≡ length points

@@ -15,8 +15,8 @@ use Rattle.fill_raster.proofs.Floors.{product_lt}
 use Rattle.fill_raster.proofs.Ranges.{both}
 use Rattle.fill_text.specs.ValuesOfRules.{values_of}
 use Rattle.fill_text.specs.declared.rules.Rules.{Rules}
-use Rattle.gds_flatten.specs.References.{grid_point, has_steps, is_bad_array, is_count}
-use Rattle.gds_flatten.proofs.Wholes.{steps_are_whole_lem}
+use Rattle.gds_cells.specs.References.{grid_point, has_steps, is_bad_array, is_count}
+use Rattle.gds_cells.proofs.Wholes.{steps_are_whole_lem}
 use Rattle.gds_grammar.specs.Grammar.{all_rules}
 use Rattle.gds_grammar.specs.Outcomes.{Spells}
 use Rattle.gds_grammar.specs.Values.{Contents, reference, array}

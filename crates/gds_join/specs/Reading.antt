@@ -6,7 +6,7 @@ use Rattle.fill_base.specs.declared.place.Point.{Point}
 use Rattle.fill_raster.specs.Lattice.{Lattice, in_raster}
 use Rattle.fill_text.specs.ValuesOfRules.{values_of}
 use Rattle.fill_text.specs.declared.rules.Rules.{Rules}
-use Rattle.gds_flatten.specs.References.{grid_point, is_bad_array, is_bad_transform}
+use Rattle.gds_cells.specs.References.{grid_point, is_bad_array, is_bad_transform}
 use Rattle.gds_grammar.specs.Values.{Shape, Contents, boundary, path, reference, array}
 use Rattle.gds_out.specs.FillContents.{corner_of}
 use Rattle.gds_out.specs.FillText.{fill_text}

@@ -1,6 +1,6 @@
 //! A fill library, read.
 ghost use Rattle.std.specs.Prelude.{◌≡◌, IfErr, IfOk, length};
-ghost use Rattle.fill_book.specs.Filling.{is_filled};
+ghost use Rattle.fill_state.specs.Filling.{is_filled};
 ghost use Rattle.fill_text.specs.ValuesOfRules.{values_of};
 ghost use Rattle.gds_out.specs.FillText as spec;
 ghost use Rattle.gds_out.specs.Laws.{raster_in};
@@ -11,9 +11,9 @@ ghost use Rattle.gds_join.specs.Reading.{IsFillText};
 use crate::error::PartError;
 use crate::number::has_few_references;
 use crate::reading::fill_library_places;
-use fill_book::Filled;
 use fill_job::laws::rules_make_a_plan;
 use fill_raster::Marks;
+use fill_state::Filled;
 use fill_text::Rules;
 use gds_grammar::read_library;
 use gds_out::fill_library;

@@ -1,14 +1,14 @@
 //! The places of one part, put among those of the parts before it.
 ghost use Rattle.std.specs.Prelude.{◌≡◌, ◌&&◌, ◌<◌, ℤ, true, IfErr, OnOk};
 ghost use Rattle.fill_base.specs.Counts.{is_between};
-ghost use Rattle.fill_book.specs.Filling.{is_filled};
+ghost use Rattle.fill_state.specs.Filling.{is_filled};
 ghost use Rattle.fill_raster.specs.Lattice.{in_raster, in_tile, tiles};
 ghost use Rattle.gds_join.specs.steps.Putting.{IsHindered, IsPut, in_row, in_rows, is_own, one_place};
 
 use crate::error::PartError;
 use fill_base::Place;
-use fill_book::Filled;
 use fill_parts::Part;
+use fill_state::Filled;
 
 /// Puts a place of a part's fill among those of the parts before it, if the fill has it.
 ///

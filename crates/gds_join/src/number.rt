@@ -5,7 +5,7 @@ ghost use Rattle.gds_grammar.specs.Values.{contents_of, shape_of};
 ghost use Rattle.gds_join.specs.Reading.{corners_in, corners_of};
 
 use crate::reading::elements_at;
-use gds_flatten::{array_link, reference_link};
+use gds_cells::{array_link, reference_link};
 use gds_grammar::{Element, Library};
 
 /// How many places a raster may have.

@@ -1,21 +1,21 @@
 //! The places that a fill library says are filled.
 ghost use Rattle.std.specs.Prelude.{◌≡◌, ◌&&◌, ◌||◌, ◌<◌, ℤ, true, length, map, IfNone, IfSome};
 ghost use Rattle.std.specs.List.{flat_map};
-ghost use Rattle.fill_book.specs.Filling.{is_filled};
+ghost use Rattle.fill_state.specs.Filling.{is_filled};
 ghost use Rattle.fill_raster.specs.Axes.{box_begin};
 ghost use Rattle.fill_raster.specs.Lattice.{in_raster};
 ghost use Rattle.gds_out.specs.FillContents.{corner_of};
 ghost use Rattle.gds_out.specs.Laws.{raster_in};
 ghost use Rattle.gds_join.specs.Reading.{corners_in, corners_of, is_point};
 ghost use Rattle.gds_join.specs.steps.Far.{IsFar, origin_of, point, stands_at};
-ghost use Rattle.gds_flatten.specs.Designs.{elements_at};
-ghost use Rattle.gds_flatten.specs.Links.{singles};
+ghost use Rattle.gds_cells.specs.Designs.{elements_at};
+ghost use Rattle.gds_cells.specs.Links.{singles};
 ghost use Rattle.gds_grammar.specs.Values.{cell_of, contents_of, shape_of};
 
 use fill_base::Place;
-use fill_book::Filled;
+use fill_state::Filled;
 use fill_text::Rules;
-use gds_flatten::{Link, array_link, reference_link};
+use gds_cells::{Link, array_link, reference_link};
 use gds_grammar::{Element, Library};
 use indexmap::IndexMap;
 

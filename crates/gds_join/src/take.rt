@@ -1,15 +1,15 @@
 //! The library of a part, taken behind those of the parts before it.
 ghost use Rattle.std.specs.Prelude.{◌≡◌, ℤ, true, false, IfErr, IfOk};
-ghost use Rattle.fill_book.specs.Filling.{is_filled};
+ghost use Rattle.fill_state.specs.Filling.{is_filled};
 ghost use Rattle.gds_out.specs.Laws.{raster_in};
 ghost use Rattle.gds_join.specs.Joins.{IsOfDesign, IsOtherDesign, IsPartRefused, IsTaken};
 
 use crate::error::PartError;
 use crate::fill::{PartFill, read_fill};
 use crate::join::join_fill;
-use fill_book::Filled;
 use fill_job::laws::rules_make_a_plan;
 use fill_parts::Part;
+use fill_state::Filled;
 use fill_text::Rules;
 use std::alloc::{AllocError, Global};
 

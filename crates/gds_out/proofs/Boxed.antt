@@ -8,7 +8,7 @@ use Rattle.fill_raster.specs.Axes.{box_begin}
 use Rattle.gds_shape.proofs.BoxCorners.{box_covers}
 use Rattle.fill_raster.specs.Lattice.{Lattice, box_squares}
 use Rattle.gds_shape.specs.Winding.{covers}
-use Rattle.gds_flatten.specs.Placements.{carried, shift}
+use Rattle.gds_cells.specs.Placements.{carried, shift}
 use Rattle.gds_out.specs.FillContents.{box_points}
 use Rattle.gds_out.specs.Laws.{MovedBoxIsThePlaces}
 

@@ -5,11 +5,11 @@ use Rattle.std.proofs.lemmas.Bool.{eq-eqb}
 use Rattle.fill_base.specs.declared.place.Point.{Point}
 use Rattle.gds_grammar.specs.Values.{Shape, boundary, path, reference, array}
 use Rattle.gds_shape.specs.Winding.{covers}
-use Rattle.gds_flatten.specs.declared.placement.Placement.{Placement}
-use Rattle.gds_flatten.specs.Copies.{Hierarchy, copies, own_copy, carry_copy}
-use Rattle.gds_flatten.specs.Designs.{Entry, index_of, singles_to, singles_among}
-use Rattle.gds_flatten.specs.References.{placement_of, placements_of, name_of, grid_point}
-use Rattle.gds_flatten.specs.Shapes.{is_shape, covers_of}
+use Rattle.gds_cells.specs.declared.placement.Placement.{Placement}
+use Rattle.gds_cells.specs.Copies.{Hierarchy, copies, own_copy, carry_copy}
+use Rattle.gds_cells.specs.Designs.{Entry, index_of, singles_to, singles_among}
+use Rattle.gds_cells.specs.References.{placement_of, placements_of, name_of, grid_point}
+use Rattle.gds_cells.specs.Shapes.{is_shape, covers_of}
 
 -- ---- elements
 

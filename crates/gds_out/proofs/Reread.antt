@@ -16,14 +16,14 @@ use Rattle.gds_grammar.specs.Outcomes.{Spells}
 use Rattle.gds_grammar.specs.Values.{Cell, Contents, reference, array}
 use Rattle.gds_grammar.proofs.Back.{library_runs}
 use Rattle.gds_grammar.proofs.Unique.{one_value}
-use Rattle.gds_flatten.specs.declared.placement.Placement.{Placement}
-use Rattle.gds_flatten.specs.Copies.{copies, own_copy, carry_copy, copy_covers}
-use Rattle.gds_flatten.specs.Designs.{Entry, index_of, hierarchy_of}
+use Rattle.gds_cells.specs.declared.placement.Placement.{Placement}
+use Rattle.gds_cells.specs.Copies.{copies, own_copy, carry_copy, copy_covers}
+use Rattle.gds_cells.specs.Designs.{Entry, index_of, hierarchy_of}
 use Rattle.gds_flatten.specs.Flattening.{copies_of}
-use Rattle.gds_flatten.specs.Placements.{carried, shift}
-use Rattle.gds_flatten.specs.References.{placement_of, grid_point}
-use Rattle.gds_flatten.specs.Shapes.{covers_of}
-use Rattle.gds_flatten.proofs.Composing.{composed_still}
+use Rattle.gds_cells.specs.Placements.{carried, shift}
+use Rattle.gds_cells.specs.References.{placement_of, grid_point}
+use Rattle.gds_cells.specs.Shapes.{covers_of}
+use Rattle.gds_cells.proofs.Composing.{composed_still}
 use Rattle.fill_raster.specs.Axes.{box_begin}
 use Rattle.fill_raster.specs.Lattice.{Lattice, box_squares}
 use Rattle.fill_text.specs.Rules.{Values, raster_of}

@@ -17,8 +17,8 @@ use Rattle.fill_stacks.specs.Runs.{numbers_from}
 use Rattle.fill_stacks.specs.Stacks.{stack_places, stacks}
 use Rattle.fill_stacks.specs.declared.pieces.Stack.{Stack}
 use Rattle.fill_stacks.proofs.Stacking.{hold_each_once}
-use Rattle.gds_flatten.specs.References.{grid_point, step_of}
-use Rattle.gds_flatten.proofs.Wholes.{steps_are_whole_lem}
+use Rattle.gds_cells.specs.References.{grid_point, step_of}
+use Rattle.gds_cells.proofs.Wholes.{steps_are_whole_lem}
 use Rattle.gds_out.specs.FillContents.{corner_of, stack_points}
 use Rattle.gds_out.specs.Laws.{ReferencesStandAtTheirPlaces, StacksStandAtTheirPlaces, stack_corners}
 use Rattle.gds_out.proofs.ByStacks.{all_on}

@@ -1,7 +1,7 @@
 //! How single references and arrays place what they refer to.
 
 use fill_base::Point;
-use gds_flatten::{FlattenError, Placement, array_link, reference_link};
+use gds_cells::{FlattenError, Placement, array_link, reference_link};
 use gds_grammar::{Array, Ref, Transform};
 use std::test::*;
 

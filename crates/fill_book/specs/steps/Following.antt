@@ -11,8 +11,8 @@ use Rattle.fill_sums.specs.declared.moving.Way.TheVariants.{Up, Down}
 use Rattle.fill_text.specs.declared.script.Edit.{Edit}
 use Rattle.fill_text.specs.declared.script.Edit.TheVariants.{Add, Cut, Keep}
 use Rattle.fill_job.specs.Plans.{PointSet}
-use Rattle.fill_book.specs.Filling.{in_places, is_filled}
-use Rattle.fill_book.specs.declared.places.Places.{Places}
+use Rattle.fill_state.specs.Filling.{in_places, is_filled}
+use Rattle.fill_state.specs.declared.places.Places.{Places}
 use Rattle.fill_book.specs.declared.stored.Stored.{Stored}
 use Rattle.fill_book.specs.declared.running.Moved.{Moved}
 use Rattle.fill_book.specs.declared.running.Moved.TheVariants.{New, Out}

@@ -6,20 +6,20 @@ use Rattle.fill_base.specs.Squares.{squares}
 use Rattle.fill_region.specs.Squares.{covered}
 use Rattle.gds_shape.specs.declared.bounds.Bounds.{Bounds}
 use Rattle.gds_shape.specs.Paths.{in_bounds}
-use Rattle.gds_flatten.specs.declared.cell.Cell.{Cell}
-use Rattle.gds_flatten.specs.declared.link.Link.{Link}
-use Rattle.gds_flatten.specs.Graphs.{Graph, IsDeep}
-use Rattle.gds_flatten.specs.Placements.{carried_bounds}
-use Rattle.gds_flatten.specs.Shapes.{parts_of}
-use Rattle.gds_flatten.specs.Copies.{Copy, own_copy, carry_copy, copies, drawn, AllStayInRange}
+use Rattle.gds_cells.specs.declared.cell.Cell.{Cell}
+use Rattle.gds_cells.specs.declared.link.Link.{Link}
+use Rattle.gds_cells.specs.Graphs.{Graph, IsDeep}
+use Rattle.gds_cells.specs.Placements.{carried_bounds}
+use Rattle.gds_cells.specs.Shapes.{parts_of}
+use Rattle.gds_cells.specs.Copies.{Copy, own_copy, carry_copy, copies, drawn, AllStayInRange}
 use Rattle.gds_flatten.specs.Frames.{met}
 use Rattle.gds_flatten.specs.declared.found.Found.{Found}
-use Rattle.gds_flatten.specs.declared.error.FlattenError.{FlattenError}
-use Rattle.gds_flatten.specs.declared.error.FlattenError.TheVariants.{Memory, TooManyShapes}
-use Rattle.gds_flatten.specs.steps.Prepared.{IsOrdered}
-use Rattle.gds_flatten.specs.steps.Ranges.{IsClose}
-use Rattle.gds_flatten.specs.steps.Counting.{links_in}
-use Rattle.gds_flatten.specs.steps.Walks.{own_in, singles_of, hierarchy}
+use Rattle.gds_cells.specs.declared.error.FlattenError.{FlattenError}
+use Rattle.gds_cells.specs.declared.error.FlattenError.TheVariants.{Memory, TooManyShapes}
+use Rattle.gds_cells.specs.steps.Prepared.{IsOrdered, IsPart}
+use Rattle.gds_cells.specs.steps.Ranges.{IsClose}
+use Rattle.gds_cells.specs.steps.Counting.{links_in}
+use Rattle.gds_cells.specs.steps.Walks.{own_in, singles_of, hierarchy}
 
 -- on the squares of the rectangle these copies were added, and nothing else
 abbrev pub IsDrawnOn : Rect → List Copy → List Rect → List Rect → Type 0
@@ -42,13 +42,6 @@ pub record IsMissed (r : Rect) (cs : List Copy) : Type 0 where
 -- why they weren't: memory is refused, or more than 4,000,000 meet the frame
 abbrev pub IsRefusalOn : Rect → List Copy → Found → FlattenError → Type 0
 IsRefusalOn r cs old e = (e ≡ Memory) ⊎ ((e ≡ TooManyShapes) × (4000000 < old.copies + met r cs))
-
--- the second lies within the first
-pub record IsPart (b c : Bounds) : Type 0 where
-  pub left : b.left ≤ℤ c.left
-  pub bottom : b.bottom ≤ℤ c.bottom
-  pub right : c.right ≤ℤ b.right
-  pub top : c.top ≤ℤ b.top
 
 -- edges in order, far from where sums of 64 bits end
 pub record IsFine (b : Bounds) : Type 0 where

@@ -1,14 +1,14 @@
 -- Links to cells that draw nothing on the layer.
 use Rattle.std.specs.Prelude.{◌≡◌, ◌⊎◌, ℕ, Bool, List, [], ◌∷◌, filter, slice_get, nat_lt, is_some, Option}
 use Rattle.gds_shape.specs.declared.bounds.Bounds.{Bounds}
-use Rattle.gds_flatten.specs.declared.cell.Cell.{Cell}
-use Rattle.gds_flatten.specs.declared.link.Link.{Link}
-use Rattle.gds_flatten.specs.Copies.{Copy}
-use Rattle.gds_flatten.specs.Graphs.{item}
-use Rattle.gds_flatten.specs.Shapes.{parts_of}
-use Rattle.gds_flatten.specs.steps.Counting.{links_in}
+use Rattle.gds_cells.specs.declared.cell.Cell.{Cell}
+use Rattle.gds_cells.specs.declared.link.Link.{Link}
+use Rattle.gds_cells.specs.Copies.{Copy}
+use Rattle.gds_cells.specs.Graphs.{item}
+use Rattle.gds_cells.specs.Shapes.{parts_of}
+use Rattle.gds_cells.specs.steps.Counting.{links_in}
 use Rattle.gds_flatten.specs.steps.Framing.{extent_at}
-use Rattle.gds_flatten.specs.steps.Walks.{own_in}
+use Rattle.gds_cells.specs.steps.Walks.{own_in}
 
 -- the cell that it refers to draws, by its count
 abbrev pub is_busy : List ℕ → Link → Bool

@@ -3,7 +3,7 @@ use Rattle.std.specs.Prelude.{ℤ, pos, negsuc, ◌≤ℤ◌, Bool, ◌&&◌, Li
 use Rattle.std.specs.List.{list_any}
 use Rattle.fill_base.specs.declared.place.Point.{Point}
 use Rattle.fill_raster.specs.Lattice.{Lattice, in_raster}
-use Rattle.gds_flatten.specs.declared.placement.Placement.{Placement}
+use Rattle.gds_cells.specs.declared.placement.Placement.{Placement}
 use Rattle.gds_out.specs.FillContents.{corner_of}
 use Rattle.gds_join.specs.Reading.{is_point}
 

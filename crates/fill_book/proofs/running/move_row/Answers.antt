@@ -7,7 +7,7 @@ use Rattle.fill_area.specs.Grid.{Grid}
 use Rattle.fill_sums.specs.Numbers.{IsMovedBy, StaysBy, WindowNumbers}
 use Rattle.fill_job.proofs.Marking.{next_fits, not_lt}
 use Rattle.fill_book.specs.steps.Following.{is_moved, taken_at}
-use Rattle.fill_book.proofs.BoxSums.{same_le}
+use Rattle.fill_state.proofs.BoxSums.{same_le}
 use Rattle.fill_book.proofs.SumsMoved.{all_of, all_passed, box_area, next_moved, next_passed, next_stays, next_up, no_box, none_moved}
 use Rattle.fill_book.proofs.running.move_row.Goals as goal
 use Rattle.fill_book.proofs.running.move_row.Goals.{then-has, else-has}

@@ -6,7 +6,7 @@ use Rattle.fill_area.specs.Grid.{Grid}
 use Rattle.fill_sums.specs.Numbers.{AreNumbers, IsMovedBy, StaysBy}
 use Rattle.fill_job.proofs.Marking.{next_fits, not_lt}
 use Rattle.fill_book.specs.steps.Following.{is_moved, taken_of_row}
-use Rattle.fill_book.proofs.BoxSums.{same_le}
+use Rattle.fill_state.proofs.BoxSums.{same_le}
 use Rattle.fill_book.proofs.SumsMoved.{all_passed, next_moved, next_numbers, next_stays, next_up, none_moved}
 use Rattle.fill_book.proofs.running.move_rows.Goals as goal
 

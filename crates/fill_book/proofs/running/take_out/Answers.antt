@@ -3,7 +3,7 @@ use Rattle.fill_region.specs.Bands.{holds}
 use Rattle.fill_area.specs.Grid.{Grid}
 use Rattle.fill_sums.specs.declared.moving.Way.TheVariants.{Down}
 use Rattle.fill_sums.specs.Numbers.{IsMovedBy, StaysBy}
-use Rattle.fill_book.specs.Filling.{in_places, is_filled, left_by}
+use Rattle.fill_state.specs.Filling.{in_places, is_filled, left_by}
 use Rattle.fill_book.specs.steps.Following.{taken_out}
 use Rattle.fill_book.proofs.BoxParts.{rows_go, rows_go_measured}
 use Rattle.fill_book.proofs.EditParts.{boxes_go}

@@ -5,8 +5,8 @@ use Rattle.fill_base.proofs.Signed.{read_is}
 use Rattle.fill_base.specs.Counts.{is_between}
 use Rattle.fill_raster.specs.Lattice.{is_near}
 use Rattle.fill_job.specs.Plans.{plan_of}
-use Rattle.fill_book.specs.Filling.{in_places}
-use Rattle.fill_book.proofs.Nearby.{near_on}
+use Rattle.fill_state.specs.Filling.{in_places}
+use Rattle.fill_state.proofs.Nearby.{near_on}
 use Rattle.fill_book.proofs.TooNear.{left_if_far}
 use Rattle.fill_book.proofs.stored.too_near.Goals as goal
 

@@ -1,6 +1,6 @@
 use Rattle.std.proofs.Common.{◌≡◌, refl, ℕ, ◌≤◌, length, arith}
 use Rattle.std.proofs.lemmas.Result.{err_from_is_err_and}
-use Rattle.fill_book.specs.Filling.{is_filled}
+use Rattle.fill_state.specs.Filling.{is_filled}
 use Rattle.fill_device.specs.Taps.{under}
 use Rattle.fill_engine.specs.Joining.{IsUntaken}
 use Rattle.fill_engine.specs.declared.refusal.InputFault.TheVariants.{Refused}

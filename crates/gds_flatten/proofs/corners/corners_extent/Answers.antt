@@ -1,9 +1,9 @@
 use Rattle.std.proofs.Common.{◌≡◌, ℕ, ◌+◌, ◌*◌, ◌<◌, refl, sym, subst, arith, ◌∙◌}
 use Rattle.gds_shape.specs.declared.bounds.Bounds.{Bounds}
 use Rattle.gds_shape.specs.Extents.{joined}
-use Rattle.gds_flatten.specs.Links.{single}
-use Rattle.gds_flatten.specs.Placements.{carried_bounds}
-use Rattle.gds_flatten.specs.steps.Framing.{IsPart}
+use Rattle.gds_cells.specs.Links.{single}
+use Rattle.gds_cells.specs.Placements.{carried_bounds}
+use Rattle.gds_cells.specs.steps.Prepared.{IsPart}
 use Rattle.gds_flatten.proofs.Cornered.{corners_part, inside}
 use Rattle.gds_flatten.proofs.Tight.{joined_fits}
 use Rattle.gds_flatten.proofs.corners.corners_extent.Goals as goal

@@ -1,6 +1,6 @@
 use Rattle.std.proofs.Common.{◌-◌, ◌≤◌, arith}
-use Rattle.gds_flatten.specs.Links.{single}
-use Rattle.gds_flatten.specs.Placements.{point_x, point_y}
+use Rattle.gds_cells.specs.Links.{single}
+use Rattle.gds_cells.specs.Placements.{point_x, point_y}
 use Rattle.gds_flatten.proofs.Cornered.{rows_rise, in_order}
 use Rattle.gds_flatten.proofs.corners.turns_extent.Goals as goal
 

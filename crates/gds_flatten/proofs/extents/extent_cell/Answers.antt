@@ -1,8 +1,8 @@
 use Rattle.std.proofs.Common.{map, subst, sym}
 use Rattle.std.specs.List.{flat_map}
 use Rattle.std.specs.Vec.{vec_items}
-use Rattle.gds_flatten.specs.Copies.{own_copy}
-use Rattle.gds_flatten.specs.steps.Built.{own_of}
+use Rattle.gds_cells.specs.Copies.{own_copy}
+use Rattle.gds_cells.specs.steps.Built.{own_of}
 use Rattle.gds_flatten.specs.steps.Framing.{IsRight, AllFit, square, links_draw, AreRightlyHeld}
 use Rattle.gds_flatten.proofs.Holding.{held_both}
 use Rattle.std.proofs.lemmas.Result.{err_from_is_err_and}

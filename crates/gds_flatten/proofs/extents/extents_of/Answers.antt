@@ -1,7 +1,7 @@
 use Rattle.std.proofs.Common.{ℕ, List, arith, refl, sym, subst, length}
 use Rattle.std.proofs.lemmas.Option.{slice_get_read}
-use Rattle.gds_flatten.specs.Copies.{Copy}
-use Rattle.gds_flatten.specs.Graphs.{item}
+use Rattle.gds_cells.specs.Copies.{Copy}
+use Rattle.gds_cells.specs.Graphs.{item}
 use Rattle.gds_flatten.specs.steps.Framing.{IsRight, AllFit, square, cell_draws, AreRightlyHeld}
 use Rattle.gds_flatten.proofs.ExtentsInOrder.{extended_more, below_fit}
 use Rattle.std.proofs.lemmas.Result.{err_from_is_err_and}

@@ -2,8 +2,8 @@ use Rattle.std.proofs.Common.{inr, suc, ℕ, ◌*◌, ◌<◌, ◌≤◌, ◌%�
 use Rattle.std.specs.Int.{int_min, int_max}
 use Rattle.std.proofs.lemmas.Int.{ints, clamps}
 use Rattle.gds_shape.proofs.Inside.{one_inside}
-use Rattle.gds_flatten.specs.Links.{single}
-use Rattle.gds_flatten.specs.Placements.{point_x, point_y, carried_bounds}
+use Rattle.gds_cells.specs.Links.{single}
+use Rattle.gds_cells.specs.Placements.{point_x, point_y, carried_bounds}
 use Rattle.gds_flatten.proofs.Cornered.{column_below, row_up}
 use Rattle.std.proofs.lemmas.Bool.{false≢true}
 use Rattle.gds_flatten.specs.steps.Framing.{square}

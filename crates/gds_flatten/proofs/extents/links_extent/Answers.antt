@@ -1,9 +1,9 @@
 use Rattle.std.proofs.Common.{ℕ, map, take, refl, subst, sym, arith}
-use Rattle.gds_flatten.specs.declared.link.Link.{Link}
+use Rattle.gds_cells.specs.declared.link.Link.{Link}
 use Rattle.std.specs.List.{flat_map}
-use Rattle.gds_flatten.specs.declared.placement.Placement.{Placement}
-use Rattle.gds_flatten.specs.Copies.{carry_copy}
-use Rattle.gds_flatten.specs.steps.Walks.{singles_of}
+use Rattle.gds_cells.specs.declared.placement.Placement.{Placement}
+use Rattle.gds_cells.specs.Copies.{carry_copy}
+use Rattle.gds_cells.specs.steps.Walks.{singles_of}
 use Rattle.gds_flatten.specs.steps.Framing.{IsRight, Fits, square, links_draw, extent_at}
 use Rattle.gds_flatten.proofs.Drawing.{whole_flat}
 use Rattle.gds_flatten.proofs.Holding.{held_both, link_held, links_more}

@@ -1,5 +1,5 @@
 use Rattle.std.proofs.Common.{ℕ, List, take}
-use Rattle.gds_flatten.specs.Copies.{Copy}
+use Rattle.gds_cells.specs.Copies.{Copy}
 use Rattle.gds_flatten.specs.steps.Framing.{IsFineIf, IsRight, links_draw, AreRightlyHeld}
 use Rattle.gds_flatten.proofs.extents.links_extent.Given as goal
 

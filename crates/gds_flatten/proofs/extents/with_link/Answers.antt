@@ -1,5 +1,5 @@
 use Rattle.std.proofs.Common.{subst}
-use Rattle.gds_flatten.specs.Links.{single}
+use Rattle.gds_cells.specs.Links.{single}
 use Rattle.gds_flatten.specs.steps.Framing.{IsFineIf, IsHeld, IsTight}
 use Rattle.gds_flatten.proofs.Holding.{single_held, nothing_single}
 use Rattle.gds_flatten.proofs.Tight.{link_tight, nothing_tight}

@@ -1,8 +1,8 @@
 use Rattle.std.proofs.Common.{[], ◌∷◌, map, take, refl, subst, sym, arith}
 use Rattle.gds_grammar.specs.Values.{shape_of}
-use Rattle.gds_flatten.specs.Copies.{own_copy}
-use Rattle.gds_flatten.specs.steps.Built.{own_of}
-use Rattle.gds_flatten.specs.steps.Filled.{rects_in, extent_in}
+use Rattle.gds_cells.specs.Copies.{own_copy}
+use Rattle.gds_cells.specs.steps.Built.{own_of}
+use Rattle.gds_cells.specs.steps.Filled.{rects_in, extent_in}
 use Rattle.gds_flatten.specs.steps.Framing.{IsFineIf, IsHeld, Fits, FitAll}
 use Rattle.std.specs.Prelude.{◌↔◌}
 use Rattle.gds_flatten.proofs.Drawing.{whole_flat}

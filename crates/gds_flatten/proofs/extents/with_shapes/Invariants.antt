@@ -1,8 +1,8 @@
 use Rattle.std.proofs.Common.{map, take}
 use Rattle.std.specs.Prelude.{◌↔◌}
 use Rattle.gds_shape.specs.declared.bounds.Bounds.{Bounds}
-use Rattle.gds_flatten.specs.Copies.{own_copy}
-use Rattle.gds_flatten.specs.steps.Built.{own_of}
+use Rattle.gds_cells.specs.Copies.{own_copy}
+use Rattle.gds_cells.specs.steps.Built.{own_of}
 use Rattle.gds_flatten.specs.steps.Framing.{IsFineIf, IsAround, IsHeld, Fits, FitAll}
 use Rattle.gds_flatten.proofs.extents.with_shapes.Given as goal
 

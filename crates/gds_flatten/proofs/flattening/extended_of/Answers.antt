@@ -1,11 +1,11 @@
 use Rattle.std.proofs.Common.{map, ◌≡◌, ◌⊎◌, subst, sym, ap, ◌∙◌}
 use Rattle.std.proofs.lemmas.Result.{err_from_is_err_and}
 use Rattle.gds_grammar.specs.Values.{cell_of}
-use Rattle.gds_flatten.specs.declared.error.FlattenError.TheVariants.{Memory}
-use Rattle.gds_flatten.specs.Graphs.{IsWhole}
-use Rattle.gds_flatten.specs.steps.Built.{IsFaultAmong}
-use Rattle.gds_flatten.specs.steps.Rows.{rows, state_of}
-use Rattle.gds_flatten.specs.steps.Surveys.{IsUnsound}
+use Rattle.gds_cells.specs.declared.error.FlattenError.TheVariants.{Memory}
+use Rattle.gds_cells.specs.Graphs.{IsWhole}
+use Rattle.gds_cells.specs.steps.Built.{IsFaultAmong}
+use Rattle.gds_cells.specs.steps.Rows.{rows, state_of}
+use Rattle.gds_cells.specs.steps.Surveys.{IsUnsound}
 use Rattle.gds_flatten.proofs.Agreeing.{whole}
 use Rattle.gds_flatten.proofs.Flattened.{unsound_told, told_surveyed, fault_refused, fault_early}
 use Rattle.gds_flatten.proofs.Framing.{framed_told, far_told, told_on}

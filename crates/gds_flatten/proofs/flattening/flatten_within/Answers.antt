@@ -5,7 +5,7 @@ use Rattle.fill_region.specs.Squares.{covered}
 use Rattle.gds_grammar.specs.Values.{cell_of}
 use Rattle.gds_flatten.specs.Flattening.{copies_of}
 use Rattle.gds_flatten.specs.steps.Framing.{IsFound, IsRefusalOn, IsTight, extent_at}
-use Rattle.gds_flatten.specs.steps.Walks.{top_copies}
+use Rattle.gds_cells.specs.steps.Walks.{top_copies}
 use Rattle.gds_flatten.proofs.Flattened.{walked}
 use Rattle.gds_flatten.proofs.Framing.{frame_met, walk_told, few_told}
 use Rattle.gds_flatten.proofs.Sparse.{but_found, but_refused}

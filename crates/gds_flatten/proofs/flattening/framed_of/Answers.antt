@@ -3,7 +3,7 @@ use Rattle.std.specs.Prelude.{All}
 use Rattle.std.proofs.lemmas.Result.{err_from_is_err_and}
 use Rattle.gds_flatten.specs.steps.Framing.{IsFineIf, IsTight, extent_at}
 use Rattle.gds_flatten.specs.steps.Idle.{AreBut}
-use Rattle.gds_flatten.specs.steps.Walks.{top_copies}
+use Rattle.gds_cells.specs.steps.Walks.{top_copies}
 use Rattle.gds_flatten.proofs.flattening.framed_of.Goals as goal
 
 pub returns-in_err-framed-clause-refused : goal.returns-in_err-framed-clause-refused

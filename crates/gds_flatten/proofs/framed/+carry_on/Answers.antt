@@ -2,12 +2,12 @@ use Rattle.std.proofs.Common.{◌≡◌, ◌<◌, ◌+◌, ◌-◌, ◌/◌, ◌
 use Rattle.std.specs.List.{flat_map, range_with_len}
 use Rattle.std.specs.Vec.{vec_items}
 use Rattle.std.proofs.lemmas.Result.{err_from_is_err_and}
-use Rattle.gds_flatten.specs.Placements.{composed}
-use Rattle.gds_flatten.specs.Copies.{carry_copy, copies}
-use Rattle.gds_flatten.specs.Links.{single}
-use Rattle.gds_flatten.specs.steps.Ranges.{IsWithin}
+use Rattle.gds_cells.specs.Placements.{composed}
+use Rattle.gds_cells.specs.Copies.{carry_copy, copies}
+use Rattle.gds_cells.specs.Links.{single}
+use Rattle.gds_cells.specs.steps.Ranges.{IsWithin}
 use Rattle.gds_flatten.specs.steps.Framing.{IsRight, IsFound, IsRefusalOn}
-use Rattle.gds_flatten.specs.steps.Walks.{hierarchy, shapes_in, shape_copies, single_copies, link_copies}
+use Rattle.gds_cells.specs.steps.Walks.{hierarchy, shapes_in, shape_copies, single_copies, link_copies}
 use Rattle.gds_flatten.proofs.Drawing.{deeper, all_copies}
 use Rattle.gds_flatten.proofs.Holding.{turns_join}
 use Rattle.gds_flatten.proofs.Seen.{held_here, held_below, wider}

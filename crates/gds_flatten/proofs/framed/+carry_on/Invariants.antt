@@ -1,8 +1,8 @@
 use Rattle.std.proofs.Common.{◌*◌, ◌+◌, ◌-◌, take}
 use Rattle.std.specs.List.{flat_map}
-use Rattle.gds_flatten.specs.Copies.{copies}
+use Rattle.gds_cells.specs.Copies.{copies}
 use Rattle.gds_flatten.specs.steps.Framing.{IsFound}
-use Rattle.gds_flatten.specs.steps.Walks.{hierarchy, link_copies}
+use Rattle.gds_cells.specs.steps.Walks.{hierarchy, link_copies}
 use Rattle.gds_flatten.proofs.framed.+carry_on.Given as goal
 
 abbrev pub decreases-carry_cell_on : goal.decreases-carry_cell_on

@@ -1,6 +1,6 @@
 use Rattle.std.proofs.Common.{◌≡◌}
 use Rattle.fill_base.proofs.Signed.{read}
-use Rattle.gds_flatten.proofs.Pointing.{read_close, bounds_read_close}
+use Rattle.gds_cells.proofs.Pointing.{read_close, bounds_read_close}
 use Rattle.gds_flatten.proofs.framed.carried_extent.Goals as goal
 
 pub returns : goal.returns

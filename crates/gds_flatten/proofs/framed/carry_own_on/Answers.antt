@@ -2,7 +2,7 @@ use Rattle.std.proofs.Common.{subst, arith}
 use Rattle.std.specs.List.{flat_map}
 use Rattle.std.proofs.lemmas.Result.{err_from_is_err_and}
 use Rattle.gds_flatten.specs.steps.Framing.{IsFound, IsRefusalOn}
-use Rattle.gds_flatten.specs.steps.Walks.{shape_copies}
+use Rattle.gds_cells.specs.steps.Walks.{shape_copies}
 use Rattle.gds_flatten.proofs.Sharing.{run_copies, of_runs}
 use Rattle.gds_flatten.proofs.Missed.{found_none, found_next, found_all, many_next}
 use Rattle.gds_flatten.proofs.framed.carry_own_on.Goals as goal

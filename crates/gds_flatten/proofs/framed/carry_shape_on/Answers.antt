@@ -2,10 +2,10 @@ use Rattle.std.proofs.Common.{◌≡◌, true, false, subst, sym, ap, ◌∙◌}
 use Rattle.std.proofs.lemmas.Result.{err_from_is_err_and}
 use Rattle.gds_grammar.specs.Values.{shape_of}
 use Rattle.gds_flatten.specs.Frames.{meets}
-use Rattle.gds_flatten.specs.Placements.{carried_bounds}
-use Rattle.gds_flatten.specs.steps.Filled.{rects_in}
-use Rattle.gds_flatten.specs.steps.Prepared.{IsPrepared}
-use Rattle.gds_flatten.specs.steps.Walks.{shape_copies}
+use Rattle.gds_cells.specs.Placements.{carried_bounds}
+use Rattle.gds_cells.specs.steps.Filled.{rects_in}
+use Rattle.gds_cells.specs.steps.Prepared.{IsPrepared}
+use Rattle.gds_cells.specs.steps.Walks.{shape_copies}
 use Rattle.gds_flatten.proofs.Missed.{found_missed, shape_missed, bare_shape, shape_found, shape_many}
 use Rattle.gds_flatten.proofs.framed.carry_shape_on.Goals as goal
 

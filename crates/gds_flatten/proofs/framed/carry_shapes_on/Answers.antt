@@ -1,7 +1,7 @@
 use Rattle.std.proofs.Common.{subst, arith}
 use Rattle.std.proofs.lemmas.Result.{err_from_is_err_and}
 use Rattle.gds_flatten.specs.steps.Framing.{IsFound, IsRefusalOn}
-use Rattle.gds_flatten.specs.steps.Walks.{shape_copies}
+use Rattle.gds_cells.specs.steps.Walks.{shape_copies}
 use Rattle.gds_flatten.proofs.Missed.{found_none, found_next, found_all, many_next}
 use Rattle.gds_flatten.proofs.framed.carry_shapes_on.Goals as goal
 

@@ -1,7 +1,7 @@
 use Rattle.std.proofs.Common.{take}
 use Rattle.std.specs.List.{flat_map}
 use Rattle.gds_flatten.specs.steps.Framing.{IsFound}
-use Rattle.gds_flatten.specs.steps.Walks.{shape_copies}
+use Rattle.gds_cells.specs.steps.Walks.{shape_copies}
 use Rattle.gds_flatten.proofs.framed.carry_shapes_on.Given as goal
 
 abbrev pub invariant-shapes : goal.invariant-shapes

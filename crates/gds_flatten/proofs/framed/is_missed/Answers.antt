@@ -1,6 +1,6 @@
 use Rattle.std.proofs.Common.{◌≡◌, false, subst, sym, ap, ◌∙◌}
 use Rattle.gds_flatten.specs.Frames.{meets}
-use Rattle.gds_flatten.specs.Placements.{carried_bounds}
+use Rattle.gds_cells.specs.Placements.{carried_bounds}
 use Rattle.gds_flatten.specs.steps.Framing.{IsFineIf, IsRight}
 use Rattle.gds_flatten.proofs.Missed.{cell_missed, bare_missed, is_false}
 use Rattle.gds_flatten.proofs.framed.is_missed.Goals as goal

@@ -2,12 +2,12 @@ use Rattle.std.proofs.Common.{subst, sym, ap, arith, refl, ◌-◌, ◌*◌, ◌
 use Rattle.std.specs.List.{flat_map}
 use Rattle.std.specs.Vec.{vec_items}
 use Rattle.std.proofs.lemmas.Result.{err_from_is_err_and}
-use Rattle.gds_flatten.specs.Placements.{composed}
-use Rattle.gds_flatten.specs.Copies.{carry_copy, copies, AllStayInRange}
-use Rattle.gds_flatten.specs.steps.Counting.{IsCapped}
-use Rattle.gds_flatten.specs.steps.Ranges.{IsWithin}
-use Rattle.gds_flatten.specs.steps.Walks.{hierarchy, shape_copies, single_copies, link_copies, part, IsDrawn, IsRefusal}
-use Rattle.gds_flatten.proofs.Capping.{count_of, counts_below}
+use Rattle.gds_cells.specs.Placements.{composed}
+use Rattle.gds_cells.specs.Copies.{carry_copy, copies, AllStayInRange}
+use Rattle.gds_cells.specs.steps.Counting.{IsCapped}
+use Rattle.gds_cells.specs.steps.Ranges.{IsWithin}
+use Rattle.gds_cells.specs.steps.Walks.{hierarchy, shape_copies, single_copies, link_copies, part, IsDrawn, IsRefusal}
+use Rattle.gds_cells.proofs.Capping.{count_of, counts_below}
 use Rattle.gds_flatten.proofs.Drawing.{link_of_cell_leaves, turn_leaves, refused_more, deeper}
 use Rattle.gds_flatten.proofs.Sharing.{none_shared, next_shared, rest_shared, all_shared, cell_shared, own_leave, link_before, link_passed, turns_begun, turn_shared, turns_done}
 use Rattle.gds_flatten.proofs.walk.+carry.Goals as goal

@@ -1,7 +1,7 @@
 use Rattle.std.proofs.Common.{◌≤◌, ◌*◌, ◌+◌, ◌-◌}
 use Rattle.std.specs.List.{flat_map, range_with_len}
-use Rattle.gds_flatten.specs.Copies.{copies}
-use Rattle.gds_flatten.specs.steps.Walks.{hierarchy, single_copies, link_copies, part, IsDrawn}
+use Rattle.gds_cells.specs.Copies.{copies}
+use Rattle.gds_cells.specs.steps.Walks.{hierarchy, single_copies, link_copies, part, IsDrawn}
 use Rattle.gds_flatten.proofs.Sharing.{IsShared}
 use Rattle.gds_flatten.proofs.walk.+carry.Given as goal
 

@@ -1,7 +1,7 @@
 use Rattle.std.proofs.Common.{◌≡◌, length, vec_len, arith, refl, ap, ◌-◌, ◌∙◌}
 use Rattle.std.proofs.lemmas.Grind.{common_steps}
 use Rattle.std.proofs.lemmas.Result.{err_from_is_err_and}
-use Rattle.gds_flatten.specs.steps.Walks.{part}
+use Rattle.gds_cells.specs.steps.Walks.{part}
 use Rattle.gds_flatten.proofs.Drawing.{refused_more}
 use Rattle.gds_flatten.proofs.Sharing.{none_shared, run_copies, run_shared, run_leaves, all_runs}
 use Rattle.gds_flatten.proofs.walk.carry_own.Goals as goal

@@ -1,8 +1,8 @@
 use Rattle.std.proofs.Common.{rules, subst, sym}
 use Rattle.std.proofs.lemmas.Result.{err_from_is_err_and}
 use Rattle.gds_grammar.specs.Values.{shape_of}
-use Rattle.gds_flatten.specs.Copies.{AllStayInRange}
-use Rattle.gds_flatten.specs.steps.Walks.{shape_copies, IsDrawn}
+use Rattle.gds_cells.specs.Copies.{AllStayInRange}
+use Rattle.gds_cells.specs.steps.Walks.{shape_copies, IsDrawn}
 use Rattle.gds_flatten.proofs.Drawing.{drawn_next, shape_drawn, next_leaves, shape_leaves, refused_more}
 use Rattle.gds_flatten.proofs.walk.carry_shapes.Goals as goal
 

@@ -1,7 +1,7 @@
 use Rattle.std.proofs.Common.{subst, sym, arith, ◌≡◌, []}
 use Rattle.std.proofs.lemmas.Option.{slice_get_read, slice_get_past}
-use Rattle.gds_flatten.specs.Copies.{copies}
-use Rattle.gds_flatten.specs.steps.Walks.{hierarchy}
+use Rattle.gds_cells.specs.Copies.{copies}
+use Rattle.gds_cells.specs.steps.Walks.{hierarchy}
 use Rattle.gds_flatten.proofs.Drawing.{no_chain, no_cell}
 use Rattle.std.proofs.Common.{length, refl}
 use Rattle.gds_flatten.proofs.walk.cell_at.Goals as goal

@@ -2,11 +2,11 @@ use Rattle.std.proofs.Common.{◌≡◌, ◌-◌, ◌*◌, map, subst, sym, ap, 
 use Rattle.std.specs.List.{flat_map, range_with_len}
 use Rattle.std.specs.Vec.{vec_items}
 use Rattle.std.proofs.lemmas.Result.{err_from_is_err_and}
-use Rattle.gds_flatten.specs.Placements.{composed}
-use Rattle.gds_flatten.specs.Copies.{carry_copy, copies}
-use Rattle.gds_flatten.specs.steps.Ranges.{IsWithin}
+use Rattle.gds_cells.specs.Placements.{composed}
+use Rattle.gds_cells.specs.Copies.{carry_copy, copies}
+use Rattle.gds_cells.specs.steps.Ranges.{IsWithin}
 use Rattle.gds_flatten.specs.steps.Framing.{AreInside, IsFound, IsRefusalOn}
-use Rattle.gds_flatten.specs.steps.Walks.{hierarchy, shapes_in, shape_copies, single_copies, link_copies}
+use Rattle.gds_cells.specs.steps.Walks.{hierarchy, shapes_in, shape_copies, single_copies, link_copies}
 use Rattle.gds_flatten.proofs.Drawing.{deeper, all_copies}
 use Rattle.gds_flatten.proofs.Missed.{found_none, found_more, found_next, found_all, many_first, many_later, many_next}
 use Rattle.gds_flatten.proofs.Inside.{inside_first, inside_later, inside_item, inside_turn, found_turn, many_turn}

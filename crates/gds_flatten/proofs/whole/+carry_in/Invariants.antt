@@ -1,9 +1,9 @@
 use Rattle.std.proofs.Common.{◌*◌, ◌+◌, ◌-◌, take}
 use Rattle.std.specs.List.{flat_map, range_with_len}
 use Rattle.fill_base.specs.declared.rect.Rect.{Rect}
-use Rattle.gds_flatten.specs.Copies.{copies}
+use Rattle.gds_cells.specs.Copies.{copies}
 use Rattle.gds_flatten.specs.steps.Framing.{IsFound, AreInside}
-use Rattle.gds_flatten.specs.steps.Walks.{hierarchy, single_copies, link_copies}
+use Rattle.gds_cells.specs.steps.Walks.{hierarchy, single_copies, link_copies}
 use Rattle.gds_flatten.proofs.whole.+carry_in.Given as goal
 
 abbrev pub decreases-carry_cell_in : goal.decreases-carry_cell_in

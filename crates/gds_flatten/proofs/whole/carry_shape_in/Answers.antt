@@ -1,9 +1,9 @@
 use Rattle.std.proofs.Common.{subst, sym, ◌∙◌}
 use Rattle.std.proofs.lemmas.Result.{err_from_is_err_and}
 use Rattle.gds_grammar.specs.Values.{shape_of}
-use Rattle.gds_flatten.specs.steps.Filled.{rects_in}
-use Rattle.gds_flatten.specs.steps.Prepared.{IsPrepared}
-use Rattle.gds_flatten.specs.steps.Walks.{shape_copies}
+use Rattle.gds_cells.specs.steps.Filled.{rects_in}
+use Rattle.gds_cells.specs.steps.Prepared.{IsPrepared}
+use Rattle.gds_cells.specs.steps.Walks.{shape_copies}
 use Rattle.gds_flatten.proofs.Missed.{found_missed, bare_shape, shape_found, shape_many}
 use Rattle.gds_flatten.proofs.Inside.{shape_meets}
 use Rattle.gds_flatten.proofs.whole.carry_shape_in.Goals as goal

@@ -1,7 +1,7 @@
 use Rattle.std.proofs.Common.{subst, sym, arith}
 use Rattle.std.proofs.lemmas.Result.{err_from_is_err_and}
 use Rattle.gds_flatten.specs.steps.Framing.{IsFound, IsRefusalOn, AreInside}
-use Rattle.gds_flatten.specs.steps.Walks.{shape_copies}
+use Rattle.gds_cells.specs.steps.Walks.{shape_copies}
 use Rattle.gds_flatten.proofs.Missed.{found_none, found_next, found_all, many_next}
 use Rattle.gds_flatten.proofs.Inside.{inside_item}
 use Rattle.gds_flatten.proofs.whole.carry_shapes_in.Goals as goal

@@ -2,7 +2,7 @@ use Rattle.std.proofs.Common.{take}
 use Rattle.std.specs.List.{flat_map}
 use Rattle.fill_base.specs.declared.rect.Rect.{Rect}
 use Rattle.gds_flatten.specs.steps.Framing.{IsFound, AreInside}
-use Rattle.gds_flatten.specs.steps.Walks.{shape_copies}
+use Rattle.gds_cells.specs.steps.Walks.{shape_copies}
 use Rattle.gds_flatten.proofs.whole.carry_shapes_in.Given as goal
 
 abbrev pub invariant-shapes : goal.invariant-shapes

@@ -4,7 +4,7 @@ use Rattle.std.proofs.lemmas.Int.{ints}
 use Rattle.std.proofs.lemmas.Slice.Eq.{bytes_eq-Decides}
 use Rattle.std.specs.Str.{bytes_eq}
 use Rattle.fill_raster.specs.Lattice.{Lattice, in_raster}
-use Rattle.fill_book.specs.Filling.{Filling, is_filled}
+use Rattle.fill_state.specs.Filling.{Filling, is_filled}
 use Rattle.fill_text.specs.ValuesOfRules.{values_of}
 use Rattle.gds_grammar.specs.Values.{contents_of}
 use Rattle.gds_out.specs.FillText.{fill_text}

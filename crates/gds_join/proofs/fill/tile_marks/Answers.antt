@@ -1,6 +1,6 @@
 use Rattle.std.proofs.Common.{◌∙◌, ap, subst, rules}
 use Rattle.fill_raster.specs.Lattice.{IsLattice, in_raster, tiles}
-use Rattle.fill_book.specs.Filling.{is_filled}
+use Rattle.fill_state.specs.Filling.{is_filled}
 use Rattle.gds_join.proofs.Marked.{all_first, marks_are, one_more_tile}
 use Rattle.gds_join.proofs.Telling.{first_holds}
 use Rattle.gds_join.proofs.fill.tile_marks.Goals as goal

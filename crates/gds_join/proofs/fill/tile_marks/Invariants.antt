@@ -1,5 +1,5 @@
 -- The marks so far are those of the first tiles.
-use Rattle.fill_book.specs.Filling.{is_filled}
+use Rattle.fill_state.specs.Filling.{is_filled}
 use Rattle.gds_join.proofs.Marked.{AreFirst}
 use Rattle.gds_join.proofs.fill.tile_marks.Given as goal
 

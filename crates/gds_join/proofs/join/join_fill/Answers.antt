@@ -1,5 +1,5 @@
 use Rattle.std.proofs.Common.{◌≡◌, refl, ap, ◌∙◌, ℕ, ◌+◌, ◌≤◌, subst, arith, rules}
-use Rattle.fill_book.specs.Filling.{is_filled}
+use Rattle.fill_state.specs.Filling.{is_filled}
 use Rattle.fill_raster.specs.Lattice.{Lattice, IsLattice, in_raster, in_tile, tiles}
 use Rattle.gds_join.specs.steps.Putting.{IsHindered, IsPut, in_tiles, is_own}
 use Rattle.gds_join.proofs.Putting.{hindered_later, put_both, put_same, tile_within, tiles_all, tiles_apart, tiles_more, tiles_none}

@@ -1,6 +1,6 @@
 -- The places of the tiles so far are put.
 use Rattle.std.proofs.Common.{◌≡◌}
-use Rattle.fill_book.specs.Filling.{is_filled}
+use Rattle.fill_state.specs.Filling.{is_filled}
 use Rattle.gds_join.specs.steps.Putting.{IsPut, in_tiles, is_own}
 use Rattle.gds_join.proofs.join.join_fill.Given as goal
 

@@ -1,5 +1,5 @@
 use Rattle.std.proofs.Common.{◌≡◌, sym, ap, ◌∙◌, ◌/◌, ℕ, ℤ, Bool}
-use Rattle.fill_book.specs.Filling.{is_filled}
+use Rattle.fill_state.specs.Filling.{is_filled}
 use Rattle.fill_raster.specs.Axes.{groups}
 use Rattle.fill_raster.specs.Lattice.{Lattice, tile_of}
 use Rattle.fill_parts.specs.Cuts.{Part, has_row}

@@ -2,7 +2,7 @@ use Rattle.std.proofs.Common.{◌≡◌, refl, sym, subst, ◌∙◌, pos, ◌+�
 use Rattle.fill_raster.specs.Lattice.{Lattice, in_raster}
 use Rattle.fill_base.proofs.Between.{is_between_true}
 use Rattle.fill_base.proofs.Signed.{read, read_is, is_lt}
-use Rattle.fill_book.specs.Filling.{is_filled}
+use Rattle.fill_state.specs.Filling.{is_filled}
 use Rattle.fill_job.proofs.Marking.{next_within, first_within, next_fits, not_lt}
 use Rattle.gds_join.specs.steps.Putting.{IsHindered, IsPut, in_row, is_own, one_place}
 use Rattle.gds_join.proofs.Putting.{hindered_later, put_both, row_apart, row_end, row_more, row_none, row_within}

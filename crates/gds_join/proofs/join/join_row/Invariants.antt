@@ -1,7 +1,7 @@
 -- The places of the columns so far are put.
 use Rattle.std.proofs.Common.{◌≡◌, ◌≤ℤ◌}
 use Rattle.std.specs.Int.{int_max}
-use Rattle.fill_book.specs.Filling.{is_filled}
+use Rattle.fill_state.specs.Filling.{is_filled}
 use Rattle.gds_join.specs.steps.Putting.{IsPut, in_row, is_own}
 use Rattle.gds_join.proofs.join.join_row.Given as goal
 

@@ -4,7 +4,7 @@ use Rattle.fill_raster.specs.Lattice.{Lattice, in_raster}
 use Rattle.std.proofs.lemmas.Bool.{and_from}
 use Rattle.fill_base.proofs.Between.{is_between_true}
 use Rattle.fill_base.proofs.Signed.{read, read_is, is_lt}
-use Rattle.fill_book.specs.Filling.{is_filled}
+use Rattle.fill_state.specs.Filling.{is_filled}
 use Rattle.fill_job.proofs.Marking.{next_within, first_within, next_fits, not_lt}
 use Rattle.gds_join.specs.steps.Putting.{IsHindered, IsPut, in_row, in_rows, is_own}
 use Rattle.gds_join.proofs.Putting.{hindered_later, put_both, put_same, rows_apart, rows_end, rows_more, rows_none, rows_within}

@@ -2,7 +2,7 @@ use Rattle.std.proofs.Common.{◌≡◌, ap, subst, sym, ◌∙◌, w64, FitsSig
 use Rattle.std.proofs.lemmas.Result.{IfErr-weaker, on_ok_weaker}
 use Rattle.fill_base.specs.Counts.{is_between}
 use Rattle.fill_base.proofs.Signed.{read, read_is}
-use Rattle.fill_book.specs.Filling.{is_filled}
+use Rattle.fill_state.specs.Filling.{is_filled}
 use Rattle.fill_raster.specs.Lattice.{Lattice, in_tile}
 use Rattle.gds_join.specs.steps.Putting.{IsHindered, in_rows, is_own}
 use Rattle.gds_join.proofs.Putting.{hindered_same, put_same, tile_none, tile_rows, tile_within}

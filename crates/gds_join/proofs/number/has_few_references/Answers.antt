@@ -1,7 +1,7 @@
 use Rattle.std.proofs.Common.{◌≡◌, refl, sym, ap, ◌∙◌, ℕ, ◌+◌, ◌<◌, arith, length, map, min, take}
 use Rattle.std.specs.List.{flat_map}
 use Rattle.std.proofs.lemmas.List.{length-append, length-map}
-use Rattle.gds_flatten.specs.Designs.{elements_at}
+use Rattle.gds_cells.specs.Designs.{elements_at}
 use Rattle.gds_grammar.specs.Values.{Cell, cell_of}
 use Rattle.gds_join.specs.Reading.{corners_of}
 use Rattle.gds_join.proofs.Marking.{one_cell_more}

@@ -1,5 +1,5 @@
 use Rattle.std.proofs.Common.{sym, ap, ◌∙◌, length}
-use Rattle.gds_flatten.specs.Links.{singles}
+use Rattle.gds_cells.specs.Links.{singles}
 use Rattle.gds_grammar.specs.declared.element.Array as arrays
 use Rattle.gds_grammar.specs.declared.element.Element.{Element}
 use Rattle.gds_grammar.specs.Values.{array, shape_of}

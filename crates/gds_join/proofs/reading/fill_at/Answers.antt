@@ -1,5 +1,5 @@
 use Rattle.std.proofs.Common.{sym, ap, ◌∙◌, ◌||◌}
-use Rattle.fill_book.specs.Filling.{is_filled}
+use Rattle.fill_state.specs.Filling.{is_filled}
 use Rattle.gds_out.specs.Laws.{raster_in}
 use Rattle.gds_out.proofs.RuleAxes.{across_is, up_is}
 use Rattle.gds_join.proofs.Marking.{no_place, one_place}

@@ -1,6 +1,6 @@
 use Rattle.std.proofs.Common.{sym, ap, ◌∙◌, ◌||◌}
-use Rattle.fill_book.specs.Filling.{is_filled}
-use Rattle.gds_flatten.specs.Links.{singles}
+use Rattle.fill_state.specs.Filling.{is_filled}
+use Rattle.gds_cells.specs.Links.{singles}
 use Rattle.gds_grammar.specs.declared.element.Array as arrays
 use Rattle.gds_grammar.specs.declared.element.Element.{Element}
 use Rattle.gds_grammar.specs.declared.element.Ref as references

@@ -1,7 +1,7 @@
 -- The elements so far have the places of their references filled.
 use Rattle.std.proofs.Common.{◌≡◌, ◌||◌, ℤ, map, take}
 use Rattle.std.specs.List.{flat_map}
-use Rattle.fill_book.specs.Filling.{is_filled}
+use Rattle.fill_state.specs.Filling.{is_filled}
 use Rattle.gds_grammar.specs.Values.{shape_of}
 use Rattle.gds_out.specs.Laws.{raster_in}
 use Rattle.gds_join.specs.Reading.{corners_of}

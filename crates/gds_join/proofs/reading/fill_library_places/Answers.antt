@@ -1,8 +1,8 @@
 use Rattle.std.proofs.Common.{◌≡◌, refl, sym, ap, ◌∙◌, ℕ, ◌+◌, ◌<◌, ◌≤◌, length, arith, ◌||◌, map, take}
 use Rattle.std.specs.List.{flat_map}
 use Rattle.std.proofs.lemmas.List.{length-map, take_all}
-use Rattle.fill_book.specs.Filling.{is_filled}
-use Rattle.gds_flatten.specs.Designs.{elements_at}
+use Rattle.fill_state.specs.Filling.{is_filled}
+use Rattle.gds_cells.specs.Designs.{elements_at}
 use Rattle.gds_grammar.specs.Values.{Cell, cell_of}
 use Rattle.gds_out.specs.Laws.{raster_in}
 use Rattle.gds_join.specs.Reading.{corners_of}

@@ -1,11 +1,11 @@
 use Rattle.std.proofs.Common.{◌≡◌, refl, sym, ap, ◌∙◌, ◌&&◌, ◌||◌, ℕ, ◌+◌, ◌*◌, ◌≤◌, arith, map}
 use Rattle.std.specs.List.{range_with_len}
 use Rattle.fill_base.proofs.Signed.{read}
-use Rattle.fill_book.specs.Filling.{is_filled}
+use Rattle.fill_state.specs.Filling.{is_filled}
 use Rattle.fill_raster.specs.Lattice.{in_raster}
 use Rattle.fill_base.specs.declared.place.Point.{Point}
-use Rattle.gds_flatten.specs.declared.placement.Placement.{Placement}
-use Rattle.gds_flatten.specs.Links.{single}
+use Rattle.gds_cells.specs.declared.placement.Placement.{Placement}
+use Rattle.gds_cells.specs.Links.{single}
 use Rattle.gds_out.specs.FillContents.{corner_of}
 use Rattle.gds_join.specs.Reading.{is_point}
 use Rattle.gds_out.specs.Laws.{raster_in}

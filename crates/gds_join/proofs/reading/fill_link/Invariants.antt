@@ -2,8 +2,8 @@
 use Rattle.std.proofs.Common.{◌≡◌, ◌||◌, ℤ, map}
 use Rattle.std.specs.List.{range_with_len}
 use Rattle.gds_out.specs.Laws.{raster_in}
-use Rattle.gds_flatten.specs.Links.{single}
-use Rattle.fill_book.specs.Filling.{is_filled}
+use Rattle.gds_cells.specs.Links.{single}
+use Rattle.fill_state.specs.Filling.{is_filled}
 use Rattle.gds_join.specs.steps.Far.{origin_of, stands_at}
 use Rattle.gds_join.proofs.reading.fill_link.Given as goal
 

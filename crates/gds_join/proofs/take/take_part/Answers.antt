@@ -1,5 +1,5 @@
 use Rattle.std.proofs.Common.{subst}
-use Rattle.fill_book.specs.Filling.{is_filled}
+use Rattle.fill_state.specs.Filling.{is_filled}
 use Rattle.fill_raster.specs.Lattice.{Lattice, in_raster}
 use Rattle.gds_join.specs.steps.Putting.{IsPut, is_own}
 use Rattle.gds_join.proofs.Taking.{taken}

@@ -4,7 +4,7 @@ use Rattle.fill_base.proofs.Signed.{read_is}
 use Rattle.fill_area.specs.Density.{option_area}
 use Rattle.fill_region.specs.Bands.{holds}
 use Rattle.fill_job.specs.Plans.{PointSet}
-use Rattle.fill_book.specs.Filling.{is_filled, left_by, metal_or_box}
+use Rattle.fill_state.specs.Filling.{is_filled, left_by, metal_or_box}
 use Rattle.fill_book.specs.Standing.{squares_in}
 use Rattle.fill_book.proofs.Measured.{all_left, clear_same}
 use Rattle.fill_book.proofs.anew.MeasuredTotals.total.Goals as goal

@@ -6,9 +6,9 @@ use Rattle.fill_text.specs.Rules.{Values}
 use Rattle.fill_job.specs.Basis.{layers_in}
 use Rattle.fill_job.specs.Plans.{plan_of}
 use Rattle.fill_core.specs.Accounts.{Account}
-use Rattle.fill_book.specs.Pieces.{IsPiece}
+use Rattle.fill_state.specs.Pieces.{IsPiece}
 use Rattle.fill_book.proofs.Accounted.{read_now}
-use Rattle.fill_book.proofs.HaloMetal.{piece_at}
+use Rattle.fill_state.proofs.HaloMetal.{piece_at}
 use Rattle.fill_book.proofs.book.BookOfFillBook.job.Goals as goal
 
 pub returns-clause-read : goal.returns-clause-read

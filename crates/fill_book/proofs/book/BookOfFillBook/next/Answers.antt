@@ -5,7 +5,7 @@ use Rattle.fill_core.specs.Accounts.{Account, state_of}
 use Rattle.fill_core.specs.Machine.{State}
 use Rattle.fill_core.specs.Tiles.{next_tile}
 use Rattle.fill_core.proofs.Searched.{next_first}
-use Rattle.fill_book.specs.Tiles.{is_in}
+use Rattle.fill_state.specs.Tiles.{is_in}
 use Rattle.fill_book.proofs.Accounted.{at_view, if_some}
 use Rattle.fill_book.proofs.book.BookOfFillBook.next.Goals as goal
 

@@ -8,7 +8,7 @@ use Rattle.fill_raster.specs.Lattice.{in_raster, tile_of}
 use Rattle.fill_raster.specs.Marks.{is_marked}
 use Rattle.fill_sums.specs.declared.moving.Way.TheVariants.{Up}
 use Rattle.fill_sums.specs.Numbers.{IsMovedBy, StaysBy}
-use Rattle.fill_book.specs.Filling.{is_filled}
+use Rattle.fill_state.specs.Filling.{is_filled}
 use Rattle.fill_book.specs.steps.Following.{taken_of_rows}
 use Rattle.fill_book.proofs.BoxParts.{rows_come, rows_come_measured, tile_marks_come}
 use Rattle.fill_book.proofs.running.SumsTotals.take_in.Goals as goal

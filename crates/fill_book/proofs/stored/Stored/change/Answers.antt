@@ -1,6 +1,6 @@
 use Rattle.std.proofs.Common.{ap, ◌∙◌, rules}
 use Rattle.fill_core.specs.Boxes.{count_places}
-use Rattle.fill_book.specs.Filling.{in_places, is_filled}
+use Rattle.fill_state.specs.Filling.{in_places, is_filled}
 use Rattle.fill_book.proofs.Grown.{Grown, grown, fewer_filled}
 use Rattle.fill_book.proofs.stored.Stored.change.Goals as goal
 

@@ -3,7 +3,7 @@ use Rattle.fill_region.specs.Bands.{holds}
 use Rattle.fill_text.specs.declared.script.Edit.{Edit}
 use Rattle.fill_job.specs.Plans.{PointSet, low_windows, plan_of}
 use Rattle.fill_core.specs.Machine.{fill_after, metal_after}
-use Rattle.fill_book.specs.Filling.{is_filled, left_by}
+use Rattle.fill_state.specs.Filling.{is_filled, left_by}
 use Rattle.fill_book.proofs.Measured.{squares_same}
 use Rattle.fill_book.proofs.stored.Stored.change_by.Goals as goal
 

@@ -1,7 +1,7 @@
 use Rattle.fill_region.specs.Bands.{holds}
 use Rattle.fill_job.specs.Plans.{plan_of}
 use Rattle.fill_core.specs.Machine.{fill_after, metal_after}
-use Rattle.fill_book.specs.Filling.{is_filled, left_by}
+use Rattle.fill_state.specs.Filling.{is_filled, left_by}
 use Rattle.fill_book.proofs.Measured.{clear_same, left_after}
 use Rattle.fill_book.proofs.stored.Stored.edited.Goals as goal
 

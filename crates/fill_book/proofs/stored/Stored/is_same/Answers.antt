@@ -9,9 +9,9 @@ use Rattle.fill_job.specs.Plans.{plan_of}
 use Rattle.fill_job.specs.ReadSets.{read_set}
 use Rattle.fill_core.specs.Boxes.{no_places}
 use Rattle.fill_book.specs.Keeping.{state_by}
-use Rattle.fill_book.specs.Pieces.{IsPiece}
+use Rattle.fill_state.specs.Pieces.{IsPiece}
 use Rattle.fill_book.proofs.Answering.{other_version, same_reads}
-use Rattle.fill_book.proofs.HaloMetal.{below, piece_at}
+use Rattle.fill_state.proofs.HaloMetal.{below, piece_at}
 use Rattle.fill_book.proofs.stored.Stored.is_same.Goals as goal
 
 pub returns-then-version-self : goal.returns-then-version-self

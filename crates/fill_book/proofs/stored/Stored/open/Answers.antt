@@ -3,7 +3,7 @@ use Rattle.fill_base.proofs.Signed.{read_is}
 use Rattle.fill_raster.specs.Lattice.{Lattice, KeepsPitch}
 use Rattle.fill_job.specs.Plans.{plan_of}
 use Rattle.fill_job.specs.Basis.{windows_in}
-use Rattle.fill_book.specs.Low.{low_by}
+use Rattle.fill_state.specs.Low.{low_by}
 use Rattle.fill_book.proofs.Measured.{opened, pitch_kept}
 use Rattle.fill_book.proofs.stored.Stored.open.Goals as goal
 

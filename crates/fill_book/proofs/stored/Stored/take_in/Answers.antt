@@ -1,7 +1,7 @@
 use Rattle.std.proofs.Common.{ap, subst, ◌∙◌, ◌||◌}
 use Rattle.fill_core.specs.Boxes.{count_places}
 use Rattle.fill_raster.specs.Marks.{is_marked}
-use Rattle.fill_book.specs.Filling.{is_filled}
+use Rattle.fill_state.specs.Filling.{is_filled}
 use Rattle.fill_region.specs.Bands.{holds}
 use Rattle.fill_job.specs.Plans.{PointSet}
 use Rattle.fill_book.proofs.BoxParts.{same_squares}

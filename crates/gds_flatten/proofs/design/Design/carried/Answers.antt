@@ -1,9 +1,9 @@
 use Rattle.std.proofs.Common.{◌≡◌, ◌⊎◌, subst, sym}
 use Rattle.std.proofs.lemmas.Result.{err_from_is_err_and}
-use Rattle.gds_flatten.specs.declared.error.FlattenError.TheVariants.{Memory, OutOfRange}
-use Rattle.gds_flatten.specs.Copies.{copies, AllStayInRange}
-use Rattle.gds_flatten.specs.steps.Counting.{AreCounted}
-use Rattle.gds_flatten.specs.steps.Walks.{hierarchy, part, IsDrawn}
+use Rattle.gds_cells.specs.declared.error.FlattenError.TheVariants.{Memory, OutOfRange}
+use Rattle.gds_cells.specs.Copies.{copies, AllStayInRange}
+use Rattle.gds_cells.specs.steps.Counting.{AreCounted}
+use Rattle.gds_cells.specs.steps.Walks.{hierarchy, part, IsDrawn}
 use Rattle.gds_flatten.proofs.Flattened.{walked}
 use Rattle.gds_flatten.proofs.design.Design.carried.Goals as goal
 

@@ -10,10 +10,10 @@ use Rattle.rayon.proofs.ListFacts.{AllZip-weaken}
 use Rattle.rayon.proofs.ToStd.{nat_range-All}
 use Rattle.fill_base.specs.declared.rect.Rect.{Rect}
 use Rattle.fill_region.proofs.Collecting.{collected, range_begins, refused_by}
-use Rattle.gds_flatten.specs.Copies.{copies}
+use Rattle.gds_cells.specs.Copies.{copies}
 use Rattle.gds_flatten.specs.declared.design.Design.{Design}
-use Rattle.gds_flatten.specs.declared.error.FlattenError.{FlattenError}
-use Rattle.gds_flatten.specs.steps.Walks.{hierarchy, part, top_copies, IsDrawn, IsRefusal}
+use Rattle.gds_cells.specs.declared.error.FlattenError.{FlattenError}
+use Rattle.gds_cells.specs.steps.Walks.{hierarchy, part, top_copies, IsDrawn, IsRefusal}
 use Rattle.gds_flatten.proofs.Sharing.{parts_joined}
 use Rattle.gds_flatten.proofs.design.Design.parts.Goals as goal
 

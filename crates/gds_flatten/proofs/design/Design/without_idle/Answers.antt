@@ -1,7 +1,7 @@
 use Rattle.std.proofs.Common.{◌≡◌, length, subst, sym, ap, ◌∙◌}
-use Rattle.gds_flatten.specs.steps.Counting.{AreCounted}
+use Rattle.gds_cells.specs.steps.Counting.{AreCounted}
 use Rattle.gds_flatten.specs.steps.Idle.{is_busy, AreBusy}
-use Rattle.gds_flatten.specs.steps.Walks.{top_copies}
+use Rattle.gds_cells.specs.steps.Walks.{top_copies}
 use Rattle.gds_flatten.proofs.Busy.{busy_same, busy_counted, written_back}
 use Rattle.gds_flatten.proofs.design.Design.without_idle.Goals as goal
 

@@ -1,7 +1,7 @@
 use Rattle.std.proofs.Common.{◌≡◌, length, subst, sym, ap, ◌∙◌}
 use Rattle.gds_flatten.specs.steps.Framing.{AreHeld}
 use Rattle.gds_flatten.specs.steps.Idle.{is_seen, AreBusy, AreBut}
-use Rattle.gds_flatten.specs.steps.Walks.{top_copies}
+use Rattle.gds_cells.specs.steps.Walks.{top_copies}
 use Rattle.gds_flatten.proofs.Busy.{written_back}
 use Rattle.gds_flatten.proofs.Sparse.{seen_but, seen_held}
 use Rattle.gds_flatten.proofs.flattening.Framed.without_unseen.Goals as goal

@@ -1,4 +1,0 @@
-use Rattle.fill_book.proofs.pieces.keep_pieces.Goals as goal
-
-pub returns : goal.returns
-returns g c = rw c.raster.ensures.raster at c.pieces_of.ensures

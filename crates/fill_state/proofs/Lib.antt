@@ -1,0 +1,16 @@
+pub mod BoxAreas
+pub mod BoxSums
+pub mod Nearby
+pub mod Totals
+pub mod Placing
+pub mod OpenTiles
+pub mod FillRows
+pub mod ClearRows
+pub mod Counted
+pub mod Making
+pub mod LowSquares
+pub mod WindowTotals
+pub mod TileWords
+pub mod LastTile
+pub mod HaloMetal
+pub mod TilePieces

@@ -1,0 +1,9 @@
+pub mod Placements
+pub mod Shapes
+pub mod References
+pub mod Graphs
+pub mod Links
+pub mod Copies
+pub mod Designs
+pub mod Laws
+pub mod steps

@@ -1,0 +1,10 @@
+pub mod Searches
+pub mod Rows
+pub mod Heights
+pub mod Surveys
+pub mod Ranges
+pub mod Walks
+pub mod Counting
+pub mod Built
+pub mod Filled
+pub mod Prepared

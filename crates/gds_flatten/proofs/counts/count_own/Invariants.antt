@@ -1,8 +1,0 @@
-use Rattle.std.proofs.Common.{take, length}
-use Rattle.std.specs.List.{flat_map}
-use Rattle.std.specs.Vec.{vec_items}
-use Rattle.gds_flatten.specs.steps.Counting.{IsCapped}
-use Rattle.gds_flatten.proofs.counts.count_own.Given as goal
-
-abbrev pub invariant-runs : goal.invariant-runs
-invariant-runs l = IsCapped (length (flat_map vec_items (take l.run-index l.runs))) l.total

@@ -1,5 +1,0 @@
-use Rattle.gds_flatten.proofs.CountsInOrder.{Counted}
-use Rattle.gds_flatten.proofs.counts.counts_of.Given as goal
-
-abbrev pub invariant-cells : goal.invariant-cells
-invariant-cells l = Counted l.cells l.order l.cell-index l.counts.items

@@ -1,6 +1,0 @@
-use Rattle.std.proofs.Common.{take}
-use Rattle.gds_flatten.specs.steps.Heights.{IsAbove}
-use Rattle.gds_flatten.proofs.heights.height_above.Given as goal
-
-abbrev pub invariant-cells : goal.invariant-cells
-invariant-cells l = IsAbove (take l.cell-index l.row) l.heights l.height

@@ -1,5 +1,0 @@
-use Rattle.gds_flatten.proofs.Composing.{carried_together}
-use Rattle.gds_flatten.proofs.laws.acts_in_turn.Goals as goal
-
-pub returns : goal.returns
-returns c = carried_together

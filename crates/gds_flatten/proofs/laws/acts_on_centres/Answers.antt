@@ -1,5 +1,0 @@
-use Rattle.gds_flatten.proofs.Centres.{acts_on_centres}
-use Rattle.gds_flatten.proofs.laws.acts_on_centres.Goals as goal
-
-pub returns : goal.returns
-returns c = acts_on_centres

@@ -1,5 +1,0 @@
-use Rattle.gds_flatten.proofs.Wholes.{steps_are_whole_lem}
-use Rattle.gds_flatten.proofs.laws.steps_are_whole.Goals as goal
-
-pub returns : goal.returns
-returns c = steps_are_whole_lem

@@ -1,5 +1,0 @@
-use Rattle.gds_flatten.proofs.Turns.{unit_is_one_lem}
-use Rattle.gds_flatten.proofs.laws.unit_is_one.Goals as goal
-
-pub returns : goal.returns
-returns c = unit_is_one_lem
