@@ -186,12 +186,14 @@ fn shared_again<B: FillBook>(
     (shared, pass)
 }
 
-/// How many events a shared book and its pass tell of.
+/// What a shared book tells of its first window: version, events and total; and the pass's calls.
 fn seen<B: FillBook>(
     rt: &(impl Abort + Wait),
     shared: &Shared<B>,
     pass: &mut PassOf<B>,
-) -> (u64, u64, i64, u64) {
+) -> (u64, u64, i64, u64)
+    requires { AllParts B.Calls.parts B.Placed.parts B.Withdrawn.parts }
+{
     match shared.total(rt, pass, 0, 0) {
         Some(seen) => (seen.version, seen.events, seen.total, pass.calls()),
         None => panic!(rt; "a window is missing"),

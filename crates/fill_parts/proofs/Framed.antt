@@ -1,5 +1,5 @@
 -- Windows lie within the coordinates, so what is beyond doesn't matter for lines without fill.
-use Rattle.std.proofs.Common.{◌≡◌, refl, ℕ, ◌<◌, ℤ, ◌≤ℤ◌, arith, Bool, true, false, ◌&&◌}
+use Rattle.std.proofs.Common.{◌≡◌, refl, ℤ, ◌≤ℤ◌, arith, Bool, true, false, ◌&&◌}
 use Rattle.std.specs.Int.{int_max, int_min}
 use Rattle.std.proofs.lemmas.Int.{ints, clamps}
 use Rattle.fill_base.specs.Coordinates.{lowest, highest}

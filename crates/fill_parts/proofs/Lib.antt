@@ -14,3 +14,4 @@ pub mod TileEdges
 pub mod Clamping
 pub mod TileRows
 pub mod Framed
+pub mod Nothing

@@ -1,12 +1,13 @@
 //! What a part has to know of the metal.
-ghost use Rattle.std.specs.Prelude.{◌≡◌, ◌&&◌, ◌+◌, ◌*◌, ◌<◌, ◌≤◌, ◌/◌, ℕ};
+ghost use Rattle.std.specs.Prelude.{◌≡◌, ◌&&◌, ◌+◌, ◌*◌, ◌<◌, ◌≤◌, ◌/◌, ℕ, ℤ};
+ghost use Rattle.fill_base.specs.Sides.{Sides};
 ghost use Rattle.fill_base.specs.Squares.{squares};
 ghost use Rattle.fill_area.specs.Axes.{IsRangeOf, IsTouching};
 ghost use Rattle.fill_raster.specs.Axes.{groups};
 ghost use Rattle.fill_raster.specs.Lattice.{tile_bottom, tile_top, tiles};
 ghost use Rattle.fill_text.specs.ValuesOfRules.{values_of};
 ghost use Rattle.fill_job.specs.Plans.{PointSet, plan_of};
-ghost use Rattle.fill_parts.specs.Needs.{HoldsItsWindows, IsEnough, needs_tile, row_of};
+ghost use Rattle.fill_parts.specs.Needs.{HoldsItsWindows, IsEnough, in_coordinates, is_inside, needs_tile, row_of};
 ghost use Rattle.fill_parts.specs.PartReport.{part_check};
 ghost use Rattle.fill_parts.specs.steps.Hulls.{HoldsTile, IsEnoughBelow, Reaches, sides_by};
 
@@ -110,6 +111,18 @@ impl Part {
         let count = windows.rows();
         Hull::none().cover_windows(&windows, self.rows(count))
     }
+
+    /// A rectangle round all that the part needs, as far as there are coordinates; the square at the least ones where it needs nothing.
+    pub fn needed_rect(self, rules: &Rules) -> Rect
+        ensures { (s : Sides) × IsEnough (plan_of (values_of rules.now)) self s × ((x y : ℤ) → squares result x y ≡ is_inside (in_coordinates s) x y) }
+    {
+        rules_make_a_plan(rules);
+        match self.needed(rules).rect() {
+            Some(rect) => rect,
+            None => Rect::from_edges(LOWEST, LOWEST, LOWEST + 1, LOWEST + 1),
+        }
+    }
+
     /// A rectangle round the part's own windows; the square at the least coordinates where it has none. Of any metal, what lies within
     /// gives the part's lines without fill.
     pub fn window_rect(self, rules: &Rules) -> Rect

@@ -1,5 +1,5 @@
 //! One of the parts that a chip is cut into.
-ghost use Rattle.std.specs.Prelude.{◌≡◌, ◌↔◌, ◌<◌, ◌≤◌, ◌-◌, IsSome, IfSome};
+ghost use Rattle.std.specs.Prelude.{◌≡◌, ◌↔◌, ◌<◌, ◌≤◌, ◌+◌, ◌-◌, IsSome, IfSome};
 ghost use Rattle.fill_parts.specs.Cuts as spec;
 ghost use Rattle.fill_parts.specs.Cuts.{IsPart, first_row, has_row, past_row};
 
@@ -39,6 +39,20 @@ impl Part {
             number: number - 1,
             count,
         })
+    }
+
+    /// Which part it is, from 1 on.
+    pub fn number(self) -> u32
+        ensures { result ≡ self.number + 1 }
+    {
+        self.number + 1
+    }
+
+    /// How many parts there are.
+    pub fn count(self) -> u32
+        ensures { result ≡ self.count }
+    {
+        self.count
     }
 
     /// Where a part of this number begins in so many rows.

@@ -3,3 +3,4 @@ pub mod Densities
 pub mod Joining
 pub mod Lines
 pub mod BookMeasures
+mod RowEnds

@@ -1,9 +1,11 @@
 //! The report of a book's metal and fill.
-ghost use Rattle.std.specs.Prelude.{◌≡◌, ◌*◌, ◌/◌, ◌%◌, ◌<◌, IfOk};
+ghost use Rattle.std.specs.Prelude.{◌≡◌, ◌+◌, ◌-◌, ◌*◌, ◌/◌, ◌%◌, ◌<◌, ◌≤◌, IfOk};
 ghost use Rattle.fill_area.specs.Density.{IsArea, IsShare};
 ghost use Rattle.fill_job.specs.Plans.{IsPlan, plan_of};
 ghost use Rattle.fill_core.specs.Accounts.{state_of};
-ghost use Rattle.fill_report.specs.Report.{measures_of, report_text};
+ghost use Rattle.fill_text.specs.Rules.{value_of, windows_of};
+ghost use Rattle.fill_text.specs.declared.keys.NumberKey.TheVariants.{Max, Min};
+ghost use Rattle.fill_report.specs.Report.{lines_from, measures_of};
 ghost use Rattle.fill_report.specs.BookReport.{boxes_of, fill_report};
 
 use crate::error::OutOfMemory;
@@ -14,6 +16,7 @@ use fill_area::Windows;
 use fill_core::FillBook;
 use fill_job::laws::rules_make_a_plan;
 use std::alloc::Global;
+use std::ops::Range;
 
 /// The report of a book's metal and fill, over the windows of its rules: one line a window with its
 /// column and row, its edges, the areas of metal, of fill boxes and of both, the share of both in parts
@@ -27,17 +30,50 @@ pub fn report<B: FillBook>(alloc: Global, book: &B) -> Result<Vec<u8>, OutOfMemo
     let rules = book.rules();
     // A law: the rules make a plan, and under a plan no box of a fill has a square of the metal.
     rules_make_a_plan(rules);
-    let least = rules.min();
-    let most = rules.max();
-    book_lines(alloc, book, &rules.windows(), least, most)
+    let windows = rules.windows();
+    book_lines(
+        alloc,
+        book,
+        &windows,
+        0,
+        windows.len(),
+        rules.min(),
+        rules.max(),
+    )
 }
 
-/// The lines of a book's windows, row by row from the lowest, in a row from the left. A window is `LOW`
+/// The lines of some rows of windows in that report.
+///
+/// # Errors
+/// `OutOfMemory` where memory runs out.
+pub fn rows_report<B: FillBook>(
+    alloc: Global,
+    book: &B,
+    rows: Range<u32>,
+) -> Result<Vec<u8>, OutOfMemory>
+    requires ordered { rows.start ≤ rows.end }
+    requires within { rows.end ≤ (windows_of (B.account book.now).rules).up.count }
+    ensures { let a = B.account book.now in let s = state_of a in let g = windows_of a.rules in IfOk result (λ v. v.items ≡
+        lines_from g (value_of a.rules Min) (value_of a.rules Max) (measures_of s.layers.metal (boxes_of (plan_of a.rules) s.fill) g) (rows.start * g.across.count) ((rows.end - rows.start) * g.across.count)) }
+{
+    let rules = book.rules();
+    rules_make_a_plan(rules);
+    let windows = rules.windows();
+    let _ = windows.len();
+    let columns = windows.columns() as usize;
+    let from = rows.start as usize * columns;
+    let count = (rows.end - rows.start) as usize * columns;
+    book_lines(alloc, book, &windows, from, count, rules.min(), rules.max())
+}
+
+/// The lines of so many of a book's windows from one on, row by row from the lowest, in a row from the left. A window is `LOW`
 /// below `least` parts in a million and `HIGH` above `most`.
 fn book_lines<B: FillBook>(
     alloc: Global,
     book: &B,
     windows: &Windows,
+    from: usize,
+    count: usize,
     least: i64,
     most: i64,
 ) -> Result<Vec<u8>, OutOfMemory>
@@ -45,11 +81,12 @@ fn book_lines<B: FillBook>(
     requires windows { windows.now ≡ (plan_of (B.account book.now).rules).windows }
     requires least { IsShare least }
     requires most { IsShare most }
-    ensures { let a = B.account book.now in let s = state_of a in IfOk result (λ v. v.items ≡ report_text s.layers.metal (boxes_of (plan_of a.rules) s.fill) windows.now least most) }
+    requires within { from + count ≤ windows.now.across.count * windows.now.up.count }
+    ensures { let a = B.account book.now in let s = state_of a in IfOk result (λ v. v.items ≡ lines_from windows.now least most (measures_of s.layers.metal (boxes_of (plan_of a.rules) s.fill) windows.now) from count) }
 {
     let mut writer = Writer::from_writer(Vec::new(alloc));
     let mut row = ByteRecord::new(alloc);
-    for k in 0..windows.len() {
+    for k in from..from + count {
         let measures = measures_in(book, windows, k);
         put_window(&mut writer, &mut row, windows, k, measures, least, most)?;
     }

@@ -10,7 +10,7 @@ mod rows;
 pub mod shapes;
 mod window;
 
-pub use book::report;
+pub use book::{report, rows_report};
 pub use error::OutOfMemory;
 pub use line::{Density, Measures};
 pub use metal::{report_of, report_parts};

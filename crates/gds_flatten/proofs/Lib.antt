@@ -15,3 +15,4 @@ pub mod Holding
 pub mod ExtentsInOrder
 pub mod Cornered
 pub mod Framing
+pub mod Ranged

@@ -97,7 +97,7 @@ but_carried p ks (b ∷ bs) (inl (es, is, rest)) =
     subst (λ xs. AreBut (map (carry_copy p) xs) (carry_copy p b ∷ map (carry_copy p) bs)) (sym is) (inl (map (carry_copy p) es, refl, but_carried p es bs rest))
 but_carried p ks (b ∷ bs) (inr (bare, rest)) = inr (bare, but_carried p ks bs rest)
 
-but_drawn : (ks bs : List Copy) (x y : ℤ) → AreBut ks bs → drawn ks x y ≡ drawn bs x y
+pub but_drawn : (ks bs : List Copy) (x y : ℤ) → AreBut ks bs → drawn ks x y ≡ drawn bs x y
 but_drawn ks [] x y h = ap (λ cs. drawn cs x y) h
 but_drawn ks (b ∷ bs) x y (inl (es, is, rest)) = ap (λ cs. drawn cs x y) is ∙ ap (λ d. copy_covers b x y || d) (but_drawn es bs x y rest)
 but_drawn ks (b ∷ bs) x y (inr (bare, rest)) = but_drawn ks bs x y rest ∙ sym (ap (λ d. d || drawn bs x y) (bare_drawn b x y bare))

@@ -10,9 +10,10 @@ ghost use Rattle.gds_cells.specs.Copies.{Copy, drawn, AllStayInRange};
 ghost use Rattle.gds_cells.specs.Designs.{index_of, AllFine};
 ghost use Rattle.gds_flatten.specs.Flattening.{HasTop, copies_of, IsSound, IsCountable, IsCountableOn, IsRefused, IsRefusedOn};
 ghost use Rattle.gds_cells.specs.steps.Counting.{AreCounted};
-ghost use Rattle.gds_flatten.specs.steps.Framing.{IsFineIf, IsTight, AreHeld, extent_at};
+ghost use Rattle.gds_flatten.specs.steps.Framing.{IsFineIf, IsTight, AreHeld, extent_at, in_if};
 ghost use Rattle.gds_flatten.specs.steps.Idle.{AreBut};
 ghost use Rattle.gds_cells.specs.steps.Walks.{top_copies};
+ghost use Rattle.fill_base.specs.Coordinates.{IsInRange};
 ghost use Rattle.fill_base.specs.Squares.{squares};
 
 use crate::design::{DEEPEST, Design};
@@ -197,6 +198,7 @@ fn is_inside(extent: Option<Bounds>) -> bool
     requires { IsFineIf extent }
     ensures yes { result ≡ true → (cs : List Copy) → IsTight cs extent → AllStayInRange cs }
     ensures no { result ≡ false → (cs : List Copy) → IsTight cs extent → AllStayInRange cs → ⊥ }
+    ensures range { result ≡ true → (x y : ℤ) → in_if extent x y ≡ true → IsInRange x y }
 {
     match extent {
         Some(extent) => is_in_range(&extent),
@@ -222,6 +224,7 @@ pub fn flatten_within(
     ensures inside { IfOk result (λ v. AllStayInRange (copies_of (contents_of library.now).cells top.now layer data_type)) }
     ensures squares { IfOk result (λ v. (x y : ℤ) → covered v.items x y
         ≡ (drawn (copies_of (contents_of library.now).cells top.now layer data_type) x y && squares frame.now x y)) }
+    ensures range { IfOk result (λ v. (x y : ℤ) → drawn (copies_of (contents_of library.now).cells top.now layer data_type) x y ≡ true → IsInRange x y) }
     ensures refused { IfErr result (λ e. IsRefusedOn (contents_of library.now).cells top.now layer data_type frame.now e) }
 {
     let framed = framed_of(alloc, library, top, layer, data_type)?;

@@ -1,19 +1,27 @@
-use Rattle.std.proofs.Common.{◌≡◌, rules, subst, FitsSigned, w64}
+use Rattle.std.proofs.Common.{◌≡◌, ◌∙◌, ◌*◌, ℕ, ap, rules, subst, FitsSigned, w64}
 use Rattle.std.specs.Prelude.{IfOk}
+use Rattle.fill_area.specs.Grid.{Grid}
 use Rattle.fill_base.proofs.Signed.{read_is}
 use Rattle.fill_text.specs.Rules.{Values, value_of, windows_of}
+use Rattle.fill_text.specs.ValuesOfRules.{values_of}
 use Rattle.fill_text.specs.declared.keys.NumberKey.TheVariants.{Max, Min}
 use Rattle.fill_job.specs.Plans.{plan_of}
 use Rattle.fill_core.specs.Accounts.{state_of}
 use Rattle.fill_report.specs.BookReport.{boxes_of}
-use Rattle.fill_report.specs.Report.{report_text}
+use Rattle.fill_report.specs.Report.{lines_from, measures_of}
 use Rattle.fill_report.proofs.book.report.Goals as goal
 
 pub returns : goal.returns
 returns g c =
     let a = g.B.FillBook.account c.args.book.now in
     let s = state_of a in
-    let least : FitsSigned w64 c.min-least.result = search rules in
-    let most : FitsSigned w64 c.max-most.result = search rules in
-    subst (λ (values : Values). IfOk c.book_lines.result (λ v. v.items ≡ report_text s.layers.metal (boxes_of (plan_of a.rules) s.fill) (windows_of values) (value_of values Min) (value_of values Max)))
-    c.rules-rules.ensures (rw (read_is _ least, read_is _ most, c.windows.ensures, c.min-least.ensures.value, c.max-most.ensures.value) at c.book_lines.ensures)
+    let grid = windows_of a.rules in
+    let w : c.windows-windows.result ≡ grid = c.windows-windows.ensures ∙ ap windows_of c.rules-rules.ensures in
+    let least : FitsSigned w64 c.min.result = search rules in
+    let most : FitsSigned w64 c.max.result = search rules in
+    let count : c.len.result ≡ grid.across.count * grid.up.count = c.len.ensures.count ∙ ap (λ (q : Grid). q.across.count * q.up.count) w in
+    let text = λ (q : Grid) (n : ℕ) (values : Values). IfOk c.book_lines.result (λ v. v.items ≡ lines_from q (value_of values Min) (value_of values Max) (measures_of s.layers.metal (boxes_of (plan_of a.rules) s.fill) q) 0 n) in
+    subst (λ (values : Values). text grid (grid.across.count * grid.up.count) values) c.rules-rules.ensures
+    (subst (λ (n : ℕ). text grid n (values_of c.rules-rules.result.now)) count
+    (subst (λ (q : Grid). text q c.len.result (values_of c.rules-rules.result.now)) w
+    (rw (read_is _ least, read_is _ most, c.min.ensures.value, c.max.ensures.value) at c.book_lines.ensures)))

@@ -1,7 +1,6 @@
-use Rattle.std.proofs.Common.{◌≡◌, ap, subst, sym, ◌∙◌, ℕ, ◌+◌, ◌*◌, ◌-◌, ◌≤◌, arith, rules, FitsSigned, w64}
+use Rattle.std.proofs.Common.{◌≡◌, ap, subst, sym, ◌∙◌, ℕ, ◌+◌, ◌*◌, ◌-◌, ◌≤◌, rules, FitsSigned, w64}
 use Rattle.std.specs.List.{flat_map}
 use Rattle.std.specs.Vec.{vec_items}
-use Rattle.std.proofs.Math.Nat.{mul-le-mul, mul_comm}
 use Rattle.std.proofs.lemmas.Result.{IfOk-weaker}
 use Rattle.fill_area.specs.Grid.{Grid}
 use Rattle.fill_base.proofs.Signed.{read_is}
@@ -10,24 +9,8 @@ use Rattle.fill_text.specs.Rules.{value_of, windows_of}
 use Rattle.fill_text.specs.ValuesOfRules.{values_of}
 use Rattle.fill_text.specs.declared.keys.NumberKey.TheVariants.{Max, Min}
 use Rattle.fill_report.specs.Report.{lines_from, measures_of, nothing}
+use Rattle.fill_report.proofs.RowEnds.{rows_end}
 use Rattle.fill_report.proofs.rows.rows_report_of_rects.Goals as goal
-
--- rows from `low` on and below `high` end within the rows that there are
-rows_end : (low high columns up : ℕ) → low ≤ high → high ≤ up → low * columns + (high - low) * columns ≤ columns * up
-rows_end low high columns up order within =
-    all (low * columns + (high - low) * columns) (high * columns) (up * columns) (columns * up) (whole low high columns order) (mul-le-mul within (same columns)) (mul_comm up columns)
-  where
-    same : (n : ℕ) → n ≤ n
-    same n = omega arith
-
-    spread : (m n c : ℕ) → m * c + n * c ≡ (m + n) * c
-    spread m n c = grind arith
-
-    whole : (a b c : ℕ) → a ≤ b → a * c + (b - a) * c ≡ b * c
-    whole a b c le = let e : a + (b - a) ≡ b = omega (arith, le) in spread a (b - a) c ∙ ap (λ n. n * c) e
-
-    all : (a b c d : ℕ) → a ≡ b → b ≤ c → c ≡ d → a ≤ d
-    all a b c d e h f = omega (arith, e, h, f)
 
 pub part_by_sums-requires-clause-within : goal.part_by_sums-requires-clause-within
 part_by_sums-requires-clause-within g c =

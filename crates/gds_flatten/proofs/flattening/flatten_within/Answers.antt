@@ -4,10 +4,12 @@ use Rattle.fill_base.specs.Squares.{squares}
 use Rattle.fill_region.specs.Squares.{covered}
 use Rattle.gds_grammar.specs.Values.{cell_of}
 use Rattle.gds_flatten.specs.Flattening.{copies_of}
-use Rattle.gds_flatten.specs.steps.Framing.{IsFound, IsRefusalOn, IsTight, extent_at}
+use Rattle.gds_flatten.specs.steps.Framing.{IsFound, IsHeld, IsRefusalOn, IsTight, extent_at}
 use Rattle.gds_cells.specs.steps.Walks.{top_copies}
 use Rattle.gds_flatten.proofs.Flattened.{walked}
 use Rattle.gds_flatten.proofs.Framing.{frame_met, walk_told, few_told}
+use Rattle.gds_flatten.proofs.Seen.{held_here}
+use Rattle.gds_flatten.proofs.Ranged.{all_in_range}
 use Rattle.gds_flatten.proofs.Sparse.{but_found, but_refused}
 use Rattle.gds_flatten.proofs.flattening.flatten_within.Goals as goal
 
@@ -70,3 +72,12 @@ returns-clause-squares c = λ x y.
     let drawn = (but_found f (top_copies d.cells.items d.top) all c.new-found.result c.carry_cell_on.new.found told.but found).drawn stay in
     c.in_ok-rects.ensures x y ∙ ap (λ rs. covered rs x y && squares f x y) c.deref-4.ensures.value
     ∙ frame_met f all all c.new-found.result.rects.items c.carry_cell_on.new.found.rects.items c.new-found.ensures.empty refl drawn x y
+
+pub returns-clause-range : goal.returns-clause-range
+returns-clause-range c =
+    let d = c.in_ok-framed.framed in
+    let told = c.in_ok-framed.ensures in
+    let all = copies_of (map cell_of c.args.library.now.cells.entries) c.args.top.now c.args.layer c.args.data_type in
+    let at : c.extent_at.result ≡ extent_at d.extents.items d.top = c.extent_at.ensures ∙ ap (λ es. extent_at es d.top) c.deref-3.ensures.value in
+    all_in_range (top_copies d.cells.items d.top) all c.extent_at.result told.but (subst (IsHeld (top_copies d.cells.items d.top)) (sym at) (held_here d.cells.items d.extents.items 256 d.top told.held).held)
+    (c.is_inside.ensures.range c.if-not-is_inside.false)
