@@ -6,7 +6,7 @@ from fractions import Fraction
 from pathlib import Path
 from typing import BinaryIO
 
-UNITS, COLUMNS_AND_ROWS, SINGLE, ARRAY, END_OF_LIBRARY = 0x03, 0x13, 0x0A, 0x0B, 0x04
+UNITS, COLUMNS_AND_ROWS, SINGLE, END_OF_LIBRARY = 0x03, 0x13, 0x0A, 0x04
 
 
 class NoStream(ValueError):
@@ -46,12 +46,20 @@ def database_unit(design: Path) -> Fraction:
 
 def boxes(library: Path) -> int:
     """How many boxes a fill library has: one for each single reference, columns times rows for each array."""
-    count = 0
-    with open(library, "rb") as file:
-        for kind, data in records(file):
-            if kind == SINGLE:
-                count += 1
-            elif kind == COLUMNS_AND_ROWS:
-                columns, rows = struct.unpack(">HH", data)
-                count += columns * rows
-    return count
+    count, at, data = 0, 0, library.read_bytes()
+    heads = struct.Struct(">HB")
+    while True:
+        try:
+            length, kind = heads.unpack_from(data, at)
+        except struct.error as error:
+            raise NoStream("the stream ends before ENDLIB") from error
+        if length < 4:
+            raise NoStream("a record is shorter than its head")
+        if kind == SINGLE:
+            count += 1
+        elif kind == COLUMNS_AND_ROWS:
+            columns, rows = struct.unpack_from(">HH", data, at + 4)
+            count += columns * rows
+        elif kind == END_OF_LIBRARY:
+            return count
+        at += length

@@ -2,6 +2,7 @@
 from dataclasses import dataclass
 from datetime import datetime, timezone
 from fractions import Fraction
+from functools import cached_property
 from pathlib import Path
 
 from .deck import Deck, Layer
@@ -24,6 +25,11 @@ class Outcome:
     after: list[Window]
     boxes: int
     files: Files
+
+    @cached_property
+    def figures(self) -> tuple[Figures, Figures]:
+        """What the windows come to before and after fill."""
+        return figures(self.before), figures(self.after)
 
     @property
     def is_whole(self) -> bool:
@@ -71,8 +77,8 @@ def told_layer(outcome: Outcome, unit: Fraction) -> dict[str, object]:
                                "from_an_earlier_run": ran.taken}
     if outcome.is_whole:
         told |= {"windows": len(outcome.after), "boxes": outcome.boxes, "min": layer.numbers["min"] / 10**6,
-                 "max": layer.numbers["max"] / 10**6, "before": told_figures(figures(outcome.before), unit),
-                 "after": told_figures(figures(outcome.after), unit),
+                 "max": layer.numbers["max"] / 10**6, "before": told_figures(outcome.figures[0], unit),
+                 "after": told_figures(outcome.figures[1], unit),
                  "files": {path.name: digest(path) for path in (outcome.files.rules, outcome.files.report, outcome.files.library)
                            if path.exists()}}
     return told
@@ -99,7 +105,7 @@ def text(deck: Deck, outcomes: list[Outcome]) -> str:
         if not outcome.is_whole:
             lines.append(f"{outcome.layer.name:<16}failed: {STATUS.get(ran.status, f'status {ran.status}')}: {ran.told}")
             continue
-        before, after = figures(outcome.before), figures(outcome.after)
+        before, after = outcome.figures
         lines.append(f"{outcome.layer.name:<16}{after.windows:>9}{f'{before.low} > {after.low}':>14}{f'{before.high} > {after.high}':>14}"
                      f"{f'{percent(before.least)} > {percent(after.least)}':>16}{f'{percent(before.greatest)} > {percent(after.greatest)}':>16}"
                      f"{outcome.boxes:>11}{ran.seconds:>9.2f}{ran.memory / 2**20:>7.0f}" + (" (kept)" if ran.taken else ""))
