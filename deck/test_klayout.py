@@ -54,9 +54,8 @@ class Klayout(unittest.TestCase):
     def linked(self) -> Path:
         """The deck's program with densfill beside it, as make install puts them."""
         shutil.copytree(DECK / "densfill_deck", self.folder / "bin/densfill_deck", ignore=shutil.ignore_patterns("__pycache__"))
-        for path in (DECK / "densfill-deck", self.program):
-            shutil.copy(path, self.folder / "bin" / path.name)
-        return self.folder / "bin/densfill-deck"
+        shutil.copy(self.program, self.folder / "bin/densfill")
+        return Path(shutil.copy(DECK / "densfill-deck", self.folder / "bin"))
 
     def klayout(self, script: Path, **values: object) -> str:
         words = ["klayout", "-b", "-r", str(script), *(word for key, value in values.items() for word in ("-rd", f"{key}={value}"))]

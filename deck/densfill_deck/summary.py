@@ -98,7 +98,7 @@ def percent(window: Window | None) -> str:
 
 def text(deck: Deck, outcomes: list[Outcome]) -> str:
     """The summary for people: a line for each layer, and one for what failed."""
-    lines = [f"{deck.path.name}: {len(outcomes)} layers, database unit {told(deck.unit)}", "",
+    lines = [f"{deck.path.name}: {len(outcomes)} layer{'s' * (len(outcomes) != 1)}, database unit {told(deck.unit)}", "",
              f"{'layer':<16}{'windows':>9}{'low':>14}{'high':>14}{'least %':>16}{'greatest %':>16}{'boxes':>11}{'s':>9}{'MB':>7}"]
     for outcome in outcomes:
         ran = outcome.ran
