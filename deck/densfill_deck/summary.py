@@ -9,7 +9,7 @@ from .deck import Deck, Layer
 from .gds import boxes
 from .lengths import told
 from .reports import Figures, Limits, Window, figures, read_report
-from .runs import Files, Inputs, Ran, digest
+from .runs import Files, Inputs, Ran, digest, input_digest
 
 STATUS = {1: "usage", 2: "an input is refused", 3: "out of memory", 4: "a file could not be opened, read or written",
           5: "the fill is unfinished", 6: "the workers gave back other edits"}
@@ -88,7 +88,7 @@ def summary(inputs: Inputs, deck: Deck, outcomes: list[Outcome]) -> dict[str, ob
     """The whole summary."""
     return {"deck": str(deck.path), "design": str(inputs.design), "top": deck.top, "unit_m": float(deck.unit),
             "time": datetime.now(timezone.utc).isoformat(timespec="seconds"),
-            "hashes": {"deck": digest(deck.path), "design": digest(inputs.design), "program": digest(inputs.program)},
+            "hashes": {"deck": digest(deck.path), "design": input_digest(inputs.design), "program": input_digest(inputs.program)},
             "layers": [told_layer(outcome, deck.unit) for outcome in outcomes]}
 
 
