@@ -233,6 +233,7 @@ def main() -> int:
     except (OSError, ValueError, Changed, NoParts, NotJoined, NotSubmitted) as error:
         print(f"densfill-array: {error}", file=sys.stderr)
     except KeyboardInterrupt:
-        print("densfill-array: interrupted; whole parts are kept, --resume goes on", file=sys.stderr)
+        print("densfill-array: " + ("waits no longer; the jobs go on" if getattr(given, "engine", "local") != "local"
+                                    else "interrupted; whole parts are kept, --resume goes on"), file=sys.stderr)
         return INTERRUPTED
     return FAILED
