@@ -313,6 +313,13 @@ class Runs(Case):
             self.assertFalse(self.out.exists())
         self.assertEqual(self.job("check", "rules.csv", "design.gds").returncode, 1)
 
+    def test_files_of_others_are_left(self) -> None:
+        (self.folder / "fill.gds").write_bytes(b"mine")
+        ended = self.array("check", "--parts", 2, "--out", ".")
+        self.assertEqual((ended.returncode, "of no array" in ended.stderr), (2, True))
+        self.assertEqual((self.folder / "fill.gds").read_bytes(), b"mine")
+        self.assertFalse((self.folder / "parts").exists())
+
     def test_a_missing_input(self) -> None:
         (self.folder / "design.gds").unlink()
         ended = self.array("check", "--parts", 2)

@@ -8,7 +8,7 @@ import sys
 from pathlib import Path
 
 from .engines import ENGINES, Jobs, NotSubmitted, shown, submit
-from .folder import Asked, Changed, Part, missing, parts_of, read_asked, stamp, write_aside, write_asked
+from .folder import Asked, Changed, Part, missing, read_asked, stamp, write_aside, write_asked
 from .local import Pool
 from .part import NotJoined, Stopped, join, ranges, run_part
 from .rules import MOST_PARTS, NoParts, memory_of, parts_for, read_chip
@@ -16,6 +16,7 @@ from .table import short, table
 
 DONE, USAGE, FAILED, INTERRUPTED = 0, 1, 2, 130
 ALL_MEMORY = 4 << 30
+RESULTS = ("report.csv", "fill.gds", "summary.txt")
 PLAIN = re.compile(r"[A-Za-z0-9_./+@,-]+\Z")
 SIZE = re.compile(r"(\d+(?:\.\d+)?)([KMGT])B?\Z", re.IGNORECASE)
 
@@ -130,11 +131,13 @@ def jobs_of(given: argparse.Namespace, folder: Path, parts: int, numbers: list[i
 
 
 def prepare(given: argparse.Namespace, folder: Path) -> Asked:
-    """Writes the array's folder, and takes away the parts of an earlier one that aren't kept."""
-    (folder / "parts").mkdir(parents=True, exist_ok=True)
+    """Writes the array's folder, and takes away what an earlier one left there and isn't kept; files of others it leaves alone."""
+    if not (folder / "array.json").exists() and any((folder / name).exists() for name in RESULTS):
+        raise NoParts(f"{folder} has files of the names {', '.join(RESULTS)} that are of no array: another --out")
     asked = asked_of(given)
+    (folder / "parts").mkdir(parents=True, exist_ok=True)
     write_asked(folder, asked)
-    for name in ("report.csv", "fill.gds", "summary.txt"):
+    for name in RESULTS:
         (folder / name).unlink(missing_ok=True)
     kept = set(range(1, asked.parts + 1)) - set(missing(folder, asked)) if given.resume else set()
     for number in set(range(1, asked.parts + 1)) - kept:
@@ -182,7 +185,7 @@ def run_batch(given: argparse.Namespace, folder: Path, asked: Asked) -> bool:
         print(f"submitted: parts {ranges(numbers)} of {asked.parts} as job {number}, and the joining job behind it", flush=True)
         if not given.wait:
             return False
-        numbers = [part.number for part in parts_of(folder, asked) if part.number in missing(folder, asked) and part.is_lost()]
+        numbers = [number for number in missing(folder, asked) if Part(folder, number, asked.parts).is_lost()]
     if not (folder / "report.csv").exists():
         finish(folder)
     return True
