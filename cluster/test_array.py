@@ -20,8 +20,8 @@ sys.path[:0] = [str(HERE), str(ROOT / "tools")]
 
 from densfill_array.main import size  # noqa: E402
 from densfill_array.part import ranges  # noqa: E402
-from densfill_array.rules import Chip, NoParts, memory_of, parts_for, read_chip  # noqa: E402
-from stream import boundary, library, structure  # noqa: E402
+from densfill_array.rules import Chip, NoParts, Work, parts_for, read_work  # noqa: E402
+from stream import array, boundary, library, path, reference, structure  # noqa: E402
 
 BUILT = (ROOT / "bin/densfill", ROOT / "crates/densfill/out/densfill")
 TOOL = HERE / "densfill-array"
@@ -70,11 +70,15 @@ else:
 class Picking(unittest.TestCase):
     """Into how many parts a chip is cut."""
 
-    def chip(self, does: str, **changes: object) -> Chip:
+    def work(self, does: str, *structures: bytes, **changes: object) -> Work:
         with tempfile.TemporaryDirectory() as folder:
-            path = Path(folder) / "rules.csv"
-            path.write_text("".join(f"{key},{value}\n" for key, value in (RULES | changes).items()))
-            return read_chip(path, does)
+            rules, design = Path(folder) / "rules.csv", Path(folder) / "design.gds"
+            rules.write_text("".join(f"{key},{value}\n" for key, value in (RULES | changes).items()))
+            design.write_bytes(library("DESIGN", *structures))
+            return read_work(rules, design, does)
+
+    def chip(self, does: str, **changes: object) -> Chip:
+        return self.work(does, **changes).chip
 
     def test_rows(self) -> None:
         self.assertEqual((self.chip("check").windows, self.chip("check").tiles), (10, 0))
@@ -85,17 +89,29 @@ class Picking(unittest.TestCase):
 
     def test_few_parts_where_memory_is_ample(self) -> None:
         for does in "check", "fill":
-            chip, needed = Chip(40, 50, 40_000, 3_000), [0] * 5
-            needed = [memory_of(chip, does, 1 << 30, parts) for parts in range(1, 42)]
+            work = Work(does, Chip(40, 50, 40_000, 3_000), 1 << 30, 3_000_000)
+            needed = [work.memory(parts) for parts in range(1, 42)]
             self.assertEqual(needed, sorted(needed, reverse=True))
             for bound in (needed[0], needed[3], needed[20] + 1):
-                parts = parts_for(chip, does, 1 << 30, bound)
+                parts = parts_for(work, bound)
                 self.assertLessEqual(needed[parts - 1], bound)
                 self.assertTrue(parts == 1 or needed[parts - 2] > bound)
 
     def test_no_more_parts_than_rows(self) -> None:
         with self.assertRaisesRegex(NoParts, "reads the whole file"):
-            parts_for(Chip(40, 50, 40_000, 3_000), "fill", 1 << 30, 1 << 30)
+            parts_for(Work("fill", Chip(40, 50, 40_000, 3_000), 1 << 30, 1000), 1 << 30)
+        with self.assertRaisesRegex(NoParts, "copies of shapes, in however many parts"):
+            parts_for(Work("fill", Chip(40, 50, 40_000, 3_000), 1 << 20, 100_000_000), 64 << 30)
+
+    def test_copies_that_one_run_does_not_take(self) -> None:
+        cell = structure("CELL", boundary(31, 0, 0, 4, 4), boundary(31, 5, 0, 9, 4), boundary(30, 0, 0, 1, 1), path(31, 2, 0, 0, 0, 9))
+        row = structure("ROW", *[reference("CELL", x, 0) for x in range(5)], array("CELL", 1000, 3, (0, 0, 10_000, 0, 0, 30)))
+        top = structure("TOP", array("ROW", 2, 200, (0, 0, 20_000, 0, 0, 2000)), boundary(31, 0, 0, 1, 1), reference("NONE", 0, 0))
+        for structures in ((cell, row, top), (top, row, cell)):
+            work = self.work("check", *structures)
+            self.assertEqual(work.copies, 400 * 3005 * 3 + 1)
+            self.assertEqual([parts for parts in range(1, 9) if work.copies * work.chip.share(parts) <= 3_000_000][0], parts_for(work, 4 << 30))
+        self.assertEqual(self.work("check", top, structure("ROW", reference("TOP", 0, 0))).copies, 1)
 
     def test_no_rule_file(self) -> None:
         with self.assertRaisesRegex(NoParts, "no rule file"):
@@ -184,7 +200,7 @@ class Runs(Case):
 
     def test_a_number_is_picked(self) -> None:
         ended = self.array("check", "--memory", "1G")
-        self.assertRegex(ended.stderr, r"\Aparts: 1, of 10 rows of windows, some \d+ MB each\n\Z")
+        self.assertRegex(ended.stderr, r"\Aparts: 1, of 10 rows of windows and some 23 copies of shapes, some \d+ MB each\n\Z")
         self.assertEqual(self.joined("check"), self.one_run("check"))
         self.assertIn("a greater --memory", self.array("check", "--memory", "1M").stderr)
 

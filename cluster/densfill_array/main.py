@@ -11,7 +11,7 @@ from .engines import ENGINES, Jobs, NotSubmitted, shown, submit
 from .folder import Asked, Changed, Part, missing, read_asked, stamp, write_aside, write_asked
 from .local import Pool
 from .part import NotJoined, Stopped, join, ranges, run_part
-from .rules import MOST_PARTS, NoParts, memory_of, parts_for, read_chip
+from .rules import MOST_PARTS, NoParts, parts_for, read_work
 from .table import short, table
 
 DONE, USAGE, FAILED, INTERRUPTED = 0, 1, 2, 130
@@ -62,7 +62,7 @@ def parser() -> Parser:
         one.add_argument("--out", type=Path, required=True, help="the folder of the parts and of what they come to, on a shared file system")
         cut = one.add_mutually_exclusive_group()
         cut.add_argument("--parts", type=count, help="how many parts")
-        cut.add_argument("--memory", type=size, help="bytes that a part may take, as 4G: so few parts that each stays below (by default 4G)")
+        cut.add_argument("--memory", type=size, help="bytes that a part may take, as 4G: as few parts as stay below (by default 4G)")
         one.add_argument("--engine", choices=(*ENGINES, "local"), default="local", help="who runs the jobs (by default this machine)")
         one.add_argument("--dry-run", action="store_true", help="print scripts and commands, and write nothing")
         one.add_argument("--wait", action="store_true", help="come back when all is joined; missing parts are submitted anew")
@@ -101,10 +101,10 @@ def picked(given: argparse.Namespace, earlier: Asked | None) -> int:
         return given.parts
     if earlier and not given.memory:
         return earlier.parts
-    chip, bytes_of = read_chip(given.rules, given.command), given.design.stat().st_size
-    parts = parts_for(chip, given.command, bytes_of, given.memory or ALL_MEMORY)
-    print(f"parts: {parts}, of {chip.windows} rows of windows" + (f" and {chip.tiles} of tiles" if chip.tiles else "")
-          + f", some {memory_of(chip, given.command, bytes_of, parts) >> 20} MB each", file=sys.stderr)
+    work = read_work(given.rules, given.design, given.command)
+    parts = parts_for(work, given.memory or ALL_MEMORY)
+    rows = f"{work.chip.windows} rows of windows" + (f" and {work.chip.tiles} of tiles" if work.chip.tiles else "")
+    print(f"parts: {parts}, of {rows} and some {work.copies:,} copies of shapes, some {work.memory(parts) >> 20} MB each", file=sys.stderr)
     return parts
 
 
