@@ -1,9 +1,9 @@
 #!/usr/bin/env python3
 """Times a chip in parts by densfill-array on this machine, and prints a table of medians.
 
-usage: bench/parts.py [--rounds N] [--shapes COUNT] [--parts N ..] PROGRAM flat|deep check|fill
+usage: bench/parts.py [--rounds N] [--shapes COUNT] [--high WINDOWS] [--parts N ..] PROGRAM flat|deep check|fill
 
-The chip is that of bench/check/generate.py, forty windows high, in small tiles. Four parts run side by side. Seconds of reading are those of
+The chip is that of bench/check/generate.py, by default forty windows high, in small tiles. Four parts run side by side. Seconds of reading are those of
 a part without rows, of a layer that has no shapes.
 """
 import argparse
@@ -18,18 +18,17 @@ from pathlib import Path
 
 HERE = Path(__file__).resolve().parent
 ARRAY = HERE.parent / "cluster/densfill-array"
-HIGH = 40
 Cost = tuple[float, float, int]
 
 
-def draw(folder: Path, shapes: int, form: str) -> None:
+def draw(folder: Path, shapes: int, form: str, high: int) -> None:
     """The design, and rules whose windows overlap by half."""
     subprocess.run([sys.executable, HERE / "check/generate.py", str(shapes), form, folder], check=True)
     subprocess.run([sys.executable, HERE / "fill/rules.py", folder], check=True)
     rules = dict(line.split(",") for line in (folder / "fill.csv").read_text().splitlines())
     for axis, side in (("x", "w"), ("y", "h")):
-        step = int(rules[f"frame_{axis}2"]) // (2 * HIGH) // 2 * 2
-        rules |= {f"win_{side}": str(2 * step), f"win_step_{axis}": str(step), f"win_n{axis}": str(2 * HIGH - 1), f"tile_n{axis}": "16"}
+        step = int(rules[f"frame_{axis}2"]) // (2 * high) // 2 * 2
+        rules |= {f"win_{side}": str(2 * step), f"win_step_{axis}": str(step), f"win_n{axis}": str(2 * high - 1), f"tile_n{axis}": "16"}
     for name, more in (("fill.csv", {}), ("reading.csv", {"layer": "9"})):
         (folder / name).write_text("".join(f"{key},{value}\n" for key, value in (rules | more).items()))
 
@@ -61,12 +60,13 @@ def main() -> None:
     parser.add_argument("does", choices=("check", "fill"))
     parser.add_argument("--rounds", type=int, default=5)
     parser.add_argument("--shapes", type=int, default=3_900_000)
+    parser.add_argument("--high", type=int, default=40)
     parser.add_argument("--parts", type=int, nargs="+", default=[1, 2, 4, 8, 16])
     given = parser.parse_args()
     program = given.program.resolve()
     with tempfile.TemporaryDirectory() as path:
         folder = Path(path)
-        draw(folder, given.shapes, given.form)
+        draw(folder, given.shapes, given.form, given.high)
         size = (folder / "design.gds").stat().st_size
         costs: dict[int, list[Cost]] = {parts: [] for parts in given.parts}
         reading = []
@@ -74,7 +74,7 @@ def main() -> None:
             reading.append(measured([program, "check", folder / "reading.csv", folder / "design.gds", "--part", "1/4096"])[1])
             for parts in given.parts:
                 costs[parts].append(array(program, folder, given.does, parts))
-        print(f"{given.does}, {given.form}, {given.shapes:,} copies, a file of {size / 2**20:.1f} MB, reading {statistics.median(reading):.2f} s, "
+        print(f"{given.does}, {given.form}, {given.shapes:,} copies, {given.high} windows high, a file of {size / 2**20:.1f} MB, reading {statistics.median(reading):.2f} s, "
               f"load {Path('/proc/loadavg').read_text().split()[0]}")
         print("| Parts | Wall, s | Processors, s | after reading | Greatest memory, MB | beyond the file |\n|---|---|---|---|---|---|")
         for parts, rows in costs.items():
