@@ -1,6 +1,7 @@
 """The lines of a density report, and what they come to."""
 from collections.abc import Iterable
 from dataclasses import dataclass
+from heapq import nsmallest
 from pathlib import Path
 from typing import NamedTuple
 
@@ -91,8 +92,8 @@ def figures(windows: list[Window]) -> Figures:
 
 def worst(windows: list[Window]) -> list[Window]:
     """The windows that are farthest from their limits: the emptiest low ones, then the fullest high ones."""
-    low = sorted((w for w in windows if w.state == "LOW"), key=lambda w: (w.share, w.row, w.column))[:WORST]
-    high = sorted((w for w in windows if w.state == "HIGH"), key=lambda w: (-w.share, w.row, w.column))[:WORST]
+    low = nsmallest(WORST, (w for w in windows if w.state == "LOW"), key=lambda w: (w.share, w.row, w.column))
+    high = nsmallest(WORST, (w for w in windows if w.state == "HIGH"), key=lambda w: (-w.share, w.row, w.column))
     return low + high
 
 
