@@ -1,13 +1,14 @@
 # make demo               runs check, fill and rects on examples/ and tells how many windows are low or high (by bin/densfill
 #                         where it stands, else unproved, by rt try)
 # make build              proves the program and leaves it, optimized, at bin/densfill
-# make install PREFIX=..  installs the built program, its deck and its manual page below PREFIX (by default /usr/local)
+# make install PREFIX=..  installs the built program, its deck, its arrays and its manual page below PREFIX (by default /usr/local)
 # make check CRATE=name   proves one crate over what earlier runs kept: for work on it
 # make test               the gate: every proof from nothing, the must-fail edits, the tests, the programs, and the program
-#                         and its deck run as users do
+#                         with its deck and its arrays run as users do
 # make test-klayout       what the deck does in KLayout, without a window
+# make test-cluster       a chip of 16 million shapes in parts on a Slurm of two nodes that is set up for it (as root)
 # make bench              times the program on generated input and prints tables
-.PHONY: demo build install check test test-klayout bench
+.PHONY: demo build install check test test-klayout test-cluster bench
 
 EXAMPLES := $(CURDIR)/examples
 OUT := $(EXAMPLES)/out
@@ -36,6 +37,8 @@ install: $(if $(wildcard bin/densfill),,build)
 	install -D -m 755 deck/densfill-deck $(DESTDIR)$(PREFIX)/bin/densfill-deck
 	install -D -m 644 -t $(DESTDIR)$(PREFIX)/lib/densfill/densfill_deck deck/densfill_deck/*.py
 	install -D -m 644 -t $(DESTDIR)$(PREFIX)/lib/densfill/klayout deck/klayout/*
+	install -D -m 755 cluster/densfill-array $(DESTDIR)$(PREFIX)/bin/densfill-array
+	install -D -m 644 -t $(DESTDIR)$(PREFIX)/lib/densfill/densfill_array cluster/densfill_array/*.py
 
 check:
 	cd crates/$(CRATE) && rt check
@@ -46,9 +49,13 @@ test:
 	tools/refuse.py $(BUILT)
 	tools/storm.py $(BUILT)
 	deck/test_deck.py $(BUILT)
+	cluster/test_array.py $(BUILT)
 
 test-klayout:
 	deck/test_klayout.py $(wildcard bin/densfill $(BUILT))
+
+test-cluster:
+	cluster/test/test_cluster.py $(firstword $(wildcard bin/densfill $(BUILT)))
 
 bench: build
 	bench/check/run.sh

@@ -3,6 +3,7 @@
 
 usage: test_klayout.py [PROGRAM]     (by default bin/densfill, else what the gate left in crates/densfill/out; needs klayout)
 """
+import json
 import os
 import shutil
 import subprocess
@@ -44,19 +45,21 @@ json.dump(left, open(folder + "/left.json", "w"))
 class Klayout(unittest.TestCase):
     """The example block, in a folder for each test."""
     program: Path
+    deck: Path
 
     def setUp(self) -> None:
         folder = tempfile.TemporaryDirectory()
         self.addCleanup(folder.cleanup)
         self.folder = Path(folder.name)
-        self.env = os.environ | {"QT_QPA_PLATFORM": "offscreen", "DENSFILL": str(self.program), "DENSFILL_DECK": str(self.linked())}
+        self.deck = self.linked()
+        self.env = os.environ | {"QT_QPA_PLATFORM": "offscreen", "DENSFILL": str(self.program), "DENSFILL_DECK": str(self.deck)}
 
     def linked(self) -> Path:
         """The deck's program with densfill beside it, as make install puts them."""
-        shutil.copytree(DECK / "densfill_deck", self.folder / "bin/densfill_deck", ignore=shutil.ignore_patterns("__pycache__"))
-        for path in (DECK / "densfill-deck", self.program):
-            shutil.copy(path, self.folder / "bin" / path.name)
-        return self.folder / "bin/densfill-deck"
+        for name in ("densfill_deck", "klayout"):
+            shutil.copytree(DECK / name, self.folder / "bin" / name, ignore=shutil.ignore_patterns("__pycache__"))
+        shutil.copy(self.program, self.folder / "bin/densfill")
+        return Path(shutil.copy(DECK / "densfill-deck", self.folder / "bin"))
 
     def klayout(self, script: Path, **values: object) -> str:
         words = ["klayout", "-b", "-r", str(script), *(word for key, value in values.items() for word in ("-rd", f"{key}={value}"))]
@@ -68,7 +71,6 @@ class Klayout(unittest.TestCase):
         return subprocess.run([self.program, *words], capture_output=True, text=True, check=True).stdout
 
     def test_the_macro_checks_fills_and_shows(self) -> None:
-        import json
         script = self.folder / "use.py"
         script.write_text(ET.parse(MACRO).getroot().findtext("text") + USE)
         design, rules = EXAMPLES / "block.gds", EXAMPLES / "block_rules.csv"
@@ -95,6 +97,22 @@ class Klayout(unittest.TestCase):
         (self.folder / "ignored_report.csv").write_text(self.densfill("check", ignored, design))
         seen = self.klayout(compare, design=design, rules=ignored, report=self.folder / "ignored_report.csv")
         self.assertIn("windows that differ: 0 of 88", seen)
+
+    def test_a_deck_is_merged_and_its_markers_are_read(self) -> None:
+        results, merged = self.folder / "results", self.folder / "merged.gds"
+        given = [EXAMPLES / "block.toml", EXAMPLES / "block.gds"]
+        subprocess.run([self.deck, "run", *given, "--out", results, "--quiet"], check=True)
+        subprocess.run([self.deck, "merge", *given, merged, "--results", results], check=True, env=self.env)
+        rules = (results / "M1.rules.csv").read_text()
+        (self.folder / "boxes.csv").write_text(rules.replace("datatype,0\n", "datatype,1\n", 1))
+        rows = [line.split(",") for line in (results / "M1.report.csv").read_text().splitlines()]
+        for name, column in (("results/M1.rules.csv", 6), ("boxes.csv", 7)):
+            seen = self.densfill("check", self.folder / name, merged).splitlines()
+            self.assertEqual([line.split(",")[6] for line in seen], [row[column] for row in rows], name)
+        script = self.folder / "count.py"
+        script.write_text("import pya\ndb = pya.ReportDatabase('m')\ndb.load(markers)\nprint('items', db.num_items())\n")
+        missed = sum(row[10] != "OK" for row in rows)
+        self.assertIn(f"items {missed}", self.klayout(script, markers=results / "markers.lyrdb"))
 
 
 if __name__ == "__main__":

@@ -7,6 +7,7 @@ from pathlib import Path
 from typing import BinaryIO
 
 UNITS, COLUMNS_AND_ROWS, SINGLE, ARRAY, END_OF_LIBRARY = 0x03, 0x13, 0x0A, 0x0B, 0x04
+NAME, END_OF_ELEMENT = b"\x12", b"\0\4\x11\0"
 
 
 class NoStream(ValueError):
@@ -44,14 +45,30 @@ def database_unit(design: Path) -> Fraction:
     raise NoStream("the stream has no UNITS")
 
 
+def element(data: bytes, at: int, kind: int) -> tuple[int, int]:
+    """Of a reference as fill libraries have them, name, counts, points and end, how many boxes it is and where it ends; else none, and here."""
+    behind = at + 4 + int.from_bytes(data[at + 4:at + 6], "big")
+    end = behind + (12 if kind == SINGLE else 36)
+    if data[at + 6:at + 7] != NAME or data[end:end + 4] != END_OF_ELEMENT:
+        return 0, at
+    if kind == SINGLE:
+        return 1, end + 4
+    columns, rows = struct.unpack_from(">HH", data, behind + 4)
+    return (columns * rows, end + 4) if data[behind + 2] == COLUMNS_AND_ROWS else (0, at)
+
+
 def boxes(library: Path) -> int:
     """How many boxes a fill library has: one for each single reference, columns times rows for each array."""
-    count = 0
-    with open(library, "rb") as file:
-        for kind, data in records(file):
-            if kind == SINGLE:
-                count += 1
-            elif kind == COLUMNS_AND_ROWS:
-                columns, rows = struct.unpack(">HH", data)
-                count += columns * rows
-    return count
+    count, at, data = 0, 0, library.read_bytes()
+    heads = struct.Struct(">HB")
+    while at + 4 <= len(data):
+        length, kind = heads.unpack_from(data, at)
+        if length < 4:
+            raise NoStream("a record is shorter than its head")
+        if kind == END_OF_LIBRARY:
+            return count
+        more, behind = element(data, at, kind) if kind in (SINGLE, ARRAY) else (0, at)
+        if kind in (SINGLE, ARRAY) and not more:
+            raise NoStream("a reference is none of a fill library")
+        count, at = count + more, behind if more else at + length
+    raise NoStream("the stream ends before ENDLIB")

@@ -1,5 +1,6 @@
 """densfill-deck: runs densfill on all layers of a design, as a deck says, and writes what people look at."""
 import argparse
+import gc
 import json
 import os
 import shutil
@@ -101,8 +102,8 @@ def write_results(inputs: Inputs, deck: Deck, outcomes: list[Outcome]) -> str:
     write_lines(folder / "summary.txt", words)
     write_lines(folder / "summary.json", json.dumps(summary(inputs, deck, outcomes), indent=1) + "\n")
     facts = [("design", str(inputs.design)), ("deck", str(deck.path)), ("database unit", told(deck.unit)),
-             ("windows low at the end", str(sum(figures(o.after).low for o in outcomes))),
-             ("windows high at the end", str(sum(figures(o.after).high for o in outcomes)))]
+             ("windows low at the end", str(sum(o.figures[1].low for o in outcomes))),
+             ("windows high at the end", str(sum(o.figures[1].high for o in outcomes)))]
     write_lines(folder / "report.html", page(f"Density of {inputs.design.name}", facts, [section_of(o) for o in outcomes], deck.unit))
     missed = {outcome.layer.name: outcome.after for outcome in outcomes if outcome.is_whole}
     write_lines(folder / "markers.lyrdb", database(inputs.design.name, deck.top, missed, deck.unit))
@@ -110,6 +111,7 @@ def write_results(inputs: Inputs, deck: Deck, outcomes: list[Outcome]) -> str:
 
 
 def run(given: argparse.Namespace) -> int:
+    gc.disable()   # hundreds of thousands of windows are kept to the end, none of them in a cycle
     deck = read_deck(given.deck, given.design)
     layers = chosen(deck, given.only)
     folder = results_of(given.deck, given.out)

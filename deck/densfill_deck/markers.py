@@ -1,5 +1,7 @@
 """A marker database for KLayout: a category for each layer and state, a window as a box, its density as a value."""
+from collections.abc import Iterator
 from fractions import Fraction
+from functools import cache
 from xml.sax.saxutils import escape
 
 from .reports import Window
@@ -30,21 +32,25 @@ def quoted(name: str) -> str:
     return name if name.replace("_", "").isalnum() else f"'{name}'"
 
 
-def number(units: int, unit: Fraction) -> str:
-    """A coordinate in micrometres, exact to the database unit."""
-    return f"{float(units * unit * 10**6):.9g}"
+def number(units: int, scale: Fraction) -> str:
+    """A coordinate of so many units in micrometres, exact to the database unit."""
+    return f"{units * scale.numerator / scale.denominator:.9g}"
 
 
-def item(name: str, top: str, window: Window, unit: Fraction) -> str:
-    left, bottom, right, up = (number(edge, unit) for edge in (window.left, window.bottom, window.right, window.top))
-    return (f"  <item>\n   <tags/>\n   <category>{escape(quoted(name))}.{window.state}</category>\n   <cell>{escape(quoted(top))}</cell>\n"
-            "   <visited>false</visited>\n   <multiplicity>1</multiplicity>\n   <comment/>\n   <image/>\n   <values>\n"
-            f"    <value>box: ({left},{bottom};{right},{up})</value>\n    <value>float: {window.share / 10**6:.6g}</value>\n"
-            "   </values>\n  </item>\n")
+def items(name: str, top: str, windows: list[Window], scale: Fraction) -> Iterator[str]:
+    """The items of a layer's windows that miss their limits."""
+    edge = cache(lambda units: number(units, scale))
+    head = f"  <item>\n   <tags/>\n   <category>{escape(quoted(name))}."
+    below = (f"</category>\n   <cell>{escape(quoted(top))}</cell>\n   <visited>false</visited>\n   <multiplicity>1</multiplicity>\n"
+             "   <comment/>\n   <image/>\n   <values>\n    <value>box: (")
+    for window in windows:
+        if window.state != "OK":
+            yield (f"{head}{window.state}{below}{edge(window.left)},{edge(window.bottom)};{edge(window.right)},{edge(window.top)})</value>\n"
+                   f"    <value>float: {window.share / 10**6:.6g}</value>\n   </values>\n  </item>\n")
 
 
 def database(title: str, top: str, layers: dict[str, list[Window]], unit: Fraction) -> str:
     """The database of all windows that miss their limits."""
     cells = f" <cells>\n  <cell>\n   <name>{escape(quoted(top))}</name>\n   <variant/>\n   <references/>\n  </cell>\n </cells>\n"
-    items = "".join(item(name, top, window, unit) for name, windows in layers.items() for window in windows if window.state != "OK")
-    return HEAD.format(title=escape(title), top=escape(quoted(top))) + categories(layers) + cells + f" <items>\n{items} </items>\n</report-database>\n"
+    missed = "".join("".join(items(name, top, windows, unit * 10**6)) for name, windows in layers.items())
+    return HEAD.format(title=escape(title), top=escape(quoted(top))) + categories(layers) + cells + f" <items>\n{missed} </items>\n</report-database>\n"

@@ -10,6 +10,7 @@ LOW = ((255, 224, 178), (213, 94, 0))
 OK = ((242, 242, 242), (120, 120, 120))
 HIGH = ((86, 160, 211), (0, 40, 100))
 NOTHING = (255, 255, 255)
+SHADES = 64
 
 Colour = tuple[int, int, int]
 
@@ -19,13 +20,15 @@ def blend(pair: tuple[Colour, Colour], part: float) -> Colour:
     return tuple(round(a + (b - a) * part) for a, b in zip(*pair))
 
 
-def colour(window: Window, limits: Limits) -> Colour:
-    """The colour of a window: of its state, and by how far it is from its limit."""
-    if window.state == "LOW":
-        return blend(LOW, (limits.least - window.share) / max(limits.least, 1))
-    if window.state == "HIGH":
-        return blend(HIGH, (window.share - limits.most) / max(10**6 - limits.most, 1))
-    return blend(OK, (window.share - limits.least) / max(limits.most - limits.least, 1))
+def shades(limits: Limits) -> dict[str, tuple[int, int, list[bytes]]]:
+    """For each state the share at which its colours begin, the one at which they end, and the colours between."""
+    pairs = {"LOW": (LOW, limits.least, 0), "OK": (OK, limits.least, limits.most), "HIGH": (HIGH, limits.most, 10**6)}
+    return {state: (first, last, [bytes(blend(pair, k / SHADES)) for k in range(SHADES + 1)]) for state, (pair, first, last) in pairs.items()}
+
+
+def shade(share: int, first: int, last: int) -> int:
+    """How far a share is on its way from one to another, in so many shades."""
+    return min(max((share - first) * SHADES // ((last - first) or 1), 0), SHADES)
 
 
 def chunk(kind: bytes, data: bytes) -> bytes:
@@ -43,9 +46,11 @@ def density_map(windows: list[Window], limits: Limits) -> tuple[int, int, bytes]
     width = max((window.column for window in windows), default=0) + 1
     height = max((window.row for window in windows), default=0) + 1
     pixels = bytearray(bytes(NOTHING) * (width * height))
+    colours = shades(limits)
     for window in windows:
+        first, last, between = colours[window.state]
         at = ((height - 1 - window.row) * width + window.column) * 3
-        pixels[at:at + 3] = bytes(colour(window, limits))
+        pixels[at:at + 3] = between[shade(window.share, first, last)]
     return width, height, png(width, height, [bytes(pixels[k * width * 3:(k + 1) * width * 3]) for k in range(height)])
 
 

@@ -1,14 +1,14 @@
 """The lines of a density report, and what they come to."""
 from collections.abc import Iterable
-from dataclasses import dataclass, replace
+from dataclasses import dataclass
+from heapq import nsmallest
 from pathlib import Path
-from statistics import fmean
+from typing import NamedTuple
 
 WORST = 20
 
 
-@dataclass(frozen=True, slots=True)
-class Window:
+class Window(NamedTuple):
     """A line of a report: a window by its column and row, its edges, its areas in unit squares, its share in parts of a million, and its
     state."""
     column: int
@@ -50,7 +50,9 @@ class Limits:
 
     def counted(self, window: Window) -> int:
         """The area of what counts of a window."""
-        left, bottom, right, top = self.frame or (window.left, window.bottom, window.right, window.top)
+        if self.frame is None:
+            return (window.right - window.left) * (window.top - window.bottom)
+        left, bottom, right, top = self.frame
         wide = min(window.right, right) - max(window.left, left)
         tall = min(window.top, top) - max(window.bottom, bottom)
         return max(wide, 0) * max(tall, 0)
@@ -62,9 +64,11 @@ class Limits:
 
     def without_boxes(self, window: Window) -> Window:
         """A window with its metal alone."""
+        if window.boxes == 0:
+            return window
         counted = self.counted(window)
         share = window.metal * 10**6 // counted if counted else 0
-        return replace(window, boxes=0, total=window.metal, share=share, state=self.state(window.metal, counted))
+        return Window(*window[:7], 0, window.metal, share, self.state(window.metal, counted))
 
 
 @dataclass(frozen=True)
@@ -79,19 +83,17 @@ class Figures:
 
 
 def figures(windows: list[Window]) -> Figures:
-    return Figures(
-        windows=len(windows),
-        low=sum(window.state == "LOW" for window in windows),
-        high=sum(window.state == "HIGH" for window in windows),
-        least=min(windows, key=lambda window: window.share, default=None),
-        greatest=max(windows, key=lambda window: window.share, default=None),
-        mean=fmean(window.share for window in windows) if windows else 0.0)
+    shares = [window.share for window in windows]
+    states = [window.state for window in windows]
+    least, greatest = ((windows[shares.index(one(shares))] for one in (min, max)) if windows else (None, None))
+    mean = sum(shares) / len(shares) if shares else 0.0
+    return Figures(len(windows), states.count("LOW"), states.count("HIGH"), least, greatest, mean)
 
 
 def worst(windows: list[Window]) -> list[Window]:
     """The windows that are farthest from their limits: the emptiest low ones, then the fullest high ones."""
-    low = sorted((w for w in windows if w.state == "LOW"), key=lambda w: (w.share, w.row, w.column))[:WORST]
-    high = sorted((w for w in windows if w.state == "HIGH"), key=lambda w: (-w.share, w.row, w.column))[:WORST]
+    low = nsmallest(WORST, (w for w in windows if w.state == "LOW"), key=lambda w: (w.share, w.row, w.column))
+    high = nsmallest(WORST, (w for w in windows if w.state == "HIGH"), key=lambda w: (-w.share, w.row, w.column))
     return low + high
 
 

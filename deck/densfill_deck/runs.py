@@ -7,8 +7,9 @@ import subprocess
 import sys
 import threading
 import time
-from concurrent.futures import ThreadPoolExecutor, as_completed
+from concurrent.futures import ThreadPoolExecutor, as_completed, wait
 from dataclasses import asdict, dataclass
+from functools import cache
 from pathlib import Path
 
 from .deck import Layer
@@ -56,10 +57,16 @@ def digest(path: Path) -> str:
         return hashlib.file_digest(file, "sha256").hexdigest()
 
 
-def fingerprint(inputs: Inputs, layer: Layer, digests: dict[Path, str]) -> dict[str, str]:
+@cache
+def input_digest(path: Path) -> str:
+    """The hash of an input, which stays the same as long as a run lasts."""
+    return digest(path)
+
+
+def fingerprint(inputs: Inputs, layer: Layer) -> dict[str, str]:
     """What a layer's results depend on: the rules, the design, the script, the program and what is run."""
-    return {"rules": hashlib.sha256(layer.rules().encode()).hexdigest(), "design": digests[inputs.design],
-            "program": digests[inputs.program], "script": digests[layer.script] if layer.script else "",
+    return {"rules": hashlib.sha256(layer.rules().encode()).hexdigest(), "design": input_digest(inputs.design),
+            "program": input_digest(inputs.program), "script": input_digest(layer.script) if layer.script else "",
             "does": "fill" if layer.fills else "check"}
 
 
@@ -129,18 +136,18 @@ class Runner:
 
     def run_all(self, layers: list[Layer], jobs: int, resume: bool) -> list[Ran]:
         """Runs all layers, so many side by side, those of an earlier run with the same inputs left out where that is asked for."""
-        digests = {path: digest(path) for path in {self.inputs.design, self.inputs.program, *(layer.script for layer in layers if layer.script)}}
-        prints = {layer.name: fingerprint(self.inputs, layer, digests) for layer in layers}
-        ran = {layer.name: earlier for layer in layers if resume and (earlier := self.earlier(layer, prints[layer.name]))}
+        ran = {layer.name: earlier for layer in layers if resume and (earlier := self.earlier(layer))}
         waiting = [layer for layer in layers if layer.name not in ran]
-        with ThreadPoolExecutor(jobs) as pool:
+        with ThreadPoolExecutor(jobs) as pool, ThreadPoolExecutor(1) as beside:
+            hashed = beside.submit(input_digest, self.inputs.design)
             futures = {pool.submit(self.run, layer): layer for layer in waiting}
             self.tell(len(ran), len(layers), [layer.name for layer in waiting[:jobs]])
             try:
                 for future in as_completed(futures):
                     done = future.result()
                     ran[done.layer] = done
-                    self.keep(futures[future], done, prints[done.layer])
+                    wait([hashed])
+                    self.keep(futures[future], done)
                     self.tell(len(ran), len(layers), [layer.name for f, layer in futures.items() if f.running()])
             except KeyboardInterrupt:
                 self.stop()
@@ -148,12 +155,12 @@ class Runner:
                 raise
         return [ran[layer.name] for layer in layers]
 
-    def keep(self, layer: Layer, ran: Ran, prints: dict[str, str]) -> None:
+    def keep(self, layer: Layer, ran: Ran) -> None:
         """Notes what a whole run was made of, and forgets an earlier one that is whole no more."""
         files = Files.of(self.inputs.folder, layer)
         if ran.status == 0:
             outputs = {path.name: digest(path) for path in (files.report, files.library) if path.exists()}
-            record = {"inputs": prints, "outputs": outputs, "ran": asdict(ran)}
+            record = {"inputs": fingerprint(self.inputs, layer), "outputs": outputs, "ran": asdict(ran)}
             part = files.record.with_name(files.record.name + ".part")
             part.write_text(json.dumps(record, indent=1) + "\n")
             part.replace(files.record)
@@ -161,12 +168,12 @@ class Runner:
             for path in (files.record, files.report, files.library):
                 path.unlink(missing_ok=True)
 
-    def earlier(self, layer: Layer, prints: dict[str, str]) -> Ran | None:
+    def earlier(self, layer: Layer) -> Ran | None:
         """An earlier run of the same inputs whose files are all there as it left them."""
         files = Files.of(self.inputs.folder, layer)
         try:
             record = json.loads(files.record.read_text())
-            same = record["inputs"] == prints and record["outputs"]
+            same = record["inputs"] == fingerprint(self.inputs, layer) and record["outputs"]
             if same and all(digest(self.inputs.folder / name) == was for name, was in record["outputs"].items()):
                 return Ran(**(record["ran"] | {"taken": True}))
         except (OSError, ValueError, KeyError, TypeError):

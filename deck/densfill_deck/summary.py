@@ -2,13 +2,14 @@
 from dataclasses import dataclass
 from datetime import datetime, timezone
 from fractions import Fraction
+from functools import cached_property
 from pathlib import Path
 
 from .deck import Deck, Layer
 from .gds import boxes
 from .lengths import told
 from .reports import Figures, Limits, Window, figures, read_report
-from .runs import Files, Inputs, Ran, digest
+from .runs import Files, Inputs, Ran, digest, input_digest
 
 STATUS = {1: "usage", 2: "an input is refused", 3: "out of memory", 4: "a file could not be opened, read or written",
           5: "the fill is unfinished", 6: "the workers gave back other edits"}
@@ -24,6 +25,11 @@ class Outcome:
     after: list[Window]
     boxes: int
     files: Files
+
+    @cached_property
+    def figures(self) -> tuple[Figures, Figures]:
+        """What the windows come to before and after fill."""
+        return figures(self.before), figures(self.after)
 
     @property
     def is_whole(self) -> bool:
@@ -71,8 +77,8 @@ def told_layer(outcome: Outcome, unit: Fraction) -> dict[str, object]:
                                "from_an_earlier_run": ran.taken}
     if outcome.is_whole:
         told |= {"windows": len(outcome.after), "boxes": outcome.boxes, "min": layer.numbers["min"] / 10**6,
-                 "max": layer.numbers["max"] / 10**6, "before": told_figures(figures(outcome.before), unit),
-                 "after": told_figures(figures(outcome.after), unit),
+                 "max": layer.numbers["max"] / 10**6, "before": told_figures(outcome.figures[0], unit),
+                 "after": told_figures(outcome.figures[1], unit),
                  "files": {path.name: digest(path) for path in (outcome.files.rules, outcome.files.report, outcome.files.library)
                            if path.exists()}}
     return told
@@ -82,7 +88,7 @@ def summary(inputs: Inputs, deck: Deck, outcomes: list[Outcome]) -> dict[str, ob
     """The whole summary."""
     return {"deck": str(deck.path), "design": str(inputs.design), "top": deck.top, "unit_m": float(deck.unit),
             "time": datetime.now(timezone.utc).isoformat(timespec="seconds"),
-            "hashes": {"deck": digest(deck.path), "design": digest(inputs.design), "program": digest(inputs.program)},
+            "hashes": {"deck": digest(deck.path), "design": input_digest(inputs.design), "program": input_digest(inputs.program)},
             "layers": [told_layer(outcome, deck.unit) for outcome in outcomes]}
 
 
@@ -92,14 +98,14 @@ def percent(window: Window | None) -> str:
 
 def text(deck: Deck, outcomes: list[Outcome]) -> str:
     """The summary for people: a line for each layer, and one for what failed."""
-    lines = [f"{deck.path.name}: {len(outcomes)} layers, database unit {told(deck.unit)}", "",
+    lines = [f"{deck.path.name}: {len(outcomes)} layer{'s' * (len(outcomes) != 1)}, database unit {told(deck.unit)}", "",
              f"{'layer':<16}{'windows':>9}{'low':>14}{'high':>14}{'least %':>16}{'greatest %':>16}{'boxes':>11}{'s':>9}{'MB':>7}"]
     for outcome in outcomes:
         ran = outcome.ran
         if not outcome.is_whole:
             lines.append(f"{outcome.layer.name:<16}failed: {STATUS.get(ran.status, f'status {ran.status}')}: {ran.told}")
             continue
-        before, after = figures(outcome.before), figures(outcome.after)
+        before, after = outcome.figures
         lines.append(f"{outcome.layer.name:<16}{after.windows:>9}{f'{before.low} > {after.low}':>14}{f'{before.high} > {after.high}':>14}"
                      f"{f'{percent(before.least)} > {percent(after.least)}':>16}{f'{percent(before.greatest)} > {percent(after.greatest)}':>16}"
                      f"{outcome.boxes:>11}{ran.seconds:>9.2f}{ran.memory / 2**20:>7.0f}" + (" (kept)" if ran.taken else ""))

@@ -1,0 +1,71 @@
+"""About how many copies of shapes a design draws on a layer: counted where the file is small, else by its bytes."""
+import struct
+from collections.abc import Iterator
+from pathlib import Path
+
+COUNTED = 32 << 20   # bytes of a file that are stepped through in a second or two
+FOR_A_SHAPE = 64     # bytes of a boundary of four corners
+BOUNDARY, PATH, SINGLE, ARRAY, LAYER, DATATYPE, NAME_OF_STRUCTURE, NAME, COLUMNS_AND_ROWS, END_OF_ELEMENT, END_OF_LIBRARY = (
+    0x08, 0x09, 0x0A, 0x0B, 0x0D, 0x0E, 0x06, 0x12, 0x13, 0x11, 0x04)
+Structures = dict[bytes, tuple[int, list[tuple[bytes, int]]]]
+
+
+def records(data: bytes) -> Iterator[tuple[int, bytes]]:
+    """The kind and the data of each record, as far as the bytes are records."""
+    at, end, head = 0, len(data) - 4, struct.Struct(">HB")
+    while at <= end:
+        length, kind = head.unpack_from(data, at)
+        if length < 4 or kind == END_OF_LIBRARY:
+            return
+        yield kind, data[at + 4:at + length]
+        at += length
+
+
+def structures(data: bytes, layer: bytes, datatype: bytes) -> Structures:
+    """Of each structure how many shapes it has on the layer, and what it refers to how many times."""
+    found: Structures = {}
+    shapes, references = 0, list[tuple[bytes, int]]()
+    kind_of, name, times, on = 0, b"", 1, 0
+    for kind, words in records(data):
+        if kind == NAME_OF_STRUCTURE:
+            if name:
+                found[name] = (shapes, references)
+            name, shapes, references = words.rstrip(b"\0"), 0, []
+        elif kind in (BOUNDARY, PATH, SINGLE, ARRAY):
+            kind_of, times, on = kind, 1, 0
+        elif kind == LAYER and words == layer or kind == DATATYPE and words == datatype:
+            on += 1
+        elif kind == NAME:
+            below = words.rstrip(b"\0")
+        elif kind == COLUMNS_AND_ROWS and len(words) == 4:
+            columns, rows = struct.unpack(">HH", words)
+            times = columns * rows
+        elif kind == END_OF_ELEMENT:
+            shapes += kind_of in (BOUNDARY, PATH) and on == 2
+            if kind_of in (SINGLE, ARRAY):
+                references.append((below, times))
+            kind_of = 0
+    if name:
+        found[name] = (shapes, references)
+    return found
+
+
+def drawn(of: Structures, name: bytes, known: dict[bytes, int]) -> int:
+    """How many shapes a structure draws with all below it. One that leads back to itself, which the program refuses, counts once."""
+    if name not in known:
+        known[name] = 0
+        shapes, references = of.get(name, (0, []))
+        known[name] = shapes + sum(times * drawn(of, below, known) for below, times in references)
+    return known[name]
+
+
+def copies_of(design: Path, rules: dict[str, int], top: str) -> int:
+    """About how many copies of shapes the top draws on the layer of the rules. The program counts for itself."""
+    size = design.stat().st_size
+    if size > COUNTED:
+        return size // FOR_A_SHAPE
+    layer, datatype = (struct.pack(">H", rules[key] & 0xFFFF) for key in ("layer", "datatype"))
+    try:
+        return drawn(structures(design.read_bytes(), layer, datatype), top.encode("latin-1"), {})
+    except RecursionError:
+        return size // FOR_A_SHAPE

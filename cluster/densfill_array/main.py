@@ -1,0 +1,242 @@
+"""densfill-array: checks or fills a chip in parts, one job of an array for each, and joins them to the bytes of one run."""
+import argparse
+import os
+import re
+import shlex
+import shutil
+import sys
+from pathlib import Path
+
+from .engines import ENGINES, Jobs, NotSubmitted, shown, submit
+from .folder import Asked, Changed, Part, missing, read_asked, stamp, write_aside, write_asked
+from .local import Pool
+from .part import NotJoined, Stopped, join, ranges, run_part
+from .rules import MOST_PARTS, NoParts, parts_for, read_work
+from .table import short, table
+
+DONE, USAGE, FAILED, INTERRUPTED = 0, 1, 2, 130
+ALL_MEMORY = 4 << 30
+RESULTS = ("report.csv", "fill.gds", "summary.txt")
+PLAIN = re.compile(r"[A-Za-z0-9_./+@,-]+\Z")
+SIZE = re.compile(r"(\d+(?:\.\d+)?)([KMGT])B?\Z", re.IGNORECASE)
+
+
+class Parser(argparse.ArgumentParser):
+    """A command line whose faults end with status 1."""
+
+    def error(self, message: str):
+        self.print_usage(sys.stderr)
+        self.exit(USAGE, f"{self.prog}: {message}\n")
+
+
+def positive(word: str) -> int:
+    number = int(word)
+    if number < 1:
+        raise argparse.ArgumentTypeError("1 or more")
+    return number
+
+
+def count(word: str) -> int:
+    number = positive(word)
+    if number > MOST_PARTS:
+        raise argparse.ArgumentTypeError(f"1 to {MOST_PARTS}")
+    return number
+
+
+def size(word: str) -> int:
+    found = SIZE.match(word)
+    if not found:
+        raise argparse.ArgumentTypeError("a size as 4G or 512M")
+    return int(float(found.group(1)) * 1024 ** (1 + "KMGT".index(found.group(2).upper())))
+
+
+def parser() -> Parser:
+    whole = Parser(prog="densfill-array", description=__doc__)
+    commands = whole.add_subparsers(dest="command", required=True, parser_class=Parser)
+    for name, words in (("check", "report of the metal of a design"), ("fill", "report and fill library")):
+        one = commands.add_parser(name, help=words)
+        one.add_argument("rules", type=Path)
+        one.add_argument("design", type=Path)
+        if name == "fill":
+            one.add_argument("script", type=Path, nargs="?", default=Path(os.devnull), help="late changes (by default none)")
+        one.add_argument("--out", type=Path, required=True, help="the folder of the parts and of what they come to, on a shared file system")
+        cut = one.add_mutually_exclusive_group()
+        cut.add_argument("--parts", type=count, help="how many parts")
+        cut.add_argument("--memory", type=size, help="bytes that a part may take, as 4G: as few parts as stay below (by default 4G)")
+        one.add_argument("--engine", choices=(*ENGINES, "local"), default="local", help="who runs the jobs (by default this machine)")
+        one.add_argument("--dry-run", action="store_true", help="print scripts and commands, and write nothing")
+        one.add_argument("--wait", action="store_true", help="come back when all is joined; missing parts are submitted anew")
+        one.add_argument("--resume", action="store_true", help="keep the parts that are whole for the same inputs")
+        one.add_argument("--tries", type=positive, default=3, help="how often a part is tried (by default 3)")
+        one.add_argument("--jobs", type=positive, help="local: how many parts side by side (by default as many as processors)")
+        one.add_argument("--submit", type=shlex.split, default=[], metavar="OPTIONS", help="more options for the batch system, in one word")
+        one.add_argument("--program", type=Path, help="the program densfill (by default beside this one, else on the path)")
+    part = commands.add_parser("part", help="what a job of the array runs")
+    part.add_argument("folder", type=Path)
+    part.add_argument("number", type=positive)
+    for name, words in (("join", "what the joining job runs"), ("table", "the table of an array, as far as it is")):
+        commands.add_parser(name, help=words).add_argument("folder", type=Path)
+    return whole
+
+
+def program_of(given: Path | None) -> Path:
+    """The program densfill: the one given, the one beside this, or the one on the path."""
+    beside = Path(sys.argv[0]).resolve().parent
+    for path in (given, beside / "densfill", beside.parent / "bin/densfill", shutil.which("densfill")):
+        if path and os.access(path, os.X_OK):
+            return Path(path).resolve()
+    raise FileNotFoundError("densfill is not on the path: make build, make install, or --program PATH")
+
+
+def inputs_of(given: argparse.Namespace) -> dict[str, str]:
+    paths = {"program": program_of(given.program), "rules": given.rules, "design": given.design}
+    if given.command == "fill":
+        paths["script"] = given.script
+    return {name: os.path.abspath(path) for name, path in paths.items()}
+
+
+def picked(given: argparse.Namespace, earlier: Asked | None) -> int:
+    """How many parts: as many as asked for, as the array that goes on has, or by a bound of memory."""
+    if given.parts:
+        return given.parts
+    if earlier and not given.memory:
+        return earlier.parts
+    work = read_work(given.rules, given.design, given.command)
+    parts = parts_for(work, given.memory or ALL_MEMORY)
+    rows = f"{work.chip.windows} rows of windows" + (f" and {work.chip.tiles} of tiles" if work.chip.tiles else "")
+    print(f"parts: {parts}, of {rows} and some {work.copies:,} copies of shapes, some {work.memory(parts) >> 20} MB each", file=sys.stderr)
+    return parts
+
+
+def earlier_of(folder: Path) -> Asked | None:
+    try:
+        return read_asked(folder)
+    except (OSError, ValueError, KeyError, TypeError):
+        return None
+
+
+def asked_of(given: argparse.Namespace) -> Asked:
+    earlier = earlier_of(given.out)
+    inputs = inputs_of(given)
+    parts = picked(given, earlier if given.resume else None)
+    stamps = {name: stamp(Path(path)) for name, path in inputs.items()}
+    return Asked(given.command, inputs, stamps, parts, given.tries, earlier.round + 1 if earlier else 1)
+
+
+def jobs_of(given: argparse.Namespace, folder: Path, parts: int, numbers: list[int]) -> Jobs:
+    command = [sys.executable, "-IS", os.path.abspath(sys.argv[0])]
+    if given.engine in ENGINES and not all(PLAIN.match(word) for word in (*command, str(folder))):
+        raise NotSubmitted(f"{folder}: a batch system's scripts take letters, digits and _ . / + - @ , in paths")
+    return Jobs(folder, numbers, parts, command, given.memory, given.submit, given.wait)
+
+
+def prepare(given: argparse.Namespace, folder: Path) -> Asked:
+    """Writes the array's folder, and takes away what an earlier one left there and isn't kept; files of others it leaves alone."""
+    if not (folder / "array.json").exists() and any((folder / name).exists() for name in RESULTS):
+        raise NoParts(f"{folder} has files of the names {', '.join(RESULTS)} that are of no array: another --out")
+    asked = asked_of(given)
+    (folder / "parts").mkdir(parents=True, exist_ok=True)
+    write_asked(folder, asked)
+    for name in RESULTS:
+        (folder / name).unlink(missing_ok=True)
+    kept = set(range(1, asked.parts + 1)) - set(missing(folder, asked)) if given.resume else set()
+    for number in set(range(1, asked.parts + 1)) - kept:
+        Part(folder, number, asked.parts).forget()
+    if kept:
+        print(f"{len(kept)} of {asked.parts} parts are kept")
+    return asked
+
+
+def finish(folder: Path) -> int:
+    """Joins the parts, and writes the table in any case."""
+    asked = read_asked(folder)
+    try:
+        join(folder)
+        return DONE
+    finally:
+        write_aside(folder / "summary.txt", table(folder, asked))
+
+
+def run_local(given: argparse.Namespace, folder: Path, asked: Asked) -> None:
+    side_by_side = os.cpu_count() or 1
+    if given.memory:
+        side_by_side = max(1, min(side_by_side, free_memory() // given.memory))
+    Pool(folder, missing(folder, asked)).run_all(given.jobs or side_by_side)
+    finish(folder)
+
+
+def free_memory() -> int:
+    """Bytes of memory that are free, or a great many where the system doesn't tell."""
+    try:
+        told = dict(line.split(":", 1) for line in Path("/proc/meminfo").read_text().splitlines())
+        return int(told["MemAvailable"].split()[0]) * 1024
+    except (OSError, KeyError, ValueError, IndexError):
+        return 1 << 40
+
+
+def run_batch(given: argparse.Namespace, folder: Path, asked: Asked) -> bool:
+    """Submits what is missing, and tells whether all has ended. Who waits submits what was lost with its job anew, as often as a part may be
+    tried."""
+    numbers = missing(folder, asked)
+    for _ in range(asked.tries):
+        if not numbers:
+            break
+        number = submit(jobs_of(given, folder, asked.parts, numbers), ENGINES[given.engine])
+        print(f"submitted: parts {ranges(numbers)} of {asked.parts} as job {number}, and the joining job behind it", flush=True)
+        if not given.wait:
+            return False
+        numbers = [number for number in missing(folder, asked) if Part(folder, number, asked.parts).is_lost()]
+    if not (folder / "report.csv").exists():
+        finish(folder)
+    return True
+
+
+def run(given: argparse.Namespace) -> int:
+    folder = Path(os.path.abspath(given.out))
+    if given.dry_run:
+        parts = picked(given, earlier_of(folder) if given.resume else None)
+        jobs = jobs_of(given, folder, parts, list(range(1, parts + 1)))
+        local = "".join(jobs.line("part", str(number)) + "\n" for number in jobs.numbers) + jobs.line("join") + "\n"
+        print(shown(jobs, ENGINES[given.engine]) if given.engine in ENGINES else local, end="")
+        return DONE
+    asked = prepare(given, folder)
+    results = f"{folder}/report.csv" + (", fill.gds" if asked.does == "fill" else "") + ", summary.txt"
+    ended = True
+    try:
+        if given.engine == "local":
+            run_local(given, folder, asked)
+        else:
+            ended = run_batch(given, folder, asked)
+    finally:
+        if ended:
+            print(short(table(folder, asked)), end="")
+    print(f"results: {results}" if ended else f"once the joining job has ended: {results}")
+    return DONE
+
+
+def do_part(given: argparse.Namespace) -> int:
+    return run_part(given.folder, given.number)
+
+
+def do_join(given: argparse.Namespace) -> int:
+    return finish(given.folder)
+
+
+def do_table(given: argparse.Namespace) -> int:
+    print(short(table(given.folder, read_asked(given.folder))), end="")
+    return DONE
+
+
+def main() -> int:
+    given = parser().parse_args()
+    try:
+        return {"check": run, "fill": run, "part": do_part, "join": do_join, "table": do_table}[given.command](given)
+    except Stopped as stopped:
+        return 128 + stopped.args[0]
+    except (OSError, ValueError, Changed, NoParts, NotJoined, NotSubmitted) as error:
+        print(f"densfill-array: {error}", file=sys.stderr)
+    except KeyboardInterrupt:
+        print("densfill-array: " + ("waits no longer; the jobs go on" if getattr(given, "engine", "local") != "local"
+                                    else "interrupted; whole parts are kept, --resume goes on"), file=sys.stderr)
+        return INTERRUPTED
+    return FAILED

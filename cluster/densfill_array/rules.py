@@ -1,0 +1,105 @@
+"""What a rule file says of a chip's height, and into how many parts it is best cut."""
+import csv
+import math
+from dataclasses import dataclass
+from pathlib import Path
+
+from .copies import copies_of
+
+MOST_PARTS = 4096
+
+# What a part takes in bytes, by measured runs (docs/CLUSTER.md): the program itself, each byte of the design's file whatever the part
+# is, and each copy of a shape that meets what the part looks at.
+PROGRAM = 24 << 20
+FOR_THE_FILE = 1.8
+FOR_A_COPY = {"check": 25, "fill": 110}
+# A part takes 4,000,000 copies; some of a chip is denser than the rest.
+MOST_COPIES = 3_000_000
+
+
+class NoParts(ValueError):
+    """Why a chip can't be cut as it is asked for."""
+
+
+@dataclass(frozen=True)
+class Chip:
+    """A chip as its parts are cut: rows of windows and of tiles, the height of all, and what a part looks at beside its own rows."""
+    windows: int
+    tiles: int
+    height: int
+    beside: int
+
+    @property
+    def rows(self) -> int:
+        return max(self.windows, self.tiles)
+
+    def share(self, parts: int) -> float:
+        """The share of the height that a part looks at, at most."""
+        if parts == 1:
+            return 1.0
+        return min(1.0, 1 / min(parts, self.rows) + self.beside / self.height)
+
+
+def read_keys(path: Path) -> dict[str, str]:
+    """The keys of a rule file. The program judges the file."""
+    with open(path, newline="", encoding="latin-1") as file:
+        return {row[0]: row[1] for row in csv.reader(file) if len(row) == 2}
+
+
+def numbers_of(keys: dict[str, str]) -> dict[str, int]:
+    return {key: int(value) for key, value in keys.items() if value.removeprefix("-").isdigit()}
+
+
+def tile_rows(n: dict[str, int]) -> int:
+    """How many rows of tiles the raster has: its places are those whose box lies in the frame."""
+    low = math.ceil((n["frame_y1"] - n["origin_y"]) / n["step_y"])
+    high = (n["frame_y2"] - n["box_h"] - n["origin_y"]) // n["step_y"]
+    return max(0, math.ceil((high - low + 1) / n["tile_ny"]))
+
+
+def chip_of(n: dict[str, int], does: str) -> Chip:
+    """The chip of a rule file's numbers; a check has windows alone."""
+    windows, tiles = n["win_ny"], tile_rows(n) if does == "fill" else 0
+    bottom, top = n["win_y"], n["win_y"] + (windows - 1) * n["win_step_y"] + n["win_h"]
+    beside = n["win_h"]
+    if tiles:
+        bottom, top = min(bottom, n["frame_y1"]), max(top, n["frame_y2"])
+        beside = 2 * (n["tile_ny"] * n["step_y"] + max(n["spacing"], n["fill_spacing"]) + 2 * n["win_h"])
+    return Chip(windows, tiles, max(1, top - bottom), beside)
+
+
+@dataclass(frozen=True)
+class Work:
+    """What is to be cut: the command, the chip, the bytes of the design's file, and about how many copies of shapes it draws."""
+    does: str
+    chip: Chip
+    size: int
+    copies: int
+
+    def memory(self, parts: int) -> int:
+        """Bytes that a part takes, about."""
+        return int(PROGRAM + self.size * FOR_THE_FILE + self.copies * self.chip.share(parts) * FOR_A_COPY[self.does])
+
+
+def read_work(rules: Path, design: Path, does: str) -> Work:
+    keys = read_keys(rules)
+    try:
+        n = numbers_of(keys)
+        return Work(does, chip_of(n, does), design.stat().st_size, copies_of(design, n, keys["top"]))
+    except KeyError as error:
+        raise NoParts(f"{rules}: the key {error} has no fit value: this is no rule file") from error
+    except ZeroDivisionError as error:
+        raise NoParts(f"{rules}: a step of 0: this is no rule file") from error
+
+
+def parts_for(work: Work, memory: int) -> int:
+    """The fewest parts of which each stays below a bound of memory and well below the limit of copies."""
+    most = max(1, min(MOST_PARTS, work.chip.rows))
+    for parts in range(1, most + 1):
+        if work.memory(parts) <= memory and work.copies * work.chip.share(parts) <= MOST_COPIES:
+            return parts
+    if work.memory(most) > memory:
+        raise NoParts(f"each part reads the whole file and takes some {work.memory(most) >> 20} MB, in however many parts: "
+                      "a greater --memory, or --parts")
+    raise NoParts(f"each part looks at some {work.copies * work.chip.share(most):,.0f} copies of shapes, in however many parts: lower windows, "
+                  "lower tiles, or --parts")

@@ -1,0 +1,165 @@
+#!/usr/bin/env python3
+"""A chip in parts on a real Slurm of two nodes (slurm.py): a design of 16 million shapes, four times what one run takes, by an array of eight
+parts, of which one is killed half-way and one with its job; its bytes beside those of other numbers of parts, and KLayout's areas.
+
+usage: test_cluster.py [PROGRAM]     (by default bin/densfill, else what the gate left in crates/densfill/out; needs what slurm.py needs)
+"""
+import json
+import os
+import random
+import re
+import shutil
+import signal
+import subprocess
+import sys
+import tempfile
+import time
+import unittest
+from pathlib import Path
+
+HERE = Path(__file__).resolve().parent
+ROOT = HERE.parent.parent
+sys.path.insert(0, str(HERE))
+from slurm import NODES, Slurm, lacking  # noqa: E402
+
+BUILT = (ROOT / "bin/densfill", ROOT / "crates/densfill/out/densfill")
+ALL, WITHIN = 16_000_000, 3_900_000   # copies of shapes: four times the limit of one run, and just below it
+PARTS = 8
+SAMPLE = 100
+
+
+def draw(folder: Path, copies: int) -> None:
+    """A design of so many copies by references five levels deep, with 200 rows of windows that overlap by half."""
+    folder.mkdir()
+    subprocess.run([sys.executable, ROOT / "bench/check/generate.py", str(copies), "deep", folder], check=True)
+    subprocess.run([sys.executable, ROOT / "bench/fill/rules.py", folder], check=True)
+    path = folder / "fill.csv"
+    rules = dict(line.split(",") for line in path.read_text().splitlines())
+    for axis, size in (("x", "w"), ("y", "h")):
+        step = int(rules[f"frame_{axis}2"]) // 201 // 2 * 2
+        rules |= {f"win_{size}": str(2 * step), f"win_step_{axis}": str(step), f"win_n{axis}": "200"}
+    path.write_text("".join(f"{key},{value}\n" for key, value in rules.items()))
+    width, height = int(rules["frame_x2"]), int(rules["frame_y2"])
+    edges = [(0, height * k // 9 - 3000, width * 2 // 3, height * k // 9 + 3000) for k in range(1, 9)]
+    (folder / "script.csv").write_text("".join(f"{kind},{x1},{y1},{x2},{y2}\n" for kind, (x1, y1, x2, y2) in
+                                               zip(("cut", "add", "keep", "cut") * 2, edges)))
+
+
+class Cluster(unittest.TestCase):
+    """Arrays over two nodes. `most` is the most that the program does of a part."""
+    program: Path
+    most = "fill"
+
+    @classmethod
+    def setUpClass(cls) -> None:
+        folder = tempfile.TemporaryDirectory()
+        cls.addClassCleanup(folder.cleanup)
+        cls.folder = Path(folder.name)
+        cls.folder.chmod(0o755)
+        for name, copies in (("all", ALL), ("within", WITHIN)):
+            draw(cls.folder / name, copies)
+        (cls.folder / "slurm").mkdir()
+        cls.slurm = cls.enterClassContext(Slurm(cls.folder / "slurm"))
+
+    def words(self, does: str, name: str, out: str, *more: object) -> list[str]:
+        inputs = [str(self.folder / name / file) for file in ("fill.csv", "design.gds", *["script.csv"] * (does == "fill"))]
+        return [sys.executable, str(ROOT / "cluster/densfill-array"), does, *inputs, "--out", str(self.folder / out), "--program",
+                str(self.program), *map(str, more)]
+
+    def array(self, does: str, name: str, out: str, *more: object) -> str:
+        done = subprocess.run(self.words(does, name, out, *more), capture_output=True, text=True, check=False, env=self.slurm.env)
+        self.assertEqual((done.returncode, done.stderr), (0, ""), done.stdout)
+        print(f"\n{does} of {name}, {' '.join(map(str, more))}:\n{done.stdout}", flush=True)
+        return done.stdout
+
+    def assert_same(self, one: str, other: str) -> None:
+        names = [name for name in ("report.csv", "fill.gds") if (self.folder / one / name).exists()]
+        self.assertIn("report.csv", names)
+        for name in names:
+            same = subprocess.run(["cmp", self.folder / one / name, self.folder / other / name], capture_output=True, text=True, check=False)
+            self.assertEqual((same.returncode, same.stdout), (0, ""))
+
+    def noted(self, out: str, part: int) -> int:
+        """The process of the program that runs a part, once it runs."""
+        path = self.folder / f"{out}/parts/{part}-of-{PARTS}.tries"
+        for _ in range(3000):
+            if path.exists() and (lines := path.read_text().splitlines()):
+                return json.loads(lines[0])["pid"]
+            time.sleep(0.02)
+        raise TimeoutError(path)
+
+    def kill(self, pid: int, with_its_job: bool) -> None:
+        """Kills a part in the middle of its run."""
+        told = Path(f"/proc/{pid}/status").read_text()
+        time.sleep(0.05)
+        if with_its_job:
+            os.kill(int(re.search(r"PPid:\s*(\d+)", told).group(1)), signal.SIGKILL)
+        os.kill(pid, signal.SIGKILL)
+
+    def test_four_times_what_one_run_takes(self) -> None:
+        folder = self.folder / "all"
+        alone = subprocess.run([self.program, "check", folder / "fill.csv", folder / "design.gds"], capture_output=True, text=True, check=False)
+        self.assertEqual((alone.returncode, alone.stdout), (2, ""))
+        self.assertIn("design: 18 TooManyShapes", alone.stderr)
+        self.array("check", "all", "check-slurm", "--engine", "slurm", "--wait", "--parts", PARTS)
+        for parts in 5, 16:
+            self.array("check", "all", f"check-{parts}", "--parts", parts)
+            self.assert_same("check-slurm", f"check-{parts}")
+        self.killed_and_queued_again()
+        for parts in 7, 16:
+            self.array(self.most, "all", f"most-{parts}", "--parts", parts)
+            self.assert_same("most-slurm", f"most-{parts}")
+        if shutil.which("klayout") and self.most == "fill":
+            self.klayout_tells_the_same(folder)
+
+    def killed_and_queued_again(self) -> None:
+        words = self.words(self.most, "all", "most-slurm", "--engine", "slurm", "--wait", "--parts", PARTS)
+        child = subprocess.Popen(words, stdout=subprocess.PIPE, stderr=subprocess.PIPE, text=True, env=self.slurm.env)
+        self.kill(self.noted("most-slurm", 2), False)
+        self.kill(self.noted("most-slurm", 5), True)
+        out, err = child.communicate()
+        self.assertEqual((child.returncode, err), (0, ""), out)
+        print(f"\n{self.most} of all, {PARTS} parts by slurm, two killed:\n{out}", flush=True)
+        rows = [line.split() for line in (self.folder / "most-slurm/summary.txt").read_text().splitlines()[1:-1]]
+        self.assertEqual([int(row[4]) for row in rows], [number in (2, 5) for number in range(1, PARTS + 1)])
+        self.assertEqual({row[5].rstrip(",") for row in rows}, set(NODES))
+        self.assertIn(f"submitted: parts 5 of {PARTS} as job", out)
+
+    def klayout_tells_the_same(self, folder: Path) -> None:
+        """Without late changes, so that the design's file has all metal."""
+        empty = folder / "script.csv"
+        empty.write_text("")
+        self.array("fill", "all", "fill-plain", "--parts", PARTS)
+        lines = (self.folder / "fill-plain/report.csv").read_text().splitlines()
+        rows = [line.split(",") for line in random.Random(7).sample(lines, SAMPLE)]
+        (folder / "windows.csv").write_text("".join(",".join(row[2:6]) + "\n" for row in rows))
+        rules = dict(line.split(",") for line in (folder / "fill.csv").read_text().splitlines())
+        given = {"design": folder / "design.gds", "top": rules["top"], "layer": f"{rules['layer']}/{rules['datatype']}",
+                 "fill": self.folder / "fill-plain/fill.gds", "fill_top": rules["fill_top"],
+                 "fill_layer": f"{rules['fill_layer']}/{rules['fill_datatype']}", "windows": folder / "windows.csv", "out": folder / "areas.csv"}
+        words = ["klayout", "-b", "-r", str(HERE / "windows.py"), *(word for key, value in given.items() for word in ("-rd", f"{key}={value}"))]
+        subprocess.run(words, check=True, env=os.environ | {"QT_QPA_PLATFORM": "offscreen"})
+        self.assertEqual((folder / "areas.csv").read_text().splitlines(), [",".join(row[6:8]) for row in rows])
+        print(f"KLayout's areas of metal and of boxes in {SAMPLE} windows are the same", flush=True)
+
+    def test_what_one_run_takes(self) -> None:
+        folder = self.folder / "within"
+        files = [folder / file for file in ("fill.csv", "design.gds", *["script.csv", "fill.gds"] * (self.most == "fill"))]
+        (folder / "report.csv").write_bytes(subprocess.run([self.program, self.most, *files], capture_output=True, check=True).stdout)
+        self.array(self.most, "within", "within-slurm", "--engine", "slurm", "--wait", "--parts", PARTS)
+        self.assert_same("within", "within-slurm")
+        for parts in 1, 2, 16:
+            self.array(self.most, "within", f"within-{parts}", "--parts", parts)
+            self.assert_same("within", f"within-{parts}")
+
+
+if __name__ == "__main__":
+    given = sys.argv[1:2] or [str(path) for path in BUILT if path.exists()][:1]
+    if not given or lacking():
+        sys.exit(lacking() or "no program is built: make build")
+    Cluster.program = Path(given[0]).resolve()
+    probe = [Cluster.program, "fill", "rules", "design", "script", "out", "--part", "1/1"]
+    if subprocess.run(probe, capture_output=True, check=False).returncode == 1:
+        print("this program takes no part of a fill: arrays of checks alone are tested", file=sys.stderr)
+        Cluster.most = "check"
+    unittest.main(argv=sys.argv[:1])

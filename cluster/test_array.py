@@ -1,0 +1,450 @@
+#!/usr/bin/env python3
+"""Tests of densfill-array: picking the number of parts, what is submitted, runs, resuming, parts that fail or are killed, and counting.
+
+usage: test_array.py [PROGRAM]     (by default bin/densfill, else what the gate left in crates/densfill/out)
+"""
+import json
+import os
+import re
+import signal
+import subprocess
+import sys
+import tempfile
+import time
+import unittest
+from pathlib import Path
+
+HERE = Path(__file__).resolve().parent
+ROOT = HERE.parent
+sys.path[:0] = [str(HERE), str(ROOT / "tools")]
+
+from densfill_array.folder import Part  # noqa: E402
+from densfill_array.main import size  # noqa: E402
+from densfill_array.part import ranges  # noqa: E402
+from densfill_array.rules import Chip, NoParts, Work, parts_for, read_work  # noqa: E402
+from stream import array, boundary, library, path, reference, structure  # noqa: E402
+
+BUILT = (ROOT / "bin/densfill", ROOT / "crates/densfill/out/densfill")
+TOOL = HERE / "densfill-array"
+
+# A frame of 400 by 400 with ten rows of windows that overlap by half, and rows of places each way, three to a tile.
+RULES = {
+    "frame_x1": 0, "frame_y1": 0, "frame_x2": 400, "frame_y2": 400, "box_w": 6, "box_h": 6, "step_x": 10, "step_y": 10, "origin_x": 2,
+    "origin_y": 2, "spacing": 3, "fill_spacing": 2, "tile_nx": 3, "tile_ny": 3, "win_w": 72, "win_h": 72, "win_step_x": 36,
+    "win_step_y": 36, "win_x": 0, "win_y": 0, "win_nx": 10, "win_ny": 10, "min": 300000, "max": 600000, "layer": 31, "datatype": 0,
+    "fill_layer": 131, "fill_datatype": 0, "top": "TOP", "fill_lib": "FILL", "fill_cell": "BOX", "fill_top": "ALL"}
+WIRES = [boundary(31, x, (x * 7) % 90, x + 9, (x * 7) % 90 + 40 + (x * 13) % 260) for x in range(0, 380, 17)]
+SCRIPT = "cut,30,30,370,180\nadd,10,170,390,190\nkeep,200,60,260,330\nadd,5,300,60,399\n"
+
+# Stands in for a batch system: it runs the jobs of an array one after another, each again while it asks for it, and a joining job only
+# where all that it waits for ended well, or for Grid Engine in any case.
+BATCH = r'''#!{python}
+import os, pathlib, re, subprocess, sys
+kind, words = pathlib.Path(sys.argv[0]).name, sys.argv[1:]
+here = pathlib.Path(sys.argv[0]).parent
+with open(here / "submitted", "a") as file:
+    file.write(" ".join([kind, *words]) + "\n")
+text = sys.stdin.read() if kind == "bsub" else open(words[-1]).read()
+numbers = re.search(r"(?:--array=|-t |-J \".*\[)([\d,-]+)", text)
+ended = here / "ended"
+if numbers:
+    statuses = []
+    for run in numbers.group(1).split(","):
+        low, _, high = run.partition("-")
+        for k in range(int(low), int(high or low) + 1):
+            name = dict(sbatch="SLURM_ARRAY_TASK_ID", bsub="LSB_JOBINDEX", qsub="SGE_TASK_ID")[kind]
+            more = dict(SLURM_ARRAY_JOB_ID="77", PATH=f"{{here}}:{{os.environ['PATH']}}")
+            env = os.environ | more | {{name: str(k)}}
+            status = 99
+            while status == 99:
+                status = subprocess.run(["bash", "-c", text.replace("sleep 60", "true")], env=env).returncode
+            statuses.append(status)
+    ended.write_text(str(max(map(abs, statuses))))
+    print(dict(sbatch="77", bsub="Job <77> is submitted to queue <normal>.", qsub="77.1-8:1")[kind])
+elif kind == "qsub" or ended.read_text() == "0":
+    sys.exit(subprocess.run(["bash", "-c", text]).returncode)
+else:
+    sys.exit(1)
+'''
+
+
+class Picking(unittest.TestCase):
+    """Into how many parts a chip is cut."""
+
+    def work(self, does: str, *structures: bytes, **changes: object) -> Work:
+        with tempfile.TemporaryDirectory() as folder:
+            rules, design = Path(folder) / "rules.csv", Path(folder) / "design.gds"
+            rules.write_text("".join(f"{key},{value}\n" for key, value in (RULES | changes).items()))
+            design.write_bytes(library("DESIGN", *structures))
+            return read_work(rules, design, does)
+
+    def chip(self, does: str, **changes: object) -> Chip:
+        return self.work(does, **changes).chip
+
+    def test_rows(self) -> None:
+        self.assertEqual((self.chip("check").windows, self.chip("check").tiles), (10, 0))
+        self.assertEqual(self.chip("fill").tiles, 14)
+        self.assertEqual(self.chip("fill", origin_y=395).tiles, 13)
+        self.assertEqual(self.chip("fill", box_h=10, step_y=20, tile_ny=20).tiles, 1)
+        self.assertEqual(self.chip("fill", frame_y2=5).tiles, 0)
+
+    def test_few_parts_where_memory_is_ample(self) -> None:
+        for does in "check", "fill":
+            work = Work(does, Chip(40, 50, 40_000, 3_000), 1 << 30, 3_000_000)
+            needed = [work.memory(parts) for parts in range(1, 42)]
+            self.assertEqual(needed, sorted(needed, reverse=True))
+            for bound in (needed[0], needed[3], needed[20] + 1):
+                parts = parts_for(work, bound)
+                self.assertLessEqual(needed[parts - 1], bound)
+                self.assertTrue(parts == 1 or needed[parts - 2] > bound)
+
+    def test_no_more_parts_than_rows(self) -> None:
+        with self.assertRaisesRegex(NoParts, "reads the whole file"):
+            parts_for(Work("fill", Chip(40, 50, 40_000, 3_000), 1 << 30, 1000), 1 << 30)
+        with self.assertRaisesRegex(NoParts, "copies of shapes, in however many parts"):
+            parts_for(Work("fill", Chip(40, 50, 40_000, 3_000), 1 << 20, 100_000_000), 64 << 30)
+
+    def test_copies_that_one_run_does_not_take(self) -> None:
+        cell = structure("CELL", boundary(31, 0, 0, 4, 4), boundary(31, 5, 0, 9, 4), boundary(30, 0, 0, 1, 1), path(31, 2, 0, 0, 0, 9))
+        row = structure("ROW", *[reference("CELL", x, 0) for x in range(5)], array("CELL", 1000, 3, (0, 0, 10_000, 0, 0, 30)))
+        top = structure("TOP", array("ROW", 2, 200, (0, 0, 20_000, 0, 0, 2000)), boundary(31, 0, 0, 1, 1), reference("NONE", 0, 0))
+        for structures in ((cell, row, top), (top, row, cell)):
+            work = self.work("check", *structures)
+            self.assertEqual(work.copies, 400 * 3005 * 3 + 1)
+            self.assertEqual([parts for parts in range(1, 9) if work.copies * work.chip.share(parts) <= 3_000_000][0], parts_for(work, 4 << 30))
+        self.assertEqual(self.work("check", top, structure("ROW", reference("TOP", 0, 0))).copies, 1)
+
+    def test_no_rule_file(self) -> None:
+        with self.assertRaisesRegex(NoParts, "no rule file"):
+            self.chip("fill", step_y="ten")
+        with self.assertRaisesRegex(NoParts, "no rule file"):
+            self.chip("fill", step_y=0)
+
+    def test_sizes_and_ranges(self) -> None:
+        self.assertEqual([size(word) for word in ("4G", "1.5g", "512MB", "64K")], [4 << 30, 3 << 29, 512 << 20, 64 << 10])
+        self.assertEqual(ranges([1, 2, 3, 7, 9, 10]), "1-3,7,9-10")
+
+
+class Case(unittest.TestCase):
+    """A folder with a chip, and what one run of the program makes of it. `most` is the most that the program does of a part."""
+    program: Path
+    most = "fill"
+
+    def setUp(self) -> None:
+        folder = tempfile.TemporaryDirectory()
+        self.addCleanup(folder.cleanup)
+        self.folder = Path(folder.name).resolve()
+        self.out = self.folder / "out"
+        self.write(RULES)
+        (self.folder / "design.gds").write_bytes(library("DESIGN", structure("TOP", *WIRES)))
+        (self.folder / "script.csv").write_text(SCRIPT)
+        self.tool = [sys.executable, "-IS", str(TOOL)]
+
+    def write(self, rules: dict[str, object]) -> None:
+        (self.folder / "rules.csv").write_text("".join(f"{key},{value}\n" for key, value in rules.items()))
+
+    def words(self, does: str, *more: object, program: Path | None = None) -> list[str]:
+        inputs = ["rules.csv", "design.gds", *["script.csv"] * (does == "fill")]
+        return [*self.tool, does, *inputs, "--out", "out", "--program", str(program or self.program), *map(str, more)]
+
+    def array(self, does: str, *more: object, **how: object) -> subprocess.CompletedProcess[str]:
+        program = how.pop("program", None)
+        return subprocess.run(self.words(does, *more, program=program), cwd=self.folder, capture_output=True, text=True, check=False, **how)
+
+    def job(self, *words: object) -> subprocess.CompletedProcess[str]:
+        return subprocess.run([*self.tool, *map(str, words)], cwd=self.folder, capture_output=True, text=True, check=False)
+
+    def wrapped(self, *lines: str) -> Path:
+        """A program that does something else for some parts, and is densfill for the others: $* are the words, $seen a file of its own."""
+        path = self.folder / "wrapped"
+        path.write_text("\n".join(["#!/bin/bash", f"seen={self.folder}/seen", *lines, f'exec {self.program} "$@"']) + "\n")
+        path.chmod(0o755)
+        return path
+
+    def one_run(self, does: str) -> tuple[bytes, bytes]:
+        words = [does, "rules.csv", "design.gds", *["script.csv", "one.gds"] * (does == "fill")]
+        report = subprocess.run([self.program, *words], cwd=self.folder, capture_output=True, check=True).stdout
+        return report, (self.folder / "one.gds").read_bytes() if does == "fill" else b""
+
+    def joined(self, does: str) -> tuple[bytes, bytes]:
+        return (self.out / "report.csv").read_bytes(), (self.out / "fill.gds").read_bytes() if does == "fill" else b""
+
+    def assert_whole(self, does: str, ended: subprocess.CompletedProcess[str]) -> None:
+        self.assertEqual((ended.returncode, ended.stderr), (0, ""), ended.stdout)
+        self.assertEqual(self.joined(does), self.one_run(does))
+
+    def assert_not_joined(self, ended: subprocess.CompletedProcess[str], lacking: str) -> None:
+        self.assertEqual(ended.returncode, 2)
+        self.assertIn(f"parts are missing: {lacking}; --resume", ended.stderr)
+        self.assertFalse((self.out / "report.csv").exists() or (self.out / "fill.gds").exists())
+
+    def tries(self, number: int, count: int) -> int:
+        lines = (self.out / f"parts/{number}-of-{count}.tries").read_text().splitlines()
+        return sum("begun" in json.loads(line) for line in lines)
+
+
+class Runs(Case):
+    """Arrays by processes on this machine."""
+
+    def test_the_bytes_are_those_of_one_run(self) -> None:
+        for does in dict.fromkeys(("check", self.most)):
+            for parts in 1, 2, 5, 17:
+                self.assert_whole(does, self.array(does, "--parts", parts))
+                self.assertEqual(len(list((self.out / "parts").glob(f"*-of-{parts}.report.csv"))), parts)
+        self.assertFalse(list(self.out.rglob("*.aside*")))
+
+    def test_the_table(self) -> None:
+        ended = self.array(self.most, "--parts", 3)
+        lines = (self.out / "summary.txt").read_text().splitlines()
+        self.assertEqual(ended.stdout.splitlines()[:-1], lines)
+        self.assertEqual([line.split()[0] for line in lines], ["part", "1", "2", "3", "all"])
+        self.assertTrue(lines[-1].endswith("0  3 of 3 parts are whole"))
+
+    def test_a_number_is_picked(self) -> None:
+        ended = self.array("check", "--memory", "1G")
+        self.assertRegex(ended.stderr, r"\Aparts: 1, of 10 rows of windows and some 23 copies of shapes, some \d+ MB each\n\Z")
+        self.assertEqual(self.joined("check"), self.one_run("check"))
+        self.assertIn("a greater --memory", self.array("check", "--memory", "1M").stderr)
+
+    def test_resume_runs_what_is_not_whole(self) -> None:
+        self.array(self.most, "--parts", 6)
+        Part(self.out, 2, 6).outputs(self.most)[-1].unlink()
+        (self.out / "parts/3-of-6.report.csv").write_text("")
+        (self.out / "parts/5-of-6.json").write_text("{")
+        ended = self.array(self.most, "--resume")
+        self.assert_whole(self.most, ended)
+        self.assertTrue(ended.stdout.startswith("3 of 6 parts are kept\n"), ended.stdout)
+        self.assertEqual([self.tries(number, 6) for number in range(1, 7)], [1, 1, 1, 1, 1, 1])
+        before = {path: path.stat().st_mtime_ns for path in (self.out / "parts").iterdir()}
+        self.assert_whole(self.most, self.array(self.most, "--resume", "--parts", 6))
+        self.assertEqual(before, {path: path.stat().st_mtime_ns for path in (self.out / "parts").iterdir()})
+
+    def test_resume_keeps_nothing_of_other_inputs(self) -> None:
+        rules = (self.folder / "rules.csv").read_text().replace("min,300000", "min,450000")
+        for name, text in (("rules.csv", rules), ("script.csv", SCRIPT + "cut,0,0,90,90\n"))[:1 + (self.most == "fill")]:
+            self.array(self.most, "--parts", 4)
+            (self.folder / name).write_text(text)
+            ended = self.array(self.most, "--parts", 4, "--resume")
+            self.assertNotIn("kept", ended.stdout)
+            self.assert_whole(self.most, ended)
+        if self.most != "check":
+            self.assertNotIn("kept", self.array("check", "--parts", 4, "--resume").stdout)
+
+    def test_a_part_that_is_refused_ends_no_other(self) -> None:
+        program = self.wrapped('if [ "${*: -1}" = 2/4 ]; then echo "densfill: design: 18 TooManyShapes in part 2 of 4" >&2; exit 2; fi')
+        ended = self.array(self.most, "--parts", 4, program=program)
+        self.assert_not_joined(ended, "2")
+        self.assertEqual(self.tries(2, 4), 1)
+        self.assertRegex((self.out / "summary.txt").read_text(), r"\n +2 +missing +1  densfill: design: 18 TooManyShapes in part 2 of 4\n")
+        self.assertIn("3 of 4 parts are whole", ended.stdout)
+
+    def test_a_part_that_fails_is_tried_again(self) -> None:
+        for way, words in (("exit 3", "after: densfill: run: 31 Memory"), ("kill -KILL $$", "after: densfill: run: 31 Memory")):
+            (self.folder / "seen").unlink(missing_ok=True)
+            program = self.wrapped(f'if [ "${{*: -1}}" = 3/4 ] && ! [ -e $seen ]; then touch $seen; echo half; '
+                                   f'echo "densfill: run: 31 Memory" >&2; {way}; fi')
+            self.assert_whole(self.most, self.array(self.most, "--parts", 4, program=program))
+            self.assertEqual(self.tries(3, 4), 2)
+            self.assertIn(words, (self.out / "summary.txt").read_text())
+
+    def test_a_part_is_tried_so_often(self) -> None:
+        program = self.wrapped('if [ "${*: -1}" = 3/4 ]; then kill -KILL $$; fi')
+        self.assert_not_joined(self.array("check", "--parts", 4, "--tries", 2, program=program), "3")
+        self.assertEqual(self.tries(3, 4), 2)
+        self.assertIn("killed by signal 9", (self.out / "summary.txt").read_text())
+        self.assert_not_joined(self.array("check", "--resume", "--tries", 2, program=program), "3")
+
+    def slow(self) -> Path:
+        return self.wrapped('case "${*: -1}" in 2/*) [ -e $seen ] || { touch $seen; echo half; sleep 30; };; esac')
+
+    def wait_for(self, path: Path) -> None:
+        for _ in range(400):
+            if path.exists() and path.stat().st_size:
+                return
+            time.sleep(0.02)
+        self.fail(f"{path} isn't there")
+
+    def test_a_job_that_is_killed(self) -> None:
+        program = self.slow()
+        self.array("check", "--parts", 3, "--dry-run")
+        child = subprocess.Popen(self.words("check", "--parts", 3, "--jobs", 1, program=program), cwd=self.folder,
+                                 stdout=subprocess.DEVNULL, stderr=subprocess.PIPE, text=True)
+        noted = self.out / "parts/2-of-3.tries"
+        self.wait_for(noted)
+        pid = json.loads(noted.read_text())["pid"]
+        job = int(re.search(r"PPid:\s*(\d+)", Path(f"/proc/{pid}/status").read_text()).group(1))
+        os.kill(job, signal.SIGKILL)
+        os.kill(pid, signal.SIGKILL)
+        ended = subprocess.CompletedProcess([], child.wait(), "", child.stderr.read())
+        child.stderr.close()
+        self.assert_not_joined(ended, "2")
+        self.assertIn("killed with its job", (self.out / "summary.txt").read_text())
+        ended = self.array("check", "--resume", program=program)
+        self.assertTrue(ended.stdout.startswith("2 of 3 parts are kept\n"))
+        self.assert_whole("check", ended)
+        self.assertFalse(list(self.out.rglob("*.aside*")))
+
+    def test_interruption_leaves_whole_parts(self) -> None:
+        program = self.slow()
+        child = subprocess.Popen(self.words(self.most, "--parts", 3, "--jobs", 1, program=program), cwd=self.folder,
+                                 stdout=subprocess.DEVNULL, stderr=subprocess.DEVNULL)
+        self.wait_for(self.out / "parts/2-of-3.tries")
+        child.send_signal(signal.SIGINT)
+        self.assertEqual(child.wait(20), 130)
+        self.assertEqual([path.name for path in (self.out / "parts").glob("*.json")], ["1-of-3.json"])
+        self.assertFalse(list(self.out.rglob("*.aside*")) or (self.out / "report.csv").exists())
+        ended = self.array(self.most, "--resume", program=program)
+        self.assertTrue(ended.stdout.startswith("1 of 3 parts are kept\n"))
+        self.assert_whole(self.most, ended)
+
+    def test_a_whole_part_run_again_changes_nothing(self) -> None:
+        self.array(self.most, "--parts", 4)
+        left = {path: (path.stat().st_mtime_ns, path.read_bytes()) for path in (self.out / "parts").iterdir()}
+        self.assertEqual(self.job("part", "out", 2).returncode, 0)
+        self.assertEqual(left, {path: (path.stat().st_mtime_ns, path.read_bytes()) for path in (self.out / "parts").iterdir()})
+
+    def test_parts_are_counted_before_they_are_joined(self) -> None:
+        self.array(self.most, "--parts", 4)
+        for path, first in zip(Part(self.out, 3, 4).outputs(self.most), Part(self.out, 1, 4).outputs(self.most)):
+            kept = path.read_bytes()
+            for other in (kept[:-1], kept + b"\n", first.read_bytes(), None):
+                for joined in ("report.csv", "fill.gds"):
+                    (self.out / joined).unlink(missing_ok=True)
+                path.unlink(missing_ok=True) if other is None else path.write_bytes(other)
+                self.assert_not_joined(self.job("join", "out"), "3")
+            path.write_bytes(kept)
+        ended = self.job("join", "out")
+        self.assert_whole(self.most, ended)
+
+    def test_an_input_that_changed_since(self) -> None:
+        self.array("check", "--parts", 2)
+        (self.out / "parts/2-of-2.json").unlink()
+        (self.folder / "design.gds").write_bytes(library("DESIGN", structure("TOP", *WIRES[1:])))
+        ended = self.job("part", "out", 2)
+        self.assertEqual(ended.returncode, 2)
+        self.assertIn("design.gds was written anew since the array was submitted", ended.stderr)
+
+    def test_usage(self) -> None:
+        for words in (("--parts", 0), ("--parts", 4097), ("--parts", "two"), ("--parts", 2, "--memory", "1G"), ("--memory", "much"),
+                      ("--engine", "none"), ("--what",)):
+            self.assertEqual(self.array("check", *words).returncode, 1, words)
+            self.assertFalse(self.out.exists())
+        self.assertEqual(self.job("check", "rules.csv", "design.gds").returncode, 1)
+
+    def test_files_of_others_are_left(self) -> None:
+        (self.folder / "fill.gds").write_bytes(b"mine")
+        ended = self.array("check", "--parts", 2, "--out", ".")
+        self.assertEqual((ended.returncode, "of no array" in ended.stderr), (2, True))
+        self.assertEqual((self.folder / "fill.gds").read_bytes(), b"mine")
+        self.assertFalse((self.folder / "parts").exists())
+
+    def test_a_missing_input(self) -> None:
+        (self.folder / "design.gds").unlink()
+        ended = self.array("check", "--parts", 2)
+        self.assertEqual((ended.returncode, "design.gds" in ended.stderr), (2, True))
+
+
+class Batch(Case):
+    """Scripts and commands for batch systems, and whole arrays by a stand-in for each."""
+    WANTED = {
+        "slurm": (["#SBATCH --array=1-8", "#SBATCH --requeue", "#SBATCH --mem=4096M", "--open-mode=append", '"$SLURM_ARRAY_TASK_ID"',
+                   'scontrol requeue "${SLURM_ARRAY_JOB_ID}_$SLURM_ARRAY_TASK_ID"', "#SBATCH --kill-on-invalid-dep=yes"],
+                  ["sbatch --parsable -p long OUT/array.sh", "sbatch --parsable --dependency=afterok:NUMBER -p long --wait OUT/join.sh"]),
+        "lsf": (['#BSUB -J "densfill-out[1-8]"', "#BSUB -r", '#BSUB -Q "99"', "#BSUB -M 4096MB", '#BSUB -R "rusage[mem=4096MB]"',
+                 '"$LSB_JOBINDEX"', "#BSUB -ti"],
+                ["bsub -p long < OUT/array.sh", "bsub -w 'done(NUMBER)' -p long -K < OUT/join.sh"]),
+        "sge": (["#$ -t 1-8", "#$ -r y", "#$ -terse", "#$ -l mem_free=4096M", '"$SGE_TASK_ID"'],
+                ["qsub -p long OUT/array.sh", "qsub -hold_jid NUMBER -p long -sync y OUT/join.sh"])}
+
+    def test_scripts_are_shown_and_nothing_is_written(self) -> None:
+        for engine, (parts, commands) in self.WANTED.items():
+            # A bound of 4 GB asks for one part of so small a file, and eight are asked for by number in the other runs.
+            ended = self.array("fill", "--parts", 8, "--engine", engine, "--dry-run", "--wait", "--submit=-p long")
+            by_memory = self.array("fill", "--memory", "4G", "--engine", engine, "--dry-run", "--wait", "--submit=-p long")
+            shown = ended.stdout + "".join(line + "\n" for line in by_memory.stdout.splitlines() if "4096M" in line)
+            for line in parts:
+                self.assertIn(line, shown, engine)
+            for line in commands:
+                self.assertIn(line.replace("OUT", str(self.out)) + "\n", shown, engine)
+            for text in re.split(r"^# /.*$", ended.stdout.split("# NUMBER")[0], flags=re.MULTILINE)[1:]:
+                self.assertEqual(subprocess.run(["bash", "-n"], input=text, text=True, check=False).returncode, 0)
+            self.assertFalse(self.out.exists())
+
+    def batch(self, engine: str, *more: object, **how: object) -> subprocess.CompletedProcess[str]:
+        system = self.folder / "system"
+        if not system.exists():
+            system.mkdir()
+            for name in ("sbatch", "bsub", "qsub"):
+                (system / name).write_text(BATCH.format(python=sys.executable))
+                (system / name).chmod(0o755)
+            (system / "scontrol").write_text("#!/bin/sh\ntrue\n")
+            (system / "scontrol").chmod(0o755)
+        env = os.environ | {"PATH": f"{system}:{os.environ['PATH']}"}
+        return self.array(self.most, "--engine", engine, *more, env=env, **how)
+
+    def submitted(self) -> list[str]:
+        return (self.folder / "system/submitted").read_text().replace(str(self.out), "OUT").splitlines()
+
+    def test_whole_arrays(self) -> None:
+        for engine in self.WANTED:
+            program = self.wrapped('if [ "${*: -1}" = 3/5 ] && ! [ -e $seen ]; then touch $seen; exit 4; fi')
+            (self.folder / "seen").unlink(missing_ok=True)
+            ended = self.batch(engine, "--parts", 5, "--wait", program=program)
+            self.assert_whole(self.most, ended)
+            self.assertIn("submitted: parts 1-5 of 5 as job 77, and the joining job behind it\n", ended.stdout)
+            self.assertEqual(self.tries(3, 5), 2)
+        self.assertEqual(self.submitted(), [
+            "sbatch --parsable OUT/array.sh", "sbatch --parsable --dependency=afterok:77 --wait OUT/join.sh", "bsub", "bsub -w done(77) -K",
+            "qsub OUT/array.sh", "qsub -hold_jid 77 -sync y OUT/join.sh"])
+
+    def test_without_waiting(self) -> None:
+        ended = self.batch("slurm", "--parts", 3)
+        self.assertEqual((ended.returncode, ended.stdout.splitlines()[-1]),
+                         (0, f"once the joining job has ended: {self.out}/report.csv{', fill.gds' * (self.most == 'fill')}, summary.txt"))
+        self.assertEqual(self.joined(self.most), self.one_run(self.most))
+        self.assertIn("3 of 3 parts are whole", self.job("table", "out").stdout)
+
+    def test_what_is_lost_is_submitted_anew(self) -> None:
+        for engine, numbers in (("slurm", "--array=2,4\n"), ("lsf", '[2,4]"\n'), ("sge", "-t 2-4\n")):
+            (self.folder / "seen").unlink(missing_ok=True)
+            program = self.wrapped('case "${*: -1}" in 2/5|4/5) [ "$(wc -l < $seen)" -ge 2 ] || { echo >> $seen; kill -KILL $PPID; };; esac')
+            (self.folder / "seen").touch()
+            self.assert_whole(self.most, self.batch(engine, "--parts", 5, "--wait", program=program))
+            self.assertIn(numbers, (self.out / "array.sh").read_text())
+
+    def test_what_is_refused_is_not(self) -> None:
+        program = self.wrapped('if [ "${*: -1}" = 2/3 ]; then exit 2; fi')
+        for engine in self.WANTED:
+            self.assert_not_joined(self.batch(engine, "--parts", 3, "--wait", program=program), "2")
+        self.assertEqual(len(self.submitted()), 6)
+
+    def test_resume_submits_what_is_missing(self) -> None:
+        self.batch("slurm", "--parts", 5, "--wait")
+        (self.out / "parts/4-of-5.json").unlink()
+        self.assert_whole(self.most, self.batch("slurm", "--resume", "--wait"))
+        self.assertIn("--array=4\n", (self.out / "array.sh").read_text())
+        (self.out / "report.csv").unlink()
+        self.assert_whole(self.most, self.batch("slurm", "--resume"))
+        self.assertEqual(len(self.submitted()), 4)
+
+    def test_no_batch_system(self) -> None:
+        ended = self.array("check", "--engine", "lsf", "--parts", 2, env=os.environ | {"PATH": "/nowhere"})
+        self.assertEqual(ended.returncode, 2)
+        self.assertIn("bsub is not on the path", ended.stderr)
+
+    def test_a_folder_that_scripts_cannot_name(self) -> None:
+        ended = self.array("check", "--engine", "sge", "--parts", 2, "--out", "a b")
+        self.assertEqual(ended.returncode, 2)
+        self.assertIn("take letters, digits", ended.stderr)
+
+
+if __name__ == "__main__":
+    given = sys.argv[1:2] or [str(path) for path in BUILT if path.exists()][:1]
+    if not given:
+        sys.exit("no program is built: make build")
+    Case.program = Path(given[0]).resolve()
+    probe = [Case.program, "fill", "rules", "design", "script", "out", "--part", "1/1"]
+    if subprocess.run(probe, capture_output=True, check=False).returncode == 1:
+        print("this program takes no part of a fill: arrays of checks alone are tested", file=sys.stderr)
+        Case.most = "check"
+    unittest.main(argv=sys.argv[:1])
