@@ -310,6 +310,73 @@ class Refused(Case):
         self.assertEqual((closed.returncode, closed.stderr), (4, b"densfill: report: 30 Device\n"))
 
 
+class Parts(Case):
+    """A chip of two rows of windows and two rows of tiles, cut into parts: the second box row is that of the pair."""
+
+    WHOLE = "0,0,0,0,20,10,4,0,4,20000,LOW\n0,1,0,10,20,20,0,0,0,0,LOW\n"
+    NONE = library("FILL", BOX, structure("ALL"))
+    LOW = library("FILL", BOX, structure("ALL", ALONE))
+    HIGH = library("FILL", BOX, structure("ALL", PAIR))
+
+    def setUp(self) -> None:
+        super().setUp()
+        rules = RULES | {"tile_ny": 1, "win_h": 10, "win_step_y": 10, "win_ny": 2}
+        (self.folder / "rules.csv").write_text("".join(f"{key},{value}\n" for key, value in rules.items()))
+
+    def join(self, *parts: bytes) -> Ended:
+        names = [f"{k}.gds" for k in range(1, len(parts) + 1)]
+        for name, part in zip(names, parts):
+            (self.folder / name).write_bytes(part)
+        return self.run_words("join", "rules.csv", "out.gds", *names, timeout=60)
+
+    def test_lines_of_all_parts_are_the_report(self) -> None:
+        self.assertEqual(self.run_words("check", "rules.csv", "design.gds"), Ended(0, self.WHOLE, ""))
+        for count in 1, 2, 3, 7, 4096:
+            parts = [self.run_words("check", "rules.csv", "design.gds", "--part", f"{k}/{count}") for k in range(1, count + 1) if
+                     count < 9 or k in (1, 2048, 4096)]
+            self.assertEqual({(part.status, part.err) for part in parts}, {(0, "")})
+            self.assertEqual("".join(part.out for part in parts), self.WHOLE)
+
+    def test_joined_parts_are_the_library(self) -> None:
+        for parts in (FILL,), (self.LOW, self.HIGH), (self.NONE, self.LOW, self.HIGH), (self.NONE, self.LOW, self.NONE, self.HIGH):
+            self.assertEqual(self.join(*parts), Ended(0, "", ""))
+            self.assertEqual((self.folder / "out.gds").read_bytes(), FILL)
+
+    def test_a_part_is_refused(self) -> None:
+        units = self.HIGH.index(b"\0\x14\3\5") + 19
+        other = self.HIGH[:units] + bytes([self.HIGH[units] ^ 1]) + self.HIGH[units + 1:]
+        huge = library("FILL", BOX, structure("ALL", record(0x0B, 0) + text(0x12, "BOX") + words(0x13, 32767, 32767)
+                                              + points(2, 10, 2 + 8 * 32767, 10, 2, 10 + 8 * 32767) + END))
+        for parts, want in (((self.LOW, DESIGN), "part 2: 39 NotAFill in 2.gds"), ((DESIGN, b""), "part 1: 39 NotAFill in 1.gds"),
+                            ((self.LOW, huge), "part 2: 39 NotAFill in 2.gds"), ((self.LOW, other), "part 2: 40 OtherDesign in 2.gds"),
+                            ((FILL,) * 2, "part 1: 42 OtherRows in 1.gds"), ((self.HIGH, self.LOW), "part 1: 42 OtherRows in 1.gds"),
+                            ((self.LOW, self.LOW), "part 2: 41 PlaceTwice in 2.gds"), ((self.LOW, other[:-1]), "part 2: 1 Truncated in 2.gds"),
+                            ((b"", self.LOW), "part 1: 1 Truncated in 1.gds")):
+            self.assert_fault(self.join(*parts), 2, want)
+            self.assert_no_out()
+
+    def test_a_part_is_missing(self) -> None:
+        (self.folder / "1.gds").write_bytes(self.LOW)
+        self.assert_fault(self.run_words("join", "rules.csv", "out.gds", "1.gds", "none/2.gds"), 4, "part 2: 30 Device in none/2.gds")
+        self.assert_fault(self.run_words("join", "none.csv", "out.gds", "none/1.gds"), 4, "rules: 30 Device")
+        self.assert_no_out()
+
+    def test_out_is_a_part(self) -> None:
+        (self.folder / "1.gds").write_bytes(FILL)
+        (self.folder / "1.gds").chmod(0o666)
+        for out in "1.gds", "./1.gds", "rules.csv":
+            self.assert_fault(self.run_words("join", "rules.csv", out, "1.gds"), 4, "out: 30 Device")
+        self.assertEqual((self.folder / "1.gds").read_bytes(), FILL)
+
+    def test_lines_of_no_program(self) -> None:
+        for part in "0/4", "5/4", "1/4097", "1", "a/b", "", "+1/4", "1/4/4", "1/":
+            self.assert_usage(self.run_words("check", "rules.csv", "design.gds", "--part", part))
+        for line in (("join", "rules.csv", "out.gds"), ("join", "rules.csv", "out.gds", *["1.gds"] * 4097), ("join", "rules.csv"),
+                     ("rects", "rules.csv", "script.csv", "--part", "1/2")):
+            self.assert_usage(self.run_words(*line))
+        self.assert_no_out()
+
+
 if __name__ == "__main__":
     given = sys.argv[1:2] or [str(path) for path in BUILT if path.exists()][:1]
     if not given:

@@ -1,1 +1,4 @@
 pub mod Following
+pub mod Knowing
+pub mod Named
+pub mod Joined

@@ -1,27 +1,31 @@
 -- What a run of the program leaves on standard output and on standard error, and its exit status.
-use Rattle.std.specs.Prelude.{◌≡◌, ◌⊎◌, ℕ, Bool, false, List, Option, Some, None, IfSome, IsOkAnd, codes, take}
+use Rattle.std.specs.Prelude.{◌≡◌, ◌⊎◌, ◌-◌, ℕ, Bool, false, List, [], ◌∷◌, length, map, Option, Some, None, IfSome, IsOkAnd, codes, if◌then◌else◌, nat_lt, option_map, slice_get, take}
 use Rattle.std.specs.Io.KnownBytes.{Appends}
 use Rattle.fill_device.specs.declared.input.InputError.TheVariants.{Device, Memory}
 use Rattle.fill_line.specs.Grammar.{Said}
 use Rattle.fill_line.specs.Grammar as line
 use Rattle.fill_engine.specs.Checks.{IsChecked, IsCheckReason}
+use Rattle.fill_parts.specs.Cuts.{Part as PartOfChip}
+use Rattle.fill_engine.specs.Joiners.{IsJoinOf, IsJoinReason}
+use Rattle.fill_engine.specs.PartChecks.{IsPartChecked, IsPartCheckReason}
 use Rattle.fill_engine.specs.Fills.{IsFilled, IsFillReason}
 use Rattle.fill_engine.specs.Rects.{report_answer, IsReason}
 use Rattle.fill_engine.specs.Refusals.{refusal_status, refusal_text}
 use Rattle.fill_engine.specs.declared.refusal.InputFault.TheVariants.{Unread, Refused}
 use Rattle.fill_engine.specs.declared.refusal.RunFault.TheVariants as run
 use Rattle.fill_engine.specs.declared.refusal.Refusal.{Refusal}
-use Rattle.fill_engine.specs.declared.refusal.Refusal.TheVariants.{Rules, Design, Script, Run, Out, Report}
+use Rattle.fill_engine.specs.declared.refusal.Refusal.TheVariants.{Rules, Design, Script, Part, Run, Out, Report}
 
 -- what is written is the line: whole, or a prefix of it where the writer failed
 pub record IsTold (before after : Option (List ℕ)) (failed : Bool) (line : List ℕ) : Type 0 where
   pub prefix : (k : ℕ) × Appends before after (take k line)
   pub whole : failed ≡ false → Appends before after line
 
--- the refusal is told by its line and its exit status, or want of memory where there was none for the line
-abbrev pub IsToldOf : Option (List ℕ) → Option (List ℕ) → Bool → ℕ → Refusal → Type 0
-IsToldOf before after failed status refusal =
-    ((status ≡ refusal_status refusal) × IsTold before after failed (refusal_text refusal))
+-- the refusal is told by its line, with a part's path where there is one, and its exit status, or want of memory where there was
+-- none for the line
+abbrev pub IsToldOf : Option (List ℕ) → Option (List ℕ) → Bool → ℕ → Option (List ℕ) → Refusal → Type 0
+IsToldOf before after failed status path refusal =
+    ((status ≡ refusal_status refusal) × IsTold before after failed (refusal_text refusal path))
     ⊎ ((status ≡ 3) × IsTold before after failed (codes "densfill: run: 31 Memory\n"))
 
 -- an input could not be opened
@@ -32,14 +36,33 @@ IsUnopened (Design (Unread error)) = (error ≡ Device) ⊎ (error ≡ Memory)
 IsUnopened (Design (Refused error)) = ⊥
 IsUnopened (Script (Unread error)) = (error ≡ Device) ⊎ (error ≡ Memory)
 IsUnopened (Script (Refused error)) = ⊥
+IsUnopened (Part number fault) = ⊥
 IsUnopened (Run fault) = ⊥
 IsUnopened Out = ⊥
 IsUnopened Report = ⊥
+
+-- the library of the part of this number could not be opened
+abbrev pub IsUnopenedPart : ℕ → Refusal → Type 0
+IsUnopenedPart number refusal = (refusal ≡ Part number (Unread Device)) ⊎ (refusal ≡ Part number (Unread Memory))
 
 -- there is a fill of inputs of these bytes, but no memory for its file's name, or one of its texts could not be written
 abbrev pub IsUndelivered : (rules design script : List ℕ) → ℕ → Option ℕ → Refusal → Type 0
 IsUndelivered rules design script workers limit refusal =
     ((library report : List ℕ) × IsFilled rules design script workers limit library report) × ((refusal ≡ Run run.Memory) ⊎ (refusal ≡ Out) ⊎ (refusal ≡ Report))
+
+-- there is a library of all parts, but no memory for its file's name, or it could not be written
+abbrev pub IsUnsettled : List ℕ → List (List ℕ) → Refusal → Type 0
+IsUnsettled rules parts refusal = ((library : List ℕ) × IsJoinOf rules parts library) × ((refusal ≡ Run run.Memory) ⊎ (refusal ≡ Out))
+
+-- what all of some files tell, where each tells it
+unfoldable pub all_known : List (Option (List ℕ)) → Option (List (List ℕ))
+all_known [] = Some []
+all_known (None ∷ files) = None
+all_known (Some bytes ∷ files) = option_map (λ others. bytes ∷ others) (all_known files)
+
+-- part K of N, as a line names it, and as a definition does
+abbrev pub part_named : ℕ → ℕ → PartOfChip
+part_named number count = record { number = number - 1; count = count }
 
 -- an input could not be opened, or this is why opened files, whose bytes `remaining` tells, give nothing of what the line asks for
 abbrev pub IsCause : {F : Type 0} → (F → Option (List ℕ)) → Option Said → Refusal → Type 0
@@ -47,6 +70,11 @@ IsCause {F} remaining (Some (line.rects rules script)) refusal =
     IsUnopened refusal ⊎ ((r s : F) × IfSome (remaining r) (λ r. IfSome (remaining s) (λ s. IsReason r s refusal)))
 IsCause {F} remaining (Some (line.check rules design)) refusal =
     IsUnopened refusal ⊎ ((r d : F) × IfSome (remaining r) (λ r. IfSome (remaining d) (λ d. IsCheckReason r d refusal)))
+IsCause {F} remaining (Some (line.check_part rules design number count)) refusal =
+    IsUnopened refusal ⊎ ((r d : F) × IfSome (remaining r) (λ r. IfSome (remaining d) (λ d. IsPartCheckReason r d (part_named number count) refusal)))
+IsCause {F} remaining (Some (line.join rules out parts)) refusal =
+    IsUnopened refusal ⊎ ((r : F) × (ps : List F) × IfSome (remaining r) (λ r. IfSome (all_known (map remaining ps)) (λ texts.
+    IsJoinReason r texts (length parts) refusal ⊎ ((length texts ≡ length parts) × IsUnsettled r texts refusal))))
 IsCause {F} remaining (Some (line.fill rules design script out workers limit)) refusal =
     IsUnopened refusal ⊎ ((r d s : F) × IfSome (remaining r) (λ r. IfSome (remaining d) (λ d. IfSome (remaining s) (λ s.
     IsFillReason r d s workers limit refusal ⊎ IsUndelivered r d s workers limit refusal))))
@@ -56,18 +84,45 @@ IsCause remaining None refusal = ⊥
 abbrev pub IsFile : {F : Type 0} → (F → Option (List ℕ)) → List ℕ → Type 0
 IsFile {F} contents text = (old new : F) × Appends (contents old) (contents new) text
 
--- what is written is the line's report of opened files, and for a fill its library is written to another file
+-- what is written is the line's report of opened files, and for a fill its library is written to another file; a join writes its
+-- library alone
 abbrev pub IsReport : {F : Type 0} → (F → Option (List ℕ)) → (F → Option (List ℕ)) → Option Said → Option (List ℕ) → Option (List ℕ) → Type 0
 IsReport {F} remaining contents (Some (line.rects rules script)) before after =
     (r s : F) × IfSome (remaining r) (λ r. IfSome (remaining s) (λ s. IsOkAnd (report_answer r s) (Appends before after)))
 IsReport {F} remaining contents (Some (line.check rules design)) before after =
     (r d : F) × IfSome (remaining r) (λ r. IfSome (remaining d) (λ d. (text : List ℕ) × IsChecked r d text × Appends before after text))
+IsReport {F} remaining contents (Some (line.check_part rules design number count)) before after =
+    (r d : F) × IfSome (remaining r) (λ r. IfSome (remaining d) (λ d. (text : List ℕ) × IsPartChecked r d (part_named number count) text × Appends before after text))
+IsReport {F} remaining contents (Some (line.join rules out parts)) before after =
+    ((r : F) × (ps : List F) × (length ps ≡ length parts) × IfSome (remaining r) (λ r. IfSome (all_known (map remaining ps)) (λ texts.
+    (library : List ℕ) × IsJoinOf r texts library × IsFile contents library))) × (after ≡ before)
 IsReport {F} remaining contents (Some (line.fill rules design script out workers limit)) before after =
     (r d s : F) × IfSome (remaining r) (λ r. IfSome (remaining d) (λ d. IfSome (remaining s) (λ s.
     (library report : List ℕ) × IsFilled r d s workers limit library report × IsFile contents library × Appends before after report)))
 IsReport remaining contents None before after = ⊥
 
+-- the path of the part's library that a refusal is of, counted from 1
+abbrev pub path_at : List (List ℕ) → ℕ → Option (List ℕ)
+path_at parts number = if nat_lt 0 number then slice_get parts (number - 1) else None
+
+abbrev pub path_in : List (List ℕ) → Refusal → Option (List ℕ)
+path_in parts (Rules fault) = None
+path_in parts (Design fault) = None
+path_in parts (Script fault) = None
+path_in parts (Part number fault) = path_at parts number
+path_in parts (Run fault) = None
+path_in parts Out = None
+path_in parts Report = None
+
+abbrev pub path_of : Option Said → Refusal → Option (List ℕ)
+path_of None refusal = None
+path_of (Some (line.rects rules script)) refusal = None
+path_of (Some (line.check rules design)) refusal = None
+path_of (Some (line.check_part rules design number count)) refusal = None
+path_of (Some (line.join rules out parts)) refusal = path_in parts refusal
+path_of (Some (line.fill rules design script out workers limit)) refusal = None
+
 -- the run gave up for a cause, and told it; want of memory of the command line is told as that of the run
 abbrev pub GaveUp : {F : Type 0} → (F → Option (List ℕ)) → Option Said → Option (List ℕ) → Option (List ℕ) → Bool → ℕ → Type 0
 GaveUp remaining said before after failed status =
-    (refusal : Refusal) × (IsCause remaining said refusal ⊎ (refusal ≡ Run run.Memory)) × IsToldOf before after failed status refusal
+    (refusal : Refusal) × (IsCause remaining said refusal ⊎ (refusal ≡ Run run.Memory)) × IsToldOf before after failed status (path_of said refusal) refusal

@@ -1,25 +1,29 @@
 //! The program: it opens what the command line names, runs the engine and prints a fault.
 #![tactic(auto)]
 
+mod join;
+mod open;
 mod target;
 
-ghost use Rattle.std.specs.Prelude.{◌≡◌, ◌⊎◌, ◌↔◌, ◌<◌, ◌≤◌, false, true, Some, map, IfErr, IfOk, IfSome, IsSome, OnErr, OnOk};
+ghost use Rattle.std.specs.Prelude.{◌≡◌, ◌⊎◌, ◌↔◌, ◌<◌, ◌≤◌, false, true, Some, None, map, option_map, IfErr, IfOk, IfSome, IsSome, OnErr, OnOk};
 ghost use Rattle.std.specs.IoError.{error_kind};
 ghost use Rattle.std.specs.Process.{exit_status};
 ghost use Rattle.fill_device.specs.Taps.{has_failed, under};
 ghost use Rattle.fill_engine.specs.Fills.{IsFilled, IsFillReason};
 ghost use Rattle.fill_engine.specs.Refusals.{refusal_status};
-ghost use Rattle.fill_line.specs.Lines.{text_of, IsManned};
+ghost use Rattle.fill_line.specs.Lines.{text_of, IsBounded};
 ghost use Rattle.fill_line.specs.Grammar.{said_in, IsFaultless, IsTaken};
 ghost use Rattle.fill_line.specs.Grammar as said;
-ghost use Rattle.densfill.specs.Outcomes.{GaveUp, IsCause, IsReport, IsTold, IsToldOf, IsUnopened};
+ghost use Rattle.densfill.specs.Outcomes.{GaveUp, IsCause, IsReport, IsTold, IsToldOf, path_at, path_in, path_of};
 
-use fill_device::{InputError, Tap, write_text};
-use fill_engine::{Filled, InputFault, Refusal, RunFault, check, deliver, prepare, rects};
+use fill_device::{Tap, write_text};
+use fill_engine::{Filled, Refusal, RunFault, check, check_part, deliver, prepare, rects};
 use fill_line::{Line, LineError, read_line};
+use fill_parts::Part;
+use join::join;
+use open::{created, opened_design, opened_rules, opened_script};
 use std::alloc::Global;
 use std::convert::AsStr;
-use std::fs::File;
 use std::io::{ErrorKind, Write};
 use std::process::ExitCode;
 use std::rt::Files;
@@ -27,87 +31,12 @@ use std::sync::Wait;
 use std::sync::ledger::Blank;
 use std::thread::Threads;
 use std::{env, io};
-use target::Target;
 
 /// The exit status of a line that the program doesn't take.
 const USAGE: u8 = 1;
 
 /// Memory ran out outside the inputs and outputs.
-const OUT_OF_MEMORY: Refusal = Refusal::Run(RunFault::Memory);
-
-/// What an error of opening is: want of memory, or else a device fault.
-fn open_fault(error: &io::Error) -> InputError
-    ensures memory { (result ≡ InputError.Memory) ↔ (error_kind error.now ≡ ErrorKind.OutOfMemory) }
-    ensures device { (error_kind error.now ≡ ErrorKind.OutOfMemory → ⊥) → result ≡ InputError.Device }
-{
-    if error.kind() == ErrorKind::OutOfMemory {
-        InputError::Memory
-    } else {
-        InputError::Device
-    }
-}
-
-/// A tap in front of the file that a path names.
-fn opened<R: Files>(rt: &R, path: &str) -> Result<Tap<R::File>, InputError>
-    ensures whole { IfOk result (λ tap. has_failed tap ≡ false) }
-    ensures fault { IfErr result (λ e. (e ≡ InputError.Device) ⊎ (e ≡ InputError.Memory)) }
-{
-    match File::open(rt, path) {
-        Ok(file) => Ok(Tap::new(file)),
-        Err(error) => Err(open_fault(&error)),
-    }
-}
-
-/// The rule file, opened.
-fn opened_rules<R: Files>(rt: &R, path: &str) -> Result<Tap<R::File>, Refusal>
-    ensures whole { IfOk result (λ tap. has_failed tap ≡ false) }
-    ensures unopened { IfErr result IsUnopened }
-{
-    match opened(rt, path) {
-        Ok(tap) => Ok(tap),
-        Err(error) => Err(Refusal::Rules(InputFault::Unread(error))),
-    }
-}
-
-/// The script, opened.
-fn opened_script<R: Files>(rt: &R, path: &str) -> Result<Tap<R::File>, Refusal>
-    ensures whole { IfOk result (λ tap. has_failed tap ≡ false) }
-    ensures unopened { IfErr result IsUnopened }
-{
-    match opened(rt, path) {
-        Ok(tap) => Ok(tap),
-        Err(error) => Err(Refusal::Script(InputFault::Unread(error))),
-    }
-}
-
-/// The design, opened.
-fn opened_design<R: Files>(rt: &R, path: &str) -> Result<Tap<R::File>, Refusal>
-    ensures whole { IfOk result (λ tap. has_failed tap ≡ false) }
-    ensures unopened { IfErr result IsUnopened }
-{
-    match opened(rt, path) {
-        Ok(tap) => Ok(tap),
-        Err(error) => Err(Refusal::Design(InputFault::Unread(error))),
-    }
-}
-
-/// The file that a library goes to. One that is an input of the fill or that standard output goes to is refused.
-fn created<'a, R: Alloc<A = Global> + Files>(
-    rt: &'a R,
-    path: &str,
-    inputs: [&str; 3],
-) -> Result<Tap<Target<'a, R>>, Refusal>
-    ensures whole { IfOk result (λ tap. has_failed tap ≡ false) }
-    ensures fault { IfErr result (λ e. (e ≡ Refusal.Out) ⊎ (e ≡ Refusal.Run RunFault.Memory)) }
-{
-    match Target::create(rt, path, inputs) {
-        Ok(target) => Ok(Tap::new(target)),
-        Err(error) => match open_fault(&error) {
-            InputError::Device => Err(Refusal::Out),
-            _ => Err(OUT_OF_MEMORY),
-        },
-    }
-}
+pub(crate) const OUT_OF_MEMORY: Refusal = Refusal::Run(RunFault::Memory);
 
 /// The texts of a fill of three opened inputs.
 fn prepared<R: Files + Threads + Wait + Sync>(
@@ -174,21 +103,43 @@ fn fill<R: Alloc<A = Global> + Files + Threads + Wait + Sync, W: Write + Drop>(
         workers,
         limit,
     )?;
-    let mut library = created(rt, library, inputs)?;
+    let mut library = created(rt, library, &inputs)?;
     deliver(&filled, &mut library, out)
+}
+
+/// Does what a line of `check` with a part asks for.
+fn check_one<R: Alloc<A = Global> + Files + Threads + Sync, W: Write + Drop>(
+    rt: &R,
+    alloc: Global,
+    rules: &str,
+    design: &str,
+    number: u32,
+    count: u32,
+    out: &mut Tap<W>,
+) -> Result<(), Refusal>
+    requires out { has_failed out.old ≡ false }
+    requires part { (1 ≤ number) × (number ≤ count) × (count ≤ 4096) }
+    ensures written { OnOk result (IsReport R.File.remaining R.File.contents (Some (said.check_part rules.now design.now number count)) (W.contents (under out.old)) (W.contents (under out.new))) }
+    ensures refused { IfErr result (IsCause R.File.remaining (Some (said.check_part rules.now design.now number count))) }
+    ensures silent { OnErr result ((has_failed out.new ≡ true) ⊎ (out.new ≡ out.old)) }
+{
+    let part = Part::new(number, count).unwrap();
+    let mut rules = opened_rules(rt, rules)?;
+    let mut design = opened_design(rt, design)?;
+    check_part(rt, alloc, &mut rules, &mut design, part, out)
 }
 
 /// Does what a line asks for, on the files that its paths name. All inputs are opened before one is read.
 fn run<R: Alloc<A = Global> + Files + Threads + Wait + Sync, W: Write + Drop>(
     rt: &R,
     alloc: Global,
-    line: Line,
+    line: &Line,
     out: &mut Tap<W>,
 ) -> Result<(), Refusal>
     requires out { has_failed out.old ≡ false }
-    requires manned { IsManned line }
-    ensures written { OnOk result (IsReport R.File.remaining R.File.contents (Some (text_of line.entry)) (W.contents (under out.old)) (W.contents (under out.new))) }
-    ensures refused { IfErr result (IsCause R.File.remaining (Some (text_of line.entry))) }
+    requires bounded { IsBounded line.now }
+    ensures written { OnOk result (IsReport R.File.remaining R.File.contents (Some (text_of line.now)) (W.contents (under out.old)) (W.contents (under out.new))) }
+    ensures refused { IfErr result (IsCause R.File.remaining (Some (text_of line.now))) }
     ensures silent { OnErr result ((has_failed out.new ≡ true) ⊎ (out.new ≡ out.old)) }
 {
     match line {
@@ -202,6 +153,17 @@ fn run<R: Alloc<A = Global> + Files + Threads + Wait + Sync, W: Write + Drop>(
             let mut design = opened_design(rt, design)?;
             check(rt, alloc, &mut rules, &mut design, out)
         }
+        Line::CheckPart {
+            rules,
+            design,
+            number,
+            count,
+        } => check_one(rt, alloc, rules, design, *number, *count, out),
+        Line::Join {
+            rules,
+            out: library,
+            parts,
+        } => join(rt, alloc, rules, library, parts),
         Line::Fill {
             rules,
             design,
@@ -210,7 +172,7 @@ fn run<R: Alloc<A = Global> + Files + Threads + Wait + Sync, W: Write + Drop>(
             workers,
             limit,
         } => fill(
-            rt, alloc, rules, design, script, library, workers, limit, out,
+            rt, alloc, rules, design, script, library, *workers, *limit, out,
         ),
     }
 }
@@ -226,13 +188,14 @@ fn written<E: Write>(err: &mut Tap<E>, line: &[u8], refusal: Refusal) -> ExitCod
     ExitCode::from(refusal.status())
 }
 
-/// Writes the line of a refusal, and gives its exit status; those of want of memory where the line could not be made.
-fn told<E: Write>(alloc: Global, err: &mut Tap<E>, refusal: Refusal) -> ExitCode
+/// Writes the line of a refusal, with a part's path where one is given, and gives its exit status; those of want of memory where the
+/// line could not be made.
+fn told<E: Write>(alloc: Global, err: &mut Tap<E>, refusal: Refusal, path: Option<&str>) -> ExitCode
     requires { has_failed err.old ≡ false }
-    ensures told { IsToldOf (E.contents (under err.old)) (E.contents (under err.new)) (has_failed err.new) (exit_status result) refusal }
+    ensures told { IsToldOf (E.contents (under err.old)) (E.contents (under err.new)) (has_failed err.new) (exit_status result) (option_map (λ p. p.now) path.entry) refusal }
     ensures status { 1 < exit_status result }
 {
-    match refusal.line(alloc) {
+    match refusal.line(alloc, path) {
         Ok(line) => written(err, line.as_bytes(), refusal),
         Err(_) => written(err, b"densfill: run: 31 Memory\n", OUT_OF_MEMORY),
     }
@@ -242,12 +205,50 @@ fn told<E: Write>(alloc: Global, err: &mut Tap<E>, refusal: Refusal) -> ExitCode
 fn ended<E: Write>(alloc: Global, err: &mut Tap<E>, done: Result<(), Refusal>) -> ExitCode
     requires { has_failed err.old ≡ false }
     ensures done { OnOk done (exit_status result ≡ 0) }
-    ensures told { IfErr done (IsToldOf (E.contents (under err.old)) (E.contents (under err.new)) (has_failed err.new) (exit_status result)) }
+    ensures told { IfErr done (IsToldOf (E.contents (under err.old)) (E.contents (under err.new)) (has_failed err.new) (exit_status result) None) }
     ensures status { OnErr done (1 < exit_status result) }
 {
     match done {
         Ok(()) => ExitCode::SUCCESS,
-        Err(refusal) => told(alloc, err, refusal),
+        Err(refusal) => told(alloc, err, refusal, None),
+    }
+}
+
+/// The path at a place, counted from 1.
+fn path_at<'a>(paths: &[&'a str], number: u32) -> Option<&'a str>
+    ensures { option_map (λ p. p.now) result ≡ path_at (map (λ p. p.now) paths.now) number }
+{
+    if number == 0 {
+        return None;
+    }
+    paths.get(number as usize - 1).copied()
+}
+
+/// The path of the part's library that a refusal is of, if it is of one.
+fn path_in<'a>(paths: &[&'a str], refusal: Refusal) -> Option<&'a str>
+    ensures { option_map (λ p. p.now) result ≡ path_in (map (λ p. p.now) paths.now) refusal }
+{
+    match refusal {
+        Refusal::Part(number, _) => path_at(paths, number),
+        Refusal::Rules(_) => None,
+        Refusal::Design(_) => None,
+        Refusal::Script(_) => None,
+        Refusal::Run(_) => None,
+        Refusal::Out => None,
+        Refusal::Report => None,
+    }
+}
+
+/// The same of a line.
+fn path_of<'a>(line: &Line<'a>, refusal: Refusal) -> Option<&'a str>
+    ensures { option_map (λ p. p.now) result ≡ path_of (Some (text_of line.now)) refusal }
+{
+    match line {
+        Line::Join { parts, .. } => path_in(parts, refusal),
+        Line::Rects { .. } => None,
+        Line::Check { .. } => None,
+        Line::CheckPart { .. } => None,
+        Line::Fill { .. } => None,
     }
 }
 
@@ -255,20 +256,22 @@ fn ended<E: Write>(alloc: Global, err: &mut Tap<E>, done: Result<(), Refusal>) -
 fn line_status<R: Alloc<A = Global> + Files + Threads + Wait + Sync, W: Write + Drop, E: Write>(
     rt: &R,
     alloc: Global,
-    line: Line,
+    line: &Line,
     out: &mut Tap<W>,
     err: &mut Tap<E>,
 ) -> ExitCode
     requires out { has_failed out.old ≡ false }
     requires err { has_failed err.old ≡ false }
-    requires manned { IsManned line }
-    ensures done { exit_status result ≡ 0 → IsReport R.File.remaining R.File.contents (Some (text_of line.entry)) (W.contents (under out.old)) (W.contents (under out.new)) }
-    ensures refused { (exit_status result ≡ 0) ⊎ GaveUp R.File.remaining (Some (text_of line.entry)) (E.contents (under err.old)) (E.contents (under err.new)) (has_failed err.new) (exit_status result) }
+    requires bounded { IsBounded line.now }
+    ensures done { exit_status result ≡ 0 → IsReport R.File.remaining R.File.contents (Some (text_of line.now)) (W.contents (under out.old)) (W.contents (under out.new)) }
+    ensures refused { (exit_status result ≡ 0) ⊎ GaveUp R.File.remaining (Some (text_of line.now)) (E.contents (under err.old)) (E.contents (under err.new)) (has_failed err.new) (exit_status result) }
     ensures status { (exit_status result ≡ 0) ⊎ (1 < exit_status result) }
     ensures silent { (exit_status result ≡ 0) ⊎ (has_failed out.new ≡ true) ⊎ (out.new ≡ out.old) }
 {
-    let done = run(rt, alloc, line, out);
-    ended(alloc, err, done)
+    match run(rt, alloc, line, out) {
+        Ok(()) => ExitCode::SUCCESS,
+        Err(refusal) => told(alloc, err, refusal, path_of(line, refusal)),
+    }
 }
 
 /// Does what the words ask for, the program's own name first, and gives the exit status: 0 where it is done, 1 where
@@ -294,7 +297,7 @@ fn status_of<R: AllocGlobal + Files + Threads + Wait + Sync, S: AsStr, W: Write 
     ensures silent { (exit_status result ≡ 0) ⊎ (has_failed out.new ≡ true) ⊎ (out.new ≡ out.old) }
 {
     match read_line(rt.alloc(), words) {
-        Ok(line) => line_status(rt, rt.alloc(), line, out, err),
+        Ok(line) => line_status(rt, rt.alloc(), &line, out, err),
         Err(LineError::Memory) => ended(rt.alloc(), err, Err(OUT_OF_MEMORY)),
         Err(LineError::Usage(error)) => {
             if let Ok(text) = format!(in rt.alloc(); "{error}") {

@@ -47,7 +47,7 @@ impl<'a, R: Files + Alloc<A = Global>> Target<'a, R> {
     /// The file at a path. One that is there and isn't regular is written in place. Any other is written aside, under the
     /// name that links lead to, with `.unfinished` behind it; it has the rights of the one that is there, which must be open to
     /// writers. Neither of the two may be in use.
-    pub(crate) fn create(rt: &'a R, path: &str, inputs: [&str; 3]) -> io::Result<Target<'a, R>> {
+    pub(crate) fn create(rt: &'a R, path: &str, inputs: &[&str]) -> io::Result<Target<'a, R>> {
         match fs::metadata(rt, path) {
             Ok(found) if !found.is_file() => Ok(Target {
                 rt,
@@ -69,7 +69,7 @@ impl<'a, R: Files + Alloc<A = Global>> Target<'a, R> {
         }
     }
 
-    fn create_aside(rt: &'a R, path: &str, inputs: [&str; 3]) -> io::Result<Target<'a, R>> {
+    fn create_aside(rt: &'a R, path: &str, inputs: &[&str]) -> io::Result<Target<'a, R>> {
         let alloc = rt.alloc();
         let aside = Aside {
             from: format!(in alloc; "{path}.unfinished")?,
@@ -92,16 +92,14 @@ fn are_one(a: &Metadata, b: &Metadata) -> bool {
 }
 
 /// An error where the regular file at a path is one of these inputs, or the one that standard output goes to.
-fn refuse_in_use<R: Files>(rt: &R, path: &str, inputs: [&str; 3]) -> io::Result<()> {
+fn refuse_in_use<R: Files>(rt: &R, path: &str, inputs: &[&str]) -> io::Result<()> {
     let Ok(target) = fs::metadata(rt, path) else {
         return Ok(());
     };
-    let [rules, design, script] = inputs;
-    let others = [rules, design, script, STANDARD_OUTPUT];
     let is_other = |other: &&str| fs::metadata(rt, *other).is_ok_and(|other| are_one(
         &target, &other,
     ));
-    if target.is_file() && others.iter().any(is_other) {
+    if target.is_file() && (inputs.iter().any(is_other) || is_other(&STANDARD_OUTPUT)) {
         return Err(io::Error::from(ErrorKind::ResourceBusy));
     }
     Ok(())

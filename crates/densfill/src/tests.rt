@@ -102,13 +102,13 @@ fn a_missing_file_is_a_device_fault_at_its_part(rt: HostRuntime) {
             rules,
             script: other,
         };
-        assert_eq!(rt; run(&rt, rt.alloc(), line, &mut out), Err(of_script));
+        assert_eq!(rt; run(&rt, rt.alloc(), &line, &mut out), Err(of_script));
         let mut out = Tap::new(Vec::<u8>::new(rt.alloc()));
         let line = Line::Check {
             rules,
             design: other,
         };
-        assert_eq!(rt; run(&rt, rt.alloc(), line, &mut out), Err(of_design));
+        assert_eq!(rt; run(&rt, rt.alloc(), &line, &mut out), Err(of_design));
     }
 }
 

@@ -4,6 +4,7 @@ use fill_engine::{DesignError, InputFault, Refusal, RunFault, check, rects};
 use fill_text::{Key, NumberKey, RuleError, ScriptError, TextKey};
 use gds_flatten::FlattenError;
 use gds_grammar::LibraryError;
+use gds_join::PartError;
 use std::alloc::{AllocError, Global};
 use std::io;
 use std::io::{ErrorKind, Read, Write};
@@ -108,10 +109,63 @@ const LINES: &[(Refusal, &str, u8)] = &[
 #[test]
 fn a_line_tells_part_number_and_name(rt: HostRuntime) -> Result<(), Fail> {
     for (refusal, want, status) in LINES {
-        let line = refusal.line(rt.alloc())?;
+        let line = refusal.line(rt.alloc(), None)?;
         assert_eq!(rt; line.as_str(), *want);
         assert_eq!(rt; refusal.status(), *status);
     }
+    Ok(())
+}
+
+#[test]
+fn a_line_tells_of_a_part_and_its_path(rt: HostRuntime) -> Result<(), Fail> {
+    let unexpected = PartError::Library(LibraryError::Unexpected { at: 1042 });
+    for (fault, want, status) in [
+        (
+            InputFault::Refused(PartError::NotAFill),
+            "densfill: part 3: 39 NotAFill in fill/3.gds\n",
+            2,
+        ),
+        (
+            InputFault::Refused(PartError::OtherDesign),
+            "densfill: part 3: 40 OtherDesign in fill/3.gds\n",
+            2,
+        ),
+        (
+            InputFault::Refused(PartError::PlaceTwice),
+            "densfill: part 3: 41 PlaceTwice in fill/3.gds\n",
+            2,
+        ),
+        (
+            InputFault::Refused(PartError::OtherRows),
+            "densfill: part 3: 42 OtherRows in fill/3.gds\n",
+            2,
+        ),
+        (
+            InputFault::Refused(unexpected),
+            "densfill: part 3: 4 Unexpected at 1042 in fill/3.gds\n",
+            2,
+        ),
+        (
+            InputFault::Unread(InputError::Device),
+            "densfill: part 3: 30 Device in fill/3.gds\n",
+            4,
+        ),
+        (
+            InputFault::Refused(PartError::Memory),
+            "densfill: part 3: 31 Memory in fill/3.gds\n",
+            3,
+        ),
+    ] {
+        let refusal = Refusal::Part(3, fault);
+        let line = refusal.line(rt.alloc(), Some("fill/3.gds"))?;
+        assert_eq!(rt; line.as_str(), want);
+        assert_eq!(rt; refusal.status(), status);
+    }
+    let crowded = of_design(DesignError::Crowded(2, 8));
+    let line = crowded.line(rt.alloc(), None)?;
+    let want = "densfill: design: 18 TooManyShapes in part 2 of 8, try more parts\n";
+    assert_eq!(rt; line.as_str(), want);
+    assert_eq!(rt; crowded.status(), 2);
     Ok(())
 }
 
@@ -312,7 +366,7 @@ fn a_line_tells_of_each_fault_of_a_design(rt: HostRuntime) -> Result<(), Fail> {
         (LibraryError::BadXY, "densfill: design: 6 BadXY\n"),
         (LibraryError::NotClosed, "densfill: design: 7 NotClosed\n"),
     ] {
-        let line = of_design(DesignError::Library(error)).line(rt.alloc())?;
+        let line = of_design(DesignError::Library(error)).line(rt.alloc(), None)?;
         assert_eq!(rt; line.as_str(), want);
     }
     for (error, want) in [
@@ -352,7 +406,7 @@ fn a_line_tells_of_each_fault_of_a_design(rt: HostRuntime) -> Result<(), Fail> {
         ),
         (FlattenError::Memory, "densfill: design: 31 Memory\n"),
     ] {
-        let line = of_design(DesignError::Flatten(error)).line(rt.alloc())?;
+        let line = of_design(DesignError::Flatten(error)).line(rt.alloc(), None)?;
         assert_eq!(rt; line.as_str(), want);
     }
     Ok(())

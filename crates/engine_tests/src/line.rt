@@ -21,6 +21,89 @@ fn rects_takes_two_paths(rt: HostRuntime) -> Result<(), Fail> {
     Ok(())
 }
 
+/// Bad parts of a chip.
+const BAD_PARTS: &[&str] = &[
+    "0/4",
+    "5/4",
+    "1/4097",
+    "0/0",
+    "1",
+    "a/b",
+    "1/",
+    "/4",
+    "+1/4",
+    "1/+4",
+    "-1/4",
+    " 1/4",
+    "1/4/4",
+    "1/4294967297",
+    "",
+];
+
+#[test]
+fn check_takes_a_part_in_plain_digits(rt: HostRuntime) {
+    for (part, want) in [
+        ("1/1", (1, 1)),
+        ("3/8", (3, 8)),
+        ("4096/4096", (4096, 4096)),
+    ] {
+        let words = ["densfill", "check", "rules.csv", "chip.gds", "--part", part];
+        match read_line(rt.alloc(), words.as_slice()) {
+            Ok(
+                Line::CheckPart {
+                    rules: "rules.csv",
+                    design: "chip.gds",
+                    number,
+                    count,
+                },
+            ) => assert_eq!(rt; (number, count), want),
+            _ => assert!(rt; false, "{part}"),
+        }
+    }
+    for part in BAD_PARTS {
+        let words = [
+            "densfill",
+            "check",
+            "rules.csv",
+            "chip.gds",
+            "--part",
+            *part,
+        ];
+        assert!(rt; is_usage(read_line(rt.alloc(), words.as_slice())), "{part}");
+    }
+}
+
+#[test]
+fn join_takes_rules_out_and_parts(rt: HostRuntime) -> Result<(), Fail> {
+    let words = [
+        "densfill",
+        "join",
+        "rules.csv",
+        "fill.gds",
+        "1.gds",
+        "2.gds",
+    ];
+    match read_line(rt.alloc(), words.as_slice()) {
+        Ok(
+            Line::Join {
+                rules: "rules.csv",
+                out: "fill.gds",
+                parts,
+            },
+        ) => assert!(rt; parts.as_slice() == ["1.gds", "2.gds"].as_slice()),
+        _ => assert!(rt; false),
+    }
+    let mut words = vec![in rt.alloc(); "densfill", "join", "rules.csv", "fill.gds"]?;
+    assert!(rt; is_usage(read_line(rt.alloc(), words.as_slice())));
+    for _ in 0..4096 {
+        words.push("part.gds")?;
+    }
+    assert!(rt; read_line(rt.alloc(), words.as_slice()).is_ok());
+    words.push("part.gds")?;
+    assert!(rt; is_usage(read_line(rt.alloc(), words.as_slice())));
+    Ok(())
+}
+
 #[test]
 fn check_takes_two_paths(rt: HostRuntime) -> Result<(), Fail> {
     let line = read_line(
@@ -192,6 +275,7 @@ Commands:
   rects  Reports the density of the metal that a script leaves of nothing
   check  Reports the density of the metal that a design draws
   fill   Fills the windows of a design that have too little metal
+  join   Joins the fill libraries of the parts of a chip
   help   Print this message or the help of the given subcommand(s)
 
 Options:
@@ -218,14 +302,15 @@ Options:
         &["densfill", "check", "--help"],
         "Reports the density of the metal that a design draws
 
-Usage: densfill check <RULES> <DESIGN>
+Usage: densfill check [OPTIONS] <RULES> <DESIGN>
 
 Arguments:
   <RULES>   The rule file
   <DESIGN>  The design, a GDSII Stream library
 
 Options:
-  -h, --help  Print help
+      --part <K/N>  Part K of N alone: 1 to N of 1 to 4096
+  -h, --help        Print help
 ",
     )
 }

@@ -8,3 +8,4 @@ mod Marked
 mod Filling
 mod Preparing
 pub mod PartChecking
+mod Joined

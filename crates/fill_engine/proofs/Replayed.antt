@@ -1,5 +1,5 @@
 -- The last change of a square's metal, and the changes one after another.
-use Rattle.std.proofs.Common.{◌≡◌, ◌∙◌, ◌&&◌, ◌||◌, ℤ, Bool, true, false, not, List, [], ◌∷◌, Option, Some, None, map, ap, refl, sym, if◌then◌else◌}
+use Rattle.std.proofs.Common.{◌≡◌, ◌∙◌, ◌&&◌, ◌||◌, ℤ, Bool, true, false, not, List, [], ◌∷◌, Option, Some, None, map, ap, refl, if◌then◌else◌}
 use Rattle.fill_text.specs.Script.{change_of}
 use Rattle.fill_text.specs.declared.script.Edit.{Edit}
 use Rattle.fill_text.specs.declared.script.Edit.TheVariants as edit

@@ -7,7 +7,7 @@ use Rattle.fill_engine.specs.Designs.{IsDrawn, IsMetalFault}
 use Rattle.fill_engine.specs.Inputs.{rules_answer, IsFaultOf}
 use Rattle.fill_engine.specs.declared.refusal.RunFault.TheVariants as run
 use Rattle.fill_engine.specs.declared.refusal.Refusal.{Refusal}
-use Rattle.fill_engine.specs.declared.refusal.Refusal.TheVariants.{Rules, Design, Script, Run, Out, Report}
+use Rattle.fill_engine.specs.declared.refusal.Refusal.TheVariants.{Rules, Design, Script, Part, Run, Out, Report}
 
 -- the text is the report of the metal that the design's top draws, over the rules' windows
 pub record IsChecked (rules design text : List ℕ) : Type 0 where
@@ -22,6 +22,7 @@ abbrev pub IsCheckReason : List ℕ → List ℕ → Refusal → Type 0
 IsCheckReason rules design (Rules fault) = IsFaultOf rule.Memory (rules_answer rules) fault
 IsCheckReason rules design (Design fault) = (values : Values) × (rules_answer rules ≡ Ok values) × IsMetalFault design values fault
 IsCheckReason rules design (Script fault) = ⊥
+IsCheckReason rules design (Part number fault) = ⊥
 IsCheckReason rules design (Run run.Memory) = (text : List ℕ) × IsChecked rules design text
 IsCheckReason rules design (Run run.Unfinished) = ⊥
 IsCheckReason rules design (Run run.Mixed) = ⊥

@@ -11,7 +11,7 @@ use Rattle.gds_cells.specs.Copies.{drawn, AllStayInRange}
 use Rattle.gds_flatten.specs.Flattening as flatten
 use Rattle.gds_cells.specs.declared.error.FlattenError.{FlattenError}
 use Rattle.fill_engine.specs.declared.refusal.DesignError.{DesignError}
-use Rattle.fill_engine.specs.declared.refusal.DesignError.TheVariants.{Library, Flatten}
+use Rattle.fill_engine.specs.declared.refusal.DesignError.TheVariants.{Library, Flatten, Crowded}
 use Rattle.fill_engine.specs.declared.refusal.InputFault.{InputFault}
 use Rattle.fill_engine.specs.declared.refusal.InputFault.TheVariants.{Unread, Refused}
 
@@ -78,6 +78,7 @@ IsFaultBy refused bytes (Unread Memory) = Unit {0}
 IsFaultBy refused bytes (Unread TooLong) = 2 ^ 31 < length bytes
 IsFaultBy refused bytes (Refused (Library e)) = (length bytes ≤ 2 ^ 31) × library.IsRefused bytes e
 IsFaultBy refused bytes (Refused (Flatten e)) = refused e
+IsFaultBy refused bytes (Refused (Crowded number count)) = ⊥
 
 -- why there is no metal
 abbrev pub IsMetalFault : List ℕ → Values → InputFault DesignError → Type 0

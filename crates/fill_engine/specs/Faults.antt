@@ -13,8 +13,10 @@ use Rattle.fill_core.specs.declared.book.BookError.{BookError}
 use Rattle.fill_core.specs.declared.book.BookError.TheVariants as book
 use Rattle.fill_device.specs.declared.input.InputError.{InputError}
 use Rattle.fill_device.specs.declared.input.InputError.TheVariants as input
+use Rattle.gds_join.specs.declared.error.PartError.{PartError}
+use Rattle.gds_join.specs.declared.error.PartError.TheVariants as parts
 use Rattle.fill_engine.specs.declared.fault.Fault.{Fault}
-use Rattle.fill_engine.specs.declared.fault.Fault.TheVariants.{Truncated, BadLength, Unexpected, DuplicateCell, BadXY, NotClosed, BadArray, NotManhattan, RoundEnd, OddWidth, DoublesBack, BadExtension, NoTop, MissingCell, Cycle, TooDeep, TooManyShapes, OutOfRange, BadTransform, BadRow, BadNumber, BadRule, TooManyLines, BadRect, BadWindows, BadPitch, TooManyPlaces, TooLong, Device, Memory, Unfinished, Mixed}
+use Rattle.fill_engine.specs.declared.fault.Fault.TheVariants.{Truncated, BadLength, Unexpected, DuplicateCell, BadXY, NotClosed, BadArray, NotManhattan, RoundEnd, OddWidth, DoublesBack, BadExtension, NoTop, MissingCell, Cycle, TooDeep, TooManyShapes, TooManyShapesIn, OutOfRange, BadTransform, BadRow, BadNumber, BadRule, TooManyLines, BadRect, BadWindows, BadPitch, TooManyPlaces, TooLong, Device, Memory, Unfinished, Mixed, NotAFill, OtherDesign, PlaceTwice, OtherRows}
 use Rattle.fill_engine.specs.declared.refusal.RunFault.{RunFault}
 use Rattle.fill_engine.specs.declared.refusal.RunFault.TheVariants as run
 
@@ -36,6 +38,7 @@ fault_number MissingCell = 15
 fault_number Cycle = 16
 fault_number TooDeep = 17
 fault_number TooManyShapes = 18
+fault_number (TooManyShapesIn number count) = 18
 fault_number OutOfRange = 19
 fault_number BadTransform = 20
 fault_number (BadRow line) = 21
@@ -51,6 +54,10 @@ fault_number Device = 30
 fault_number Memory = 31
 fault_number Unfinished = 34
 fault_number Mixed = 35
+fault_number NotAFill = 39
+fault_number OtherDesign = 40
+fault_number PlaceTwice = 41
+fault_number OtherRows = 42
 
 abbrev pub fault_name : Fault → List ℕ
 fault_name Truncated = codes "Truncated"
@@ -70,6 +77,7 @@ fault_name MissingCell = codes "MissingCell"
 fault_name Cycle = codes "Cycle"
 fault_name TooDeep = codes "TooDeep"
 fault_name TooManyShapes = codes "TooManyShapes"
+fault_name (TooManyShapesIn number count) = codes "TooManyShapes"
 fault_name OutOfRange = codes "OutOfRange"
 fault_name BadTransform = codes "BadTransform"
 fault_name (BadRow line) = codes "BadRow"
@@ -85,8 +93,12 @@ fault_name Device = codes "Device"
 fault_name Memory = codes "Memory"
 fault_name Unfinished = codes "Unfinished"
 fault_name Mixed = codes "Mixed"
+fault_name NotAFill = codes "NotAFill"
+fault_name OtherDesign = codes "OtherDesign"
+fault_name PlaceTwice = codes "PlaceTwice"
+fault_name OtherRows = codes "OtherRows"
 
--- what follows the name: the record's number, the key, or the record's first byte
+-- what follows the name: the record's number, the key, the record's first byte, or the part
 abbrev pub fault_ending : Fault → List ℕ
 fault_ending Truncated = []
 fault_ending BadLength = []
@@ -105,6 +117,7 @@ fault_ending MissingCell = []
 fault_ending Cycle = []
 fault_ending TooDeep = []
 fault_ending TooManyShapes = []
+fault_ending (TooManyShapesIn number count) = codes " in part " ++ decimal number ++ codes " of " ++ decimal count ++ codes ", try more parts"
 fault_ending OutOfRange = []
 fault_ending BadTransform = []
 fault_ending (BadRow line) = codes " line " ++ decimal line
@@ -120,6 +133,10 @@ fault_ending Device = []
 fault_ending Memory = []
 fault_ending Unfinished = []
 fault_ending Mixed = []
+fault_ending NotAFill = []
+fault_ending OtherDesign = []
+fault_ending PlaceTwice = []
+fault_ending OtherRows = []
 
 -- the exit status of a fault's number: 6 for a book that a run mixed up, 5 for a fill that is not complete, 4 for a device fault,
 -- 3 for want of memory, 2 for a refused input
@@ -170,6 +187,15 @@ flatten_fault flatten.BadExtension = BadExtension
 flatten_fault flatten.TooManyShapes = TooManyShapes
 flatten_fault flatten.OutOfRange = OutOfRange
 flatten_fault flatten.Memory = Memory
+
+-- the fault of a part's library that can't be joined
+abbrev pub part_fault : PartError → Fault
+part_fault (parts.Library error) = library_fault error
+part_fault parts.NotAFill = NotAFill
+part_fault parts.OtherDesign = OtherDesign
+part_fault parts.PlaceTwice = PlaceTwice
+part_fault parts.OtherRows = OtherRows
+part_fault parts.Memory = Memory
 
 -- the fault of an input that was not taken
 abbrev pub input_fault : InputError → Fault

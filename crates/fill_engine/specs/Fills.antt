@@ -16,7 +16,7 @@ use Rattle.fill_engine.specs.Inputs.{rules_answer, script_answer, IsFaultOf}
 use Rattle.fill_engine.specs.Runs.{IsTooShort, most_commits}
 use Rattle.fill_engine.specs.declared.refusal.RunFault.TheVariants as run
 use Rattle.fill_engine.specs.declared.refusal.Refusal.{Refusal}
-use Rattle.fill_engine.specs.declared.refusal.Refusal.TheVariants.{Rules, Design, Script, Run, Out, Report}
+use Rattle.fill_engine.specs.declared.refusal.Refusal.TheVariants.{Rules, Design, Script, Part, Run, Out, Report}
 
 -- what the three inputs say, where none of them is refused
 pub record Inputs (rules design script : List ℕ) : Type 0 where
@@ -59,6 +59,7 @@ IsFillReason rules design edits workers limit (Rules fault) = IsFaultOf rule.Mem
 IsFillReason rules design edits workers limit (Design fault) = (values : Values) × (rules_answer rules ≡ Ok values) × IsDesignFault design values fault
 IsFillReason rules design edits workers limit (Script fault) =
     (values : Values) × (rules_answer rules ≡ Ok values) × ((layers : Layers) × AreDrawn design values layers × IsFaultOf script.Memory (script_answer edits) fault)
+IsFillReason rules design edits workers limit (Part number fault) = ⊥
 IsFillReason rules design edits workers limit (Run run.Memory) = Inputs rules design edits
 IsFillReason rules design edits workers limit (Run run.Unfinished) =
     (inputs : Inputs rules design edits) × (workers ≡ 1 → IsTooShort inputs.values limit (length inputs.changes) (2 ^ 32))

@@ -8,7 +8,7 @@ use Rattle.fill_device.specs.declared.input.InputError.TheVariants.{TooLong, Dev
 use Rattle.fill_engine.specs.declared.refusal.InputFault.{InputFault}
 use Rattle.fill_engine.specs.declared.refusal.InputFault.TheVariants.{Unread, Refused}
 use Rattle.fill_engine.specs.declared.refusal.Refusal.{Refusal}
-use Rattle.fill_engine.specs.declared.refusal.Refusal.TheVariants.{Rules, Design, Script, Run, Out, Report}
+use Rattle.fill_engine.specs.declared.refusal.Refusal.TheVariants.{Rules, Design, Script, Part, Run, Out, Report}
 
 -- the same answer, with what `tell` makes of a refusal
 abbrev pub told_by : {A E F : Type 0} → (E → F) → Result A E → Result A F
@@ -36,6 +36,7 @@ abbrev pub is_of_rules : Refusal → Bool
 is_of_rules (Rules fault) = true
 is_of_rules (Design fault) = false
 is_of_rules (Script fault) = false
+is_of_rules (Part number fault) = false
 is_of_rules (Run fault) = false
 is_of_rules Out = false
 is_of_rules Report = false
@@ -45,6 +46,7 @@ abbrev pub is_before_script : Refusal → Bool
 is_before_script (Rules fault) = true
 is_before_script (Design fault) = true
 is_before_script (Script fault) = false
+is_before_script (Part number fault) = false
 is_before_script (Run fault) = false
 is_before_script Out = false
 is_before_script Report = false

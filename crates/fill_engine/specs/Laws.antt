@@ -1,5 +1,5 @@
 -- What the metal of a script is in the words of a fill's events.
-use Rattle.std.specs.Prelude.{◌≡◌, ℤ, Bool, false, List, map}
+use Rattle.std.specs.Prelude.{◌≡◌, ℤ, false, List, map}
 use Rattle.fill_text.specs.Script.{change_of}
 use Rattle.fill_text.specs.declared.script.Edit.{Edit}
 use Rattle.fill_job.specs.Plans.{Layers, Plan}

@@ -12,3 +12,4 @@ pub mod Fills
 pub mod Shapes
 pub mod PartChecks
 pub mod Joining
+pub mod Joiners

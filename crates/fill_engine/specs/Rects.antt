@@ -8,7 +8,7 @@ use Rattle.fill_engine.specs.Inputs.{told_by, rules_answer, script_answer, IsFau
 use Rattle.fill_engine.specs.Metal.{is_metal}
 use Rattle.fill_engine.specs.declared.refusal.RunFault.TheVariants as run
 use Rattle.fill_engine.specs.declared.refusal.Refusal.{Refusal}
-use Rattle.fill_engine.specs.declared.refusal.Refusal.TheVariants.{Rules, Design, Script, Run, Out, Report}
+use Rattle.fill_engine.specs.declared.refusal.Refusal.TheVariants.{Rules, Design, Script, Part, Run, Out, Report}
 
 -- the report of the metal that the script leaves of nothing, over the rules' windows, or the first refusal
 unfoldable pub report_answer : List ℕ → List ℕ → Result (List ℕ) Refusal
@@ -22,6 +22,7 @@ abbrev pub IsReason : List ℕ → List ℕ → Refusal → Type 0
 IsReason rules edits (Rules fault) = IsFaultOf rule.Memory (rules_answer rules) fault
 IsReason rules edits (Design fault) = ⊥
 IsReason rules edits (Script fault) = IsOk (rules_answer rules) × IsFaultOf script.Memory (script_answer edits) fault
+IsReason rules edits (Part number fault) = ⊥
 IsReason rules edits (Run run.Memory) = IsOk (report_answer rules edits)
 IsReason rules edits (Run run.Unfinished) = ⊥
 IsReason rules edits (Run run.Mixed) = ⊥

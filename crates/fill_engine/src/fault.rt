@@ -7,6 +7,7 @@ use fill_device::InputError;
 use fill_text::{Key, RuleError, ScriptError};
 use gds_flatten::FlattenError;
 use gds_grammar::LibraryError;
+use gds_join::PartError;
 use std::alloc::{AllocError, Global};
 
 /// A row of the table of faults. A line is the number of a record, counted from 1.
@@ -46,6 +47,8 @@ pub(crate) enum Fault {
     TooDeep,
     /// More than 4,000,000 copies of shapes.
     TooManyShapes,
+    /// More than 4,000,000 copies of shapes that meet the rectangle of a part.
+    TooManyShapesIn { number: u32, count: u32 },
     /// A copy of a shape that passes the coordinates.
     OutOfRange,
     /// A reference that is magnified, or turned by other than quarter turns.
@@ -76,6 +79,14 @@ pub(crate) enum Fault {
     Unfinished,
     /// A run gave back a book whose edits do not begin those that it was given.
     Mixed,
+    /// A library that is no fill library of the rules.
+    NotAFill,
+    /// Units or dates other than the first part's.
+    OtherDesign,
+    /// A place that two parts fill.
+    PlaceTwice,
+    /// A place out of the part's rows of tiles.
+    OtherRows,
 }
 
 impl Fault {
@@ -101,7 +112,7 @@ impl Fault {
             Fault::MissingCell => (15, "MissingCell"),
             Fault::Cycle => (16, "Cycle"),
             Fault::TooDeep => (17, "TooDeep"),
-            Fault::TooManyShapes => (18, "TooManyShapes"),
+            Fault::TooManyShapes | Fault::TooManyShapesIn { .. } => (18, "TooManyShapes"),
             Fault::OutOfRange => (19, "OutOfRange"),
             Fault::BadTransform => (20, "BadTransform"),
             Fault::BadRow { line: _ } => (21, "BadRow"),
@@ -117,6 +128,10 @@ impl Fault {
             Fault::Memory => (31, "Memory"),
             Fault::Unfinished => (34, "Unfinished"),
             Fault::Mixed => (35, "Mixed"),
+            Fault::NotAFill => (39, "NotAFill"),
+            Fault::OtherDesign => (40, "OtherDesign"),
+            Fault::PlaceTwice => (41, "PlaceTwice"),
+            Fault::OtherRows => (42, "OtherRows"),
         }
     }
 
@@ -142,6 +157,9 @@ impl Fault {
             Fault::BadRow { line } | Fault::BadNumber { line } => format!(in alloc; " line {line}"),
             Fault::BadRule { key } => format!(in alloc; " key {}", key.name()),
             Fault::Unexpected { at } => format!(in alloc; " at {at}"),
+            Fault::TooManyShapesIn { number, count } => {
+                format!(in alloc; " in part {number} of {count}, try more parts")
+            }
             _ => Ok(String::new(alloc)),
         }
     }
@@ -212,6 +230,21 @@ impl From<FlattenError> for Fault {
             FlattenError::TooManyShapes => Fault::TooManyShapes,
             FlattenError::OutOfRange => Fault::OutOfRange,
             FlattenError::Memory => Fault::Memory,
+        }
+    }
+}
+
+impl From<PartError> for Fault {
+    ghost from_gives = { λ error fault. fault ≡ spec.part_fault error };
+
+    fn from(error: PartError) -> Fault {
+        match error {
+            PartError::Library(error) => error.into(),
+            PartError::NotAFill => Fault::NotAFill,
+            PartError::OtherDesign => Fault::OtherDesign,
+            PartError::PlaceTwice => Fault::PlaceTwice,
+            PartError::OtherRows => Fault::OtherRows,
+            PartError::Memory => Fault::Memory,
         }
     }
 }

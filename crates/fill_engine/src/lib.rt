@@ -16,7 +16,7 @@ mod turns;
 mod within;
 
 pub use fill::{deliver, prepare};
-pub use joining::join_part;
+pub use joining::{Joiner, join_part, settle};
 pub use metal::metal_left;
 pub use part::check_part;
 pub use refusal::{DesignError, InputFault, Refusal, RunFault};

@@ -8,19 +8,32 @@ ghost use Rattle.fill_region.specs.Squares.{covered};
 ghost use Rattle.fill_text.specs.ValuesOfRules.{values_of};
 ghost use Rattle.fill_parts.specs.PartReport.{part_check};
 ghost use Rattle.fill_engine.specs.Inputs.{is_of_rules, rules_answer};
-ghost use Rattle.fill_engine.specs.PartChecks.{IsPartChecked, IsPartCheckReason};
+ghost use Rattle.fill_engine.specs.PartChecks.{IsPartChecked, IsPartCheckReason, told_in};
 
 use crate::inputs::take_rules;
-use crate::refusal::{InputFault, Refusal, RunFault};
+use crate::refusal::{DesignError, InputFault, Refusal, RunFault};
 use crate::within::take_metal_within;
 use fill_base::Rect;
 use fill_device::{InputError, Tap, write_texts};
 use fill_parts::Part;
 use fill_report::{OutOfMemory, rows_report_of_rects};
 use fill_text::Rules;
+use gds_flatten::FlattenError;
 use std::alloc::{AllocError, Global};
 use std::io::{Read, Write};
 use std::thread::Threads;
+
+/// The fault of a design within a part's rectangle, as it is told: too many shapes with the part.
+fn told_in(part: Part, fault: InputFault<DesignError>) -> InputFault<DesignError>
+    ensures { result ≡ told_in part fault }
+{
+    match fault {
+        InputFault::Refused(DesignError::Flatten(FlattenError::TooManyShapes)) => {
+            InputFault::Refused(DesignError::Crowded(part.number(), part.count()))
+        }
+        other => other,
+    }
+}
 
 /// A list of one item.
 fn one<T: Drop>(alloc: Global, item: T) -> Result<Vec<T>, AllocError>
@@ -76,7 +89,8 @@ fn write_part<W: Write>(
 /// lines are made.
 ///
 /// # Errors
-/// Those of `check`, but that only the copies count for `TooManyShapes` which meet a rectangle round the part's windows.
+/// Those of `check`, but that only the copies count for `TooManyShapes` which meet a rectangle round the part's windows; it is then
+/// `Crowded`.
 pub fn check_part<R: Read, D: Read, W: Write>(
     rt: &(impl Threads + Sync),
     alloc: Global,
@@ -111,7 +125,10 @@ pub fn check_part<R: Read, D: Read, W: Write>(
 {
     let values = take_rules(alloc, rules)?;
     let frame = part.window_rect(&values);
-    let rects = take_metal_within(alloc, design, &values, &frame)?;
+    let rects = match take_metal_within(alloc, design, &values, &frame) {
+        Ok(rects) => rects,
+        Err(fault) => return Err(Refusal::Design(told_in(part, fault))),
+    };
     write_part(rt, alloc, rects, &values, part, out)?;
     Ok(())
 }

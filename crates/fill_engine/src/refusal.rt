@@ -1,6 +1,6 @@
 //! Why the program gave up, by the input, the run or the output at which it did, and the line that tells of it.
-ghost use Rattle.std.specs.Prelude.{◌≡◌, IfOk, string_bytes};
-ghost use Rattle.fill_engine.specs.Refusals.{fault_of, part_name, refusal_status, refusal_text};
+ghost use Rattle.std.specs.Prelude.{◌≡◌, IfOk, option_map, string_bytes};
+ghost use Rattle.fill_engine.specs.Refusals.{fault_of, part_name, refusal_status, refusal_text, refusal_words};
 
 use crate::fault::Fault;
 use fill_core::{BookError, FillBook};
@@ -36,6 +36,9 @@ pub enum DesignError {
     /// The library's top can't be flattened.
     #[error("{0}")]
     Flatten(FlattenError),
+    /// Too many copies of shapes meet the rectangle of a part: its number, from 1 on, and how many parts there are.
+    #[error("too many shapes in part {0} of {1}")]
+    Crowded(u32, u32),
 }
 
 /// Why there is no outcome of inputs that are all taken.
@@ -64,6 +67,9 @@ pub enum Refusal {
     /// The script gave no edits.
     #[error("script: {0}")]
     Script(InputFault<ScriptError>),
+    /// The library of a part, counted from 1, can't be joined to those of the parts before it.
+    #[error("part {0}: {1}")]
+    Part(u32, InputFault<PartError>),
     /// The command line, or what comes after the inputs are interpreted and before an output is written.
     #[error("run: {0}")]
     Run(RunFault),
@@ -248,17 +254,18 @@ impl From<DeviceError> for Refusal {
 }
 
 impl Refusal {
-    /// The part as a fault line names it.
-    fn part_name(self) -> &'static str
-        ensures { result.now ≡ part_name self }
+    /// Where it arose, as a fault line names it.
+    fn part_name(self, alloc: Global) -> Result<String, AllocError>
+        ensures { IfOk result (λ s. string_bytes s ≡ part_name self) }
     {
         match self {
-            Refusal::Rules(_) => "rules",
-            Refusal::Design(_) => "design",
-            Refusal::Script(_) => "script",
-            Refusal::Run(_) => "run",
-            Refusal::Out => "out",
-            Refusal::Report => "report",
+            Refusal::Rules(_) => String::from_str(alloc, "rules"),
+            Refusal::Design(_) => String::from_str(alloc, "design"),
+            Refusal::Script(_) => String::from_str(alloc, "script"),
+            Refusal::Part(number, _) => format!(in alloc; "part {number}"),
+            Refusal::Run(_) => String::from_str(alloc, "run"),
+            Refusal::Out => String::from_str(alloc, "out"),
+            Refusal::Report => String::from_str(alloc, "report"),
         }
     }
 
@@ -272,8 +279,13 @@ impl Refusal {
             Refusal::Design(InputFault::Unread(error)) => error.into(),
             Refusal::Design(InputFault::Refused(DesignError::Library(error))) => error.into(),
             Refusal::Design(InputFault::Refused(DesignError::Flatten(error))) => error.into(),
+            Refusal::Design(InputFault::Refused(DesignError::Crowded(number, count))) => {
+                Fault::TooManyShapesIn { number, count }
+            }
             Refusal::Script(InputFault::Unread(error)) => error.into(),
             Refusal::Script(InputFault::Refused(error)) => error.into(),
+            Refusal::Part(_, InputFault::Unread(error)) => error.into(),
+            Refusal::Part(_, InputFault::Refused(error)) => error.into(),
             Refusal::Run(RunFault::Memory) => Fault::Memory,
             Refusal::Run(RunFault::Unfinished) => Fault::Unfinished,
             Refusal::Run(RunFault::Mixed) => Fault::Mixed,
@@ -289,17 +301,30 @@ impl Refusal {
         self.fault().status()
     }
 
-    /// The line that tells of the refusal, with its line feed: `densfill: PART: NUMBER NAME`, and then ` line N` for a
-    /// bad record or number, ` key KEY` for a bad rule and ` at OFFSET` for a record that stands where none may.
-    ///
-    /// # Errors
-    /// `AllocError` where there is no memory for the line.
-    pub fn line(self, alloc: Global) -> Result<String, AllocError>
-        ensures { IfOk result (λ s. string_bytes s ≡ refusal_text self) }
+    /// What tells of the refusal: `densfill: PART: NUMBER NAME`, and then ` line N` for a bad record or number, ` key KEY` for a
+    /// bad rule, ` at OFFSET` for a record that stands where none may and ` in part K of N, try more parts` for too many shapes there.
+    fn words(self, alloc: Global) -> Result<String, AllocError>
+        ensures { IfOk result (λ s. string_bytes s ≡ refusal_words self) }
     {
         let fault = self.fault();
         let (number, name) = fault.row();
+        let part = self.part_name(alloc)?;
         let ending = fault.ending(alloc)?;
-        format!(in alloc; "densfill: {}: {number} {name}{ending}\n", self.part_name())
+        format!(in alloc; "densfill: {part}: {number} {name}{ending}")
+    }
+
+    /// The line that tells of the refusal, with its line feed. Where a path is given, it is that of the part's library, and ` in ` and
+    /// the path stand at the end.
+    ///
+    /// # Errors
+    /// `AllocError` where there is no memory for the line.
+    pub fn line(self, alloc: Global, path: Option<&str>) -> Result<String, AllocError>
+        ensures { IfOk result (λ s. string_bytes s ≡ refusal_text self (option_map (λ p. p.now) path.entry)) }
+    {
+        let words = self.words(alloc)?;
+        match path {
+            Some(path) => format!(in alloc; "{words} in {path}\n"),
+            None => format!(in alloc; "{words}\n"),
+        }
     }
 }

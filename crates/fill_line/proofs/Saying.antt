@@ -6,15 +6,48 @@ use Rattle.std.specs.Str.Parse.{IsNumeral, digits_value, without_leading_plus}
 use Rattle.clap.proofs.ValueTestLemmas.{Accepts-accepts, accepts-Accepts}
 use Rattle.clap.specs.ValueTests.{is_unsigned_in}
 use Rattle.clap.specs.Walk.{row_text}
-use Rattle.clap.specs.Words.{HasKind, Row, Text, fault_of, first_of, is_simple, is_simple_and_free, kind_of, one_of, read_as}
+use Rattle.clap.specs.Words.{HasKind, Row, Text, all_of, fault_of, first_of, is_simple, is_simple_and_free, kind_of, one_of, read_as}
 use Rattle.clap.specs.declared.builder.value_parser.ValueParser.TheVariants.{Unsigned}
 use Rattle.clap.specs.declared.error.Error.{Error}
-use Rattle.clap.specs.declared.error.kind.ErrorKind.TheVariants.{MissingSubcommand, OutOfMemory}
-use Rattle.fill_line.specs.Grammar.{Said, both, crew, fill, filling, found_in, limit_by, number_of, numbers_in, program_words, said_by, said_in, workers_by}
+use Rattle.clap.specs.declared.error.kind.ErrorKind.TheVariants.{OutOfMemory, ValueValidation}
+use Rattle.fill_line.specs.Grammar.{Said, both, check, check_part, checking, crew, fill, filling, found_in, joined, joining, limit_by, number_of, numbers_in, part_by, program_words, said_by, said_in, workers_by}
 use Rattle.fill_line.specs.Lines.{IsRefusalOf, text_of}
 use Rattle.fill_line.specs.declared.Line.{Line}
 use Rattle.fill_line.specs.declared.LineError.{LineError}
 use Rattle.fill_line.specs.declared.LineError.TheVariants.{Memory, Usage}
+
+-- what the rows of `check` say
+pub no_check_rules : (rows : List Row) → first_of (codes "RULES") rows ≡ None → None ≡ checking rows
+no_check_rules rows none = rw none refl
+
+pub no_check_design : (rows : List Row) (a : Text) → first_of (codes "RULES") rows ≡ Some a → first_of (codes "DESIGN") rows ≡ None → None ≡ checking rows
+no_check_design rows a rules none = rw (rules, none) refl
+
+pub checked_whole : (rows : List Row) (a b : Text) → first_of (codes "RULES") rows ≡ Some a → first_of (codes "DESIGN") rows ≡ Some b → first_of (codes "part") rows ≡ None → Some (check a b) ≡ checking rows
+checked_whole rows a b rules design none = rw (rules, design, none) refl
+
+pub bad_part : (rows : List Row) (a b t : Text) → first_of (codes "RULES") rows ≡ Some a → first_of (codes "DESIGN") rows ≡ Some b → first_of (codes "part") rows ≡ Some t → None ≡ part_by t → None ≡ checking rows
+bad_part rows a b t rules design part none = rw (rules, design, part, ← none) refl
+
+pub checked_part : (rows : List Row) (a b t : Text) (k : ℕ × ℕ) → first_of (codes "RULES") rows ≡ Some a → first_of (codes "DESIGN") rows ≡ Some b → first_of (codes "part") rows ≡ Some t → Some k ≡ part_by t
+    → Some (check_part a b k.0 k.1) ≡ checking rows
+checked_part rows a b t k rules design part is = rw (rules, design, part, ← is) refl
+
+-- what the rows of `join` say
+pub no_join_rules : (rows : List Row) → first_of (codes "RULES") rows ≡ None → None ≡ joining rows
+no_join_rules rows none = rw none refl
+
+pub no_join_out : (rows : List Row) (a : Text) → first_of (codes "RULES") rows ≡ Some a → first_of (codes "OUT") rows ≡ None → None ≡ joining rows
+no_join_out rows a rules none = rw (rules, none) refl
+
+pub no_join_parts : (rows : List Row) (a b : Text) → first_of (codes "RULES") rows ≡ Some a → first_of (codes "OUT") rows ≡ Some b → all_of (codes "PART") rows ≡ None → None ≡ joining rows
+no_join_parts rows a b rules out none = rw (rules, out, none) refl
+
+pub joined_is : (rows : List Row) (a b : Text) (ps : List Text) (o : Option Said) → first_of (codes "RULES") rows ≡ Some a → first_of (codes "OUT") rows ≡ Some b → all_of (codes "PART") rows ≡ Some ps → o ≡ joined a b ps → o ≡ joining rows
+joined_is rows a b ps o rules out parts is = is ∙ at
+  where
+    at : joined a b ps ≡ joining rows
+    at = rw (rules, out, parts) refl
 
 pub no_first : (make : Text → Text → Said) (a b : Text) (rows : List Row) → first_of a rows ≡ None → None ≡ both make a b rows
 no_first make a b rows none = rw none refl
@@ -136,9 +169,9 @@ told_fault words e told (inl (kind, is)) fault = rw is tt
 told_fault words e told (inr (kind, is)) (inl out) = absurd (kind out)
 told_fault words e told (inr (kind, is)) (inr among) = rw is (inl among)
 
-pub told_missing : (words : List Text) (e : Error) (told : LineError) → Told e told → kind_of e ≡ MissingSubcommand → IsRefusalOf words told
-told_missing words e told (inl (kind, is)) missing = rw is tt
-told_missing words e told (inr (kind, is)) missing = rw is (inr missing)
+pub told_no_line : (words : List Text) (e : Error) (told : LineError) → Told e told → kind_of e ≡ ValueValidation → said_in words ≡ None → IsRefusalOf words told
+told_no_line words e told (inl (kind, is)) fault none = rw is tt
+told_no_line words e told (inr (kind, is)) fault none = rw is (inr (fault, none))
 
 -- the program's grammar is one of which `clap` says what it finds
 pub program_is_simple : is_simple program_words ≡ true

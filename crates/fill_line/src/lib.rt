@@ -5,22 +5,28 @@
 //! and a call for help is a usage fault too.
 #![tactic(auto)]
 
-ghost use Rattle.std.specs.Prelude.{◌≡◌, ◌≢◌, ◌⊎◌, ◌<◌, ◌≤◌, ℤ, false, Some, IfErr, IfOk, IfSome, IsSome, OnOk, codes, map, option_map};
+ghost use Rattle.std.specs.Prelude.{◌≡◌, ◌≢◌, ◌⊎◌, ◌<◌, ◌≤◌, ℤ, false, Some, IfErr, IfOk, IfSome, IsSome, OnOk, codes, length, map, option_map};
 ghost use Rattle.clap.specs.Words.{app_of, found_of, kind_of, one_of, rows_of, rule_of, with_subcommand};
-ghost use Rattle.fill_line.specs.Grammar.{both, fill_words, filling, limit_by, path, program_words, said_by, said_in, workers_by, IsFaultless, IsTaken};
+ghost use Rattle.fill_line.specs.Grammar.{both, checking, fill_words, filling, join_words, joining, limit_by, path, program_words, said_by, said_in, workers_by, IsFaultless, IsTaken};
 ghost use Rattle.fill_line.specs.Grammar as said;
-ghost use Rattle.fill_line.specs.Lines.{text_of, IsManned, IsRefusalOf};
+ghost use Rattle.fill_line.specs.Lines.{text_of, IsBounded, IsRefusalOf};
 ghost use Rattle.fill_line.specs.declared.LineError.TheVariants.{Memory};
+
+mod part;
 
 use clap::builder::ValueParser;
 use clap::error::ErrorKind;
 use clap::{Arg, ArgMatches, Command, value_parser};
+use part::part_numbers;
 use std::alloc::{AllocError, Global};
 use std::convert::AsStr;
 use thiserror::Error;
 
+/// The most parts that a chip is cut into.
+const MOST_PARTS: usize = 4096;
+
 /// What the program is asked to do.
-#[derive(Clone, Copy, Debug, PartialEq, Eq)]
+#[derive(Debug, PartialEq, Eq, Drop)]
 pub enum Line<'a> {
     /// To report the density of the metal that a script leaves of nothing.
     Rects {
@@ -35,6 +41,26 @@ pub enum Line<'a> {
         rules: &'a str,
         /// The path of the design.
         design: &'a str,
+    },
+    /// To report the density of the metal in the windows of one part of a chip.
+    CheckPart {
+        /// The path of the rule file.
+        rules: &'a str,
+        /// The path of the design.
+        design: &'a str,
+        /// Which part it is: 1 to `count`.
+        number: u32,
+        /// How many parts there are: 1 to 4,096.
+        count: u32,
+    },
+    /// To join the fill libraries of the parts of a chip.
+    Join {
+        /// The path of the rule file.
+        rules: &'a str,
+        /// The path of the library to write.
+        out: &'a str,
+        /// The paths of the parts' libraries, in the order of the parts: 1 to 4,096.
+        parts: Vec<&'a str>,
     },
     /// To fill the windows of a design that are low, once a script's changes of its metal are made.
     Fill {
@@ -92,6 +118,43 @@ fn number<'a>(alloc: Global, name: &'a str, help: &'a str, parser: ValueParser<'
         .value_parser(parser)
 }
 
+/// The option of a part.
+fn part_option<'a>(alloc: Global) -> Arg<'a>
+    ensures rule { rule_of result ≡ said.part_option }
+    ensures local { result.global ≡ false }
+{
+    Arg::new(alloc, "part")
+        .long("part")
+        .value_name("K/N")
+        .help("Part K of N alone: 1 to N of 1 to 4096")
+}
+
+/// The paths of parts, of which there are as many as a chip may have.
+fn part_paths<'a>(alloc: Global) -> Arg<'a>
+    ensures rule { rule_of result ≡ said.part_paths }
+    ensures local { result.global ≡ false }
+{
+    path(
+        alloc,
+        "PART",
+        "The fill library of each part, in their order",
+    )
+    .num_args(1..=MOST_PARTS)
+}
+
+/// The program's words with those of `join`.
+fn with_join<'a>(alloc: Global, program: Command<'a>) -> Result<Command<'a>, AllocError>
+    ensures { IfOk result (λ c. app_of c ≡ with_subcommand (app_of program.entry) join_words.top) }
+{
+    let join = Command::new(alloc, "join")
+        .about("Joins the fill libraries of the parts of a chip")
+        .arg(path(alloc, "RULES", "The rule file"))?
+        .arg(path(alloc, "OUT", "The fill library to write"))?
+        .arg(part_paths(alloc))?;
+    let program = program.subcommand(join)?;
+    Ok(program)
+}
+
 /// The program's words with those of `fill`.
 fn with_fill<'a>(alloc: Global, program: Command<'a>) -> Result<Command<'a>, AllocError>
     ensures { IfOk result (λ c. app_of c ≡ with_subcommand (app_of program.entry) fill_words.top) }
@@ -123,13 +186,15 @@ fn grammar<'a>(alloc: Global) -> Result<Command<'a>, AllocError>
     let check = Command::new(alloc, "check")
         .about("Reports the density of the metal that a design draws")
         .arg(path(alloc, "RULES", "The rule file"))?
-        .arg(design)?;
+        .arg(design)?
+        .arg(part_option(alloc))?;
     let program = Command::new(alloc, "densfill")
         .about("Checks the metal density of a layout")
         .subcommand_required(true)
         .subcommand(rects)?
         .subcommand(check)?;
     let program = with_fill(alloc, program)?;
+    let program = with_join(alloc, program)?;
     Ok(program)
 }
 
@@ -144,11 +209,50 @@ fn rects_in<'a>(found: &ArgMatches<'a>) -> Option<Line<'a>>
 
 /// The line of `check`, by what was found.
 fn check_in<'a>(found: &ArgMatches<'a>) -> Option<Line<'a>>
-    ensures { option_map text_of result ≡ both said.check (codes "RULES") (codes "DESIGN") (rows_of (found_of found.now)) }
+    ensures line { option_map text_of result ≡ checking (rows_of (found_of found.now)) }
+    ensures bounded { IfSome result IsBounded }
 {
     let rules = found.get_str("RULES")?;
     let design = found.get_str("DESIGN")?;
-    Some(Line::Check { rules, design })
+    match found.get_str("part") {
+        Some(part) => {
+            let (number, count) = part_numbers(part)?;
+            Some(Line::CheckPart {
+                rules,
+                design,
+                number,
+                count,
+            })
+        }
+        None => Some(Line::Check { rules, design }),
+    }
+}
+
+/// The paths that a line of `join` names, by what was found: rules, OUT and as many parts as there may be.
+fn joined_in<'b, 'a>(found: &'b ArgMatches<'a>) -> Option<(&'a str, &'a str, &'b [&'a str])>
+    ensures paths { option_map (λ p. said.join p.0.now p.1.now (map (λ q. q.now) p.2.now)) result ≡ joining (rows_of (found_of found.now)) }
+    ensures few { IfSome result (λ p. (0 < length p.2.now) × (length p.2.now ≤ 4096)) }
+{
+    let rules = found.get_str("RULES")?;
+    let out = found.get_str("OUT")?;
+    let parts = found.get_strs("PART")?;
+    if 1 <= parts.len() && parts.len() <= MOST_PARTS {
+        Some((rules, out, parts))
+    } else {
+        None
+    }
+}
+
+/// The line of `join`, by what was found.
+fn join_in<'a>(alloc: Global, found: &ArgMatches<'a>) -> Result<Option<Line<'a>>, AllocError>
+    ensures line { IfOk result (λ l. option_map text_of l ≡ joining (rows_of (found_of found.now))) }
+    ensures bounded { IfOk result (λ l. IfSome l IsBounded) }
+{
+    let Some((rules, out, paths)) = joined_in(found) else {
+        return Ok(None);
+    };
+    let parts = paths.to_vec(alloc)?;
+    Ok(Some(Line::Join { rules, out, parts }))
 }
 
 /// A number of workers, where it is one.
@@ -196,7 +300,7 @@ fn numbers_in(found: &ArgMatches) -> Option<(u32, Option<u32>)>
 /// The line of `fill`, by what was found.
 fn fill_in<'a>(found: &ArgMatches<'a>) -> Option<Line<'a>>
     ensures line { option_map text_of result ≡ filling (rows_of (found_of found.now)) }
-    ensures manned { IfSome result IsManned }
+    ensures bounded { IfSome result IsBounded }
 {
     let rules = found.get_str("RULES")?;
     let design = found.get_str("DESIGN")?;
@@ -214,20 +318,27 @@ fn fill_in<'a>(found: &ArgMatches<'a>) -> Option<Line<'a>>
 }
 
 /// The line of a subcommand that was found.
-fn line_in<'a>(name: &str, found: &ArgMatches<'a>) -> Option<Line<'a>>
-    ensures line { option_map text_of result ≡ said_by name.now (rows_of (found_of found.now)) }
-    ensures manned { IfSome result IsManned }
+fn line_in<'a>(
+    alloc: Global,
+    name: &str,
+    found: &ArgMatches<'a>,
+) -> Result<Option<Line<'a>>, AllocError>
+    ensures line { IfOk result (λ l. option_map text_of l ≡ said_by name.now (rows_of (found_of found.now))) }
+    ensures bounded { IfOk result (λ l. IfSome l IsBounded) }
 {
     if name == "rects" {
-        return rects_in(found);
+        return Ok(rects_in(found));
     }
     if name == "check" {
-        return check_in(found);
+        return Ok(check_in(found));
     }
     if name == "fill" {
-        return fill_in(found);
+        return Ok(fill_in(found));
     }
-    None
+    if name == "join" {
+        return join_in(alloc, found);
+    }
+    Ok(None)
 }
 
 /// The line that the program's words make, the program's own name first.
@@ -236,7 +347,7 @@ fn line_in<'a>(name: &str, found: &ArgMatches<'a>) -> Option<Line<'a>>
 /// `Usage` where they make none, also where they ask for help; `Memory` where memory runs out.
 pub fn read_line<'a, S: AsStr>(alloc: Global, words: &'a [S]) -> Result<Line<'a>, LineError>
     ensures line { IfOk result (λ line. said_in (map S.text words.entry.now) ≡ Some (text_of line)) }
-    ensures manned { IfOk result IsManned }
+    ensures bounded { IfOk result IsBounded }
     ensures faultless { OnOk result (IsFaultless (map S.text words.entry.now)) }
     ensures usage { IsTaken (map S.text words.entry.now) → IsSome (said_in (map S.text words.entry.now)) → IfErr result (λ e. e ≡ LineError.Memory) }
     ensures refused { IfErr result (λ e. IsRefusalOf (map S.text words.entry.now) e) }
@@ -246,7 +357,7 @@ pub fn read_line<'a, S: AsStr>(alloc: Global, words: &'a [S]) -> Result<Line<'a>
         Err(error) => return Err(refused(error)),
     };
     let line = match matches.subcommand() {
-        Some((name, found)) => line_in(name, found),
+        Some((name, found)) => line_in(alloc, name, found)?,
         None => None,
     };
     match line {
@@ -266,10 +377,13 @@ fn refused(error: clap::Error) -> LineError
     }
 }
 
-/// The usage fault of words that name no subcommand.
+/// The usage fault of words in which `clap` finds none, and that are no line of the program.
 fn no_line(alloc: Global) -> Result<clap::Error, AllocError>
-    ensures { IfOk result (λ e. kind_of e ≡ ErrorKind.MissingSubcommand) }
+    ensures { IfOk result (λ e. kind_of e ≡ ErrorKind.ValueValidation) }
 {
     let mut grammar = grammar(alloc)?;
-    grammar.error(ErrorKind::MissingSubcommand, "a subcommand is missing")
+    grammar.error(
+        ErrorKind::ValueValidation,
+        "a part is K/N, in digits: part K of N, 1 to N of 1 to 4096",
+    )
 }

@@ -2,26 +2,43 @@ use Rattle.std.proofs.Common.{◌≡◌, ◌∙◌, rules, sym, ap, None, option
 use Rattle.std.specs.Prelude.{codes}
 use Rattle.clap.specs.Words.{found_of, rows_of}
 use Rattle.clap.proofs.WalkLemmas.{first_value-rows}
-use Rattle.fill_line.specs.Grammar.{check}
 use Rattle.fill_line.specs.Lines.{text_of}
-use Rattle.fill_line.proofs.Saying.{no_first, no_second, both_found}
+use Rattle.fill_line.proofs.Saying.{bad_part, checked_part, checked_whole, no_check_design, no_check_rules}
 use Rattle.fill_line.proofs.check_in.Goals as goal
 
-pub returns-in_err-rules : goal.returns-in_err-rules
-returns-in_err-rules c =
+pub returns-in_err-rules-clause-line : goal.returns-in_err-rules-clause-line
+returns-in_err-rules-clause-line c =
     let none : c.from_residual.result ≡ None = search rules in
-    ap (option_map text_of) none ∙ no_first check (codes "RULES") (codes "DESIGN") (rows_of (found_of c.args.found.now))
+    ap (option_map text_of) none ∙ no_check_rules (rows_of (found_of c.args.found.now))
     (sym (first_value-rows (found_of c.args.found.now) (codes "RULES")) ∙ sym c.in_err-rules.ensures)
 
-pub returns-in_err-design : goal.returns-in_err-design
-returns-in_err-design c =
+pub returns-in_err-design-clause-line : goal.returns-in_err-design-clause-line
+returns-in_err-design-clause-line c =
     let none : c.from_residual-in_err-design.result ≡ None = search rules in
-    ap (option_map text_of) none ∙ no_second check (codes "RULES") (codes "DESIGN") (rows_of (found_of c.args.found.now)) c.in_ok-rules.rules.now
+    ap (option_map text_of) none ∙ no_check_design (rows_of (found_of c.args.found.now)) c.in_ok-rules.rules.now
     (sym (first_value-rows (found_of c.args.found.now) (codes "RULES")) ∙ sym c.in_ok-rules.ensures)
     (sym (first_value-rows (found_of c.args.found.now) (codes "DESIGN")) ∙ sym c.in_err-design.ensures)
 
-pub returns : goal.returns
-returns c =
-    both_found check (codes "RULES") (codes "DESIGN") (rows_of (found_of c.args.found.now)) c.in_ok-rules.rules.now c.in_ok-design.design.now
+pub returns-in_err-number-in-Some-clause-line : goal.returns-in_err-number-in-Some-clause-line
+returns-in_err-number-in-Some-clause-line c =
+    let none : c.from_residual-in_err-number-in-Some.result ≡ None = search rules in
+    ap (option_map text_of) none ∙ bad_part (rows_of (found_of c.args.found.now)) c.in_ok-rules.rules.now c.in_ok-design.design.now c.in-Some.part.now
     (sym (first_value-rows (found_of c.args.found.now) (codes "RULES")) ∙ sym c.in_ok-rules.ensures)
     (sym (first_value-rows (found_of c.args.found.now) (codes "DESIGN")) ∙ sym c.in_ok-design.ensures)
+    (sym (first_value-rows (found_of c.args.found.now) (codes "part")) ∙ sym c.in-Some.ensures)
+    c.in_err-number-in-Some.ensures.numbers
+
+pub returns-in_ok-number-in-Some-clause-line : goal.returns-in_ok-number-in-Some-clause-line
+returns-in_ok-number-in-Some-clause-line c =
+    checked_part (rows_of (found_of c.args.found.now)) c.in_ok-rules.rules.now c.in_ok-design.design.now c.in-Some.part.now (c.in_ok-number-in-Some.number, c.in_ok-number-in-Some.count)
+    (sym (first_value-rows (found_of c.args.found.now) (codes "RULES")) ∙ sym c.in_ok-rules.ensures)
+    (sym (first_value-rows (found_of c.args.found.now) (codes "DESIGN")) ∙ sym c.in_ok-design.ensures)
+    (sym (first_value-rows (found_of c.args.found.now) (codes "part")) ∙ sym c.in-Some.ensures)
+    c.in_ok-number-in-Some.ensures.numbers
+
+pub returns-in-None-clause-line : goal.returns-in-None-clause-line
+returns-in-None-clause-line c =
+    checked_whole (rows_of (found_of c.args.found.now)) c.in_ok-rules.rules.now c.in_ok-design.design.now
+    (sym (first_value-rows (found_of c.args.found.now) (codes "RULES")) ∙ sym c.in_ok-rules.ensures)
+    (sym (first_value-rows (found_of c.args.found.now) (codes "DESIGN")) ∙ sym c.in_ok-design.ensures)
+    (sym (first_value-rows (found_of c.args.found.now) (codes "part")) ∙ sym c.in-None.ensures)

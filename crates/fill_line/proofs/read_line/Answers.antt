@@ -1,10 +1,10 @@
 use Rattle.std.proofs.Common.{◌≡◌, ◌∙◌, [], None, Some, ap, arith, map, option_map, subst, sym}
 use Rattle.clap.specs.Words.{App, HasKind, fault_of, found_of, is_simple, is_simple_and_free, rows_of, subcommand_of, subcommand_rows_of, takes}
-use Rattle.fill_line.specs.Grammar.{found_in}
+use Rattle.fill_line.specs.Grammar.{found_in, said_in}
 use Rattle.fill_line.specs.Lines.{text_of}
 use Rattle.fill_line.specs.declared.Line.{Line}
-use Rattle.fill_line.proofs.Saying.{line_is, no_line_is, none_apart, none_said, program_is_plain, program_is_simple, told_apart, told_fault, told_memory}
-use Rattle.fill_line.proofs.read_line.Goals.{in-Some, in-None}
+use Rattle.fill_line.proofs.Saying.{line_is, no_line_is, none_apart, none_said, program_is_plain, program_is_simple, told_apart, told_fault, told_memory, told_no_line}
+use Rattle.fill_line.proofs.read_line.Goals.{in-Some+in_ok-line-in-Some, in-None}
 use Rattle.fill_line.proofs.read_line.Goals as goal
 
 pub returns-in-Err-clause-usage : goal.returns-in-Err-clause-usage
@@ -28,7 +28,7 @@ returns-in-Some-line-clause-line g c =
     let here : subcommand_rows_of c.in-Ok.matches ≡ found_in words =
     (c.in-Ok.ensures.matches (ap is_simple c.in_ok-grammar.ensures ∙ program_is_simple)).1 ∙ ap (λ (a : App). subcommand_of a words) c.in_ok-grammar.ensures in
     elim c.match-subcommand.branch [
-      | in-Some w ↦ line_is words _ w.in-Some.name.now (rows_of (found_of w.in-Some.found.now)) c.match-subcommand.line here (told_apart _ _ _ _ _ w.in-Some.ensures.name w.in-Some.ensures.rows) (ap (option_map text_of) w.line-is ∙ w.line_in-line.ensures.line)
+      | in-Some+in_ok-line-in-Some w ↦ line_is words _ w.in-Some.name.now (rows_of (found_of w.in-Some.found.now)) c.match-subcommand.line here (told_apart _ _ _ _ _ w.in-Some.ensures.name w.in-Some.ensures.rows) (ap (option_map text_of) w.line-is ∙ w.in_ok-line-in-Some.ensures.line)
           ∙ ap (option_map text_of) c.in-Some-line.is
       | in-None w ↦ absurd (no c.in-Some-line.line (sym w.line-is ∙ c.in-Some-line.is))
     ]
@@ -36,13 +36,25 @@ returns-in-Some-line-clause-line g c =
     no : (line : Line) → None ≡ Some line → ⊥
     no line h = grind (arith, h)
 
+pub returns-clause-refused : goal.returns-clause-refused
+returns-clause-refused g c =
+    let words = map g.S.AsStr.text c.args.words.now in
+    let here : subcommand_rows_of c.in-Ok.matches ≡ found_in words =
+    (c.in-Ok.ensures.matches (ap is_simple c.in_ok-grammar.ensures ∙ program_is_simple)).1 ∙ ap (λ (a : App). subcommand_of a words) c.in_ok-grammar.ensures in
+    let unsaid : said_in words ≡ None = elim c.match-subcommand.branch [
+      | in-Some+in_ok-line-in-Some w ↦ line_is words _ w.in-Some.name.now (rows_of (found_of w.in-Some.found.now)) c.match-subcommand.line here (told_apart _ _ _ _ _ w.in-Some.ensures.name w.in-Some.ensures.rows) (ap (option_map text_of) w.line-is ∙ w.in_ok-line-in-Some.ensures.line)
+          ∙ ap (option_map text_of) c.in-None-line.is
+      | in-None w ↦ no_line_is words _ here (none_apart _ _ _ w.in-None.ensures.name)
+    ] in
+    told_no_line words c.in_ok-no_line-in-None-line.field-0 c.refused-in-None-line.result c.refused-in-None-line.ensures c.in_ok-no_line-in-None-line.ensures unsaid
+
 pub returns-clause-usage : goal.returns-clause-usage
 returns-clause-usage g c = λ taken said.
     let words = map g.S.AsStr.text c.args.words.now in
     let here : subcommand_rows_of c.in-Ok.matches ≡ found_in words =
     (c.in-Ok.ensures.matches (ap is_simple c.in_ok-grammar.ensures ∙ program_is_simple)).1 ∙ ap (λ (a : App). subcommand_of a words) c.in_ok-grammar.ensures in
     elim c.match-subcommand.branch [
-      | in-Some w ↦ absurd (none_said words (line_is words _ w.in-Some.name.now (rows_of (found_of w.in-Some.found.now)) c.match-subcommand.line here (told_apart _ _ _ _ _ w.in-Some.ensures.name w.in-Some.ensures.rows) (ap (option_map text_of) w.line-is ∙ w.line_in-line.ensures.line)
+      | in-Some+in_ok-line-in-Some w ↦ absurd (none_said words (line_is words _ w.in-Some.name.now (rows_of (found_of w.in-Some.found.now)) c.match-subcommand.line here (told_apart _ _ _ _ _ w.in-Some.ensures.name w.in-Some.ensures.rows) (ap (option_map text_of) w.line-is ∙ w.in_ok-line-in-Some.ensures.line)
           ∙ ap (option_map text_of) c.in-None-line.is) said)
       | in-None w ↦ absurd (none_said words (no_line_is words _ here (none_apart _ _ _ w.in-None.ensures.name)) said)
     ]

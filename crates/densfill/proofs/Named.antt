@@ -1,0 +1,20 @@
+-- A part by its number.
+use Rattle.std.proofs.Common.{◌≡◌, ◌∙◌, subst, ℕ, ◌-◌, Option, Some, None, IfSome, refl}
+use Rattle.fill_parts.specs.Cuts.{Part}
+use Rattle.fill_line.specs.Grammar.{Said}
+use Rattle.fill_line.specs.Grammar as line
+use Rattle.fill_engine.specs.declared.refusal.RunFault.TheVariants as run
+use Rattle.fill_engine.specs.declared.refusal.Refusal.TheVariants.{Run}
+use Rattle.densfill.specs.Outcomes.{part_named, path_of}
+
+pub is_named : (o : Option Part) (p : Part) (number count : ℕ) → o ≡ Some p → IfSome o (λ q. q ≡ record { number = number - 1; count = count }) → p ≡ part_named number count
+is_named o p number count is found = subst (λ x. IfSome x (λ q. q ≡ record { number = number - 1; count = count })) is found
+
+-- want of memory has no path
+pub no_path : (said : Option Said) → path_of said (Run run.Memory) ≡ None
+no_path None = refl
+no_path (Some (line.rects rules script)) = refl
+no_path (Some (line.check rules design)) = refl
+no_path (Some (line.check_part rules design number count)) = refl
+no_path (Some (line.join rules out parts)) = refl
+no_path (Some (line.fill rules design script out workers limit)) = refl

@@ -1,0 +1,14 @@
+-- The files so far are those of the first parts.
+use Rattle.std.proofs.Common.{◌≡◌, List, length, map, IfSome}
+use Rattle.fill_engine.specs.Joiners.{AreJoined, IsJoiner}
+use Rattle.densfill.specs.Outcomes.{all_known}
+use Rattle.densfill.proofs.join.take_all.Given as goal
+
+abbrev pub invariant-loop-path : goal.invariant-loop-path
+invariant-loop-path g l = record {
+  joiner : IsJoiner l.joined;
+  rules : l.joined.rules ≡ l.fn.joiner.rules;
+  count : l.joined.count ≡ l.fn.joiner.count;
+  taken : l.joined.taken ≡ l.path-index;
+  files : (ps : List g.row.R-File.Denot) × (length ps ≡ l.path-index) × IfSome (all_known (map g.R.File.Read.remaining ps)) (λ texts. AreJoined texts l.joined);
+}

@@ -1,0 +1,103 @@
+//! The files that a line names, opened and created.
+ghost use Rattle.std.specs.Prelude.{◌≡◌, ◌⊎◌, ◌↔◌, false, IfErr, IfOk};
+ghost use Rattle.std.specs.IoError.{error_kind};
+ghost use Rattle.fill_device.specs.Taps.{has_failed};
+ghost use Rattle.densfill.specs.Outcomes.{IsUnopened, IsUnopenedPart};
+
+use crate::OUT_OF_MEMORY;
+use crate::target::Target;
+use fill_device::{InputError, Tap};
+use fill_engine::{InputFault, Refusal, RunFault};
+use std::alloc::Global;
+use std::fs::File;
+use std::io::{self, ErrorKind};
+use std::rt::Files;
+
+/// What an error of opening is: want of memory, or else a device fault.
+fn open_fault(error: &io::Error) -> InputError
+    ensures memory { (result ≡ InputError.Memory) ↔ (error_kind error.now ≡ ErrorKind.OutOfMemory) }
+    ensures device { (error_kind error.now ≡ ErrorKind.OutOfMemory → ⊥) → result ≡ InputError.Device }
+{
+    if error.kind() == ErrorKind::OutOfMemory {
+        InputError::Memory
+    } else {
+        InputError::Device
+    }
+}
+
+/// A tap in front of the file that a path names.
+fn opened<R: Files>(rt: &R, path: &str) -> Result<Tap<R::File>, InputError>
+    ensures whole { IfOk result (λ tap. has_failed tap ≡ false) }
+    ensures fault { IfErr result (λ e. (e ≡ InputError.Device) ⊎ (e ≡ InputError.Memory)) }
+{
+    match File::open(rt, path) {
+        Ok(file) => Ok(Tap::new(file)),
+        Err(error) => Err(open_fault(&error)),
+    }
+}
+
+/// The rule file, opened.
+pub(crate) fn opened_rules<R: Files>(rt: &R, path: &str) -> Result<Tap<R::File>, Refusal>
+    ensures whole { IfOk result (λ tap. has_failed tap ≡ false) }
+    ensures unopened { IfErr result IsUnopened }
+{
+    match opened(rt, path) {
+        Ok(tap) => Ok(tap),
+        Err(error) => Err(Refusal::Rules(InputFault::Unread(error))),
+    }
+}
+
+/// The script, opened.
+pub(crate) fn opened_script<R: Files>(rt: &R, path: &str) -> Result<Tap<R::File>, Refusal>
+    ensures whole { IfOk result (λ tap. has_failed tap ≡ false) }
+    ensures unopened { IfErr result IsUnopened }
+{
+    match opened(rt, path) {
+        Ok(tap) => Ok(tap),
+        Err(error) => Err(Refusal::Script(InputFault::Unread(error))),
+    }
+}
+
+/// The design, opened.
+pub(crate) fn opened_design<R: Files>(rt: &R, path: &str) -> Result<Tap<R::File>, Refusal>
+    ensures whole { IfOk result (λ tap. has_failed tap ≡ false) }
+    ensures unopened { IfErr result IsUnopened }
+{
+    match opened(rt, path) {
+        Ok(tap) => Ok(tap),
+        Err(error) => Err(Refusal::Design(InputFault::Unread(error))),
+    }
+}
+
+/// The library of a part, opened.
+pub(crate) fn opened_part<R: Files>(
+    rt: &R,
+    path: &str,
+    number: u32,
+) -> Result<Tap<R::File>, Refusal>
+    ensures whole { IfOk result (λ tap. has_failed tap ≡ false) }
+    ensures unopened { IfErr result (IsUnopenedPart number) }
+{
+    match opened(rt, path) {
+        Ok(tap) => Ok(tap),
+        Err(error) => Err(Refusal::Part(number, InputFault::Unread(error))),
+    }
+}
+
+/// The file that a library goes to. One that is an input or that standard output goes to is refused.
+pub(crate) fn created<'a, R: Alloc<A = Global> + Files>(
+    rt: &'a R,
+    path: &str,
+    inputs: &[&str],
+) -> Result<Tap<Target<'a, R>>, Refusal>
+    ensures whole { IfOk result (λ tap. has_failed tap ≡ false) }
+    ensures fault { IfErr result (λ e. (e ≡ Refusal.Out) ⊎ (e ≡ Refusal.Run RunFault.Memory)) }
+{
+    match Target::create(rt, path, inputs) {
+        Ok(target) => Ok(Tap::new(target)),
+        Err(error) => match open_fault(&error) {
+            InputError::Device => Err(Refusal::Out),
+            _ => Err(OUT_OF_MEMORY),
+        },
+    }
+}
