@@ -1,8 +1,8 @@
 -- What follows where there is a value, where there is an error, and where the bytes of three files are known.
 use Rattle.std.proofs.Common.{◌≡◌, ◌⊎◌, ◌↔◌, ℕ, List, Bool, true, false, Option, Some, None, Result, Ok, Err, IfErr, IfOk, IfSome, OnOk, inl, inr, refl, arith}
-use Rattle.fill_engine.specs.declared.refusal.RunFault.TheVariants as run
-use Rattle.fill_engine.specs.declared.refusal.Refusal.{Refusal}
-use Rattle.fill_engine.specs.declared.refusal.Refusal.TheVariants.{Run, Out, Report}
+use Rattle.densfill_engine.specs.declared.refusal.RunFault.TheVariants as run
+use Rattle.densfill_engine.specs.declared.refusal.Refusal.{Refusal}
+use Rattle.densfill_engine.specs.declared.refusal.Refusal.TheVariants.{Run, Out, Report}
 
 pub still : {A E : Type 0} (result : Result A E) {P Q : Type 0} → (P → Q) → OnOk result P → OnOk result Q
 still (Ok x) f p = f p

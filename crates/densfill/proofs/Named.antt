@@ -1,10 +1,10 @@
 -- A part by its number.
 use Rattle.std.proofs.Common.{◌≡◌, ◌∙◌, subst, ℕ, ◌-◌, Option, Some, None, IfSome, refl}
 use Rattle.fill_parts.specs.Cuts.{Part}
-use Rattle.fill_line.specs.Grammar.{Said}
-use Rattle.fill_line.specs.Grammar as line
-use Rattle.fill_engine.specs.declared.refusal.RunFault.TheVariants as run
-use Rattle.fill_engine.specs.declared.refusal.Refusal.TheVariants.{Run}
+use Rattle.densfill_args.specs.Grammar.{Said}
+use Rattle.densfill_args.specs.Grammar as line
+use Rattle.densfill_engine.specs.declared.refusal.RunFault.TheVariants as run
+use Rattle.densfill_engine.specs.declared.refusal.Refusal.TheVariants.{Run}
 use Rattle.densfill.specs.Outcomes.{part_named, path_of}
 
 pub is_named : (o : Option Part) (p : Part) (number count : ℕ) → o ≡ Some p → IfSome o (λ q. q ≡ record { number = number - 1; count = count }) → p ≡ part_named number count

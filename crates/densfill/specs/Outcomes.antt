@@ -1,20 +1,20 @@
 -- What a run of the program leaves on standard output and on standard error, and its exit status.
 use Rattle.std.specs.Prelude.{◌≡◌, ◌⊎◌, ◌-◌, ℕ, Bool, false, List, [], ◌∷◌, length, map, Option, Some, None, IfSome, IsOkAnd, codes, if◌then◌else◌, nat_lt, option_map, slice_get, take}
 use Rattle.std.specs.Io.KnownBytes.{Appends}
-use Rattle.fill_device.specs.declared.input.InputError.TheVariants.{Device, Memory}
-use Rattle.fill_line.specs.Grammar.{Said}
-use Rattle.fill_line.specs.Grammar as line
-use Rattle.fill_engine.specs.Checks.{IsChecked, IsCheckReason}
+use Rattle.densfill_io.specs.declared.input.InputError.TheVariants.{Device, Memory}
+use Rattle.densfill_args.specs.Grammar.{Said}
+use Rattle.densfill_args.specs.Grammar as line
+use Rattle.densfill_engine.specs.Checks.{IsChecked, IsCheckReason}
 use Rattle.fill_parts.specs.Cuts.{Part as PartOfChip}
-use Rattle.fill_engine.specs.Joiners.{IsJoinOf, IsJoinReason}
-use Rattle.fill_engine.specs.PartChecks.{IsPartChecked, IsPartCheckReason}
-use Rattle.fill_engine.specs.Fills.{IsFilled, IsFillReason}
-use Rattle.fill_engine.specs.Rects.{report_answer, IsReason}
-use Rattle.fill_engine.specs.Refusals.{refusal_status, refusal_text}
-use Rattle.fill_engine.specs.declared.refusal.InputFault.TheVariants.{Unread, Refused}
-use Rattle.fill_engine.specs.declared.refusal.RunFault.TheVariants as run
-use Rattle.fill_engine.specs.declared.refusal.Refusal.{Refusal}
-use Rattle.fill_engine.specs.declared.refusal.Refusal.TheVariants.{Rules, Design, Script, Part, Run, Out, Report}
+use Rattle.densfill_engine.specs.Joiners.{IsJoinOf, IsJoinReason}
+use Rattle.densfill_engine.specs.PartChecks.{IsPartChecked, IsPartCheckReason}
+use Rattle.densfill_engine.specs.Fills.{IsFilled, IsFillReason}
+use Rattle.densfill_engine.specs.Rects.{report_answer, IsReason}
+use Rattle.densfill_engine.specs.Refusals.{refusal_status, refusal_text}
+use Rattle.densfill_engine.specs.declared.refusal.InputFault.TheVariants.{Unread, Refused}
+use Rattle.densfill_engine.specs.declared.refusal.RunFault.TheVariants as run
+use Rattle.densfill_engine.specs.declared.refusal.Refusal.{Refusal}
+use Rattle.densfill_engine.specs.declared.refusal.Refusal.TheVariants.{Rules, Design, Script, Part, Run, Out, Report}
 
 -- what is written is the line: whole, or a prefix of it where the writer failed
 pub record IsTold (before after : Option (List ℕ)) (failed : Bool) (line : List ℕ) : Type 0 where

@@ -1,12 +1,12 @@
 //! Joins the fill libraries of parts, each opened, read, judged and closed before the next one is opened.
 ghost use Rattle.std.specs.Prelude.{◌≡◌, ◌⊎◌, ◌+◌, ◌<◌, ◌≤◌, ℕ, List, [], ◌∷◌, ◌++◌, length, map, Some, IfErr, IfOk, IfSome, OnOk};
-ghost use Rattle.fill_line.specs.Grammar as said;
-ghost use Rattle.fill_engine.specs.Joiners.{AreJoined, IsJoiner, IsJoinOf, IsJoinReason, IsPartReason};
+ghost use Rattle.densfill_args.specs.Grammar as said;
+ghost use Rattle.densfill_engine.specs.Joiners.{AreJoined, IsJoiner, IsJoinOf, IsJoinReason, IsPartReason};
 ghost use Rattle.densfill.specs.Outcomes.{IsCause, IsFile, IsUnopened, IsUnopenedPart, all_known};
 
 use crate::OUT_OF_MEMORY;
 use crate::open::{created, opened_part, opened_rules};
-use fill_engine::{Joiner, Refusal, settle};
+use densfill_engine::{Joiner, Refusal, settle};
 use std::alloc::{AllocError, Global};
 use std::rt::Files;
 

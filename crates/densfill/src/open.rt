@@ -1,13 +1,13 @@
 //! The files that a line names, opened and created.
 ghost use Rattle.std.specs.Prelude.{◌≡◌, ◌⊎◌, ◌↔◌, false, IfErr, IfOk};
 ghost use Rattle.std.specs.IoError.{error_kind};
-ghost use Rattle.fill_device.specs.Taps.{has_failed};
+ghost use Rattle.densfill_io.specs.Taps.{has_failed};
 ghost use Rattle.densfill.specs.Outcomes.{IsUnopened, IsUnopenedPart};
 
 use crate::OUT_OF_MEMORY;
 use crate::target::Target;
-use fill_device::{InputError, Tap};
-use fill_engine::{InputFault, Refusal, RunFault};
+use densfill_engine::{InputFault, Refusal, RunFault};
+use densfill_io::{InputError, Tap};
 use std::alloc::Global;
 use std::fs::File;
 use std::io::{self, ErrorKind};

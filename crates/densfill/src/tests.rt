@@ -1,8 +1,8 @@
 //! What the program's functions tell of bad lines, missing files and want of memory.
 use crate::{ended, run, status_of, without_words};
-use fill_device::{InputError, Tap};
-use fill_engine::{InputFault, Refusal, RunFault};
-use fill_line::Line;
+use densfill_args::Line;
+use densfill_engine::{InputFault, Refusal, RunFault};
+use densfill_io::{InputError, Tap};
 use std::io::{self, ErrorKind};
 use std::process::{Abort, ExitCode};
 use std::rt::Files;

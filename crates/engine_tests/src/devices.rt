@@ -1,5 +1,5 @@
 //! Taps, inputs and texts over devices in memory that move few bytes, and that fail for ever or once.
-use fill_device::{
+use densfill_io::{
     DeviceError, InputError, Tap, read_input, write_settled, write_text, write_texts,
 };
 use std::alloc::{AllocError, Global};

@@ -6,7 +6,7 @@ use crate::keepouts::{
     END, KEEP, ONE_LEFT_OUT, Outline, SQUARE, TWO_LEFT_OUT, filled, put_boundary, rules_with,
 };
 use crate::padding::has_line;
-use fill_engine::DesignError;
+use densfill_engine::DesignError;
 use gds_flatten::FlattenError;
 use std::alloc::{AllocError, Global};
 use std::test::Fail;

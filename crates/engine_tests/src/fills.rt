@@ -5,8 +5,8 @@ use crate::inputs::{
     Broken, CYCLE_APART, EMPTY, OTHER_LINES, OTHERS, RULES, SOLID, SOLID_REPORT, Short, WIRE,
     of_script,
 };
-use fill_device::{InputError, Tap};
-use fill_engine::{Filled, InputFault, Refusal, RunFault, deliver, prepare};
+use densfill_engine::{Filled, InputFault, Refusal, RunFault, deliver, prepare};
+use densfill_io::{InputError, Tap};
 use fill_text::ScriptError;
 use std::alloc::Global;
 use std::io::Read;

@@ -1,6 +1,6 @@
 //! Fault lines, and runs of `rects` and `check` over readers and writers that tell their bytes or fail.
-use fill_device::{InputError, Tap};
-use fill_engine::{DesignError, InputFault, Refusal, RunFault, check, rects};
+use densfill_engine::{DesignError, InputFault, Refusal, RunFault, check, rects};
+use densfill_io::{InputError, Tap};
 use fill_text::{Key, NumberKey, RuleError, ScriptError, TextKey};
 use gds_flatten::FlattenError;
 use gds_grammar::LibraryError;

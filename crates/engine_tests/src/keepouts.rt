@@ -3,8 +3,8 @@ ghost use Rattle.std.specs.Prelude.{◌<◌, ◌≤◌};
 
 use crate::fills::{FILLED_LINES, NO_BOX, fill_of};
 use crate::inputs::{EMPTY, RULES, WIRE, of_design};
-use fill_device::Tap;
-use fill_engine::{DesignError, Refusal, check, rects};
+use densfill_engine::{DesignError, Refusal, check, rects};
+use densfill_io::Tap;
 use gds_flatten::FlattenError;
 use std::alloc::{AllocError, Global};
 use std::sync::Wait;

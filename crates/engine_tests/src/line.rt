@@ -1,6 +1,6 @@
 //! The command line, as the program's users type it.
 
-use fill_line::{Line, LineError, read_line};
+use densfill_args::{Line, LineError, read_line};
 use std::alloc::AllocError;
 use std::process::Abort;
 use std::test::Fail;

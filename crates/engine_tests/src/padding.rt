@@ -2,8 +2,8 @@
 
 use crate::inputs::{EMPTY, RULES};
 use crate::keepouts::{Outline, checked, design_with, filled};
-use fill_device::Tap;
-use fill_engine::{Refusal, rects};
+use densfill_engine::{Refusal, rects};
+use densfill_io::Tap;
 use std::alloc::{AllocError, Global};
 use std::test::Fail;
 use std::thread::Threads;

@@ -3,8 +3,8 @@
 use crate::fills::{NO_BOX, fill_of};
 use crate::inputs::{EMPTY, RULES};
 use crate::keepouts::{SQUARE, checked, design_with};
-use fill_device::Tap;
-use fill_engine::{InputFault, Refusal, check_part, join_part};
+use densfill_engine::{InputFault, Refusal, check_part, join_part};
+use densfill_io::Tap;
 use fill_parts::Part;
 use fill_text::read_rules;
 use gds_join::{PartError, fill_text, no_places};

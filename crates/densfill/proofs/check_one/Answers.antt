@@ -1,8 +1,8 @@
 use Rattle.std.proofs.Common.{List, ℕ, inr, subst, OnOk, IfErr, IfSome}
 use Rattle.std.specs.Io.KnownBytes.{Appends}
-use Rattle.fill_device.specs.Taps.{under}
+use Rattle.densfill_io.specs.Taps.{under}
 use Rattle.fill_parts.specs.Cuts.{Part}
-use Rattle.fill_engine.specs.PartChecks.{IsPartChecked, IsPartCheckReason}
+use Rattle.densfill_engine.specs.PartChecks.{IsPartChecked, IsPartCheckReason}
 use Rattle.densfill.proofs.Following.{still, still_refused}
 use Rattle.densfill.proofs.Named.{is_named}
 use Rattle.densfill.proofs.check_one.Goals as goal

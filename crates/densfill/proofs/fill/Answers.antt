@@ -1,6 +1,6 @@
 use Rattle.std.proofs.Common.{inl, inr}
 use Rattle.std.proofs.lemmas.Result.{err_from_is_err_and}
-use Rattle.fill_device.specs.Taps.{has_failed}
+use Rattle.densfill_io.specs.Taps.{has_failed}
 use Rattle.densfill.proofs.Following.{if_three, still, still_refused, uncreated, whole}
 use Rattle.densfill.proofs.fill.Goals as goal
 

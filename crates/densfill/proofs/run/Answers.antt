@@ -1,7 +1,7 @@
 use Rattle.std.proofs.Common.{Some, inr, subst, sym}
-use Rattle.fill_device.specs.Taps.{under}
-use Rattle.fill_line.specs.Lines.{text_of}
-use Rattle.fill_line.specs.declared.Line.{Line}
+use Rattle.densfill_io.specs.Taps.{under}
+use Rattle.densfill_args.specs.Lines.{text_of}
+use Rattle.densfill_args.specs.declared.Line.{Line}
 use Rattle.densfill.specs.Outcomes.{IsCause, IsReport}
 use Rattle.densfill.proofs.Following.{still, still_refused}
 use Rattle.densfill.proofs.run.Goals as goal

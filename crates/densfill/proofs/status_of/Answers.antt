@@ -1,9 +1,9 @@
 use Rattle.std.proofs.Common.{◌≡◌, ◌⊎◌, refl, inl, inr, sym, subst, map, List, ℕ, Option}
 use Rattle.std.specs.Process.{exit_status}
-use Rattle.fill_device.specs.Taps.{has_failed, under}
-use Rattle.fill_line.specs.Grammar.{said_in}
-use Rattle.fill_engine.specs.declared.refusal.RunFault.TheVariants as run
-use Rattle.fill_engine.specs.declared.refusal.Refusal.TheVariants.{Run}
+use Rattle.densfill_io.specs.Taps.{has_failed, under}
+use Rattle.densfill_args.specs.Grammar.{said_in}
+use Rattle.densfill_engine.specs.declared.refusal.RunFault.TheVariants as run
+use Rattle.densfill_engine.specs.declared.refusal.Refusal.TheVariants.{Run}
 use Rattle.densfill.specs.Outcomes.{GaveUp, IsToldOf}
 use Rattle.densfill.proofs.Named.{no_path}
 use Rattle.densfill.proofs.status_of.Goals as goal

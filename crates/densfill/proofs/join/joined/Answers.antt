@@ -1,10 +1,10 @@
 use Rattle.std.proofs.Common.{◌≡◌, ◌∙◌, sym, ap, inr, [], List, ℕ, length, map, Ok}
 use Rattle.std.proofs.lemmas.Result.{err_from_is_err_and}
-use Rattle.fill_device.specs.Taps.{under}
+use Rattle.densfill_io.specs.Taps.{under}
 use Rattle.fill_text.specs.ValuesOfRules.{values_of}
 use Rattle.fill_text.specs.declared.rules.Rules.{Rules}
-use Rattle.fill_engine.specs.Joiners.{AreJoined, IsJoinOf, IsJoinReason, IsPartReason, OpensFor}
-use Rattle.fill_engine.specs.declared.refusal.Refusal.TheVariants.{Run}
+use Rattle.densfill_engine.specs.Joiners.{AreJoined, IsJoinOf, IsJoinReason, IsPartReason, OpensFor}
+use Rattle.densfill_engine.specs.declared.refusal.Refusal.TheVariants.{Run}
 use Rattle.densfill.specs.Outcomes.{all_known}
 use Rattle.densfill.proofs.Joined.{both_known, join_reason, memory_reason}
 use Rattle.densfill.proofs.Knowing.{known_weaker, none_known}

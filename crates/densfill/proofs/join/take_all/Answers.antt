@@ -1,7 +1,7 @@
 use Rattle.std.proofs.Common.{◌≡◌, ◌⊎◌, refl, sym, ap, ◌∙◌, ℕ, ◌+◌, ◌<◌, ◌≤◌, arith, inl, inr, List, [], ◌∷◌, ◌++◌, length, map, IfSome}
 use Rattle.std.proofs.lemmas.List.{length_push}
 use Rattle.std.proofs.lemmas.Result.{err_from_is_err_and}
-use Rattle.fill_engine.specs.Joiners.{AreJoined, IsPartReason}
+use Rattle.densfill_engine.specs.Joiners.{AreJoined, IsPartReason}
 use Rattle.densfill.specs.Outcomes.{all_known}
 use Rattle.densfill.proofs.Joined.{same_reason, unopened_reason}
 use Rattle.densfill.proofs.Knowing.{file_pushed, known_weaker, none_known}

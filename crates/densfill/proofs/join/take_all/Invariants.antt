@@ -1,6 +1,6 @@
 -- The files so far are those of the first parts.
 use Rattle.std.proofs.Common.{◌≡◌, List, length, map, IfSome}
-use Rattle.fill_engine.specs.Joiners.{AreJoined, IsJoiner}
+use Rattle.densfill_engine.specs.Joiners.{AreJoined, IsJoiner}
 use Rattle.densfill.specs.Outcomes.{all_known}
 use Rattle.densfill.proofs.join.take_all.Given as goal
 

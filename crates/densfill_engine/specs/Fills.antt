@@ -1,0 +1,68 @@
+-- What the program makes of a rule file, a design and a script: a fill library and a report.
+use Rattle.std.specs.Prelude.{◌≡◌, [], ℕ, ◌+◌, ◌^◌, ◌≤◌, List, length, map, Option, Ok}
+use Rattle.fill_text.specs.Rules.{Values}
+use Rattle.fill_text.specs.Script.{Change, change_of}
+use Rattle.fill_text.specs.declared.rule_error.RuleError.TheVariants as rule
+use Rattle.fill_text.specs.declared.script.ScriptError.TheVariants as script
+use Rattle.fill_job.specs.Plans.{Layers, plan_of}
+use Rattle.fill_core.specs.Boxes.{low_fill}
+use Rattle.fill_core.specs.Histories.{edits_in}
+use Rattle.fill_core.specs.Machine.{IsComplete, replay}
+use Rattle.fill_core.specs.declared.event.Event.{Event}
+use Rattle.fill_report.specs.BookReport.{fill_report}
+use Rattle.gds_out.specs.FillText.{fill_text}
+use Rattle.densfill_engine.specs.Designs.{AreDrawn, IsDesign, IsDesignFault}
+use Rattle.densfill_engine.specs.Inputs.{rules_answer, script_answer, IsFaultOf}
+use Rattle.densfill_engine.specs.Runs.{IsTooShort, most_commits}
+use Rattle.densfill_engine.specs.declared.refusal.RunFault.TheVariants as run
+use Rattle.densfill_engine.specs.declared.refusal.Refusal.{Refusal}
+use Rattle.densfill_engine.specs.declared.refusal.Refusal.TheVariants.{Rules, Design, Script, Part, Run, Out, Report}
+
+-- what the three inputs say, where none of them is refused
+pub record Inputs (rules design script : List ℕ) : Type 0 where
+  pub values : Values
+  pub accepted : rules_answer rules ≡ Ok values
+  pub layers : Layers
+  pub units : List ℕ
+  pub dates : List ℕ
+  pub drawn : IsDesign design values layers units dates
+  pub changes : List Change
+  pub edits : script_answer script ≡ Ok changes
+
+-- The texts are those of the metal as it is drawn and of all allowed places whose box lies wholly in a window that is low in it:
+-- one pair of texts, whoever computed it.
+pub record IsOnlyFillOf (values : Values) (layers : Layers) (units dates library report : List ℕ) : Type 0 where
+  pub library_is : library ≡ fill_text units dates values (low_fill (plan_of values) layers)
+  pub report_is : report ≡ fill_report values layers.metal (low_fill (plan_of values) layers)
+
+-- The texts are those of a fill of the layers in which every tile is in: some events lead to it from the opening on them, among
+-- them exactly these changes, in their order, and at most so many commits as the workers have turns. Without a change there is
+-- one fill only.
+pub record IsFillOf (values : Values) (layers : Layers) (units dates : List ℕ) (changes : List Change) (workers : ℕ) (limit : Option ℕ) (library report : List ℕ) : Type 0 where
+  pub events : List Event
+  pub changed : map change_of (edits_in events) ≡ changes
+  pub brief : length events ≤ length changes + most_commits values workers limit
+  pub complete : IsComplete (plan_of values) (replay (plan_of values) layers events)
+  pub library_is : let s = replay (plan_of values) layers events in library ≡ fill_text units dates values s.fill
+  pub report_is : let s = replay (plan_of values) layers events in report ≡ fill_report values s.layers.metal s.fill
+  pub unedited : changes ≡ [] → IsOnlyFillOf values layers units dates library report
+
+-- the texts are those of a fill of what the three inputs say
+pub record IsFilled (rules design script : List ℕ) (workers : ℕ) (limit : Option ℕ) (library report : List ℕ) : Type 0 where
+  pub inputs : Inputs rules design script
+  pub fill : IsFillOf inputs.values inputs.layers inputs.units inputs.dates inputs.changes workers limit library report
+
+-- Why there is no fill of inputs of these bytes. One worker leaves a tile only where turns or history are too few; when threads
+-- stop each other no clause says.
+abbrev pub IsFillReason : (rules design edits : List ℕ) → ℕ → Option ℕ → Refusal → Type 0
+IsFillReason rules design edits workers limit (Rules fault) = IsFaultOf rule.Memory (rules_answer rules) fault
+IsFillReason rules design edits workers limit (Design fault) = (values : Values) × (rules_answer rules ≡ Ok values) × IsDesignFault design values fault
+IsFillReason rules design edits workers limit (Script fault) =
+    (values : Values) × (rules_answer rules ≡ Ok values) × ((layers : Layers) × AreDrawn design values layers × IsFaultOf script.Memory (script_answer edits) fault)
+IsFillReason rules design edits workers limit (Part number fault) = ⊥
+IsFillReason rules design edits workers limit (Run run.Memory) = Inputs rules design edits
+IsFillReason rules design edits workers limit (Run run.Unfinished) =
+    (inputs : Inputs rules design edits) × (workers ≡ 1 → IsTooShort inputs.values limit (length inputs.changes) (2 ^ 32))
+IsFillReason rules design edits workers limit (Run run.Mixed) = Inputs rules design edits × (workers ≡ 1 → ⊥)
+IsFillReason rules design edits workers limit Out = ⊥
+IsFillReason rules design edits workers limit Report = ⊥

@@ -1,0 +1,52 @@
+-- What the program takes its inputs for.
+use Rattle.std.specs.Prelude.{◌≡◌, ◌⊎◌, ◌^◌, ℕ, Bool, true, false, List, length, Result, Ok, Err, nat_lt, if◌then◌else◌}
+use Rattle.fill_text.specs.Rules.{Values, rules_of}
+use Rattle.fill_text.specs.Script.{Change, edits_of}
+use Rattle.fill_text.specs.declared.rule_error.RuleError.{RuleError}
+use Rattle.fill_text.specs.declared.script.ScriptError.{ScriptError}
+use Rattle.densfill_io.specs.declared.input.InputError.TheVariants.{TooLong, Device, Memory}
+use Rattle.densfill_engine.specs.declared.refusal.InputFault.{InputFault}
+use Rattle.densfill_engine.specs.declared.refusal.InputFault.TheVariants.{Unread, Refused}
+use Rattle.densfill_engine.specs.declared.refusal.Refusal.{Refusal}
+use Rattle.densfill_engine.specs.declared.refusal.Refusal.TheVariants.{Rules, Design, Script, Part, Run, Out, Report}
+
+-- the same answer, with what `tell` makes of a refusal
+abbrev pub told_by : {A E F : Type 0} → (E → F) → Result A E → Result A F
+told_by tell (Ok x) = Ok x
+told_by tell (Err e) = Err (tell e)
+
+-- the same answer, but that an input of more than 2^31 bytes is too long, whatever it says
+abbrev pub within_limit : {A E : Type 0} → List ℕ → Result A E → Result A (InputFault E)
+within_limit text answer = if nat_lt (2 ^ 31) (length text) then Err (Unread TooLong) else told_by Refused answer
+
+-- what the bytes of a rule file say, or why they are refused
+abbrev pub rules_answer : List ℕ → Result Values (InputFault RuleError)
+rules_answer text = within_limit text (rules_of text)
+
+-- what the bytes of a script say, or why they are refused
+abbrev pub script_answer : List ℕ → Result (List Change) (InputFault ScriptError)
+script_answer text = within_limit text (edits_of text)
+
+-- why an input gave no value: it could not be read, memory ran out, there or while its bytes were interpreted, or its bytes are refused
+abbrev pub IsFaultOf : {A E : Type 0} → E → Result A (InputFault E) → InputFault E → Type 0
+IsFaultOf memory answer fault = (fault ≡ Unread Device) ⊎ (fault ≡ Unread Memory) ⊎ (fault ≡ Refused memory) ⊎ (answer ≡ Err fault)
+
+-- the rule file is what was refused
+abbrev pub is_of_rules : Refusal → Bool
+is_of_rules (Rules fault) = true
+is_of_rules (Design fault) = false
+is_of_rules (Script fault) = false
+is_of_rules (Part number fault) = false
+is_of_rules (Run fault) = false
+is_of_rules Out = false
+is_of_rules Report = false
+
+-- the rule file or the design is
+abbrev pub is_before_script : Refusal → Bool
+is_before_script (Rules fault) = true
+is_before_script (Design fault) = true
+is_before_script (Script fault) = false
+is_before_script (Part number fault) = false
+is_before_script (Run fault) = false
+is_before_script Out = false
+is_before_script Report = false

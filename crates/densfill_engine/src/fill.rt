@@ -1,0 +1,174 @@
+//! The fill of a design: from the bytes of three inputs to its texts, and these to two outputs.
+ghost use Rattle.std.specs.Prelude.{◌≡◌, ◌↔◌, ◌⊎◌, ◌+◌, ◌^◌, ◌<◌, ◌≤◌, ℕ, true, false, length, map, take, Ok, IfErr, IfOk, IfSome, IsOk, OnOk};
+ghost use Rattle.std.specs.Io.KnownBytes.{Appends};
+ghost use Rattle.densfill_io.specs.Taps.{has_failed, under};
+ghost use Rattle.fill_text.specs.Rules.{Values};
+ghost use Rattle.fill_text.specs.Script.{change_of};
+ghost use Rattle.fill_text.specs.ValuesOfRules.{values_of};
+ghost use Rattle.fill_core.specs.Shares.{AllParts};
+ghost use Rattle.fill_job.specs.Basis.{layers_in};
+ghost use Rattle.fill_job.specs.Plans.{Layers};
+ghost use Rattle.densfill_engine.specs.Designs.{AreDrawn};
+ghost use Rattle.densfill_engine.specs.Inputs.{is_before_script, is_of_rules, rules_answer};
+ghost use Rattle.densfill_engine.specs.Fills.{IsFilled, IsFillOf, IsFillReason};
+ghost use Rattle.densfill_engine.specs.Runs.{IsTooShort};
+
+use crate::inputs::{Design, take_design, take_edits, take_rules};
+use crate::refusal::{InputFault, Refusal, RunFault};
+use crate::texts::{Filled, texts_of};
+use crate::together::fill_together;
+use crate::turns::{edit_all, fill_tiles};
+use densfill_io::{InputError, Tap, write_settled, write_text};
+use fill_book::Book;
+use fill_core::Opened;
+use fill_job::laws::rules_make_a_plan;
+use fill_text::{Edit, Rules};
+use std::alloc::Global;
+use std::io::{Read, Write};
+use std::marker::Brand;
+use std::sync::Wait;
+use std::sync::ledger::{Blank, Ledger};
+use std::thread::Threads;
+
+/// How many events the history of a run may have.
+const MOST_EVENTS: u64 = 4_294_967_296;
+
+/// The texts of a fill of the design: one worker makes the edits first and then brings the tiles, and more of them bring tiles while
+/// the edits are made.
+fn fill_design<C: Opened + Send + Sync, P: Ledger + Send + Sync, W: Ledger + Send + Sync>(
+    rt: &(impl Threads + Wait + Sync),
+    alloc: Global,
+    calls: Blank,
+    placed: Blank,
+    withdrawn: Blank,
+    rules: Rules,
+    design: Design,
+    edits: &[Edit],
+    workers: u32,
+    limit: Option<u32>,
+) -> Result<Filled, RunFault>
+    requires names { (calls.name ≡ C.name) × (placed.name ≡ P.name) × (withdrawn.name ≡ W.name) }
+    requires parts { (calls.parts ≡ C.parts) × (placed.parts ≡ P.parts) × (withdrawn.parts ≡ W.parts) }
+    requires all { AllParts C.parts P.parts W.parts }
+    requires terms { record { rules = values_of rules; opening = design.metal; keep = design.keep; most = 2 ^ 32 } ≡ C.terms }
+    requires workers { (0 < workers) × (workers ≤ 64) }
+    ensures filled { IfOk result (λ f. IsFillOf (values_of rules) (layers_in design.metal design.keep) design.units design.dates (map change_of edits.now) workers limit f.library.items f.report.items) }
+    ensures unfinished { result ≡ Err RunFault.Unfinished → workers ≡ 1 → IsTooShort (values_of rules) limit (length (map change_of edits.now)) (2 ^ 32) }
+    ensures mixed { result ≡ Err RunFault.Mixed → workers ≡ 1 → ⊥ }
+{
+    rules_make_a_plan(&rules);
+    let Design {
+        metal,
+        keep,
+        units,
+        dates,
+    } = design;
+    let (mut book, mut pass) = Book::<C, P, W>::open(
+        rt,
+        alloc,
+        calls,
+        placed,
+        withdrawn,
+        metal,
+        keep,
+        rules,
+        MOST_EVENTS,
+    )?;
+    if workers > 1 {
+        let book = fill_together(rt, alloc, book, pass, edits, workers, limit)?;
+        return texts_of(alloc, &book, &units, &dates);
+    }
+    edit_all(alloc, &mut book, &mut pass, edits)?;
+    fill_tiles(alloc, &mut book, &mut pass, limit)?;
+    texts_of(alloc, &book, &units, &dates)
+}
+
+/// Fills a design: opens a book on the metal and the keep-outs that it draws on the rules' layers, and makes the script's edits in their order. One
+/// worker brings tile after tile once they are made. Two to 64 workers bring tiles while they are made, and begin once more where a
+/// tile is left then. In each of these two rounds a worker takes at most `limit` turns, without a limit one for each tile and one
+/// more; so one worker has both at once. Each input is read to its end and interpreted before the next one is touched, and the design is flattened
+/// before the script is touched. The three blank ledgers are those that the book counts its calls with.
+///
+/// # Errors
+/// The first fault, with its part: `rules`, `design` and `script` for the inputs, and `run` once they are interpreted:
+/// `Memory`, `Unfinished` where a tile is left that isn't in, or, of two workers or more, `Mixed` where they gave back a book whose
+/// edits do not begin those of the script, which no clause can rule out. An input of more than 2^31 bytes is `TooLong`.
+pub fn prepare<R: Read, D: Read, S: Read>(
+    rt: &(impl Threads + Wait + Sync),
+    alloc: Global,
+    calls: Blank,
+    placed: Blank,
+    withdrawn: Blank,
+    rules: &mut Tap<R>,
+    design: &mut Tap<D>,
+    script: &mut Tap<S>,
+    workers: u32,
+    limit: Option<u32>,
+) -> Result<Filled, Refusal>
+    requires parts { AllParts calls.parts placed.parts withdrawn.parts }
+    requires workers { (0 < workers) × (workers ≤ 64) }
+    requires rules { has_failed rules.old ≡ false }
+    requires design { has_failed design.old ≡ false }
+    requires script { has_failed script.old ≡ false }
+
+    // A device fault is answered exactly where its tap has failed.
+    ensures rules_device { (result ≡ Err (Refusal.Rules (InputFault.Unread InputError.Device))) ↔ (has_failed rules.new ≡ true) }
+    ensures design_device { (result ≡ Err (Refusal.Design (InputFault.Unread InputError.Device))) ↔ (has_failed design.new ≡ true) }
+    ensures script_device { (result ≡ Err (Refusal.Script (InputFault.Unread InputError.Device))) ↔ (has_failed script.new ≡ true) }
+
+    // What is answered is what the bytes of the three inputs say.
+    ensures filled { IfOk result (λ f. IfSome (R.remaining (under rules.old)) (λ r. IfSome (D.remaining (under design.old)) (λ d.
+        IfSome (S.remaining (under script.old)) (λ s. IsFilled r d s workers limit f.library.items f.report.items)))) }
+    ensures refused { IfErr result (λ e. IfSome (R.remaining (under rules.old)) (λ r. IfSome (D.remaining (under design.old)) (λ d.
+        IfSome (S.remaining (under script.old)) (λ s. IsFillReason r d s workers limit e)))) }
+
+    // No input is touched before those before it are interpreted and accepted.
+    ensures in_turn { IfErr result (λ e. is_of_rules e ≡ false → IfSome (R.remaining (under rules.old)) (λ r. IsOk (rules_answer r))) }
+    ensures unread { IfErr result (λ e. is_of_rules e ≡ true → design.new ≡ design.old) }
+    ensures script_in_turn { IfErr result (λ e. is_before_script e ≡ false → IfSome (R.remaining (under rules.old)) (λ r. IfSome (D.remaining (under design.old)) (λ d.
+        (values : Values) × (rules_answer r ≡ Ok values) × ((layers : Layers) × AreDrawn d values layers)))) }
+    ensures script_unread { IfErr result (λ e. is_before_script e ≡ true → script.new ≡ script.old) }
+{
+    let values = take_rules(alloc, rules)?;
+    let drawn = take_design(rt, alloc, design, &values)?;
+    let edits = take_edits(alloc, script)?;
+    let filled = fill_design::<Brand, Brand, Brand>(
+        rt, alloc, calls, placed, withdrawn, values, drawn, &edits, workers, limit,
+    )?;
+    Ok(filled)
+}
+
+/// Writes the fill library whole and settles it by a flush, and then writes the report.
+///
+/// # Errors
+/// `Out` where the library could not be written whole or settled: nothing of the report is written then. `Report` where the report
+/// could not be.
+pub fn deliver<W: Write, V: Write>(
+    filled: &Filled,
+    out: &mut Tap<W>,
+    report_out: &mut Tap<V>,
+) -> Result<(), Refusal>
+    requires out { has_failed out.old ≡ false }
+    requires report { has_failed report_out.old ≡ false }
+
+    // A device fault is answered exactly where its tap has failed, and nothing else is.
+    ensures out_device { (result ≡ Err Refusal.Out) ↔ (has_failed out.new ≡ true) }
+    ensures report_device { (result ≡ Err Refusal.Report) ↔ (has_failed report_out.new ≡ true) }
+    ensures refused { IfErr result (λ e. (e ≡ Refusal.Out) ⊎ (e ≡ Refusal.Report)) }
+
+    // The library is written whole before the report begins.
+    ensures library { has_failed out.new ≡ false → Appends (W.contents (under out.old)) (W.contents (under out.new)) filled.now.library.items }
+    ensures report { OnOk result (Appends (V.contents (under report_out.old)) (V.contents (under report_out.new)) filled.now.report.items) }
+    ensures in_turn { has_failed out.new ≡ true → report_out.new ≡ report_out.old }
+
+    // Where a writer failed, it has a prefix.
+    ensures out_prefix { (k : ℕ) × Appends (W.contents (under out.old)) (W.contents (under out.new)) (take k filled.now.library.items) }
+    ensures report_prefix { result ≡ Err Refusal.Report
+        → (k : ℕ) × Appends (V.contents (under report_out.old)) (V.contents (under report_out.new)) (take k filled.now.report.items) }
+{
+    if write_settled(out, &filled.library).is_err() {
+        return Err(Refusal::Out);
+    }
+    write_text(report_out, &filled.report)?;
+    Ok(())
+}

@@ -1,0 +1,237 @@
+//! The inputs, each read to its end and interpreted.
+ghost use Rattle.std.specs.Prelude.{◌≡◌, ◌↔◌, ◌≤◌, ◌^◌, true, false, length, map, IfOk, IfErr, IfSome, IsErrOf, Ok, Some};
+ghost use Rattle.std.specs.List.{flat_map};
+ghost use Rattle.std.specs.Vec.{vec_items};
+ghost use Rattle.densfill_io.specs.Taps.{has_failed, under};
+ghost use Rattle.fill_region.specs.Bands.{holds};
+ghost use Rattle.fill_region.specs.Squares.{covered};
+ghost use Rattle.fill_text.specs.Script.{change_of};
+ghost use Rattle.fill_text.specs.ValuesOfRules.{values_of};
+ghost use Rattle.fill_job.specs.Basis.{layers_in};
+ghost use Rattle.gds_flatten.specs.Flattening.{IsRefused};
+ghost use Rattle.gds_grammar.specs.Values.{contents_of};
+ghost use Rattle.densfill_engine.specs.Designs as spec;
+ghost use Rattle.densfill_engine.specs.Designs.{IsDesign, IsDesignFault, IsDrawn, IsDrawnOn, IsKeptOut, IsMetalFault};
+ghost use Rattle.densfill_engine.specs.Inputs.{rules_answer, script_answer, IsFaultOf};
+
+use crate::refusal::{DesignError, InputFault};
+use densfill_io::{InputError, Tap, read_input};
+use fill_base::Rect;
+use fill_region::Region;
+use fill_strips::region_of_rects;
+use fill_text::{Edit, RuleError, Rules, ScriptError, read_rules, read_script};
+use gds_flatten::laws::layers_suffice;
+use gds_flatten::{FlattenError, flatten_parts};
+use gds_grammar::{Layer, Library, read_layers};
+use std::alloc::{AllocError, Global};
+use std::io::Read;
+use std::thread::Threads;
+
+/// How many bytes an input may have.
+pub(crate) const MOST_BYTES: usize = 2_147_483_648;
+
+/// The rules that the reader behind the tap gives.
+pub fn take_rules<R: Read>(alloc: Global, tap: &mut Tap<R>) -> Result<Rules, InputFault<RuleError>>
+    requires { has_failed tap.old ≡ false }
+    ensures device { IsErrOf result (InputFault.Unread InputError.Device) ↔ (has_failed tap.new ≡ true) }
+    ensures rules { IfOk result (λ r. IfSome (R.remaining (under tap.old)) (λ text. rules_answer text ≡ Ok (values_of r))) }
+    ensures refused { IfErr result (λ f. IfSome (R.remaining (under tap.old)) (λ text. IsFaultOf RuleError.Memory (rules_answer text) f)) }
+{
+    let text = read_input(alloc, tap, MOST_BYTES)?;
+    let rules = read_rules(alloc, &text)?;
+    Ok(rules)
+}
+
+/// The edits that the reader behind the tap gives.
+pub fn take_edits<S: Read>(
+    alloc: Global,
+    tap: &mut Tap<S>,
+) -> Result<Vec<Edit>, InputFault<ScriptError>>
+    requires { has_failed tap.old ≡ false }
+    ensures device { IsErrOf result (InputFault.Unread InputError.Device) ↔ (has_failed tap.new ≡ true) }
+    ensures edits { IfOk result (λ v. IfSome (S.remaining (under tap.old)) (λ text. script_answer text ≡ Ok (map change_of v.items))) }
+    ensures refused { IfErr result (λ f. IfSome (S.remaining (under tap.old)) (λ text. IsFaultOf ScriptError.Memory (script_answer text) f)) }
+{
+    let text = read_input(alloc, tap, MOST_BYTES)?;
+    let edits = read_script(alloc, &text)?;
+    Ok(edits)
+}
+
+/// The checked layer of a GDSII library.
+pub(crate) fn metal_layer(rules: &Rules) -> Layer
+    ensures { result ≡ spec.metal_layer (values_of rules.now) }
+{
+    Layer {
+        layer: rules.layer() as u16,
+        data_type: rules.datatype() as u16,
+    }
+}
+
+/// The layer of its keep-outs, if the rules name one.
+fn keep_layer(rules: &Rules) -> Option<Layer>
+    ensures { result ≡ spec.keep_layer (values_of rules.now) }
+{
+    let (layer, data_type) = rules.keep()?;
+    Some(Layer {
+        layer: layer as u16,
+        data_type: data_type as u16,
+    })
+}
+
+/// What the library's top draws on a layer: lists of rectangles that cover it, and may overlap.
+fn drawn_on(
+    rt: &(impl Threads + Sync),
+    alloc: Global,
+    library: &Library<'_>,
+    rules: &Rules,
+    layer: Layer,
+) -> Result<Vec<Vec<Rect>>, FlattenError>
+    ensures drawn { IfOk result (λ lists. IsDrawnOn (contents_of library.now).cells (values_of rules.now).top layer (covered (flat_map vec_items lists.items))) }
+    ensures refused { IfErr result (λ e. IsRefused (contents_of library.now).cells (values_of rules.now).top layer.layer layer.data_type e) }
+{
+    flatten_parts(
+        rt,
+        alloc,
+        library,
+        rules.top(),
+        layer.layer,
+        layer.data_type,
+    )
+}
+
+/// The same as a region.
+fn region_on(
+    rt: &(impl Threads + Sync),
+    alloc: Global,
+    library: &Library<'_>,
+    rules: &Rules,
+    layer: Layer,
+) -> Result<Region, FlattenError>
+    ensures drawn { IfOk result (λ r. IsDrawnOn (contents_of library.now).cells (values_of rules.now).top layer (holds r)) }
+    ensures refused { IfErr result (λ e. IsRefused (contents_of library.now).cells (values_of rules.now).top layer.layer layer.data_type e) }
+{
+    let lists = drawn_on(rt, alloc, library, rules, layer)?;
+    let region = region_of(rt, alloc, &lists)?;
+    Ok(region)
+}
+
+/// The region of the squares that some rectangle of some list holds.
+fn region_of(
+    rt: &(impl Threads + Sync),
+    alloc: Global,
+    lists: &[Vec<Rect>],
+) -> Result<Region, AllocError>
+    ensures { IfOk result (λ r. covered (flat_map vec_items lists.now) ≡ holds r) }
+{
+    let rects = lists.concat(alloc)?;
+    region_of_rects(rt, alloc, &rects)
+}
+
+/// What the library's top draws on the layer of the keep-outs, if there is one: no square without.
+fn kept_out(
+    rt: &(impl Threads + Sync),
+    alloc: Global,
+    library: &Library<'_>,
+    rules: &Rules,
+    layer: Option<Layer>,
+) -> Result<Region, FlattenError>
+    ensures kept { IfOk result (λ r. IsKeptOut (contents_of library.now).cells (values_of rules.now).top layer (holds r)) }
+    ensures refused { IfErr result (λ e. (l : Layer) × (layer ≡ Some l) × (IsRefused (contents_of library.now).cells (values_of rules.now).top l.layer l.data_type e)) }
+{
+    match layer {
+        Some(layer) => region_on(rt, alloc, library, rules, layer),
+        None => Ok(Region::empty(alloc)),
+    }
+}
+
+/// The metal that the design of these bytes draws on the checked layer, as lists of rectangles that cover it. Of other layers
+/// nothing is kept.
+fn metal_of(
+    rt: &(impl Threads + Sync),
+    alloc: Global,
+    bytes: &[u8],
+    rules: &Rules,
+) -> Result<Vec<Vec<Rect>>, InputFault<DesignError>>
+    requires { length bytes.now ≤ 2 ^ 31 }
+    ensures metal { IfOk result (λ lists. IsDrawn bytes.now (values_of rules.now) (covered (flat_map vec_items lists.items))) }
+    ensures refused { IfErr result (λ f. IsMetalFault bytes.now (values_of rules.now) f) }
+    ensures taken { ¬ IsErrOf result (InputFault.Unread InputError.Device) }
+{
+    layers_suffice();
+    let layer = metal_layer(rules);
+    let library = read_layers(alloc, bytes, &[layer])?;
+    let lists = drawn_on(rt, alloc, &library, rules, layer)?;
+    Ok(lists)
+}
+
+/// The metal that the design behind the tap draws on the checked layer, as lists of rectangles that cover it, and may overlap.
+pub fn take_metal<D: Read>(
+    rt: &(impl Threads + Sync),
+    alloc: Global,
+    tap: &mut Tap<D>,
+    rules: &Rules,
+) -> Result<Vec<Vec<Rect>>, InputFault<DesignError>>
+    requires { has_failed tap.old ≡ false }
+    ensures device { IsErrOf result (InputFault.Unread InputError.Device) ↔ (has_failed tap.new ≡ true) }
+    ensures metal { IfOk result (λ lists. IfSome (D.remaining (under tap.old)) (λ bytes. IsDrawn bytes (values_of rules.now) (covered (flat_map vec_items lists.items)))) }
+    ensures refused { IfErr result (λ f. IfSome (D.remaining (under tap.old)) (λ bytes. IsMetalFault bytes (values_of rules.now) f)) }
+{
+    let bytes = read_input(alloc, tap, MOST_BYTES)?;
+    metal_of(rt, alloc, &bytes, rules)
+}
+
+/// What a design gives to a fill.
+#[derive(Drop)]
+pub struct Design {
+    /// The metal that its top draws on the checked layer.
+    pub metal: Region,
+    /// The squares that its top draws on the layer of the keep-outs; none where the rules name no such layer.
+    pub keep: Region,
+    /// The data of its UNITS.
+    pub units: [u8; 16],
+    /// The data of its BGNLIB: the dates of its last change and access.
+    pub dates: [u8; 24],
+}
+
+/// What the design of these bytes draws on the checked layer and on that of the keep-outs, with its units and dates. It is read
+/// once, and the checked layer is flattened first.
+fn design_of(
+    rt: &(impl Threads + Sync),
+    alloc: Global,
+    bytes: &[u8],
+    rules: &Rules,
+) -> Result<Design, InputFault<DesignError>>
+    requires { length bytes.now ≤ 2 ^ 31 }
+    ensures design { IfOk result (λ d. IsDesign bytes.now (values_of rules.now) (layers_in d.metal d.keep) d.units d.dates) }
+    ensures refused { IfErr result (λ f. IsDesignFault bytes.now (values_of rules.now) f) }
+    ensures taken { ¬ IsErrOf result (InputFault.Unread InputError.Device) }
+{
+    layers_suffice();
+    let layer = metal_layer(rules);
+    let keep_layer = keep_layer(rules);
+    let library = read_layers(alloc, bytes, &[layer, keep_layer.unwrap_or(layer)])?;
+    let metal = region_on(rt, alloc, &library, rules, layer)?;
+    let keep = kept_out(rt, alloc, &library, rules, keep_layer)?;
+    Ok(Design {
+        metal,
+        keep,
+        units: library.units,
+        dates: library.dates,
+    })
+}
+
+/// What the design behind the tap draws on the checked layer and on that of the keep-outs, with its units and dates.
+pub fn take_design<D: Read>(
+    rt: &(impl Threads + Sync),
+    alloc: Global,
+    tap: &mut Tap<D>,
+    rules: &Rules,
+) -> Result<Design, InputFault<DesignError>>
+    requires { has_failed tap.old ≡ false }
+    ensures device { IsErrOf result (InputFault.Unread InputError.Device) ↔ (has_failed tap.new ≡ true) }
+    ensures design { IfOk result (λ d. IfSome (D.remaining (under tap.old)) (λ bytes. IsDesign bytes (values_of rules.now) (layers_in d.metal d.keep) d.units d.dates)) }
+    ensures refused { IfErr result (λ f. IfSome (D.remaining (under tap.old)) (λ bytes. IsDesignFault bytes (values_of rules.now) f)) }
+{
+    let bytes = read_input(alloc, tap, MOST_BYTES)?;
+    design_of(rt, alloc, &bytes, rules)
+}

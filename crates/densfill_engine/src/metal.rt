@@ -1,0 +1,182 @@
+//! The metal that a script's edits leave of nothing, and the report of metal.
+ghost use Rattle.std.specs.Prelude.{◌≡◌, [], ◌∷◌, ◌||◌, ◌&&◌, not, ℤ, map, IfOk, IfSome};
+ghost use Rattle.std.specs.List.{flat_map};
+ghost use Rattle.std.specs.Vec.{vec_items};
+ghost use Rattle.fill_region.specs.Bands.{holds};
+ghost use Rattle.fill_report.specs.RulesReport.{metal_report};
+ghost use Rattle.fill_text.specs.ValuesOfRules.{values_of};
+ghost use Rattle.fill_text.specs.Script.{change_of};
+ghost use Rattle.densfill_engine.specs.Metal.{AreAdded, is_added, is_cut, is_metal, last_change};
+ghost use Rattle.densfill_engine.specs.Shapes.{metal_of};
+
+use fill_base::Rect;
+use fill_region::Region;
+use fill_report::{OutOfMemory, report_parts, report_parts_of_rects};
+use fill_text::{Edit, Rules};
+use std::alloc::{AllocError, Global};
+use std::thread::Threads;
+
+/// Metal that is measured once: as lists of the rectangles that draw it, which may overlap, or as the region that cuts have left.
+#[derive(Drop)]
+pub enum Metal {
+    /// The squares that some rectangle of some list holds.
+    Drawn(Vec<Vec<Rect>>),
+    /// The squares of the region.
+    Left(Region),
+}
+
+/// What a run of edits leaves of the squares that it touches: metal, or none.
+#[derive(Drop)]
+struct Patch {
+    metal: Region,
+    cut: Region,
+}
+
+/// The squares of `under` but for those of `hole`, and then those of `over`.
+fn covered_over(
+    alloc: Global,
+    under: &Region,
+    hole: &Region,
+    over: &Region,
+) -> Result<Region, AllocError>
+    ensures { IfOk result (λ r. (x y : ℤ) → holds r x y ≡ (holds under.now x y && not (holds hole.now x y)) || holds over.now x y) }
+{
+    if hole.is_empty() {
+        return under.union(alloc, over);
+    }
+    let left = under.minus(alloc, hole)?;
+    if over.is_empty() {
+        return Ok(left);
+    }
+    left.union(alloc, over)
+}
+
+fn patch_of_one(alloc: Global, edit: Edit) -> Result<Patch, AllocError>
+    ensures metal { IfOk result (λ p. (x y : ℤ) → holds p.metal x y ≡ is_added (last_change (change_of edit ∷ []) x y)) }
+    ensures cut { IfOk result (λ p. (x y : ℤ) → holds p.cut x y ≡ is_cut (last_change (change_of edit ∷ []) x y)) }
+{
+    match edit {
+        Edit::Add(rect) => Ok(Patch {
+            metal: Region::one(alloc, &rect)?,
+            cut: Region::empty(alloc),
+        }),
+        Edit::Cut(rect) => Ok(Patch {
+            metal: Region::empty(alloc),
+            cut: Region::one(alloc, &rect)?,
+        }),
+        Edit::Keep(_) => Ok(Patch {
+            metal: Region::empty(alloc),
+            cut: Region::empty(alloc),
+        }),
+    }
+}
+
+/// The rectangles that a run of edits adds, where it cuts nothing; keep-outs touch no metal.
+fn rects_added(alloc: Global, edits: &[Edit]) -> Result<Option<Vec<Rect>>, AllocError>
+    ensures { IfOk result (λ r. IfSome r (λ v. AreAdded (map change_of edits.now) v.items)) }
+{
+    let mut rects = Vec::new(alloc);
+    for edit in edits {
+        match edit {
+            Edit::Add(rect) => rects.push(*rect)?,
+            Edit::Cut(_) => return Ok(None),
+            Edit::Keep(_) => {}
+        }
+    }
+    Ok(Some(rects))
+}
+
+/// The patch of a run of edits: of one that only adds, the region of its rectangles, and else put together from those
+/// of its halves, so that each edit is touched but a few times.
+fn patch_of(alloc: Global, edits: &[Edit]) -> Result<Patch, AllocError>
+    ensures metal { IfOk result (λ p. (x y : ℤ) → holds p.metal x y ≡ is_added (last_change (map change_of edits.now) x y)) }
+    ensures cut { IfOk result (λ p. (x y : ℤ) → holds p.cut x y ≡ is_cut (last_change (map change_of edits.now) x y)) }
+{
+    match edits {
+        [] => Ok(Patch {
+            metal: Region::empty(alloc),
+            cut: Region::empty(alloc),
+        }),
+        [edit] => patch_of_one(alloc, *edit),
+        _ => {
+            if let Some(rects) = rects_added(alloc, edits)? {
+                let metal = Region::from_rects(alloc, &rects)?;
+                let cut = Region::empty(alloc);
+                return Ok(Patch { metal, cut });
+            }
+            let (first, then) = edits.split_at(edits.len() / 2);
+            let first = patch_of(alloc, first)?;
+            let then = patch_of(alloc, then)?;
+            let metal = covered_over(alloc, &first.metal, &then.cut, &then.metal)?;
+            let cut = covered_over(alloc, &first.cut, &then.metal, &then.cut)?;
+            Ok(Patch { metal, cut })
+        }
+    }
+}
+
+/// The metal that the edits leave of nothing, made in their order: of a run that only adds, the region of its rectangles,
+/// and else what its first half leaves, with the patch of its second half.
+pub fn metal_left(alloc: Global, edits: &[Edit]) -> Result<Region, AllocError>
+    ensures { IfOk result (λ r. (x y : ℤ) → holds r x y ≡ is_metal (map change_of edits.now) x y) }
+{
+    match edits {
+        [] => Ok(Region::empty(alloc)),
+        _ => {
+            if let Some(rects) = rects_added(alloc, edits)? {
+                return Region::from_rects(alloc, &rects);
+            }
+            let (first, then) = edits.split_at(edits.len() / 2);
+            let under = metal_left(alloc, first)?;
+            let then = patch_of(alloc, then)?;
+            let metal = covered_over(alloc, &under, &then.cut, &then.metal)?;
+            Ok(metal)
+        }
+    }
+}
+
+/// The metal that the edits leave of nothing: where they only add, as one list of their rectangles.
+pub(crate) fn metal_after(alloc: Global, edits: &[Edit]) -> Result<Metal, OutOfMemory>
+    ensures { IfOk result (λ m. metal_of m ≡ is_metal (map change_of edits.now)) }
+{
+    match rects_added(alloc, edits)? {
+        Some(rects) => {
+            let lists = one_list(alloc, rects)?;
+            Ok(Metal::Drawn(lists))
+        }
+        None => {
+            let region = metal_left(alloc, edits)?;
+            Ok(Metal::Left(region))
+        }
+    }
+}
+
+/// The list alone.
+fn one_list(alloc: Global, rects: Vec<Rect>) -> Result<Vec<Vec<Rect>>, AllocError>
+    ensures { IfOk result (λ v. flat_map vec_items v.items ≡ rects.items) }
+{
+    let mut lists = Vec::new(alloc);
+    lists.push(rects)?;
+    Ok(lists)
+}
+
+/// The density report of metal, in parts that are its text one after another. Rectangles are measured as they are, with no
+/// region in between, and their lists are let go of before a line of the report is made.
+pub(crate) fn report_of_metal(
+    rt: &(impl Threads + Sync),
+    alloc: Global,
+    metal: Metal,
+    rules: &Rules,
+) -> Result<Vec<Vec<u8>>, OutOfMemory>
+    ensures { IfOk result (λ v. flat_map vec_items v.items ≡ metal_report (metal_of metal) (values_of rules.now)) }
+{
+    match metal {
+        Metal::Drawn(lists) => {
+            let parts = report_parts_of_rects(rt, alloc, lists, rules)?;
+            Ok(parts)
+        }
+        Metal::Left(region) => {
+            let parts = report_parts(rt, alloc, &region, rules)?;
+            Ok(parts)
+        }
+    }
+}

@@ -1,0 +1,128 @@
+//! The density reports: of the metal that a script leaves of nothing, and of the metal that a design draws, from bytes to bytes.
+ghost use Rattle.std.specs.Prelude.{◌≡◌, ◌↔◌, ◌⊎◌, ℕ, List, true, false, take, IfErr, IfSome, IsOk, IsOkAnd, OnErr, OnOk};
+ghost use Rattle.std.specs.Io.KnownBytes.{Appends};
+ghost use Rattle.densfill_io.specs.Taps.{has_failed, under};
+ghost use Rattle.fill_report.specs.RulesReport.{metal_report};
+ghost use Rattle.fill_text.specs.ValuesOfRules.{values_of};
+ghost use Rattle.densfill_engine.specs.Shapes.{metal_of};
+ghost use Rattle.densfill_engine.specs.Inputs.{is_of_rules, rules_answer};
+ghost use Rattle.densfill_engine.specs.Rects.{report_answer, IsReason};
+ghost use Rattle.densfill_engine.specs.Checks.{IsChecked, IsCheckReason};
+
+use crate::inputs::{take_edits, take_metal, take_rules};
+use crate::metal::{Metal, metal_after, report_of_metal};
+use crate::refusal::{InputFault, Refusal, RunFault};
+use densfill_io::{InputError, Tap, write_texts};
+use fill_text::Rules;
+use std::alloc::Global;
+use std::io::{Read, Write};
+use std::thread::Threads;
+
+/// Writes the report of the metal, whole, part by part. The metal is taken, and let go of before a byte is written.
+fn write_report<W: Write>(
+    rt: &(impl Threads + Sync),
+    alloc: Global,
+    metal: Metal,
+    rules: &Rules,
+    out: &mut Tap<W>,
+) -> Result<(), Refusal>
+    requires { has_failed out.old ≡ false }
+    ensures device { (result ≡ Err Refusal.Report) ↔ (has_failed out.new ≡ true) }
+    ensures whole { OnOk result (Appends (W.contents (under out.old)) (W.contents (under out.new))
+        (metal_report (metal_of metal) (values_of rules.now))) }
+    ensures prefix { result ≡ Err Refusal.Report → (k : ℕ) × Appends (W.contents (under out.old)) (W.contents (under out.new))
+        (take k (metal_report (metal_of metal) (values_of rules.now))) }
+    ensures refused { IfErr result (λ e. (e ≡ Refusal.Report) ⊎ (e ≡ Refusal.Run RunFault.Memory)) }
+    ensures silent { OnErr result ((has_failed out.new ≡ true) ⊎ (out.new ≡ out.old)) }
+{
+    let parts = report_of_metal(rt, alloc, metal, rules)?;
+    write_texts(out, &parts)?;
+    Ok(())
+}
+
+/// Writes the density report of the metal that a script leaves of nothing. The rule file is read to its end and
+/// interpreted before the script is touched, and nothing is written before the whole report is made.
+///
+/// # Errors
+/// The first fault, with its part: `rules` and `script` for the inputs, `report` for the writer, and `run` for want of
+/// memory once the inputs are interpreted. An input of more than 2^31 bytes is `TooLong`.
+pub fn rects<R: Read, S: Read, W: Write>(
+    rt: &(impl Threads + Sync),
+    alloc: Global,
+    rules: &mut Tap<R>,
+    script: &mut Tap<S>,
+    out: &mut Tap<W>,
+) -> Result<(), Refusal>
+    requires rules { has_failed rules.old ≡ false }
+    requires script { has_failed script.old ≡ false }
+    requires out { has_failed out.old ≡ false }
+
+    // A device fault is answered exactly where its tap has failed.
+    ensures rules_device { (result ≡ Err (Refusal.Rules (InputFault.Unread InputError.Device))) ↔ (has_failed rules.new ≡ true) }
+    ensures script_device { (result ≡ Err (Refusal.Script (InputFault.Unread InputError.Device))) ↔ (has_failed script.new ≡ true) }
+    ensures report_device { (result ≡ Err Refusal.Report) ↔ (has_failed out.new ≡ true) }
+
+    // What is answered is what the bytes of the two inputs say.
+    ensures written { OnOk result (IfSome (R.remaining (under rules.old)) (λ r. IfSome (S.remaining (under script.old)) (λ s.
+        IsOkAnd (report_answer r s) (Appends (W.contents (under out.old)) (W.contents (under out.new)))))) }
+    ensures refused { IfErr result (λ e. IfSome (R.remaining (under rules.old)) (λ r. IfSome (S.remaining (under script.old)) (λ s. IsReason r s e))) }
+
+    // The script is not touched before the rules are interpreted and accepted.
+    ensures in_turn { IfErr result (λ e. is_of_rules e ≡ false → IfSome (R.remaining (under rules.old)) (λ r. IsOk (rules_answer r))) }
+    ensures unread { IfErr result (λ e. is_of_rules e ≡ true → script.new ≡ script.old) }
+
+    // Where writing failed, a prefix of the report is written, and after any other fault nothing.
+    ensures prefix { result ≡ Err Refusal.Report
+        → IfSome (R.remaining (under rules.old)) (λ r. IfSome (S.remaining (under script.old)) (λ s. IsOkAnd (report_answer r s) (λ text.
+        (k : ℕ) × Appends (W.contents (under out.old)) (W.contents (under out.new)) (take k text)))) }
+    ensures silent { OnErr result ((has_failed out.new ≡ true) ⊎ (out.new ≡ out.old)) }
+{
+    let values = take_rules(alloc, rules)?;
+    let edits = take_edits(alloc, script)?;
+    let metal = metal_after(alloc, &edits)?;
+    write_report(rt, alloc, metal, &values, out)?;
+    Ok(())
+}
+
+/// Writes the density report of the metal that a design draws on the rules' layer. The rule file is read to its end and
+/// interpreted before the design is touched, and nothing is written before the whole report is made.
+///
+/// # Errors
+/// The first fault, with its part: `rules` and `design` for the inputs, `report` for the writer, and `run` for want of
+/// memory once the inputs are interpreted. An input of more than 2^31 bytes is `TooLong`.
+pub fn check<R: Read, D: Read, W: Write>(
+    rt: &(impl Threads + Sync),
+    alloc: Global,
+    rules: &mut Tap<R>,
+    design: &mut Tap<D>,
+    out: &mut Tap<W>,
+) -> Result<(), Refusal>
+    requires rules { has_failed rules.old ≡ false }
+    requires design { has_failed design.old ≡ false }
+    requires out { has_failed out.old ≡ false }
+
+    // A device fault is answered exactly where its tap has failed.
+    ensures rules_device { (result ≡ Err (Refusal.Rules (InputFault.Unread InputError.Device))) ↔ (has_failed rules.new ≡ true) }
+    ensures design_device { (result ≡ Err (Refusal.Design (InputFault.Unread InputError.Device))) ↔ (has_failed design.new ≡ true) }
+    ensures report_device { (result ≡ Err Refusal.Report) ↔ (has_failed out.new ≡ true) }
+
+    // What is answered is what the bytes of the two inputs say.
+    ensures written { OnOk result (IfSome (R.remaining (under rules.old)) (λ r. IfSome (D.remaining (under design.old)) (λ d.
+        (text : List ℕ) × IsChecked r d text × Appends (W.contents (under out.old)) (W.contents (under out.new)) text))) }
+    ensures refused { IfErr result (λ e. IfSome (R.remaining (under rules.old)) (λ r. IfSome (D.remaining (under design.old)) (λ d. IsCheckReason r d e))) }
+
+    // The design is not touched before the rules are interpreted and accepted.
+    ensures in_turn { IfErr result (λ e. is_of_rules e ≡ false → IfSome (R.remaining (under rules.old)) (λ r. IsOk (rules_answer r))) }
+    ensures unread { IfErr result (λ e. is_of_rules e ≡ true → design.new ≡ design.old) }
+
+    // Where writing failed, a prefix of the report is written, and after any other fault nothing.
+    ensures prefix { result ≡ Err Refusal.Report
+        → IfSome (R.remaining (under rules.old)) (λ r. IfSome (D.remaining (under design.old)) (λ d. (text : List ℕ) × IsChecked r d text
+        × ((k : ℕ) × Appends (W.contents (under out.old)) (W.contents (under out.new)) (take k text)))) }
+    ensures silent { OnErr result ((has_failed out.new ≡ true) ⊎ (out.new ≡ out.old)) }
+{
+    let values = take_rules(alloc, rules)?;
+    let lists = take_metal(rt, alloc, design, &values)?;
+    write_report(rt, alloc, Metal::Drawn(lists), &values, out)?;
+    Ok(())
+}

@@ -1,5 +1,0 @@
-use Rattle.fill_engine.proofs.Replayed.{metal_replayed}
-use Rattle.fill_engine.proofs.laws.metal_is_replayed.Goals as goal
-
-pub returns : goal.returns
-returns c = metal_replayed

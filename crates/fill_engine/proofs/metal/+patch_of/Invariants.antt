@@ -1,5 +1,0 @@
-use Rattle.std.proofs.Common.{length}
-use Rattle.fill_engine.proofs.metal.+patch_of.Given as goal
-
-abbrev pub decreases-patch_of : goal.decreases-patch_of
-decreases-patch_of l = length l.edits.now
