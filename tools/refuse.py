@@ -25,7 +25,7 @@ TESTS = ROOT / "crates/book_tests/out/book_tests_tests"
 # The tests of refused calls, and the most growths that the calls of one of them may meet: one for each of four commits of two books.
 REFUSED_CALLS = re.compile(r"\S*(?:memory_is_refused|want_of_memory)(?=: test)")
 MOST_GROWTHS = {"refused::commits_where_memory_is_refused": 8}
-TOLD = re.compile(rb"\Adensfill: (rules|design|script|run): 31 Memory\n\Z")
+TOLD = re.compile(rb"\Adensfill: (?:(?:rules|design|script|run): 31 Memory|part 1: 31 Memory in \S+)\n\Z")
 
 # Answers the call at REFUSED, counted over malloc, realloc and aligned_alloc of all threads, with no memory, and every other one as the C
 # library does. Under REFUSED_MARKED only calls between two marks count: a call for 2^46 bytes, and one for a byte more. A run in which the
@@ -103,7 +103,8 @@ class Ended:
 
 @dataclass(frozen=True)
 class Line:
-    """A command line over the examples, with the paths of OUT and of a script of late changes, and whether its texts may vary."""
+    """A command line over the examples, with the paths of OUT, of a script of late changes and of a fill library, and whether its texts may
+    vary."""
     words: tuple[str, ...]
     varies: bool = False
     old: bytes = b"an old library"
@@ -112,8 +113,9 @@ class Line:
         """A run in which the growth of this number is refused, and whether it came to it."""
         out, told = folder / f"{refused}.gds", folder / f"{refused}.told"
         out.write_bytes(self.old)
+        told.unlink(missing_ok=True)
         env = os.environ | {"LD_PRELOAD": str(shim), "REFUSED": str(refused), "REFUSED_TOLD": str(told)}
-        words = [str(program), *(word.format(out=out, script=folder / "late.csv") for word in self.words)]
+        words = [str(program), *(word.format(out=out, script=folder / "late.csv", part=folder / "part.gds") for word in self.words)]
         done = subprocess.run(words, cwd=EXAMPLES, env=env, capture_output=True, check=False, timeout=60)
         ended = Ended(done.returncode, done.stdout, done.stderr, out.read_bytes())
         out.unlink()
@@ -130,7 +132,9 @@ class Line:
 
 LINES = (
     Line(("check", "block_rules.csv", "block.gds")),
+    Line(("check", "block_rules.csv", "block.gds", "--part", "2/3")),
     Line(("rects", "rules.csv", "script.csv")),
+    Line(("join", "block_rules.csv", "{out}", "{part}")),
     Line(("fill", "block_rules.csv", "block.gds", "/dev/null", "{out}")),
     Line(("fill", "block_rules.csv", "block.gds", "/dev/null", "{out}", "--workers", "2")),
     Line(("fill", "block_rules.csv", "block.gds", "{script}", "{out}", "--workers", "2"), varies=True),
@@ -200,6 +204,8 @@ def main() -> int:
         (folder / "shim.c").write_text(SHIM)
         (folder / "late.csv").write_text(LATE)
         subprocess.run(["cc", "-O2", "-shared", "-fPIC", "-o", folder / "shim.so", folder / "shim.c", "-ldl"], check=True)
+        fill = ("fill", "block_rules.csv", "block.gds", "/dev/null", str(folder / "part.gds"))
+        subprocess.run([given.program.resolve(), *fill], cwd=EXAMPLES, capture_output=True, check=True)
         for subject, attempt in attempts(given.program.resolve(), tests, folder / "shim.so", folder).items():
             refused, faults = sweep(attempt, given.most)
             if refused > MOST_GROWTHS.get(subject, refused):

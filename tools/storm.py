@@ -1,6 +1,7 @@
 #!/usr/bin/env python3
 """Fills random designs by random rules, scripts and crews, and has each library and report judged by tools/verify, which shares
-nothing with the program: raster, spacing, exact totals, completeness of the windows that were low at the last version.
+nothing with the program: raster, spacing, exact totals, completeness of the windows that were low at the last version. Then checks
+each design in parts, whose lines must be those of one run, and reads its fill back by a join.
 
 usage: storm.py [--runs N] [--seed S] [PROGRAM]     (by default 50 runs of bin/densfill, else of what the gate left in
                                                      crates/densfill/out; needs python3 and rustc)
@@ -94,6 +95,21 @@ def judged(draw: random.Random, program: Path, verify: Path, folder: Path) -> st
     return None if said.returncode == 0 else said.stdout.decode(errors="replace").strip() or said.stderr.decode(errors="replace").strip()
 
 
+def told(program: Path, folder: Path, *words: str) -> bytes:
+    return subprocess.run([program, *words], cwd=folder, capture_output=True, check=True).stdout
+
+
+def parted(draw: random.Random, program: Path, folder: Path) -> str | None:
+    """What a check in parts, or a join of the one library, gives that one run doesn't, if anything."""
+    count = draw.choice((1, 2, 3, draw.randrange(4, 30)))
+    check = ("check", "rules.csv", "design.gds")
+    lines = b"".join(told(program, folder, *check, "--part", f"{number}/{count}") for number in range(1, count + 1))
+    if lines != told(program, folder, *check):
+        return f"the lines of {count} parts are not those of one run"
+    told(program, folder, "join", "rules.csv", "joined.gds", "out.gds")
+    return None if (folder / "joined.gds").read_bytes() == (folder / "out.gds").read_bytes() else "joined alone, the library is another"
+
+
 def main() -> int:
     parser = argparse.ArgumentParser(description=__doc__, formatter_class=argparse.RawDescriptionHelpFormatter)
     parser.add_argument("program", nargs="?", type=Path, default=next((built for built in BUILT if built.exists()), None))
@@ -107,7 +123,8 @@ def main() -> int:
         subprocess.run(["rustc", "--edition", "2021", "-O", "-o", verify, ROOT / "tools/verify/main.rs"], check=True)
         for run in range(args.runs):
             folder = Path(tempfile.mkdtemp(prefix="storm-"))
-            wrong = judged(random.Random(args.seed * 1_000_003 + run), args.program.resolve(), verify, folder)
+            draw, program = random.Random(args.seed * 1_000_003 + run), args.program.resolve()
+            wrong = judged(draw, program, verify, folder) or parted(draw, program, folder)
             if wrong:
                 print(f"run {run} of seed {args.seed}, in {folder}: {wrong}\n{run} passed, 1 failed")
                 return 1

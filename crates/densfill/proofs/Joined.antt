@@ -1,16 +1,14 @@
 -- Why parts are not joined, behind those that are taken.
-use Rattle.std.proofs.Common.{◌≡◌, ◌⊎◌, refl, sym, ap, subst, ◌∙◌, ℕ, ◌+◌, arith, inl, inr, List, [], ◌∷◌, ◌++◌, length, map, Option, Some, None, Result, Ok, IfSome, IsOk}
+use Rattle.std.proofs.Common.{◌≡◌, refl, sym, ap, subst, ℕ, ◌+◌, inl, inr, List, Option, Some, None, Result, Ok, IfSome, IsOk}
 use Rattle.fill_state.specs.Filling.{is_filled}
 use Rattle.fill_text.specs.ValuesOfRules.{values_of}
-use Rattle.densfill_io.specs.declared.input.InputError.TheVariants.{Device, Memory}
 use Rattle.densfill_engine.specs.Inputs.{rules_answer}
 use Rattle.densfill_engine.specs.Joiners.{AreJoined, IsJoinReason, IsPartReason, IsUnjoined, OpensFor}
 use Rattle.densfill_engine.specs.declared.joining.Joiner.{Joiner}
-use Rattle.densfill_engine.specs.declared.refusal.InputFault.TheVariants.{Unread, Refused}
 use Rattle.densfill_engine.specs.declared.refusal.RunFault.TheVariants as run
 use Rattle.densfill_engine.specs.declared.refusal.Refusal.{Refusal}
 use Rattle.densfill_engine.specs.declared.refusal.Refusal.TheVariants.{Rules, Design, Script, Part, Run, Out, Report}
-use Rattle.densfill.specs.Outcomes.{IsUnopenedPart, all_known}
+use Rattle.densfill.specs.Outcomes.{IsUnopenedPart}
 
 -- a reason is one for any joiner of the same rules and number of parts
 pub same_reason : (j k : Joiner) (texts : List (List ℕ)) (e : Refusal) → j.rules ≡ k.rules → j.count ≡ k.count → IsPartReason j texts e → IsPartReason k texts e

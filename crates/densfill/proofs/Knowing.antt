@@ -1,6 +1,6 @@
 -- What is known of files, opened one after another.
-use Rattle.std.proofs.Common.{◌≡◌, ◌⊎◌, refl, sym, ap, subst, ◌∙◌, ℕ, suc, ◌+◌, arith, inl, inr, List, [], ◌∷◌, ◌++◌, length, map, Option, Some, None, IfSome, option_map}
-use Rattle.std.proofs.lemmas.List.{length_push, map-append}
+use Rattle.std.proofs.Common.{◌≡◌, refl, sym, ap, subst, ℕ, suc, List, [], ◌∷◌, ◌++◌, length, map, Option, Some, None, IfSome, option_map}
+use Rattle.std.proofs.lemmas.List.{map-append}
 use Rattle.densfill.specs.Outcomes.{all_known}
 
 if_mapped : (P : List (List ℕ) → Type 0) (g : List (List ℕ) → List (List ℕ)) (o : Option (List (List ℕ))) → IfSome (option_map g o) P → IfSome o (λ xs. P (g xs))

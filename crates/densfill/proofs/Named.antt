@@ -1,5 +1,5 @@
 -- A part by its number.
-use Rattle.std.proofs.Common.{◌≡◌, ◌∙◌, subst, ℕ, ◌-◌, Option, Some, None, IfSome, refl}
+use Rattle.std.proofs.Common.{◌≡◌, subst, ℕ, ◌-◌, Option, Some, None, IfSome, refl}
 use Rattle.fill_parts.specs.Cuts.{Part}
 use Rattle.densfill_args.specs.Grammar.{Said}
 use Rattle.densfill_args.specs.Grammar as line

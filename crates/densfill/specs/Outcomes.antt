@@ -1,6 +1,7 @@
 -- What a run of the program leaves on standard output and on standard error, and its exit status.
 use Rattle.std.specs.Prelude.{◌≡◌, ◌⊎◌, ◌-◌, ℕ, Bool, false, List, [], ◌∷◌, length, map, Option, Some, None, IfSome, IsOkAnd, codes, if◌then◌else◌, nat_lt, option_map, slice_get, take}
 use Rattle.std.specs.Io.KnownBytes.{Appends}
+use Rattle.densfill_io.specs.declared.input.InputError.{InputError}
 use Rattle.densfill_io.specs.declared.input.InputError.TheVariants.{Device, Memory}
 use Rattle.densfill_args.specs.Grammar.{Said}
 use Rattle.densfill_args.specs.Grammar as line
@@ -28,18 +29,19 @@ IsToldOf before after failed status path refusal =
     ((status ≡ refusal_status refusal) × IsTold before after failed (refusal_text refusal path))
     ⊎ ((status ≡ 3) × IsTold before after failed (codes "densfill: run: 31 Memory\n"))
 
--- an input could not be opened
-abbrev pub IsUnopened : Refusal → Type 0
-IsUnopened (Rules (Unread error)) = (error ≡ Device) ⊎ (error ≡ Memory)
-IsUnopened (Rules (Refused error)) = ⊥
-IsUnopened (Design (Unread error)) = (error ≡ Device) ⊎ (error ≡ Memory)
-IsUnopened (Design (Refused error)) = ⊥
-IsUnopened (Script (Unread error)) = (error ≡ Device) ⊎ (error ≡ Memory)
-IsUnopened (Script (Refused error)) = ⊥
-IsUnopened (Part number fault) = ⊥
-IsUnopened (Run fault) = ⊥
-IsUnopened Out = ⊥
-IsUnopened Report = ⊥
+-- how a fault of each input is told
+abbrev pub of_rules : InputError → Refusal
+of_rules error = Rules (Unread error)
+
+abbrev pub of_design : InputError → Refusal
+of_design error = Design (Unread error)
+
+abbrev pub of_script : InputError → Refusal
+of_script error = Script (Unread error)
+
+-- the input of which faults are told so could not be opened
+abbrev pub IsUnopened : (InputError → Refusal) → Refusal → Type 0
+IsUnopened told refusal = (refusal ≡ told Device) ⊎ (refusal ≡ told Memory)
 
 -- the library of the part of this number could not be opened
 abbrev pub IsUnopenedPart : ℕ → Refusal → Type 0
@@ -67,16 +69,16 @@ part_named number count = record { number = number - 1; count = count }
 -- an input could not be opened, or this is why opened files, whose bytes `remaining` tells, give nothing of what the line asks for
 abbrev pub IsCause : {F : Type 0} → (F → Option (List ℕ)) → Option Said → Refusal → Type 0
 IsCause {F} remaining (Some (line.rects rules script)) refusal =
-    IsUnopened refusal ⊎ ((r s : F) × IfSome (remaining r) (λ r. IfSome (remaining s) (λ s. IsReason r s refusal)))
+    (IsUnopened of_rules refusal ⊎ IsUnopened of_script refusal) ⊎ ((r s : F) × IfSome (remaining r) (λ r. IfSome (remaining s) (λ s. IsReason r s refusal)))
 IsCause {F} remaining (Some (line.check rules design)) refusal =
-    IsUnopened refusal ⊎ ((r d : F) × IfSome (remaining r) (λ r. IfSome (remaining d) (λ d. IsCheckReason r d refusal)))
+    (IsUnopened of_rules refusal ⊎ IsUnopened of_design refusal) ⊎ ((r d : F) × IfSome (remaining r) (λ r. IfSome (remaining d) (λ d. IsCheckReason r d refusal)))
 IsCause {F} remaining (Some (line.check_part rules design number count)) refusal =
-    IsUnopened refusal ⊎ ((r d : F) × IfSome (remaining r) (λ r. IfSome (remaining d) (λ d. IsPartCheckReason r d (part_named number count) refusal)))
+    (IsUnopened of_rules refusal ⊎ IsUnopened of_design refusal) ⊎ ((r d : F) × IfSome (remaining r) (λ r. IfSome (remaining d) (λ d. IsPartCheckReason r d (part_named number count) refusal)))
 IsCause {F} remaining (Some (line.join rules out parts)) refusal =
-    IsUnopened refusal ⊎ ((r : F) × (ps : List F) × IfSome (remaining r) (λ r. IfSome (all_known (map remaining ps)) (λ texts.
+    IsUnopened of_rules refusal ⊎ ((r : F) × (ps : List F) × IfSome (remaining r) (λ r. IfSome (all_known (map remaining ps)) (λ texts.
     IsJoinReason r texts (length parts) refusal ⊎ ((length texts ≡ length parts) × IsUnsettled r texts refusal))))
 IsCause {F} remaining (Some (line.fill rules design script out workers limit)) refusal =
-    IsUnopened refusal ⊎ ((r d s : F) × IfSome (remaining r) (λ r. IfSome (remaining d) (λ d. IfSome (remaining s) (λ s.
+    (IsUnopened of_rules refusal ⊎ IsUnopened of_design refusal ⊎ IsUnopened of_script refusal) ⊎ ((r d s : F) × IfSome (remaining r) (λ r. IfSome (remaining d) (λ d. IfSome (remaining s) (λ s.
     IsFillReason r d s workers limit refusal ⊎ IsUndelivered r d s workers limit refusal))))
 IsCause remaining None refusal = ⊥
 

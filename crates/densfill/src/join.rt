@@ -2,7 +2,7 @@
 ghost use Rattle.std.specs.Prelude.{◌≡◌, ◌⊎◌, ◌+◌, ◌<◌, ◌≤◌, ℕ, List, [], ◌∷◌, ◌++◌, length, map, Some, IfErr, IfOk, IfSome, OnOk};
 ghost use Rattle.densfill_args.specs.Grammar as said;
 ghost use Rattle.densfill_engine.specs.Joiners.{AreJoined, IsJoiner, IsJoinOf, IsJoinReason, IsPartReason};
-ghost use Rattle.densfill.specs.Outcomes.{IsCause, IsFile, IsUnopened, IsUnopenedPart, all_known};
+ghost use Rattle.densfill.specs.Outcomes.{IsCause, IsFile, IsUnopened, IsUnopenedPart, all_known, of_rules};
 
 use crate::OUT_OF_MEMORY;
 use crate::open::{created, opened_part, opened_rules};
@@ -51,7 +51,7 @@ fn joined<R: Files>(rt: &R, alloc: Global, rules: &str, parts: &[&str]) -> Resul
     requires { (0 < length parts.now) × (length parts.now ≤ 4096) }
     ensures joined { IfOk result (λ v. (r : R.File) × (ps : List R.File) × (length ps ≡ length parts.now)
         × IfSome (R.File.remaining r) (λ r. IfSome (all_known (map R.File.remaining ps)) (λ texts. IsJoinOf r texts v.items))) }
-    ensures refused { IfErr result (λ e. IsUnopened e
+    ensures refused { IfErr result (λ e. IsUnopened of_rules e
         ⊎ ((r : R.File) × (ps : List R.File) × IfSome (R.File.remaining r) (λ r. IfSome (all_known (map R.File.remaining ps)) (λ texts. IsJoinReason r texts (length parts.now) e)))) }
 {
     let mut rules = opened_rules(rt, rules)?;

@@ -2,7 +2,7 @@
 ghost use Rattle.std.specs.Prelude.{◌≡◌, ◌⊎◌, ◌↔◌, false, IfErr, IfOk};
 ghost use Rattle.std.specs.IoError.{error_kind};
 ghost use Rattle.densfill_io.specs.Taps.{has_failed};
-ghost use Rattle.densfill.specs.Outcomes.{IsUnopened, IsUnopenedPart};
+ghost use Rattle.densfill.specs.Outcomes.{IsUnopened, IsUnopenedPart, of_design, of_rules, of_script};
 
 use crate::OUT_OF_MEMORY;
 use crate::target::Target;
@@ -39,7 +39,7 @@ fn opened<R: Files>(rt: &R, path: &str) -> Result<Tap<R::File>, InputError>
 /// The rule file, opened.
 pub(crate) fn opened_rules<R: Files>(rt: &R, path: &str) -> Result<Tap<R::File>, Refusal>
     ensures whole { IfOk result (λ tap. has_failed tap ≡ false) }
-    ensures unopened { IfErr result IsUnopened }
+    ensures unopened { IfErr result (IsUnopened of_rules) }
 {
     match opened(rt, path) {
         Ok(tap) => Ok(tap),
@@ -50,7 +50,7 @@ pub(crate) fn opened_rules<R: Files>(rt: &R, path: &str) -> Result<Tap<R::File>,
 /// The script, opened.
 pub(crate) fn opened_script<R: Files>(rt: &R, path: &str) -> Result<Tap<R::File>, Refusal>
     ensures whole { IfOk result (λ tap. has_failed tap ≡ false) }
-    ensures unopened { IfErr result IsUnopened }
+    ensures unopened { IfErr result (IsUnopened of_script) }
 {
     match opened(rt, path) {
         Ok(tap) => Ok(tap),
@@ -61,7 +61,7 @@ pub(crate) fn opened_script<R: Files>(rt: &R, path: &str) -> Result<Tap<R::File>
 /// The design, opened.
 pub(crate) fn opened_design<R: Files>(rt: &R, path: &str) -> Result<Tap<R::File>, Refusal>
     ensures whole { IfOk result (λ tap. has_failed tap ≡ false) }
-    ensures unopened { IfErr result IsUnopened }
+    ensures unopened { IfErr result (IsUnopened of_design) }
 {
     match opened(rt, path) {
         Ok(tap) => Ok(tap),
@@ -84,6 +84,18 @@ pub(crate) fn opened_part<R: Files>(
     }
 }
 
+/// What the matter is where OUT could not be created: want of memory, or else OUT.
+fn out_fault(error: &io::Error) -> Refusal
+    ensures memory { (result ≡ Refusal.Run RunFault.Memory) ↔ (error_kind error.now ≡ ErrorKind.OutOfMemory) }
+    ensures out { (result ≡ Refusal.Out) ⊎ (result ≡ Refusal.Run RunFault.Memory) }
+{
+    if error.kind() == ErrorKind::OutOfMemory {
+        OUT_OF_MEMORY
+    } else {
+        Refusal::Out
+    }
+}
+
 /// The file that a library goes to. One that is an input or that standard output goes to is refused.
 pub(crate) fn created<'a, R: Alloc<A = Global> + Files>(
     rt: &'a R,
@@ -95,9 +107,6 @@ pub(crate) fn created<'a, R: Alloc<A = Global> + Files>(
 {
     match Target::create(rt, path, inputs) {
         Ok(target) => Ok(Tap::new(target)),
-        Err(error) => match open_fault(&error) {
-            InputError::Device => Err(Refusal::Out),
-            _ => Err(OUT_OF_MEMORY),
-        },
+        Err(error) => Err(out_fault(&error)),
     }
 }

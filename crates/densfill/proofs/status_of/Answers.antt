@@ -1,4 +1,4 @@
-use Rattle.std.proofs.Common.{◌≡◌, ◌⊎◌, refl, inl, inr, sym, subst, map, List, ℕ, Option}
+use Rattle.std.proofs.Common.{◌⊎◌, refl, inl, inr, sym, subst, map, List, ℕ, Option}
 use Rattle.std.specs.Process.{exit_status}
 use Rattle.densfill_io.specs.Taps.{has_failed, under}
 use Rattle.densfill_args.specs.Grammar.{said_in}

@@ -1,9 +1,8 @@
-use Rattle.std.proofs.Common.{◌≡◌, ◌∙◌, sym, subst, inl, inr, List, ℕ, length, map, OnOk}
+use Rattle.std.proofs.Common.{◌≡◌, ◌∙◌, sym, subst, inr, List, ℕ, length, map}
 use Rattle.std.proofs.lemmas.List.{length-map}
 use Rattle.std.specs.Io.KnownBytes.{Appends}
-use Rattle.densfill_io.specs.Taps.{under}
 use Rattle.densfill_engine.specs.Joiners.{IsJoinOf}
-use Rattle.densfill.specs.Outcomes.{IsFile, all_known}
+use Rattle.densfill.specs.Outcomes.{all_known}
 use Rattle.densfill.proofs.Following.{still, still_refused}
 use Rattle.densfill.proofs.Knowing.{counted, known_weaker}
 use Rattle.densfill.proofs.join.join.Goals as goal

@@ -1,6 +1,5 @@
-use Rattle.std.proofs.Common.{◌≡◌, ◌∙◌, sym, ap, inr, [], List, ℕ, length, map, Ok}
+use Rattle.std.proofs.Common.{◌∙◌, sym, ap, inr, [], length, map, Ok}
 use Rattle.std.proofs.lemmas.Result.{err_from_is_err_and}
-use Rattle.densfill_io.specs.Taps.{under}
 use Rattle.fill_text.specs.ValuesOfRules.{values_of}
 use Rattle.fill_text.specs.declared.rules.Rules.{Rules}
 use Rattle.densfill_engine.specs.Joiners.{AreJoined, IsJoinOf, IsJoinReason, IsPartReason, OpensFor}
