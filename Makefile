@@ -47,6 +47,7 @@ test:
 	rt ci
 	tools/test_program.py $(BUILT)
 	tools/refuse.py $(BUILT)
+	tools/test_parts.py $(BUILT)
 	tools/storm.py $(BUILT)
 	deck/test_deck.py $(BUILT)
 	cluster/test_array.py $(BUILT)

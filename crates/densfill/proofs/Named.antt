@@ -18,3 +18,4 @@ no_path (Some (line.check rules design)) = refl
 no_path (Some (line.check_part rules design number count)) = refl
 no_path (Some (line.join rules out parts)) = refl
 no_path (Some (line.fill rules design script out workers limit)) = refl
+no_path (Some (line.fill_part rules design script out number count)) = refl

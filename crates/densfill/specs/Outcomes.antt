@@ -9,6 +9,7 @@ use Rattle.densfill_engine.specs.Checks.{IsChecked, IsCheckReason}
 use Rattle.fill_parts.specs.Cuts.{Part as PartOfChip}
 use Rattle.densfill_engine.specs.Joiners.{IsJoinOf, IsJoinReason}
 use Rattle.densfill_engine.specs.PartChecks.{IsPartChecked, IsPartCheckReason}
+use Rattle.densfill_engine.specs.PartFills.{IsPartFilled, IsPartFillReason}
 use Rattle.densfill_engine.specs.Fills.{IsFilled, IsFillReason}
 use Rattle.densfill_engine.specs.Rects.{report_answer, IsReason}
 use Rattle.densfill_engine.specs.Refusals.{refusal_status, refusal_text}
@@ -52,6 +53,11 @@ abbrev pub IsUndelivered : (rules design script : List ℕ) → ℕ → Option �
 IsUndelivered rules design script workers limit refusal =
     ((library report : List ℕ) × IsFilled rules design script workers limit library report) × ((refusal ≡ Run run.Memory) ⊎ (refusal ≡ Out) ⊎ (refusal ≡ Report))
 
+-- so of a part's fill
+abbrev pub IsPartUndelivered : (rules design script : List ℕ) → PartOfChip → Refusal → Type 0
+IsPartUndelivered rules design script k refusal =
+    ((library report : List ℕ) × IsPartFilled rules design script k library report) × ((refusal ≡ Run run.Memory) ⊎ (refusal ≡ Out) ⊎ (refusal ≡ Report))
+
 -- there is a library of all parts, but no memory for its file's name, or it could not be written
 abbrev pub IsUnsettled : List ℕ → List (List ℕ) → Refusal → Type 0
 IsUnsettled rules parts refusal = ((library : List ℕ) × IsJoinOf rules parts library) × ((refusal ≡ Run run.Memory) ⊎ (refusal ≡ Out))
@@ -80,13 +86,16 @@ IsCause {F} remaining (Some (line.join rules out parts)) refusal =
 IsCause {F} remaining (Some (line.fill rules design script out workers limit)) refusal =
     (IsUnopened of_rules refusal ⊎ IsUnopened of_design refusal ⊎ IsUnopened of_script refusal) ⊎ ((r d s : F) × IfSome (remaining r) (λ r. IfSome (remaining d) (λ d. IfSome (remaining s) (λ s.
     IsFillReason r d s workers limit refusal ⊎ IsUndelivered r d s workers limit refusal))))
+IsCause {F} remaining (Some (line.fill_part rules design script out number count)) refusal =
+    (IsUnopened of_rules refusal ⊎ IsUnopened of_design refusal ⊎ IsUnopened of_script refusal) ⊎ ((r d s : F) × IfSome (remaining r) (λ r. IfSome (remaining d) (λ d. IfSome (remaining s) (λ s.
+    IsPartFillReason r d s (part_named number count) refusal ⊎ IsPartUndelivered r d s (part_named number count) refusal))))
 IsCause remaining None refusal = ⊥
 
 -- a text was written whole to a file
 abbrev pub IsFile : {F : Type 0} → (F → Option (List ℕ)) → List ℕ → Type 0
 IsFile {F} contents text = (old new : F) × Appends (contents old) (contents new) text
 
--- what is written is the line's report of opened files, and for a fill its library is written to another file; a join writes its
+-- what is written is the line's report of opened files, and for a fill, of a part too, its library is written to another file; a join writes its
 -- library alone
 abbrev pub IsReport : {F : Type 0} → (F → Option (List ℕ)) → (F → Option (List ℕ)) → Option Said → Option (List ℕ) → Option (List ℕ) → Type 0
 IsReport {F} remaining contents (Some (line.rects rules script)) before after =
@@ -101,6 +110,9 @@ IsReport {F} remaining contents (Some (line.join rules out parts)) before after 
 IsReport {F} remaining contents (Some (line.fill rules design script out workers limit)) before after =
     (r d s : F) × IfSome (remaining r) (λ r. IfSome (remaining d) (λ d. IfSome (remaining s) (λ s.
     (library report : List ℕ) × IsFilled r d s workers limit library report × IsFile contents library × Appends before after report)))
+IsReport {F} remaining contents (Some (line.fill_part rules design script out number count)) before after =
+    (r d s : F) × IfSome (remaining r) (λ r. IfSome (remaining d) (λ d. IfSome (remaining s) (λ s.
+    (library report : List ℕ) × IsPartFilled r d s (part_named number count) library report × IsFile contents library × Appends before after report)))
 IsReport remaining contents None before after = ⊥
 
 -- the path of the part's library that a refusal is of, counted from 1
@@ -123,6 +135,7 @@ path_of (Some (line.check rules design)) refusal = None
 path_of (Some (line.check_part rules design number count)) refusal = None
 path_of (Some (line.join rules out parts)) refusal = path_in parts refusal
 path_of (Some (line.fill rules design script out workers limit)) refusal = None
+path_of (Some (line.fill_part rules design script out number count)) refusal = None
 
 -- the run gave up for a cause, and told it; want of memory of the command line is told as that of the run
 abbrev pub GaveUp : {F : Type 0} → (F → Option (List ℕ)) → Option Said → Option (List ℕ) → Option (List ℕ) → Bool → ℕ → Type 0

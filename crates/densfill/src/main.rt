@@ -10,14 +10,17 @@ ghost use Rattle.std.specs.IoError.{error_kind};
 ghost use Rattle.std.specs.Process.{exit_status};
 ghost use Rattle.densfill_io.specs.Taps.{has_failed, under};
 ghost use Rattle.densfill_engine.specs.Fills.{IsFilled, IsFillReason};
+ghost use Rattle.densfill_engine.specs.PartFills.{IsPartFilled, IsPartFillReason};
 ghost use Rattle.densfill_engine.specs.Refusals.{refusal_status};
 ghost use Rattle.densfill_args.specs.Lines.{text_of, IsBounded};
 ghost use Rattle.densfill_args.specs.Grammar.{said_in, IsFaultless, IsTaken};
 ghost use Rattle.densfill_args.specs.Grammar as said;
-ghost use Rattle.densfill.specs.Outcomes.{GaveUp, IsCause, IsReport, IsTold, IsToldOf, path_at, path_in, path_of};
+ghost use Rattle.densfill.specs.Outcomes.{GaveUp, IsCause, IsReport, IsTold, IsToldOf, part_named, path_at, path_in, path_of};
 
 use densfill_args::{Line, LineError, read_line};
-use densfill_engine::{Filled, Refusal, RunFault, check, check_part, deliver, prepare, rects};
+use densfill_engine::{
+    Filled, Refusal, RunFault, check, check_part, deliver, prepare, prepare_part, rects,
+};
 use densfill_io::{Tap, write_text};
 use fill_parts::Part;
 use join::join;
@@ -71,6 +74,39 @@ fn prepared<R: Files + Threads + Wait + Sync>(
     )
 }
 
+/// The texts of one part of a fill of three opened inputs.
+fn prepared_part<R: Files + Threads + Wait + Sync>(
+    rt: &R,
+    alloc: Global,
+    rules: &mut Tap<R::File>,
+    design: &mut Tap<R::File>,
+    script: &mut Tap<R::File>,
+    number: u32,
+    count: u32,
+) -> Result<Filled, Refusal>
+    requires rules { has_failed rules.old ≡ false }
+    requires design { has_failed design.old ≡ false }
+    requires script { has_failed script.old ≡ false }
+    requires part { (1 ≤ number) × (number ≤ count) × (count ≤ 4096) }
+    ensures filled { IfOk result (λ f. IfSome (R.File.remaining (under rules.old)) (λ r. IfSome (R.File.remaining (under design.old)) (λ d.
+        IfSome (R.File.remaining (under script.old)) (λ s. IsPartFilled r d s (part_named number count) f.library.items f.report.items)))) }
+    ensures refused { IfErr result (λ e. IfSome (R.File.remaining (under rules.old)) (λ r. IfSome (R.File.remaining (under design.old)) (λ d.
+        IfSome (R.File.remaining (under script.old)) (λ s. IsPartFillReason r d s (part_named number count) e)))) }
+{
+    let part = Part::new(number, count).unwrap();
+    prepare_part(
+        rt,
+        alloc,
+        Blank::new(1024),
+        Blank::new(1024),
+        Blank::new(1024),
+        rules,
+        design,
+        script,
+        part,
+    )
+}
+
 /// Does what a line of `fill` asks for: the fill of the files that its first three paths name, all opened before one is read. The
 /// library's file is created only where there is a fill, and is whole and at its path before the report begins.
 fn fill<R: Alloc<A = Global> + Files + Threads + Wait + Sync, W: Write + Drop>(
@@ -102,6 +138,41 @@ fn fill<R: Alloc<A = Global> + Files + Threads + Wait + Sync, W: Write + Drop>(
         &mut script,
         workers,
         limit,
+    )?;
+    let mut library = created(rt, library, &inputs)?;
+    deliver(&filled, &mut library, out)
+}
+
+/// Does what a line of `fill` with a part asks for, in the order of one without.
+fn fill_one<R: Alloc<A = Global> + Files + Threads + Wait + Sync, W: Write + Drop>(
+    rt: &R,
+    alloc: Global,
+    rules: &str,
+    design: &str,
+    script: &str,
+    library: &str,
+    number: u32,
+    count: u32,
+    out: &mut Tap<W>,
+) -> Result<(), Refusal>
+    requires out { has_failed out.old ≡ false }
+    requires part { (1 ≤ number) × (number ≤ count) × (count ≤ 4096) }
+    ensures written { OnOk result (IsReport R.File.remaining R.File.contents (Some (said.fill_part rules.now design.now script.now library.now number count)) (W.contents (under out.old)) (W.contents (under out.new))) }
+    ensures refused { IfErr result (IsCause R.File.remaining (Some (said.fill_part rules.now design.now script.now library.now number count))) }
+    ensures silent { OnErr result ((has_failed out.new ≡ true) ⊎ (out.new ≡ out.old)) }
+{
+    let inputs = [rules, design, script];
+    let mut rules = opened_rules(rt, rules)?;
+    let mut design = opened_design(rt, design)?;
+    let mut script = opened_script(rt, script)?;
+    let filled = prepared_part(
+        rt,
+        alloc,
+        &mut rules,
+        &mut design,
+        &mut script,
+        number,
+        count,
     )?;
     let mut library = created(rt, library, &inputs)?;
     deliver(&filled, &mut library, out)
@@ -173,6 +244,16 @@ fn run<R: Alloc<A = Global> + Files + Threads + Wait + Sync, W: Write + Drop>(
             limit,
         } => fill(
             rt, alloc, rules, design, script, library, *workers, *limit, out,
+        ),
+        Line::FillPart {
+            rules,
+            design,
+            script,
+            out: library,
+            number,
+            count,
+        } => fill_one(
+            rt, alloc, rules, design, script, library, *number, *count, out,
         ),
     }
 }
@@ -249,6 +330,7 @@ fn path_of<'a>(line: &Line<'a>, refusal: Refusal) -> Option<&'a str>
         Line::Check { .. } => None,
         Line::CheckPart { .. } => None,
         Line::Fill { .. } => None,
+        Line::FillPart { .. } => None,
     }
 }
 

@@ -10,7 +10,7 @@ use Rattle.clap.specs.Words.{HasKind, Row, Text, all_of, fault_of, first_of, is_
 use Rattle.clap.specs.declared.builder.value_parser.ValueParser.TheVariants.{Unsigned}
 use Rattle.clap.specs.declared.error.Error.{Error}
 use Rattle.clap.specs.declared.error.kind.ErrorKind.TheVariants.{OutOfMemory, ValueValidation}
-use Rattle.densfill_args.specs.Grammar.{Said, both, check, check_part, checking, crew, fill, filling, found_in, joined, joining, limit_by, number_of, numbers_in, part_by, program_words, said_by, said_in, workers_by}
+use Rattle.densfill_args.specs.Grammar.{Said, both, check, check_part, checking, crew, fill, fill_part, filling, found_in, joined, joining, limit_by, lone_part, number_of, numbers_in, part_by, program_words, said_by, said_in, workers_by}
 use Rattle.densfill_args.specs.Lines.{IsRefusalOf, text_of}
 use Rattle.densfill_args.specs.declared.Line.{Line}
 use Rattle.densfill_args.specs.declared.LineError.{LineError}
@@ -144,13 +144,31 @@ no_script rows a b rules design none = rw (rules, design, none) refl
 pub no_out : (rows : List Row) (a b c : Text) → first_of (codes "RULES") rows ≡ Some a → first_of (codes "DESIGN") rows ≡ Some b → first_of (codes "SCRIPT") rows ≡ Some c → first_of (codes "OUT") rows ≡ None → None ≡ filling rows
 no_out rows a b c rules design script none = rw (rules, design, script, none) refl
 
-pub bad_numbers : (rows : List Row) (a b c d : Text) → first_of (codes "RULES") rows ≡ Some a → first_of (codes "DESIGN") rows ≡ Some b → first_of (codes "SCRIPT") rows ≡ Some c → first_of (codes "OUT") rows ≡ Some d
-    → None ≡ numbers_in rows → None ≡ filling rows
-bad_numbers rows a b c d rules design script out none = rw (rules, design, script, out, ← none) refl
+-- the four paths and the part, if there is one
+pub record Named (rows : List Row) (a b c d : Text) (part : Option Text) : Type 0 where
+  pub rules : first_of (codes "RULES") rows ≡ Some a
+  pub design : first_of (codes "DESIGN") rows ≡ Some b
+  pub script : first_of (codes "SCRIPT") rows ≡ Some c
+  pub out : first_of (codes "OUT") rows ≡ Some d
+  pub part_is : first_of (codes "part") rows ≡ part
 
-pub all_found : (rows : List Row) (a b c d : Text) (numbers : ℕ × Option ℕ) → first_of (codes "RULES") rows ≡ Some a → first_of (codes "DESIGN") rows ≡ Some b → first_of (codes "SCRIPT") rows ≡ Some c → first_of (codes "OUT") rows ≡ Some d
-    → Some numbers ≡ numbers_in rows → Some (fill a b c d numbers.0 numbers.1) ≡ filling rows
-all_found rows a b c d numbers rules design script out given = rw (rules, design, script, out, ← given) refl
+pub bad_numbers : (rows : List Row) (a b c d : Text) → Named rows a b c d None → None ≡ numbers_in rows → None ≡ filling rows
+bad_numbers rows a b c d named none = rw (named.rules, named.design, named.script, named.out, named.part_is, ← none) refl
+
+pub all_found : (rows : List Row) (a b c d : Text) (numbers : ℕ × Option ℕ) → Named rows a b c d None → Some numbers ≡ numbers_in rows → Some (fill a b c d numbers.0 numbers.1) ≡ filling rows
+all_found rows a b c d numbers named given = rw (named.rules, named.design, named.script, named.out, named.part_is, ← given) refl
+
+-- the part where it is named alone
+pub lone_is : (rows : List Row) (t : Text) (o p : Option Text) → first_of (codes "workers") rows ≡ o → first_of (codes "limit") rows ≡ p → (k : Option (ℕ × ℕ)) → k ≡ lone_part t o p
+    → k ≡ lone_part t (first_of (codes "workers") rows) (first_of (codes "limit") rows)
+lone_is rows t o p workers limit k is = is ∙ sym (ap₂ (lone_part t) workers limit)
+
+pub bad_lone : (rows : List Row) (a b c d t : Text) → Named rows a b c d (Some t) → None ≡ lone_part t (first_of (codes "workers") rows) (first_of (codes "limit") rows) → None ≡ filling rows
+bad_lone rows a b c d t named none = rw (named.rules, named.design, named.script, named.out, named.part_is, ← none) refl
+
+pub filled_part : (rows : List Row) (a b c d t : Text) (k : ℕ × ℕ) → Named rows a b c d (Some t) → Some k ≡ lone_part t (first_of (codes "workers") rows) (first_of (codes "limit") rows)
+    → Some (fill_part a b c d k.0 k.1) ≡ filling rows
+filled_part rows a b c d t k named is = rw (named.rules, named.design, named.script, named.out, named.part_is, ← is) refl
 
 -- the program's grammar is one of those of which `clap` says which words it refuses
 pub program_is_plain : is_simple_and_free program_words ≡ true

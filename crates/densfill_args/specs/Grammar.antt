@@ -35,11 +35,11 @@ join_words = with_rule (with_rule (with_rule (new_app (codes "join")) (path (cod
 abbrev pub option : Text → ℤ → ℤ → Rule
 option name least most = record (new_rule name) { long = Some name; value_names = 1; parser = Some (Signed least most) }
 
--- `fill RULES DESIGN SCRIPT OUT [--workers N] [--limit L]`
+-- `fill RULES DESIGN SCRIPT OUT [--workers N] [--limit L] [--part K/N]`
 abbrev pub fill_words : App
 fill_words =
-    with_rule (with_rule (with_rule (with_rule (with_rule (with_rule (new_app (codes "fill")) (path (codes "RULES"))) (path (codes "DESIGN"))) (path (codes "SCRIPT"))) (path (codes "OUT")))
-    (option (codes "workers") (pos 1) (pos 64))) (option (codes "limit") (pos 0) (pos 4294967295))
+    with_rule (with_rule (with_rule (with_rule (with_rule (with_rule (with_rule (new_app (codes "fill")) (path (codes "RULES"))) (path (codes "DESIGN"))) (path (codes "SCRIPT"))) (path (codes "OUT")))
+    (option (codes "workers") (pos 1) (pos 64))) (option (codes "limit") (pos 0) (pos 4294967295))) part_option
 
 -- the program's own words: a subcommand must be there
 abbrev pub own_words : App
@@ -59,6 +59,7 @@ pub data Said : Type 0 where
   check_part : (rules design : Text) (number count : ℕ) → Said
   join : (rules out : Text) (parts : List Text) → Said
   fill : (rules design script out : Text) (workers : ℕ) (limit : Option ℕ) → Said
+  fill_part : (rules design script out : Text) (number count : ℕ) → Said
 
 -- what the rows of two arguments make
 abbrev pub both : (Text → Text → Said) → Text → Text → List Row → Option Said
@@ -126,11 +127,22 @@ joined rules out parts = if nat_le 1 (length parts) && nat_le (length parts) 409
 abbrev pub joining : List Row → Option Said
 joining rows = option_and_then (λ rules. option_and_then (λ out. option_and_then (joined rules out) (all_of (codes "PART") rows)) (first_of (codes "OUT") rows)) (first_of (codes "RULES") rows)
 
--- what the rows of `fill` make
+-- the part that is filled, where neither workers nor a limit are named
+abbrev pub lone_part : Text → Option Text → Option Text → Option (ℕ × ℕ)
+lone_part part None None = part_by part
+lone_part part None (Some limit) = None
+lone_part part (Some workers) limit = None
+
+-- what the rows of `fill` make: a line of a part, where one is named
+abbrev pub filling_by : Text → Text → Text → Text → Option Text → List Row → Option Said
+filling_by rules design script out None rows = option_map (λ numbers. fill rules design script out numbers.0 numbers.1) (numbers_in rows)
+filling_by rules design script out (Some part) rows =
+    option_map (λ p. fill_part rules design script out p.0 p.1) (lone_part part (first_of (codes "workers") rows) (first_of (codes "limit") rows))
+
 abbrev pub filling : List Row → Option Said
 filling rows =
-    option_and_then (λ rules. option_and_then (λ design. option_and_then (λ script. option_and_then (λ out. option_map (λ numbers. fill rules design script out numbers.0 numbers.1)
-    (numbers_in rows)) (first_of (codes "OUT") rows)) (first_of (codes "SCRIPT") rows)) (first_of (codes "DESIGN") rows)) (first_of (codes "RULES") rows)
+    option_and_then (λ rules. option_and_then (λ design. option_and_then (λ script. option_and_then (λ out. filling_by rules design script out (first_of (codes "part") rows) rows)
+    (first_of (codes "OUT") rows)) (first_of (codes "SCRIPT") rows)) (first_of (codes "DESIGN") rows)) (first_of (codes "RULES") rows)
 
 -- what the rows of the subcommand of a name say
 abbrev pub said_by : Text → List Row → Option Said

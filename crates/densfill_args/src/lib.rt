@@ -6,7 +6,7 @@
 #![tactic(auto)]
 
 ghost use Rattle.std.specs.Prelude.{◌≡◌, ◌≢◌, ◌⊎◌, ◌<◌, ◌≤◌, ℤ, false, Some, IfErr, IfOk, IfSome, IsSome, OnOk, codes, length, map, option_map};
-ghost use Rattle.clap.specs.Words.{app_of, found_of, kind_of, one_of, rows_of, rule_of, with_subcommand};
+ghost use Rattle.clap.specs.Words.{app_of, first_of, found_of, kind_of, one_of, rows_of, rule_of, with_subcommand};
 ghost use Rattle.densfill_args.specs.Grammar.{both, checking, fill_words, filling, join_words, joining, limit_by, path, program_words, said_by, said_in, workers_by, IsFaultless, IsTaken};
 ghost use Rattle.densfill_args.specs.Grammar as said;
 ghost use Rattle.densfill_args.specs.Lines.{text_of, IsBounded, IsRefusalOf};
@@ -76,6 +76,21 @@ pub enum Line<'a> {
         workers: u32,
         /// The most turns that a worker may take in a round; where it is left out, one more than there are tiles.
         limit: Option<u32>,
+    },
+    /// To fill the windows of one part of a chip so.
+    FillPart {
+        /// The path of the rule file.
+        rules: &'a str,
+        /// The path of the design.
+        design: &'a str,
+        /// The path of the script.
+        script: &'a str,
+        /// The path of the part's fill library.
+        out: &'a str,
+        /// Which part it is: 1 to `count`.
+        number: u32,
+        /// How many parts there are: 1 to 4,096.
+        count: u32,
     },
 }
 
@@ -168,7 +183,8 @@ fn with_fill<'a>(alloc: Global, program: Command<'a>) -> Result<Command<'a>, All
         .arg(path(alloc, "SCRIPT", "The script of added and cut rectangles"))?
         .arg(path(alloc, "OUT", "The fill library to write"))?
         .arg(number(alloc, "workers", "How many workers: 1 to 64", workers))?
-        .arg(number(alloc, "limit", "How many turns at most", limit))?;
+        .arg(number(alloc, "limit", "How many turns at most", limit))?
+        .arg(part_option(alloc))?;
     let program = program.subcommand(fill)?;
     Ok(program)
 }
@@ -297,6 +313,20 @@ fn numbers_in(found: &ArgMatches) -> Option<(u32, Option<u32>)>
     Some((workers, limit))
 }
 
+/// The numbers of a part, where neither workers nor a limit were found.
+fn lone_part(found: &ArgMatches, part: &str) -> Option<(u32, u32)>
+    ensures numbers { result ≡ said.lone_part part.now (first_of (codes "workers") (rows_of (found_of found.now))) (first_of (codes "limit") (rows_of (found_of found.now))) }
+    ensures bounds { IfSome result (λ p. (1 ≤ p.0) × (p.0 ≤ p.1) × (p.1 ≤ 4096)) }
+{
+    match found.get_str("workers") {
+        Some(_) => None,
+        None => match found.get_str("limit") {
+            Some(_) => None,
+            None => part_numbers(part),
+        },
+    }
+}
+
 /// The line of `fill`, by what was found.
 fn fill_in<'a>(found: &ArgMatches<'a>) -> Option<Line<'a>>
     ensures line { option_map text_of result ≡ filling (rows_of (found_of found.now)) }
@@ -306,15 +336,30 @@ fn fill_in<'a>(found: &ArgMatches<'a>) -> Option<Line<'a>>
     let design = found.get_str("DESIGN")?;
     let script = found.get_str("SCRIPT")?;
     let out = found.get_str("OUT")?;
-    let (workers, limit) = numbers_in(found)?;
-    Some(Line::Fill {
-        rules,
-        design,
-        script,
-        out,
-        workers,
-        limit,
-    })
+    match found.get_str("part") {
+        Some(part) => {
+            let (number, count) = lone_part(found, part)?;
+            Some(Line::FillPart {
+                rules,
+                design,
+                script,
+                out,
+                number,
+                count,
+            })
+        }
+        None => {
+            let (workers, limit) = numbers_in(found)?;
+            Some(Line::Fill {
+                rules,
+                design,
+                script,
+                out,
+                workers,
+                limit,
+            })
+        }
+    }
 }
 
 /// The line of a subcommand that was found.
@@ -384,6 +429,6 @@ fn no_line(alloc: Global) -> Result<clap::Error, AllocError>
     let mut grammar = grammar(alloc)?;
     grammar.error(
         ErrorKind::ValueValidation,
-        "a part is K/N, in digits: part K of N, 1 to N of 1 to 4096",
+        "a part is K/N, in digits: part K of N, 1 to N of 1 to 4096, without --workers and --limit",
     )
 }

@@ -1,11 +1,11 @@
 -- What a rule file and a design say together.
 use Rattle.std.proofs.Common.{◌≡◌, ◌≤◌, ◌^◌, ◌⊎◌, inl, inr, ℕ, ℤ, Bool, length, List, [], ◌∷◌, true, false, Option, Some, None, Result, Ok, Err, IfOk, IfSome, refl, sym, ap, subst, ◌∙◌, ◌==◌, ◌&&◌, ◌||◌}
 use Rattle.std.specs.Prelude.{unwrap_or}
-use Rattle.fill_text.specs.Rules.{Values}
+use Rattle.fill_text.specs.Rules.{Values, keep_layer, metal_layer}
 use Rattle.fill_report.specs.RulesReport.{metal_report}
 use Rattle.gds_grammar.specs.Values.{Contents}
-use Rattle.gds_grammar.specs.Layers.{has_layer, of_layers}
-use Rattle.gds_grammar.specs.declared.wanted.Layer.{Layer}
+use Rattle.gds_grammar.specs.Layers.{has_layer, of_layers, same_layer}
+use Rattle.fill_base.specs.declared.layer.Layer.{Layer}
 use Rattle.fill_job.specs.Plans.{PointSet}
 use Rattle.gds_grammar.specs.Outcomes.{Spells}
 use Rattle.gds_cells.specs.declared.error.FlattenError.{FlattenError}
@@ -13,7 +13,7 @@ use Rattle.gds_cells.specs.Copies.{drawn, AllStayInRange}
 use Rattle.gds_flatten.specs.Flattening.{IsRefused}
 use Rattle.gds_flatten.specs.Layers.{TellsOf, LayersSuffice}
 use Rattle.std.proofs.lemmas.Bool.{eq-eqb}
-use Rattle.densfill_engine.specs.Designs.{IsDesign, IsDrawn, IsDrawnOn, IsKeptOut, IsMetalFault, IsRead, IsUnflattened, IsUnflattenedBehind, keep_layer, metal_layer}
+use Rattle.densfill_engine.specs.Designs.{IsDesign, IsDrawn, IsDrawnOn, IsKeptOut, IsMetalFault, IsRead, IsUnflattened, IsUnflattenedBehind}
 use Rattle.densfill_engine.specs.Checks.{IsChecked, IsCheckReason}
 use Rattle.densfill_engine.specs.Inputs.{rules_answer}
 use Rattle.densfill_engine.specs.declared.refusal.DesignError.{DesignError}
@@ -29,31 +29,31 @@ module _ (bytes : List ℕ) (values : Values) (design left : Contents) (layers :
   read = record { short = short; spelled = spelled }
 
   -- what is told of a layer that was read is told of it in the whole library
-  tells : (layer : Layer) → has_layer layers layer.layer layer.data_type ≡ true → TellsOf design.cells left.cells values.top layer.layer layer.data_type
+  tells : (layer : Layer) → has_layer layers layer ≡ true → TellsOf design.cells left.cells values.top layer
   tells layer among =
-      subst (λ (x : Contents). TellsOf design.cells x.cells values.top layer.layer layer.data_type) (sym left_is)
-      (law (has_layer layers) design.cells values.top layer.layer layer.data_type among).0
+      subst (λ (x : Contents). TellsOf design.cells x.cells values.top layer) (sym left_is)
+      (law (has_layer layers) design.cells values.top layer among).0
 
-  pub drawn_in : (layer : Layer) (p : PointSet) → has_layer layers layer.layer layer.data_type ≡ true → IsDrawnOn left.cells values.top layer p → IsDrawnOn design.cells values.top layer p
+  pub drawn_in : (layer : Layer) (p : PointSet) → has_layer layers layer ≡ true → IsDrawnOn left.cells values.top layer p → IsDrawnOn design.cells values.top layer p
   drawn_in layer p among on = record {
     countable = (tells layer among).countable on.countable;
     inside = subst AllStayInRange (tells layer among).copies on.inside;
     squares_are = on.squares_are ∙ ap drawn (tells layer among).copies;
   }
 
-  module _ (layer : Layer) (is : layer ≡ metal_layer values) (among : has_layer layers layer.layer layer.data_type ≡ true) where
+  module _ (layer : Layer) (is : layer ≡ metal_layer values) (among : has_layer layers layer ≡ true) where
     pub metal_drawn : (metal : PointSet) → IsDrawnOn left.cells values.top layer metal → IsDrawn bytes values metal
     metal_drawn metal on = record { design = design; read = read; drawn = subst (λ (l : Layer). IsDrawnOn design.cells values.top l metal) is (drawn_in layer metal among on) }
 
-    pub not_flattened : (e : FlattenError) → IsRefused left.cells values.top layer.layer layer.data_type e → IsUnflattened bytes values e
+    pub not_flattened : (e : FlattenError) → IsRefused left.cells values.top layer e → IsUnflattened bytes values e
     not_flattened e refused = record {
       design = design;
       read = read;
-      refused = subst (λ (l : Layer). IsRefused design.cells values.top l.layer l.data_type e) is ((tells layer among).refused e refused);
+      refused = subst (λ (l : Layer). IsRefused design.cells values.top l e) is ((tells layer among).refused e refused);
     }
 
     module _ (metal : PointSet) (on : IsDrawnOn left.cells values.top layer metal) (keep_at : Option Layer) (keep_is : keep_at ≡ keep_layer values)
-        (both : (l : Layer) → keep_at ≡ Some l → has_layer layers l.layer l.data_type ≡ true) where
+        (both : (l : Layer) → keep_at ≡ Some l → has_layer layers l ≡ true) where
       pub design_drawn : (keep : PointSet) (units dates : List ℕ) → units ≡ left.units → dates ≡ left.dates → IsKeptOut left.cells values.top keep_at keep
           → IsDesign bytes values (record { metal = metal; keep = keep }) units dates
       unfolding metal_drawn
@@ -67,7 +67,7 @@ module _ (bytes : List ℕ) (values : Values) (design left : Contents) (layers :
           kept_in None e kept = kept
           kept_in (Some l) e kept = drawn_in l keep (both l e) kept
 
-      pub not_flattened_behind : (e : FlattenError) (l : Layer) → keep_at ≡ Some l → IsRefused left.cells values.top l.layer l.data_type e → IsUnflattenedBehind bytes values e
+      pub not_flattened_behind : (e : FlattenError) (l : Layer) → keep_at ≡ Some l → IsRefused left.cells values.top l e → IsUnflattenedBehind bytes values e
       unfolding metal_drawn
       not_flattened_behind e l named refused = record {
         metal = metal;
@@ -78,14 +78,14 @@ module _ (bytes : List ℕ) (values : Values) (design left : Contents) (layers :
       }
 
 -- a layer is among itself and others
-pub among_first : (a : Layer) (others : List Layer) → has_layer (a ∷ others) a.layer a.data_type ≡ true
+pub among_first : (a : Layer) (others : List Layer) → has_layer (a ∷ others) a ≡ true
 among_first a others = rw (eq-eqb a.layer a.layer refl, eq-eqb a.data_type a.data_type refl) refl
 
 -- the layer of the keep-outs is the second of two, where there is one
-pub among_both : (a : Layer) (o : Option Layer) (b : Layer) → b ≡ unwrap_or o a → (l : Layer) → o ≡ Some l → has_layer (a ∷ b ∷ []) l.layer l.data_type ≡ true
+pub among_both : (a : Layer) (o : Option Layer) (b : Layer) → b ≡ unwrap_or o a → (l : Layer) → o ≡ Some l → has_layer (a ∷ b ∷ []) l ≡ true
 among_both a o b second l is =
     let this : b ≡ l = second ∙ ap (λ (p : Option Layer). unwrap_or p a) is in
-    rw (this, eq-eqb l.layer l.layer refl, eq-eqb l.data_type l.data_type refl) (either (a.layer == l.layer && a.data_type == l.data_type))
+    rw (this, eq-eqb l.layer l.layer refl, eq-eqb l.data_type l.data_type refl) (either (same_layer a l))
   where
     either : (b : Bool) → (b || true) ≡ true
     either true = refl

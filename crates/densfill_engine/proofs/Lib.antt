@@ -8,4 +8,8 @@ mod Marked
 mod Filling
 mod Preparing
 pub mod PartChecking
+mod PartDesigns
+mod PartPreparing
+mod PartTexts
 mod Joined
+mod OneRun

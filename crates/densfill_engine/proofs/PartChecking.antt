@@ -3,20 +3,20 @@ use Rattle.std.proofs.Common.{◌≡◌, refl, ◌≤◌, ◌^◌, ◌⊎◌, in
 use Rattle.std.proofs.Math.Path.{fun_ext}
 use Rattle.fill_base.specs.Squares.{squares}
 use Rattle.fill_base.specs.declared.rect.Rect.{Rect}
-use Rattle.fill_text.specs.Rules.{Values}
+use Rattle.fill_text.specs.Rules.{Values, metal_layer}
 use Rattle.fill_job.specs.Plans.{PointSet}
 use Rattle.densfill_io.specs.declared.input.InputError.TheVariants.{TooLong, Device, Memory as NoMemory}
 use Rattle.fill_parts.specs.Cuts.{Part}
 use Rattle.fill_parts.specs.PartReport.{part_check}
 use Rattle.gds_grammar.specs.Values.{Contents}
 use Rattle.gds_grammar.specs.Layers.{has_layer, of_layers}
-use Rattle.gds_grammar.specs.declared.wanted.Layer.{Layer}
+use Rattle.fill_base.specs.declared.layer.Layer.{Layer}
 use Rattle.gds_grammar.specs.Outcomes.{Spells}
 use Rattle.gds_cells.specs.Copies.{drawn, AllStayInRange}
 use Rattle.gds_flatten.specs.Flattening.{IsCountableOn, IsRefusedOn, copies_of}
 use Rattle.gds_flatten.specs.Layers.{TellsOfWithin, LayersSufficeWithin}
 use Rattle.gds_cells.specs.declared.error.FlattenError.{FlattenError}
-use Rattle.densfill_engine.specs.Designs.{IsFaultBy, metal_layer}
+use Rattle.densfill_engine.specs.Designs.{IsFaultBy}
 use Rattle.densfill_engine.specs.Inputs.{rules_answer}
 use Rattle.densfill_engine.specs.PartChecks.{Frames, IsDrawnWithin, IsPartChecked, IsPartCheckReason, IsUnflattenedFor, IsUnflattenedWithin, IsWholeDrawn, IsWholeDrawnOn, told_in}
 use Rattle.densfill_engine.specs.declared.refusal.DesignError.{DesignError}
@@ -30,51 +30,51 @@ use Rattle.densfill_engine.specs.declared.refusal.Refusal.TheVariants.{Design, R
 -- the bytes spell a library, of which some layers were read, and of these some were taken within a rectangle
 module _ (bytes : List ℕ) (values : Values) (design left : Contents) (layers : List Layer) (frame : Rect) (law : LayersSufficeWithin)
     (short : length bytes ≤ 2 ^ 31) (spelled : Spells bytes design) (left_is : left ≡ of_layers layers design) where
-  tells : (layer : Layer) → has_layer layers layer.layer layer.data_type ≡ true → TellsOfWithin design.cells left.cells values.top layer.layer layer.data_type frame
+  pub tells : (layer : Layer) → has_layer layers layer ≡ true → TellsOfWithin design.cells left.cells values.top layer frame
   tells layer among =
-      subst (λ (x : Contents). TellsOfWithin design.cells x.cells values.top layer.layer layer.data_type frame) (sym left_is)
-      (law (has_layer layers) design.cells values.top layer.layer layer.data_type frame among)
+      subst (λ (x : Contents). TellsOfWithin design.cells x.cells values.top layer frame) (sym left_is)
+      (law (has_layer layers) design.cells values.top layer frame among)
 
   -- on any of these layers
-  pub whole_on : (layer : Layer) → has_layer layers layer.layer layer.data_type ≡ true → IsCountableOn left.cells values.top layer.layer layer.data_type frame
-      → AllStayInRange (copies_of left.cells values.top layer.layer layer.data_type)
-      → IsWholeDrawnOn design.cells values.top layer (drawn (copies_of design.cells values.top layer.layer layer.data_type))
+  pub whole_on : (layer : Layer) → has_layer layers layer ≡ true → IsCountableOn left.cells values.top layer frame
+      → AllStayInRange (copies_of left.cells values.top layer)
+      → IsWholeDrawnOn design.cells values.top layer (drawn (copies_of design.cells values.top layer))
   whole_on layer among countable inside =
       let on = (tells layer among).countable countable in
       record { sound = on.sound; fine = on.fine; inside = subst AllStayInRange (tells layer among).copies inside; squares_are = refl }
 
-  pub squares_on : (layer : Layer) (among : has_layer layers layer.layer layer.data_type ≡ true) (p : PointSet)
-      → ((x y : ℤ) → p x y ≡ (drawn (copies_of left.cells values.top layer.layer layer.data_type) x y && squares frame x y))
-      → p ≡ (λ x y. drawn (copies_of design.cells values.top layer.layer layer.data_type) x y && squares frame x y)
+  pub squares_on : (layer : Layer) (among : has_layer layers layer ≡ true) (p : PointSet)
+      → ((x y : ℤ) → p x y ≡ (drawn (copies_of left.cells values.top layer) x y && squares frame x y))
+      → p ≡ (λ x y. drawn (copies_of design.cells values.top layer) x y && squares frame x y)
   squares_on layer among p each = fun_ext (λ x. fun_ext (λ y. each x y ∙ ap (λ cs. drawn cs x y && squares frame x y) (tells layer among).copies))
 
-  pub refused_on : (layer : Layer) (among : has_layer layers layer.layer layer.data_type ≡ true) (e : FlattenError) → IsRefusedOn left.cells values.top layer.layer layer.data_type frame e
-      → IsRefusedOn design.cells values.top layer.layer layer.data_type frame e
+  pub refused_on : (layer : Layer) (among : has_layer layers layer ≡ true) (e : FlattenError) → IsRefusedOn left.cells values.top layer frame e
+      → IsRefusedOn design.cells values.top layer frame e
   refused_on layer among e refused = (tells layer among).refused e refused
 
   -- on the checked one
-  module _ (layer : Layer) (is : layer ≡ metal_layer values) (among : has_layer layers layer.layer layer.data_type ≡ true) where
-    pub whole : IsCountableOn left.cells values.top layer.layer layer.data_type frame → AllStayInRange (copies_of left.cells values.top layer.layer layer.data_type)
-        → IsWholeDrawn bytes values (drawn (copies_of design.cells values.top layer.layer layer.data_type))
+  module _ (layer : Layer) (is : layer ≡ metal_layer values) (among : has_layer layers layer ≡ true) where
+    unfoldable pub whole : IsCountableOn left.cells values.top layer frame → AllStayInRange (copies_of left.cells values.top layer)
+        → IsWholeDrawn bytes values (drawn (copies_of design.cells values.top layer))
     whole countable inside = record {
       design = design;
       read = record { short = short; spelled = spelled };
-      drawn = subst (λ (l : Layer). IsWholeDrawnOn design.cells values.top l (drawn (copies_of design.cells values.top layer.layer layer.data_type))) is (whole_on layer among countable inside);
+      drawn = subst (λ (l : Layer). IsWholeDrawnOn design.cells values.top l (drawn (copies_of design.cells values.top layer))) is (whole_on layer among countable inside);
     }
 
-    pub drawn_within : (p : PointSet) → IsCountableOn left.cells values.top layer.layer layer.data_type frame → AllStayInRange (copies_of left.cells values.top layer.layer layer.data_type)
-        → ((x y : ℤ) → p x y ≡ (drawn (copies_of left.cells values.top layer.layer layer.data_type) x y && squares frame x y)) → IsDrawnWithin bytes values frame p
+    pub drawn_within : (p : PointSet) → IsCountableOn left.cells values.top layer frame → AllStayInRange (copies_of left.cells values.top layer)
+        → ((x y : ℤ) → p x y ≡ (drawn (copies_of left.cells values.top layer) x y && squares frame x y)) → IsDrawnWithin bytes values frame p
     drawn_within p countable inside each = record {
-      metal = drawn (copies_of design.cells values.top layer.layer layer.data_type);
+      metal = drawn (copies_of design.cells values.top layer);
       whole = whole countable inside;
       within = squares_on layer among p each;
     }
 
-    pub not_within : (e : FlattenError) → IsRefusedOn left.cells values.top layer.layer layer.data_type frame e → IsUnflattenedWithin bytes values frame e
+    pub not_within : (e : FlattenError) → IsRefusedOn left.cells values.top layer frame e → IsUnflattenedWithin bytes values frame e
     not_within e refused = record {
       design = design;
       read = record { short = short; spelled = spelled };
-      refused = subst (λ (l : Layer). IsRefusedOn design.cells values.top l.layer l.data_type frame e) is (refused_on layer among e refused);
+      refused = subst (λ (l : Layer). IsRefusedOn design.cells values.top l frame e) is (refused_on layer among e refused);
     }
 
 -- ---- both inputs

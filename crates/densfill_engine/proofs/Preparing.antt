@@ -18,14 +18,14 @@ use Rattle.densfill_engine.specs.declared.refusal.RunFault.TheVariants as run
 use Rattle.densfill_engine.specs.declared.refusal.Refusal.TheVariants.{Rules, Design, Script, Run}
 
 -- what is said of the bytes of three inputs holds where all of them are known
-if_all : {P : (r d s : List ℕ) → Type 0} (rules design edits : Option (List ℕ))
+pub if_all : {P : (r d s : List ℕ) → Type 0} (rules design edits : Option (List ℕ))
     → ((r d s : List ℕ) → rules ≡ Some r → design ≡ Some d → edits ≡ Some s → P r d s) → IfSome rules (λ r. IfSome design (λ d. IfSome edits (λ s. P r d s)))
 if_all None design edits given = tt
 if_all (Some r) None edits given = tt
 if_all (Some r) (Some d) None given = tt
 if_all (Some r) (Some d) (Some s) given = given r d s refl refl refl
 
-of : (P : List ℕ → Type 0) (known : Option (List ℕ)) (bytes : List ℕ) → known ≡ Some bytes → IfSome known P → P bytes
+pub of : (P : List ℕ → Type 0) (known : Option (List ℕ)) (bytes : List ℕ) → known ≡ Some bytes → IfSome known P → P bytes
 of P known bytes is holds = subst (λ (o : Option (List ℕ)). IfSome o P) is holds
 
 module _ (rules design edits : Option (List ℕ)) (workers : ℕ) (limit : Option ℕ) where

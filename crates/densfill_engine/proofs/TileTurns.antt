@@ -1,17 +1,19 @@
 -- What edits and commits do with the account of a book, and how many tiles they leave.
-use Rattle.std.proofs.Common.{◌≡◌, refl, ap, sym, subst, ◌∙◌, ℕ, zero, suc, ◌+◌, ◌*◌, ◌≤◌, ◌<◌, arith, inl, inr, Bool, true, false, not, get_or, ◌&&◌, ◌||◌, ◌==◌, List, [], ◌∷◌, ◌++◌, length, take, append_assoc, if◌then◌else◌}
-use Rattle.std.specs.Prelude.{Option, Some}
+use Rattle.std.proofs.Common.{◌≡◌, refl, ap, sym, subst, ◌∙◌, ℕ, zero, suc, ◌+◌, ◌*◌, ◌≤◌, ◌<◌, arith, inl, inr, Bool, true, false, not, get_or, ◌&&◌, ◌||◌, ◌==◌, List, [], ◌∷◌, ◌++◌, length, map, take, append_assoc, if◌then◌else◌, nat_lt}
+use Rattle.std.specs.Prelude.{Option, Some, Result, Ok, Err, OnOk}
 use Rattle.std.proofs.lemmas.Bool.{cases_eq}
 use Rattle.std.proofs.lemmas.Bool.Decides.{nat_tests}
 use Rattle.std.proofs.lemmas.Grind.{flat_map-append}
-use Rattle.std.proofs.lemmas.List.{append-nil, length-take-le, length_push, map-append, take_more}
+use Rattle.std.proofs.lemmas.List.{append-nil, length-append, length-map, map-append, take_more}
 use Rattle.fill_text.specs.Rules.{Values}
 use Rattle.fill_text.specs.declared.script.Edit.{Edit}
+use Rattle.fill_job.specs.Basis.{layers_in}
 use Rattle.fill_job.specs.Plans.{Plan, plan_of}
 use Rattle.fill_job.specs.ReadSets.{ReadSet, read_set}
-use Rattle.fill_core.specs.Accounts.{Account, IsCommitted, state_of, with_entry}
+use Rattle.fill_core.specs.Accounts.{Account, IsCommitted, opening_of, state_of, with_entry}
+use Rattle.fill_core.specs.Boxes.{no_places}
 use Rattle.fill_core.specs.Histories.{edits_by, edits_in, events_in}
-use Rattle.fill_core.specs.Machine.{State, step, with_tile}
+use Rattle.fill_core.specs.Machine.{State, opened, replay, step, with_tile}
 use Rattle.fill_core.specs.Shares.{Held}
 use Rattle.fill_core.specs.declared.book.BookError.{BookError}
 use Rattle.fill_core.specs.declared.book.BookError.TheVariants as book
@@ -22,39 +24,65 @@ use Rattle.fill_core.specs.declared.event.Reply.{Reply}
 use Rattle.fill_core.specs.Tiles.{IsNext, next_tile}
 use Rattle.fill_core.proofs.Searched.{next_first}
 use Rattle.fill_core.proofs.Written.{state_with}
+use Rattle.fill_parts.specs.Laws.{EditsOpenAnew}
+use Rattle.fill_parts.specs.PartFill.{layers_with}
 use Rattle.densfill_engine.specs.Faults.{book_fault}
-use Rattle.densfill_engine.specs.Runs.{IsFresh, IsRun, IsTooShort, most_turns, tile_count}
+use Rattle.densfill_engine.specs.Runs.{HasBrought, IsFresh, IsRun, IsTooShort, most_turns, tile_count}
 use Rattle.densfill_engine.specs.declared.refusal.RunFault.TheVariants as run
 
 -- ---- the history
 
--- one more entry has one more edit, or none
-edits_pushed : (h : List Entry) (e : Event) (reply : Reply) → edits_in (events_in (h ++ record { event = e; reply = reply } ∷ [])) ≡ edits_in (events_in h) ++ edits_by e
-edits_pushed h e reply =
-    ap edits_in (map-append (λ (x : Entry). x.event) h (record { event = e; reply = reply } ∷ []))
-    ∙ (flat_map-append edits_by (events_in h) (e ∷ []) ∙ ap (λ l. edits_in (events_in h) ++ l) (append-nil (edits_by e)))
+-- so many edits are these edits, and commits are none
+edits_of_edits : (edits : List Edit) → edits_in (map event.Edit edits) ≡ edits
+edits_of_edits [] = refl
+edits_of_edits (e ∷ es) = ap (λ l. e ∷ l) (edits_of_edits es)
+
+pub run_edited : (a b : Account) (edits : List Edit) (turns : ℕ) → IsRun a b edits turns → edits_in (events_in b.history) ≡ edits_in (events_in a.history) ++ edits
+run_edited a b edits turns run =
+    let before = edits_in (events_in a.history) in
+    ap edits_in run.events
+    ∙ (flat_map-append edits_by (events_in a.history) (map event.Edit edits ++ run.commits)
+    ∙ ap (λ l. before ++ l) (flat_map-append edits_by (map event.Edit edits) run.commits
+    ∙ (ap (λ l. edits_in (map event.Edit edits) ++ l) run.unedited ∙ (append-nil (edits_in (map event.Edit edits)) ∙ edits_of_edits edits))))
+
+pub run_brief : (a b : Account) (edits : List Edit) (turns : ℕ) → IsRun a b edits turns → length b.history ≤ length a.history + (length edits + turns)
+run_brief a b edits turns run =
+    few _ _ _ _ _ _ turns (length-map b.history (λ (x : Entry). x.event)) (ap length run.events ∙ length-append (events_in a.history) (map event.Edit edits ++ run.commits))
+    (length-map a.history (λ (x : Entry). x.event)) (length-append (map event.Edit edits) run.commits) (length-map edits event.Edit) run.brief
+  where
+    few : (eb hb ea ha m k t : ℕ) {c n : ℕ} → eb ≡ hb → eb ≡ ea + m → ea ≡ ha → m ≡ k + c → k ≡ n → c ≤ t → hb ≤ ha + (n + t)
+    few eb hb ea ha m k t e f g h i le = omega (arith, e, f, g, h, i, le)
 
 pub no_run : (a : Account) → IsRun a a [] 0
-no_run a = record { rules = refl; opening = refl; keep = refl; most = refl; edited = sym (append-nil (edits_in (events_in a.history))); brief = omega arith }
+no_run a = record { rules = refl; opening = refl; keep = refl; most = refl; commits = []; events = sym (append-nil (events_in a.history)); unedited = refl; brief = omega arith }
+
+no_more : (xs : List Event) → length xs ≤ 0 → xs ≡ []
+no_more [] le = refl
+no_more (x ∷ xs) le = absurd (omega (arith, le))
+
+-- the events of a run without a commit
+pub run_events : (a b : Account) (edits : List Edit) → IsRun a b edits 0 → events_in b.history ≡ events_in a.history ++ map event.Edit edits
+run_events a b edits run = run.events ∙ ap (λ l. events_in a.history ++ l) (ap (λ l. map event.Edit edits ++ l) (no_more run.commits run.brief) ∙ append-nil (map event.Edit edits))
 
 pub one_edit : (a b c : Account) (edits : List Edit) (k : ℕ) (e : Edit) (reply : Reply) → IsRun a b (take k edits) 0 → c ≡ with_entry b (event.Edit e) reply
     → k < length edits → e ≡ get_or edits k e → IsRun a c (take (k + 1) edits) 0
 one_edit a b c edits k e reply run is lt item =
     let taken : take (k + 1) edits ≡ take k edits ++ e ∷ [] = take_more edits k e lt ∙ ap (λ x. take k edits ++ x ∷ []) (sym item) in
-    let before = edits_in (events_in a.history) in
+    let before = events_in a.history in
+    let made = map event.Edit (take k edits) in
+    let all : map event.Edit (take (k + 1) edits) ≡ made ++ event.Edit e ∷ [] = ap (map event.Edit) taken ∙ map-append event.Edit (take k edits) (e ∷ []) in
     subst (λ (x : Account). IsRun a x (take (k + 1) edits) 0) (sym is) record {
       rules = run.rules;
       opening = run.opening;
       keep = run.keep;
       most = run.most;
-      edited = edits_pushed b.history (event.Edit e) reply ∙ (ap (λ l. l ++ e ∷ []) run.edited
-          ∙ (append_assoc before (take k edits) (e ∷ []) ∙ ap (λ l. before ++ l) (sym taken)));
-      brief = longer _ _ _ _ _ k (length_push b.history (record { event = event.Edit e; reply = reply })) run.brief (length-take-le k edits (omega (arith, lt)))
-          (length-take-le (k + 1) edits (omega (arith, lt)));
+      commits = [];
+      events = map-append (λ (x : Entry). x.event) b.history (record { event = event.Edit e; reply = reply } ∷ [])
+          ∙ (ap (λ l. l ++ event.Edit e ∷ []) (run_events a b (take k edits) run)
+          ∙ (append_assoc before made (event.Edit e ∷ []) ∙ ap (λ l. before ++ l) (sym all ∙ sym (append-nil (map event.Edit (take (k + 1) edits))))));
+      unedited = refl;
+      brief = omega arith;
     }
-  where
-    longer : (n m h t u k : ℕ) → n ≡ m + 1 → m ≤ h + (t + 0) → t ≡ k → u ≡ k + 1 → n ≤ h + (u + 0)
-    longer n m h t u k e le p q = omega (arith, e, le, p, q)
 
 pub one_more : (a b c : Account) (k : ℕ) → IsRun a b [] k → IsRun b c [] 1 → IsRun a c [] (k + 1)
 one_more a b c k first next = record {
@@ -62,11 +90,34 @@ one_more a b c k first next = record {
   opening = next.opening ∙ first.opening;
   keep = next.keep ∙ first.keep;
   most = next.most ∙ first.most;
-  edited = next.edited ∙ (append-nil (edits_in (events_in b.history)) ∙ first.edited);
-  brief = longer _ _ _ k first.brief next.brief;
+  commits = first.commits ++ next.commits;
+  events = next.events ∙ (ap (λ l. l ++ next.commits) first.events ∙ append_assoc (events_in a.history) first.commits next.commits);
+  unedited = flat_map-append edits_by first.commits next.commits ∙ (ap (λ l. l ++ edits_in next.commits) first.unedited ∙ next.unedited);
+  brief = longer _ _ _ k (length-append first.commits next.commits) first.brief next.brief;
 } where
-  longer : (n m h k : ℕ) → m ≤ h + (0 + k) → n ≤ m + (0 + 1) → n ≤ h + (0 + (k + 1))
-  longer n m h k p q = omega (arith, p, q)
+  longer : (n m h k : ℕ) → n ≡ m + h → m ≤ k → h ≤ 1 → n ≤ k + 1
+  longer n m h k e p q = omega (arith, e, p, q)
+
+-- a commit is a run of one turn
+pub one_commit : (a c : Account) (held after : Held) (version tile : ℕ) (read : ReadSet) (reply : Reply) → IsCommitted a c held after version tile read reply → IsRun a c [] 1
+one_commit a c held after version tile read reply done =
+    subst (λ (x : Account). IsRun a x [] 1) (sym done.writes.written) record {
+      rules = refl;
+      opening = refl;
+      keep = refl;
+      most = refl;
+      commits = event.Commit version tile done.same ∷ [];
+      events = map-append (λ (x : Entry). x.event) a.history (record { event = event.Commit version tile done.same; reply = reply } ∷ []);
+      unedited = refl;
+      brief = omega arith;
+    }
+
+-- the state after edits of a book without a history
+pub opened_anew : (a b : Account) (edits : List Edit) → EditsOpenAnew → IsRun a b edits 0 → a.history ≡ []
+    → state_of b ≡ opened (plan_of a.rules) (layers_with edits (opening_of a)) no_places (length edits)
+opened_anew a b edits law run blank =
+    let events : events_in b.history ≡ map event.Edit edits = run_events a b edits run ∙ ap (λ (h : List Entry). events_in h ++ map event.Edit edits) blank in
+    (λ k. replay (plan_of (run.rules k)) (layers_in (run.opening k) (run.keep k)) (events k)) ∙ law (plan_of a.rules) (opening_of a) edits
 
 -- ---- the state
 
@@ -213,7 +264,7 @@ one_brought plan s t tile n k is lt out before =
 pub full_short : (a b : Account) (k tile : ℕ) (limit : Option ℕ) → IsRun a b [] k → left (state_of b).tiles_in (tile_count a.rules) + k ≡ tile_count a.rules
     → tile < tile_count a.rules → (state_of b).tiles_in tile ≡ false → length b.history ≡ b.most → IsTooShort a.rules limit (length a.history) a.most
 full_short a b k tile limit run before lt out full =
-    inr (more a.most b.most (length a.history) (length b.history) (tile_count a.rules) k run.brief run.most full (fewer (left (state_of b).tiles_in (tile_count a.rules)) _ k before some))
+    inr (more a.most b.most (length a.history) (length b.history) (tile_count a.rules) k (run_brief a b [] k run) run.most full (fewer (left (state_of b).tiles_in (tile_count a.rules)) _ k before some))
   where
     some : left (state_of b).tiles_in (tile_count a.rules) ≡ 0 → ⊥
     some none = absurd (let e : true ≡ false = sym (none_left (state_of b).tiles_in (tile_count a.rules) none tile lt) ∙ out in cc)
@@ -238,3 +289,110 @@ pub next_at : (a b : Account) (k from tile : ℕ) (next : Option ℕ) → IsRun 
     → IsNext (tile_count a.rules) (state_of b).tiles_in from tile
 next_at a b k from tile next run first is =
     subst (λ (v : Values). IsNext (tile_count v) (state_of b).tiles_in from tile) run.rules (next_first (tile_count b.rules) (state_of b).tiles_in from tile (sym first ∙ is))
+
+-- ---- the tiles that a part needs
+
+-- what two clauses say of an end together
+pub both_on : {A E : Type 0} (result : Result A E) {P Q R : Type 0} → (P → Q → R) → OnOk result P → OnOk result Q → OnOk result R
+both_on (Ok x) f p q = f p q
+both_on (Err e) f p q = p
+
+same_tile : (needs : ℕ → Bool) (t tile : ℕ) → needs tile ≡ true → (t == tile) ≡ ((t == tile) && needs t)
+same_tile needs t tile needed = elim (cases_eq t tile) [
+  | inl is ↦ rw (is, needed) (alone (tile == tile))
+  | inr other ↦ rw (apart t tile other) refl
+]
+  where
+    alone : (b : Bool) → b ≡ b && true
+    alone true = refl
+    alone false = refl
+
+    apart : (a b : ℕ) → (a ≡ b → ⊥) → (a == b) ≡ false
+    apart a b other = grind (arith, nat_tests)
+
+other_tile : (needs : ℕ → Bool) (t tile : ℕ) → needs tile ≡ false → ((t == tile) && needs t) ≡ false
+other_tile needs t tile unneeded = elim (cases_eq t tile) [
+  | inl is ↦ rw (is, unneeded) (nothing (tile == tile))
+  | inr other ↦ rw (apart t tile other) refl
+]
+  where
+    nothing : (b : Bool) → b && false ≡ false
+    nothing true = refl
+    nothing false = refl
+
+    apart : (a b : ℕ) → (a ≡ b → ⊥) → (a == b) ≡ false
+    apart a b other = grind (arith, nat_tests)
+
+or_false : (a b : Bool) → b ≡ false → a ≡ a || b
+or_false true b h = refl
+or_false false b h = sym h
+
+-- a needed tile came in
+pub needed_came : (a b : Account) (tile : ℕ) (needs : ℕ → Bool) → IsRun a b [] 1 → state_of b ≡ with_tile (plan_of a.rules) (state_of a) tile → needs tile ≡ true
+    → HasBrought a b (λ t. (t == tile) && needs t) 1
+needed_came a b tile needs run is needed = record {
+  run = run;
+  layers = ap (λ (s : State). s.layers) is;
+  base = ap (λ (s : State). s.base) is;
+  tiles_are = λ t. ap (λ (s : State). s.tiles_in t) is ∙ ap (λ c. (state_of a).tiles_in t || c) (same_tile needs t tile needed);
+}
+
+-- and one that isn't needed didn't
+pub none_came : (a : Account) (came : ℕ → Bool) (turns : ℕ) → ((t : ℕ) → came t ≡ false) → HasBrought a a came turns
+none_came a came turns none = record {
+  run = record { rules = refl; opening = refl; keep = refl; most = refl; commits = []; events = sym (append-nil (events_in a.history)); unedited = refl; brief = omega arith };
+  layers = refl;
+  base = refl;
+  tiles_are = λ t. or_false ((state_of a).tiles_in t) (came t) (none t);
+}
+
+pub unneeded : (a : Account) (tile : ℕ) (needs : ℕ → Bool) → needs tile ≡ false → HasBrought a a (λ t. (t == tile) && needs t) 1
+unneeded a tile needs h = none_came a _ 1 (λ t. other_tile needs t tile h)
+
+pub none_before : (a : Account) (needs : ℕ → Bool) → HasBrought a a (λ t. nat_lt t 0 && needs t) 0
+none_before a needs = none_came a _ 0 (λ t. rw (not_below t) refl)
+  where
+    not_below : (t : ℕ) → nat_lt t 0 ≡ false
+    not_below t = grind (arith, nat_tests)
+
+-- the tiles before one, and it
+pub one_tile_more : (a b c : Account) (needs others : ℕ → Bool) (n : ℕ) → ((t : ℕ) → others t ≡ needs t) → HasBrought a b (λ t. nat_lt t n && needs t) n → HasBrought b c (λ t. (t == n) && others t) 1
+    → HasBrought a c (λ t. nat_lt t (n + 1) && needs t) (n + 1)
+one_tile_more a b c needs others n same first next = record {
+  run = one_more a b c n first.run next.run;
+  layers = next.layers ∙ first.layers;
+  base = next.base ∙ first.base;
+  tiles_are = λ t. next.tiles_are t ∙ (ap (λ x. x || ((t == n) && others t)) (first.tiles_are t)
+      ∙ (ap (λ x. ((state_of a).tiles_in t || (nat_lt t n && needs t)) || ((t == n) && x)) (same t)
+      ∙ (either ((state_of a).tiles_in t) (nat_lt t n) (t == n) (needs t) ∙ ap (λ x. (state_of a).tiles_in t || (x && needs t)) (sym (next_below t n)))));
+} where
+  either : (s l e m : Bool) → (s || (l && m)) || (e && m) ≡ s || ((l || e) && m)
+  either true l e m = refl
+  either false true e true = refl
+  either false true true false = refl
+  either false true false false = refl
+  either false false e m = refl
+
+  next_below : (t n : ℕ) → nat_lt t (n + 1) ≡ nat_lt t n || (t == n)
+  next_below t n = grind (arith, nat_tests)
+
+-- a tile from one on isn't in before it comes
+pub still_out : (a b : Account) (needs : ℕ → Bool) (n : ℕ) → IsFresh (state_of a) → HasBrought a b (λ t. nat_lt t n && needs t) n → (state_of b).tiles_in n ≡ false
+still_out a b needs n fresh came = came.tiles_are n ∙ rw (fresh n, not_below n) refl
+  where
+    not_below : (n : ℕ) → nat_lt n n ≡ false
+    not_below n = grind (arith, nat_tests)
+
+-- where the history is full before all tiles, there is no room for them
+pub no_room : (a b : Account) (n count : ℕ) → IsRun a b [] n → n < count → length b.history ≡ b.most → a.most < length a.history + count
+no_room a b n count run lt full = less (length b.history) (length a.history) b.most a.most n count (run_brief a b [] n run) run.most full lt
+  where
+    less : (l h m k n c : ℕ) → l ≤ h + (0 + n) → m ≡ k → l ≡ m → n < c → k < h + c
+    less l h m k n c le same full lt = omega (arith, le, same, full, lt)
+
+-- the first tiles are all tiles
+pub all_came : (a b : Account) (needs : ℕ → Bool) (n end count : ℕ) → HasBrought a b (λ t. nat_lt t n && needs t) n → end ≤ n → n ≤ end → end ≡ count → HasBrought a b (λ t. nat_lt t count && needs t) count
+all_came a b needs n end count came past below is = subst (λ k. HasBrought a b (λ t. nat_lt t k && needs t) k) (same n end count past below is) came
+  where
+    same : (n e c : ℕ) → e ≤ n → n ≤ e → e ≡ c → n ≡ c
+    same n e c p q is = omega (arith, p, q, is)

@@ -1,12 +1,11 @@
 -- What the bytes of a design draw on the layers that the rules name.
-use Rattle.std.specs.Prelude.{◌≡◌, ◌⊎◌, ◌^◌, ◌<◌, ◌≤◌, ℕ, ℤ, false, List, length, unsigned_abs, Option, Some, None, option_map}
+use Rattle.std.specs.Prelude.{◌≡◌, ◌⊎◌, ◌^◌, ◌<◌, ◌≤◌, ℕ, ℤ, false, List, length, Option, Some, None}
 use Rattle.densfill_io.specs.declared.input.InputError.TheVariants.{TooLong, Device, Memory}
-use Rattle.fill_text.specs.Rules.{Values, value_of}
-use Rattle.fill_text.specs.declared.keys.NumberKey.TheVariants as number
+use Rattle.fill_text.specs.Rules.{Values, keep_layer, metal_layer}
 use Rattle.fill_job.specs.Plans.{Layers, PointSet}
 use Rattle.gds_grammar.specs.Values.{Cell, Contents}
 use Rattle.gds_grammar.specs.Outcomes as library
-use Rattle.gds_grammar.specs.declared.wanted.Layer.{Layer}
+use Rattle.fill_base.specs.declared.layer.Layer.{Layer}
 use Rattle.gds_cells.specs.Copies.{drawn, AllStayInRange}
 use Rattle.gds_flatten.specs.Flattening as flatten
 use Rattle.gds_cells.specs.declared.error.FlattenError.{FlattenError}
@@ -15,14 +14,6 @@ use Rattle.densfill_engine.specs.declared.refusal.DesignError.TheVariants.{Libra
 use Rattle.densfill_engine.specs.declared.refusal.InputFault.{InputFault}
 use Rattle.densfill_engine.specs.declared.refusal.InputFault.TheVariants.{Unread, Refused}
 
--- the checked layer
-abbrev pub metal_layer : Values → Layer
-metal_layer values = record { layer = unsigned_abs (value_of values number.Layer); data_type = unsigned_abs (value_of values number.Datatype) }
-
--- the layer of the keep-outs, if the rules name one
-abbrev pub keep_layer : Values → Option Layer
-keep_layer values = option_map (λ k. record { layer = unsigned_abs k.0; data_type = unsigned_abs k.1 }) values.keep
-
 -- the bytes spell a library that says so, and are no more than 2^31
 pub record IsRead (bytes : List ℕ) (design : Contents) : Type 0 where
   pub short : length bytes ≤ 2 ^ 31
@@ -30,9 +21,9 @@ pub record IsRead (bytes : List ℕ) (design : Contents) : Type 0 where
 
 -- the squares are those that the top draws on the layer, and nothing is refused
 pub record IsDrawnOn (cells : List Cell) (top : List ℕ) (layer : Layer) (p : PointSet) : Type 0 where
-  pub countable : flatten.IsCountable cells top layer.layer layer.data_type
-  pub inside : AllStayInRange (flatten.copies_of cells top layer.layer layer.data_type)
-  pub squares_are : p ≡ drawn (flatten.copies_of cells top layer.layer layer.data_type)
+  pub countable : flatten.IsCountable cells top layer
+  pub inside : AllStayInRange (flatten.copies_of cells top layer)
+  pub squares_are : p ≡ drawn (flatten.copies_of cells top layer)
 
 -- the same where there is a layer, and no square where there is none
 abbrev pub IsKeptOut : List Cell → List ℕ → Option Layer → PointSet → Type 0
@@ -60,7 +51,7 @@ pub record IsDesign (bytes : List ℕ) (values : Values) (layers : Layers) (unit
 pub record IsUnflattened (bytes : List ℕ) (values : Values) (e : FlattenError) : Type 0 where
   pub design : Contents
   pub read : IsRead bytes design
-  pub refused : let layer = metal_layer values in flatten.IsRefused design.cells values.top layer.layer layer.data_type e
+  pub refused : flatten.IsRefused design.cells values.top (metal_layer values) e
 
 -- why the keep-outs' layer can't be, where the checked one is
 pub record IsUnflattenedBehind (bytes : List ℕ) (values : Values) (e : FlattenError) : Type 0 where
@@ -68,7 +59,7 @@ pub record IsUnflattenedBehind (bytes : List ℕ) (values : Values) (e : Flatten
   pub drawn : IsDrawn bytes values metal
   pub layer : Layer
   pub named : keep_layer values ≡ Some layer
-  pub refused : flatten.IsRefused drawn.design.cells values.top layer.layer layer.data_type e
+  pub refused : flatten.IsRefused drawn.design.cells values.top layer e
 
 -- Why a design of these bytes gives nothing: it could not be read, or memory ran out; it's too long; it's no library, or its top
 -- can't be flattened, for a cause of this kind.

@@ -9,6 +9,7 @@ use Rattle.fill_core.specs.Boxes.{low_fill}
 use Rattle.fill_core.specs.Histories.{edits_in}
 use Rattle.fill_core.specs.Machine.{IsComplete, replay}
 use Rattle.fill_core.specs.declared.event.Event.{Event}
+use Rattle.fill_parts.specs.PartFill.{layers_by}
 use Rattle.fill_report.specs.BookReport.{fill_report}
 use Rattle.gds_out.specs.FillText.{fill_text}
 use Rattle.densfill_engine.specs.Designs.{AreDrawn, IsDesign, IsDesignFault}
@@ -37,7 +38,7 @@ pub record IsOnlyFillOf (values : Values) (layers : Layers) (units dates library
 
 -- The texts are those of a fill of the layers in which every tile is in: some events lead to it from the opening on them, among
 -- them exactly these changes, in their order, and at most so many commits as the workers have turns. Without a change there is
--- one fill only.
+-- one fill only, and one worker makes the changes first: that is the one fill of the layers after them.
 pub record IsFillOf (values : Values) (layers : Layers) (units dates : List ℕ) (changes : List Change) (workers : ℕ) (limit : Option ℕ) (library report : List ℕ) : Type 0 where
   pub events : List Event
   pub changed : map change_of (edits_in events) ≡ changes
@@ -46,6 +47,7 @@ pub record IsFillOf (values : Values) (layers : Layers) (units dates : List ℕ)
   pub library_is : let s = replay (plan_of values) layers events in library ≡ fill_text units dates values s.fill
   pub report_is : let s = replay (plan_of values) layers events in report ≡ fill_report values s.layers.metal s.fill
   pub unedited : changes ≡ [] → IsOnlyFillOf values layers units dates library report
+  pub alone : workers ≡ 1 → IsOnlyFillOf values (layers_by changes layers) units dates library report
 
 -- the texts are those of a fill of what the three inputs say
 pub record IsFilled (rules design script : List ℕ) (workers : ℕ) (limit : Option ℕ) (library report : List ℕ) : Type 0 where

@@ -9,7 +9,8 @@ pub mod Checks
 pub mod Refusals
 pub mod Runs
 pub mod Fills
-pub mod Shapes
 pub mod PartChecks
+pub mod PartFills
 pub mod Joining
 pub mod Joiners
+pub mod OneRun

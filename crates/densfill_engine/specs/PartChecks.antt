@@ -2,19 +2,19 @@
 use Rattle.std.specs.Prelude.{◌≡◌, ◌+◌, ◌&&◌, ℕ, List, Ok}
 use Rattle.fill_base.specs.Squares.{squares}
 use Rattle.fill_base.specs.declared.rect.Rect.{Rect}
-use Rattle.fill_text.specs.Rules.{Values}
+use Rattle.fill_text.specs.Rules.{Values, metal_layer}
 use Rattle.fill_text.specs.declared.rule_error.RuleError.TheVariants as rule
 use Rattle.fill_job.specs.Plans.{PointSet}
 use Rattle.fill_parts.specs.Cuts.{Part}
 use Rattle.fill_parts.specs.PartReport.{part_check}
 use Rattle.gds_grammar.specs.Values.{Cell, Contents}
-use Rattle.gds_grammar.specs.declared.wanted.Layer.{Layer}
+use Rattle.fill_base.specs.declared.layer.Layer.{Layer}
 use Rattle.gds_cells.specs.Copies.{drawn, AllStayInRange}
 use Rattle.gds_cells.specs.Designs.{AllFine, index_of}
 use Rattle.gds_flatten.specs.Flattening as flatten
 use Rattle.gds_cells.specs.declared.error.FlattenError.{FlattenError}
 use Rattle.gds_cells.specs.declared.error.FlattenError.TheVariants as flat
-use Rattle.densfill_engine.specs.Designs.{IsFaultBy, IsRead, metal_layer}
+use Rattle.densfill_engine.specs.Designs.{IsFaultBy, IsRead}
 use Rattle.densfill_engine.specs.Inputs.{rules_answer, IsFaultOf}
 use Rattle.densfill_engine.specs.declared.refusal.DesignError.{DesignError}
 use Rattle.densfill_engine.specs.declared.refusal.DesignError.TheVariants.{Library, Flatten, Crowded}
@@ -27,9 +27,9 @@ use Rattle.densfill_engine.specs.declared.refusal.Refusal.TheVariants as refusal
 -- the squares are those that the top draws on the layer, and nothing is refused, however many copies there are
 pub record IsWholeDrawnOn (cells : List Cell) (top : List ℕ) (layer : Layer) (p : PointSet) : Type 0 where
   pub sound : flatten.IsSound cells top
-  pub fine : AllFine cells (index_of cells top) layer.layer layer.data_type
-  pub inside : AllStayInRange (flatten.copies_of cells top layer.layer layer.data_type)
-  pub squares_are : p ≡ drawn (flatten.copies_of cells top layer.layer layer.data_type)
+  pub fine : AllFine cells (index_of cells top) layer
+  pub inside : AllStayInRange (flatten.copies_of cells top layer)
+  pub squares_are : p ≡ drawn (flatten.copies_of cells top layer)
 
 -- the metal is what the design's top draws so on the checked layer
 pub record IsWholeDrawn (bytes : List ℕ) (values : Values) (metal : PointSet) : Type 0 where
@@ -55,7 +55,7 @@ pub record IsPartChecked (rules design : List ℕ) (k : Part) (text : List ℕ) 
 pub record IsUnflattenedWithin (bytes : List ℕ) (values : Values) (frame : Rect) (e : FlattenError) : Type 0 where
   pub design : Contents
   pub read : IsRead bytes design
-  pub refused : let layer = metal_layer values in flatten.IsRefusedOn design.cells values.top layer.layer layer.data_type frame e
+  pub refused : flatten.IsRefusedOn design.cells values.top (metal_layer values) frame e
 
 -- of any metal, what lies within the rectangle gives the part's lines
 abbrev pub Frames : Values → Part → Rect → Type 0

@@ -22,6 +22,7 @@ use densfill_io::{InputError, Tap, write_settled, write_text};
 use fill_book::Book;
 use fill_core::Opened;
 use fill_job::laws::rules_make_a_plan;
+use fill_parts::laws::{edits_are_changes, fill_after_edits};
 use fill_text::{Edit, Rules};
 use std::alloc::Global;
 use std::io::{Read, Write};
@@ -31,7 +32,7 @@ use std::sync::ledger::{Blank, Ledger};
 use std::thread::Threads;
 
 /// How many events the history of a run may have.
-const MOST_EVENTS: u64 = 4_294_967_296;
+pub(crate) const MOST_EVENTS: u64 = 4_294_967_296;
 
 /// The texts of a fill of the design: one worker makes the edits first and then brings the tiles, and more of them bring tiles while
 /// the edits are made.
@@ -78,6 +79,8 @@ fn fill_design<C: Opened + Send + Sync, P: Ledger + Send + Sync, W: Ledger + Sen
         let book = fill_together(rt, alloc, book, pass, edits, workers, limit)?;
         return texts_of(alloc, &book, &units, &dates);
     }
+    fill_after_edits();
+    edits_are_changes();
     edit_all(alloc, &mut book, &mut pass, edits)?;
     fill_tiles(alloc, &mut book, &mut pass, limit)?;
     texts_of(alloc, &book, &units, &dates)

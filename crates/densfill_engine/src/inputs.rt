@@ -10,19 +10,18 @@ ghost use Rattle.fill_text.specs.ValuesOfRules.{values_of};
 ghost use Rattle.fill_job.specs.Basis.{layers_in};
 ghost use Rattle.gds_flatten.specs.Flattening.{IsRefused};
 ghost use Rattle.gds_grammar.specs.Values.{contents_of};
-ghost use Rattle.densfill_engine.specs.Designs as spec;
 ghost use Rattle.densfill_engine.specs.Designs.{IsDesign, IsDesignFault, IsDrawn, IsDrawnOn, IsKeptOut, IsMetalFault};
 ghost use Rattle.densfill_engine.specs.Inputs.{rules_answer, script_answer, IsFaultOf};
 
 use crate::refusal::{DesignError, InputFault};
 use densfill_io::{InputError, Tap, read_input};
-use fill_base::Rect;
+use fill_base::{Layer, Rect};
 use fill_region::Region;
 use fill_strips::region_of_rects;
 use fill_text::{Edit, RuleError, Rules, ScriptError, read_rules, read_script};
 use gds_flatten::laws::layers_suffice;
 use gds_flatten::{FlattenError, flatten_parts};
-use gds_grammar::{Layer, Library, read_layers};
+use gds_grammar::{Library, read_layers};
 use std::alloc::{AllocError, Global};
 use std::io::Read;
 use std::thread::Threads;
@@ -57,27 +56,6 @@ pub fn take_edits<S: Read>(
     Ok(edits)
 }
 
-/// The checked layer of a GDSII library.
-pub(crate) fn metal_layer(rules: &Rules) -> Layer
-    ensures { result ≡ spec.metal_layer (values_of rules.now) }
-{
-    Layer {
-        layer: rules.layer() as u16,
-        data_type: rules.datatype() as u16,
-    }
-}
-
-/// The layer of its keep-outs, if the rules name one.
-fn keep_layer(rules: &Rules) -> Option<Layer>
-    ensures { result ≡ spec.keep_layer (values_of rules.now) }
-{
-    let (layer, data_type) = rules.keep()?;
-    Some(Layer {
-        layer: layer as u16,
-        data_type: data_type as u16,
-    })
-}
-
 /// What the library's top draws on a layer: lists of rectangles that cover it, and may overlap.
 fn drawn_on(
     rt: &(impl Threads + Sync),
@@ -87,16 +65,9 @@ fn drawn_on(
     layer: Layer,
 ) -> Result<Vec<Vec<Rect>>, FlattenError>
     ensures drawn { IfOk result (λ lists. IsDrawnOn (contents_of library.now).cells (values_of rules.now).top layer (covered (flat_map vec_items lists.items))) }
-    ensures refused { IfErr result (λ e. IsRefused (contents_of library.now).cells (values_of rules.now).top layer.layer layer.data_type e) }
+    ensures refused { IfErr result (λ e. IsRefused (contents_of library.now).cells (values_of rules.now).top layer e) }
 {
-    flatten_parts(
-        rt,
-        alloc,
-        library,
-        rules.top(),
-        layer.layer,
-        layer.data_type,
-    )
+    flatten_parts(rt, alloc, library, rules.top(), layer)
 }
 
 /// The same as a region.
@@ -108,7 +79,7 @@ fn region_on(
     layer: Layer,
 ) -> Result<Region, FlattenError>
     ensures drawn { IfOk result (λ r. IsDrawnOn (contents_of library.now).cells (values_of rules.now).top layer (holds r)) }
-    ensures refused { IfErr result (λ e. IsRefused (contents_of library.now).cells (values_of rules.now).top layer.layer layer.data_type e) }
+    ensures refused { IfErr result (λ e. IsRefused (contents_of library.now).cells (values_of rules.now).top layer e) }
 {
     let lists = drawn_on(rt, alloc, library, rules, layer)?;
     let region = region_of(rt, alloc, &lists)?;
@@ -136,7 +107,7 @@ fn kept_out(
     layer: Option<Layer>,
 ) -> Result<Region, FlattenError>
     ensures kept { IfOk result (λ r. IsKeptOut (contents_of library.now).cells (values_of rules.now).top layer (holds r)) }
-    ensures refused { IfErr result (λ e. (l : Layer) × (layer ≡ Some l) × (IsRefused (contents_of library.now).cells (values_of rules.now).top l.layer l.data_type e)) }
+    ensures refused { IfErr result (λ e. (l : Layer) × (layer ≡ Some l) × (IsRefused (contents_of library.now).cells (values_of rules.now).top l e)) }
 {
     match layer {
         Some(layer) => region_on(rt, alloc, library, rules, layer),
@@ -158,7 +129,7 @@ fn metal_of(
     ensures taken { ¬ IsErrOf result (InputFault.Unread InputError.Device) }
 {
     layers_suffice();
-    let layer = metal_layer(rules);
+    let layer = rules.metal_layer();
     let library = read_layers(alloc, bytes, &[layer])?;
     let lists = drawn_on(rt, alloc, &library, rules, layer)?;
     Ok(lists)
@@ -207,8 +178,8 @@ fn design_of(
     ensures taken { ¬ IsErrOf result (InputFault.Unread InputError.Device) }
 {
     layers_suffice();
-    let layer = metal_layer(rules);
-    let keep_layer = keep_layer(rules);
+    let layer = rules.metal_layer();
+    let keep_layer = rules.keep_layer();
     let library = read_layers(alloc, bytes, &[layer, keep_layer.unwrap_or(layer)])?;
     let metal = region_on(rt, alloc, &library, rules, layer)?;
     let keep = kept_out(rt, alloc, &library, rules, keep_layer)?;

@@ -1,29 +1,18 @@
-//! The metal that a script's edits leave of nothing, and the report of metal.
+//! The metal that a script's edits leave of nothing.
 ghost use Rattle.std.specs.Prelude.{◌≡◌, [], ◌∷◌, ◌||◌, ◌&&◌, not, ℤ, map, IfOk, IfSome};
 ghost use Rattle.std.specs.List.{flat_map};
 ghost use Rattle.std.specs.Vec.{vec_items};
 ghost use Rattle.fill_region.specs.Bands.{holds};
-ghost use Rattle.fill_report.specs.RulesReport.{metal_report};
-ghost use Rattle.fill_text.specs.ValuesOfRules.{values_of};
 ghost use Rattle.fill_text.specs.Script.{change_of};
 ghost use Rattle.densfill_engine.specs.Metal.{AreAdded, is_added, is_cut, is_metal, last_change};
-ghost use Rattle.densfill_engine.specs.Shapes.{metal_of};
+ghost use Rattle.fill_region.specs.Squares.{covered};
 
 use fill_base::Rect;
 use fill_region::Region;
-use fill_report::{OutOfMemory, report_parts, report_parts_of_rects};
-use fill_text::{Edit, Rules};
+use fill_report::OutOfMemory;
+use fill_text::Edit;
+use gds_cells::join;
 use std::alloc::{AllocError, Global};
-use std::thread::Threads;
-
-/// Metal that is measured once: as lists of the rectangles that draw it, which may overlap, or as the region that cuts have left.
-#[derive(Drop)]
-pub enum Metal {
-    /// The squares that some rectangle of some list holds.
-    Drawn(Vec<Vec<Rect>>),
-    /// The squares of the region.
-    Left(Region),
-}
 
 /// What a run of edits leaves of the squares that it touches: metal, or none.
 #[derive(Drop)]
@@ -134,20 +123,33 @@ pub fn metal_left(alloc: Global, edits: &[Edit]) -> Result<Region, AllocError>
     }
 }
 
-/// The metal that the edits leave of nothing: where they only add, as one list of their rectangles.
-pub(crate) fn metal_after(alloc: Global, edits: &[Edit]) -> Result<Metal, OutOfMemory>
-    ensures { IfOk result (λ m. metal_of m ≡ is_metal (map change_of edits.now)) }
+/// Rectangles that make up the region: its pieces, of which those that stand on one another are one.
+fn pieces_joined(alloc: Global, region: &Region) -> Result<Vec<Rect>, AllocError>
+    ensures { IfOk result (λ v. (x y : ℤ) → covered v.items x y ≡ holds region.now x y) }
+{
+    let mut rects = region.pieces(alloc)?;
+    join(alloc, &mut rects)?;
+    Ok(rects)
+}
+
+/// Rectangles of the metal that the edits leave of nothing: those that they add, where they cut nothing, and else the pieces
+/// of what is left, joined.
+fn rects_left(alloc: Global, edits: &[Edit]) -> Result<Vec<Rect>, AllocError>
+    ensures { IfOk result (λ v. covered v.items ≡ is_metal (map change_of edits.now)) }
 {
     match rects_added(alloc, edits)? {
-        Some(rects) => {
-            let lists = one_list(alloc, rects)?;
-            Ok(Metal::Drawn(lists))
-        }
-        None => {
-            let region = metal_left(alloc, edits)?;
-            Ok(Metal::Left(region))
-        }
+        Some(rects) => Ok(rects),
+        None => pieces_joined(alloc, &metal_left(alloc, edits)?),
     }
+}
+
+/// The metal that the edits leave of nothing, as one list of rectangles.
+pub(crate) fn metal_after(alloc: Global, edits: &[Edit]) -> Result<Vec<Vec<Rect>>, OutOfMemory>
+    ensures { IfOk result (λ lists. covered (flat_map vec_items lists.items) ≡ is_metal (map change_of edits.now)) }
+{
+    let rects = rects_left(alloc, edits)?;
+    let lists = one_list(alloc, rects)?;
+    Ok(lists)
 }
 
 /// The list alone.
@@ -157,26 +159,4 @@ fn one_list(alloc: Global, rects: Vec<Rect>) -> Result<Vec<Vec<Rect>>, AllocErro
     let mut lists = Vec::new(alloc);
     lists.push(rects)?;
     Ok(lists)
-}
-
-/// The density report of metal, in parts that are its text one after another. Rectangles are measured as they are, with no
-/// region in between, and their lists are let go of before a line of the report is made.
-pub(crate) fn report_of_metal(
-    rt: &(impl Threads + Sync),
-    alloc: Global,
-    metal: Metal,
-    rules: &Rules,
-) -> Result<Vec<Vec<u8>>, OutOfMemory>
-    ensures { IfOk result (λ v. flat_map vec_items v.items ≡ metal_report (metal_of metal) (values_of rules.now)) }
-{
-    match metal {
-        Metal::Drawn(lists) => {
-            let parts = report_parts_of_rects(rt, alloc, lists, rules)?;
-            Ok(parts)
-        }
-        Metal::Left(region) => {
-            let parts = report_parts(rt, alloc, &region, rules)?;
-            Ok(parts)
-        }
-    }
 }

@@ -24,7 +24,7 @@ use std::io::{Read, Write};
 use std::thread::Threads;
 
 /// The fault of a design within a part's rectangle, as it is told: too many shapes with the part.
-fn told_in(part: Part, fault: InputFault<DesignError>) -> InputFault<DesignError>
+pub(crate) fn told_in(part: Part, fault: InputFault<DesignError>) -> InputFault<DesignError>
     ensures { result ≡ told_in part fault }
 {
     match fault {
@@ -125,7 +125,7 @@ pub fn check_part<R: Read, D: Read, W: Write>(
 {
     let values = take_rules(alloc, rules)?;
     let frame = part.window_rect(&values);
-    let rects = match take_metal_within(alloc, design, &values, &frame) {
+    let rects = match take_metal_within(rt, alloc, design, &values, &frame) {
         Ok(rects) => rects,
         Err(fault) => return Err(Refusal::Design(told_in(part, fault))),
     };

@@ -1,42 +1,47 @@
 //! The density reports: of the metal that a script leaves of nothing, and of the metal that a design draws, from bytes to bytes.
 ghost use Rattle.std.specs.Prelude.{◌≡◌, ◌↔◌, ◌⊎◌, ℕ, List, true, false, take, IfErr, IfSome, IsOk, IsOkAnd, OnErr, OnOk};
 ghost use Rattle.std.specs.Io.KnownBytes.{Appends};
+ghost use Rattle.std.specs.List.{flat_map};
+ghost use Rattle.std.specs.Vec.{vec_items};
 ghost use Rattle.densfill_io.specs.Taps.{has_failed, under};
+ghost use Rattle.fill_region.specs.Squares.{covered};
 ghost use Rattle.fill_report.specs.RulesReport.{metal_report};
 ghost use Rattle.fill_text.specs.ValuesOfRules.{values_of};
-ghost use Rattle.densfill_engine.specs.Shapes.{metal_of};
 ghost use Rattle.densfill_engine.specs.Inputs.{is_of_rules, rules_answer};
 ghost use Rattle.densfill_engine.specs.Rects.{report_answer, IsReason};
 ghost use Rattle.densfill_engine.specs.Checks.{IsChecked, IsCheckReason};
 
 use crate::inputs::{take_edits, take_metal, take_rules};
-use crate::metal::{Metal, metal_after, report_of_metal};
+use crate::metal::metal_after;
 use crate::refusal::{InputFault, Refusal, RunFault};
 use densfill_io::{InputError, Tap, write_texts};
+use fill_base::Rect;
+use fill_report::report_of_rects;
 use fill_text::Rules;
 use std::alloc::Global;
 use std::io::{Read, Write};
 use std::thread::Threads;
 
-/// Writes the report of the metal, whole, part by part. The metal is taken, and let go of before a byte is written.
+/// Writes the report of the squares that some rectangle of some list holds, whole, section by section. The lists are taken, and let go
+/// of before a byte is written.
 fn write_report<W: Write>(
     rt: &(impl Threads + Sync),
     alloc: Global,
-    metal: Metal,
+    lists: Vec<Vec<Rect>>,
     rules: &Rules,
     out: &mut Tap<W>,
 ) -> Result<(), Refusal>
     requires { has_failed out.old ≡ false }
     ensures device { (result ≡ Err Refusal.Report) ↔ (has_failed out.new ≡ true) }
     ensures whole { OnOk result (Appends (W.contents (under out.old)) (W.contents (under out.new))
-        (metal_report (metal_of metal) (values_of rules.now))) }
+        (metal_report (covered (flat_map vec_items lists.items)) (values_of rules.now))) }
     ensures prefix { result ≡ Err Refusal.Report → (k : ℕ) × Appends (W.contents (under out.old)) (W.contents (under out.new))
-        (take k (metal_report (metal_of metal) (values_of rules.now))) }
+        (take k (metal_report (covered (flat_map vec_items lists.items)) (values_of rules.now))) }
     ensures refused { IfErr result (λ e. (e ≡ Refusal.Report) ⊎ (e ≡ Refusal.Run RunFault.Memory)) }
     ensures silent { OnErr result ((has_failed out.new ≡ true) ⊎ (out.new ≡ out.old)) }
 {
-    let parts = report_of_metal(rt, alloc, metal, rules)?;
-    write_texts(out, &parts)?;
+    let sections = report_of_rects(rt, alloc, lists, rules)?;
+    write_texts(out, &sections)?;
     Ok(())
 }
 
@@ -79,8 +84,8 @@ pub fn rects<R: Read, S: Read, W: Write>(
 {
     let values = take_rules(alloc, rules)?;
     let edits = take_edits(alloc, script)?;
-    let metal = metal_after(alloc, &edits)?;
-    write_report(rt, alloc, metal, &values, out)?;
+    let lists = metal_after(alloc, &edits)?;
+    write_report(rt, alloc, lists, &values, out)?;
     Ok(())
 }
 
@@ -123,6 +128,6 @@ pub fn check<R: Read, D: Read, W: Write>(
 {
     let values = take_rules(alloc, rules)?;
     let lists = take_metal(rt, alloc, design, &values)?;
-    write_report(rt, alloc, Metal::Drawn(lists), &values, out)?;
+    write_report(rt, alloc, lists, &values, out)?;
     Ok(())
 }

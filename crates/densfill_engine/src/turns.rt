@@ -1,14 +1,19 @@
 //! What a run does with a book: it makes the script's edits, and then brings tile after tile.
-ghost use Rattle.std.specs.Prelude.{◌≡◌, ◌<◌, ◌≤◌, ◌+◌, ◌*◌, ◌^◌, false, [], length, OnOk};
+ghost use Rattle.std.specs.Prelude.{◌≡◌, ◌<◌, ◌≤◌, ◌+◌, ◌*◌, ◌^◌, ◌&&◌, ◌==◌, false, [], length, nat_lt, OnOk};
 ghost use Rattle.fill_raster.specs.Lattice.{tiles};
 ghost use Rattle.fill_job.specs.Plans.{plan_of};
-ghost use Rattle.fill_core.specs.Accounts.{state_of};
-ghost use Rattle.fill_core.specs.Machine.{IsComplete, with_tile};
-ghost use Rattle.densfill_engine.specs.Runs.{IsFresh, IsRun, IsTooShort};
+ghost use Rattle.fill_core.specs.Accounts.{opening_of, state_of};
+ghost use Rattle.fill_core.specs.Boxes.{no_places};
+ghost use Rattle.fill_core.specs.Machine.{IsComplete, opened, with_tile};
+ghost use Rattle.fill_parts.specs.Needs.{needs_tile};
+ghost use Rattle.fill_parts.specs.PartFill.{layers_with};
+ghost use Rattle.densfill_engine.specs.Runs.{HasBrought, IsFresh, IsRun, IsTooShort, tile_count};
 ghost use Rattle.densfill_engine.specs.Runs as spec;
 
 use crate::refusal::RunFault;
 use fill_core::{FillBook, Pass};
+use fill_parts::Part;
+use fill_parts::laws::edits_open_anew;
 use fill_text::Edit;
 use std::alloc::Global;
 
@@ -21,10 +26,13 @@ pub fn edit_all<B: FillBook>(
 ) -> Result<(), RunFault>
     requires fresh { IsFresh (state_of (B.account book.old)) }
     ensures edited { OnOk result (IsRun (B.account book.old) (B.account book.new) edits.now 0) }
+    ensures opened { let a = B.account book.old in a.history ≡ []
+        → OnOk result (state_of (B.account book.new) ≡ opened (plan_of a.rules) (layers_with edits.now (opening_of a)) no_places (length edits.now)) }
     ensures fresh { OnOk result (IsFresh (state_of (B.account book.new))) }
     ensures full { result ≡ Err RunFault.Unfinished → (B.account book.old).most < length (B.account book.old).history + length edits.now }
     ensures own { result ≡ Err RunFault.Mixed → ⊥ }
 {
+    edits_open_anew();
     for edit in edits {
         book.edit(alloc, pass, *edit)?;
     }
@@ -50,6 +58,48 @@ fn bring<B: FillBook>(
         return Err(RunFault::Memory);
     };
     book.commit(alloc, pass, &proposal)?;
+    Ok(())
+}
+
+/// Brings a tile that isn't in, if the part needs it.
+fn bring_needed<B: FillBook>(
+    alloc: Global,
+    book: &mut B,
+    pass: &mut Pass<B::Calls, B::Placed, B::Withdrawn>,
+    part: Part,
+    tile: u32,
+) -> Result<(), RunFault>
+    requires tile { tile < tiles (plan_of (B.account book.old).rules).raster }
+    requires out { (state_of (B.account book.old)).tiles_in tile ≡ false }
+    ensures brought { let a = B.account book.old in OnOk result (HasBrought a (B.account book.new) (λ t. (t == tile) && needs_tile (plan_of a.rules) part t) 1) }
+    ensures full { let a = B.account book.old in result ≡ Err RunFault.Unfinished → length a.history ≡ a.most }
+    ensures own { result ≡ Err RunFault.Mixed → ⊥ }
+{
+    if part.needs_tile(book.rules(), tile) {
+        return bring(alloc, book, pass, tile);
+    }
+    Ok(())
+}
+
+/// Brings the tiles that a part needs, one after another.
+///
+/// # Errors
+/// `Unfinished` where the history has no room for all tiles; `Memory` where memory is refused.
+pub fn fill_needed<B: FillBook>(
+    alloc: Global,
+    book: &mut B,
+    pass: &mut Pass<B::Calls, B::Placed, B::Withdrawn>,
+    part: Part,
+) -> Result<(), RunFault>
+    requires fresh { IsFresh (state_of (B.account book.old)) }
+    ensures brought { let a = B.account book.old in
+        OnOk result (HasBrought a (B.account book.new) (λ t. nat_lt t (tile_count a.rules) && needs_tile (plan_of a.rules) part t) (tile_count a.rules)) }
+    ensures unfinished { let a = B.account book.old in result ≡ Err RunFault.Unfinished → a.most < length a.history + tile_count a.rules }
+    ensures own { result ≡ Err RunFault.Mixed → ⊥ }
+{
+    for tile in 0..book.rules().raster().tiles() {
+        bring_needed(alloc, book, pass, part, tile)?;
+    }
     Ok(())
 }
 

@@ -333,6 +333,7 @@ Arguments:
 Options:
       --workers <NUMBER>  How many workers: 1 to 64
       --limit <NUMBER>    How many turns at most
+      --part <K/N>        Part K of N alone: 1 to N of 1 to 4096
   -h, --help              Print help
 ",
     )

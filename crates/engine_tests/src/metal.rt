@@ -1,6 +1,6 @@
 use fill_base::Rect;
 use fill_region::Region;
-use fill_report::{report_of, report_parts_of_rects};
+use fill_report::{report_of, report_of_rects};
 use fill_text::{Rules, read_rules};
 use std::alloc::Global;
 use std::test::Fail;
@@ -156,7 +156,7 @@ fn parts_have_the_lines_of_neighbouring_windows(rt: HostRuntime) -> Result<(), F
     lists.push(Vec::new(rt.alloc()))?;
     lists.push(vec![in rt.alloc(); Rect::new(125, 3, 126, 4)?]?)?;
     lists.push(vec![in rt.alloc(); Rect::new(125, 3, 126, 4)?]?)?;
-    let parts = report_parts_of_rects(&rt, rt.alloc(), lists, &rules)?;
+    let parts = report_of_rects(&rt, rt.alloc(), lists, &rules)?;
     let text = parts.concat(rt.alloc())?;
     let lines = text.iter().filter(|c| **c == b'\n').count();
     assert_eq!(rt; lines, 100_000);

@@ -1,14 +1,16 @@
-//! A chip in parts: the lines of its parts, and their fill libraries taken one behind another.
+//! A chip in parts: the lines and the fill of its parts, and their fill libraries taken one behind another.
 
 use crate::fills::{NO_BOX, fill_of};
 use crate::inputs::{EMPTY, RULES};
 use crate::keepouts::{SQUARE, checked, design_with};
-use densfill_engine::{InputFault, Refusal, check_part, join_part};
+use densfill_engine::{Filled, InputFault, Refusal, check_part, join_part, prepare_part};
 use densfill_io::Tap;
 use fill_parts::Part;
 use fill_text::read_rules;
 use gds_join::{PartError, fill_text, no_places};
 use std::alloc::Global;
+use std::sync::Wait;
+use std::sync::ledger::Blank;
 use std::test::Fail;
 use std::thread::Threads;
 
@@ -65,6 +67,56 @@ fn lines_of_all_parts_are_the_report(rt: HostRuntime) -> Result<(), Fail> {
         }
         assert!(rt; joined == whole);
     }
+    Ok(())
+}
+
+/// The fill of a part of a design.
+fn part_fill(
+    rt: &(impl Threads + Wait + Sync),
+    alloc: Global,
+    design: &[u8],
+    script: &[u8],
+    part: Part,
+) -> Result<Filled, Refusal> {
+    prepare_part(
+        rt,
+        alloc,
+        Blank::new(1024),
+        Blank::new(1024),
+        Blank::new(1024),
+        &mut Tap::new(RULES),
+        &mut Tap::new(design),
+        &mut Tap::new(script),
+        part,
+    )
+}
+
+/// A square that the script moves, over the cut: one run of one worker, and its two parts.
+#[test]
+fn parts_of_a_fill_are_one_run(rt: HostRuntime) -> Result<(), Fail> {
+    let alloc = rt.alloc();
+    let rules = read_rules(alloc, RULES)?;
+    let design = design_with(alloc, &[(7, SQUARE)])?;
+    let script = b"cut,0,0,100,60\nadd,0,40,30,45\nkeep,60,0,64,100\n".as_slice();
+    let whole = fill_of(&rt, alloc, RULES, design.as_slice(), script, 1, None)?;
+    let low = part_fill(&rt, alloc, &design, script, part(1, 2)?)?;
+    let high = part_fill(&rt, alloc, &design, script, part(2, 2)?)?;
+    let mut report = low.report;
+    report.extend_from_slice(&high.report)?;
+    assert!(rt; report == whole.report);
+    let mut filled = no_places(alloc, &rules)?;
+    let mut below = Tap::new(low.library.as_slice());
+    let first = join_part(alloc, &rules, &mut filled, None, part(1, 2)?, &mut below)?;
+    let mut above = Tap::new(high.library.as_slice());
+    let (units, dates) = join_part(
+        alloc,
+        &rules,
+        &mut filled,
+        Some(first),
+        part(2, 2)?,
+        &mut above,
+    )?;
+    assert!(rt; fill_text(alloc, &units, &dates, &rules, &filled)? == whole.library);
     Ok(())
 }
 

@@ -6,7 +6,7 @@ ghost use Rattle.fill_base.specs.Limits.{IsLength};
 ghost use Rattle.fill_area.specs.Axes.{IsCount, IsAxis, IsExtent, IsTouching, IsContaining, IsRangeOf, axis_end};
 ghost use Rattle.fill_area.specs.steps.Begun.{IsBegun, IsLimit};
 
-use fill_base::rect::{HIGHEST, is_coordinate};
+use fill_base::{HIGHEST, is_coordinate};
 use std::ops::Range;
 
 /// The longest side and step of a window, in database units.

@@ -12,8 +12,7 @@ ghost use Rattle.fill_area.specs.steps.Lines.{RowAdded};
 
 use crate::axis::Axis;
 use crate::parts::{Clip, Parts};
-use fill_base::rect::{HIGHEST, LOWEST};
-use fill_base::{Point, Rect};
+use fill_base::{HIGHEST, LOWEST, Point, Rect};
 use fill_spans::Spans;
 use std::marker::Model;
 use std::ops::Range;

@@ -1,12 +1,14 @@
-//! Rectangles, points and raster places of a layout, in database units. A rectangle is the set of
-//! unit squares that it holds; the layers above rely on that, on its order and on its range.
+//! Rectangles, points, layers and raster places of a layout, in database units. A rectangle is the
+//! set of unit squares that it holds; the layers above rely on that, on its order and on its range.
 #![tactic(auto)]
 
-pub mod place;
-pub mod rect;
+mod layer;
+mod place;
+mod rect;
 
+pub use layer::Layer;
 pub use place::{Place, Point};
-pub use rect::{Rect, RectError};
+pub use rect::{HIGHEST, LOWEST, Rect, RectError, is_coordinate};
 
 #[cfg(test)]
 mod tests;

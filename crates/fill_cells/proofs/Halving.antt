@@ -19,7 +19,7 @@ area_split_across p left mid right bottom top low high =
     sum_between_add (λ y. count_between (λ x. p x y) left mid) (λ y. count_between (λ x. p x y) mid right) (λ y. count_between (λ x. p x y) left right) bottom top
     (λ y. sum_between_split (λ x. cond (p x y) 1 0) left mid right low high)
 
--- and at a line
+-- and at a cut
 pub area_split_up : (p : ℤ → ℤ → Bool) (left right bottom mid top : ℤ) → bottom ≤ℤ mid → mid ≤ℤ top
     → area_between p left bottom right top ≡ area_between p left bottom right mid + area_between p left mid right top
 area_split_up p left right bottom mid top low high = sum_between_split (λ y. count_between (λ x. p x y) left right) bottom mid top low high
@@ -64,10 +64,10 @@ same_within p q part same =
 -- no area is above 2^62
 pub area_small : (p : ℤ → ℤ → Bool) (part : Rect) → area_of p part ≤ 2 ^ 62
 area_small p part =
-    let lines : area_of p part ≤ span_len part.y1 part.y2 * span_len part.x1 part.x2 =
+    let cuts : area_of p part ≤ span_len part.y1 part.y2 * span_len part.x1 part.x2 =
     sum_between_le (λ y. count_between (λ x. p x y) part.x1 part.x2) part.y1 part.y2 (span_len part.x1 part.x2) (λ y. count_between_le (λ x. p x y) part.x1 part.x2) in
     let product = product_small (span_len part.y1 part.y2) (span_len part.x1 part.x2) (short part.y1 part.y2 part.bottom part.tall part.top) (short part.x1 part.x2 part.left part.wide part.right) in
-    omega (arith, lines, product)
+    omega (arith, cuts, product)
   where
     short : (a b : ℤ) → lowest ≤ℤ a → a <ℤ b → b ≤ℤ highest → span_len a b ≤ 2 ^ 31
     short a b low lt high = side_short a b low (lt_le a b lt) high

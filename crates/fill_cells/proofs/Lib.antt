@@ -5,6 +5,6 @@ pub mod Gaps
 pub mod Sharing
 pub mod Listing
 pub mod RowAreas
-pub mod DistinctLines
+pub mod DistinctCuts
 pub mod Towers
 pub mod SkylineAreas

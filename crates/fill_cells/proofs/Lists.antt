@@ -178,7 +178,7 @@ y2_fits r = let a = r.bottom in let b = r.tall in let c = r.top in omega (arith,
 pub least_low : (a b m : ℤ) → lowest ≤ℤ a → lowest ≤ℤ b → m ≡ int_min a b → lowest ≤ℤ m
 least_low a b m first second is = omega (arith, ints, clamps, is)
 
--- a line right of an edge, and one left of it
+-- a cut right of an edge, and one left of it
 pub edge_lt : (e v m : ℤ) → FitsSigned w64 e → v ≡ e → read v <ℤ m → e <ℤ m
 edge_lt e v m fits same lt = subst (λ z. z <ℤ m) (ap read same ∙ read_is e fits) lt
 

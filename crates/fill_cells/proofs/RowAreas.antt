@@ -11,10 +11,10 @@ use Rattle.fill_base.specs.Squares.{squares, area_between, area_of}
 use Rattle.fill_base.proofs.Between.{is_between_true, is_between_bounds}
 use Rattle.fill_base.proofs.Signed.{read, read_is, le_trans, pos_fits}
 use Rattle.fill_region.specs.Squares.{covered}
-use Rattle.fill_cells.specs.Mesh.{gaps, AreLines, AreRowAreas}
+use Rattle.fill_cells.specs.Mesh.{gaps, AreCuts, AreRowAreas}
 use Rattle.fill_cells.specs.steps.Parts.{AreShares}
 use Rattle.fill_cells.specs.steps.Within.{AreWithin}
-use Rattle.fill_cells.proofs.Gaps.{line_le}
+use Rattle.fill_cells.proofs.Gaps.{cut_le}
 use Rattle.fill_cells.proofs.Halving.{same_within, area_small}
 
 and_both : (a b : Bool) → a && b ≡ true → (a ≡ true) × (b ≡ true)
@@ -83,11 +83,11 @@ first_all p across from to from' to' i n areas from_is to_is count least most fi
 
 -- the area of a cell is that of the rectangles shared out to it
 pub cell_is : (across : List ℤ) (row part : Rect) (from to area : ℤ) (i : ℕ) (p : ℤ → ℤ → Bool) (rects list : List Rect) (cells : List (Vec Rect)) (cell : Vec Rect)
-    → AreLines across → i < gaps across → row.x1 ≡ get_or across 0 (pos 0) → row.x2 ≡ get_or across (length across - 1) (pos 0) → row.y1 ≡ from → row.y2 ≡ to
+    → AreCuts across → i < gaps across → row.x1 ≡ get_or across 0 (pos 0) → row.x2 ≡ get_or across (length across - 1) (pos 0) → row.y1 ≡ from → row.y2 ≡ to
     → (part.x1 ≡ get_or across i (pos 0)) × (part.y1 ≡ from) × (part.x2 ≡ get_or across (i + 1) (pos 0)) × (part.y2 ≡ to)
     → AreWithin row p rects → AreShares row across (covered rects) cells → cell ≡ get_or cells i cell → list ≡ cell.items → area ≡ pos (area_of (covered list) part)
     → (d : ℤ) → read area ≡ pos (area_between p (get_or across i d) from (get_or across (i + 1) d) to)
-cell_is across row part from to area i p rects list cells cell lines i_in left right bottom top edges listed shares item items is d =
+cell_is across row part from to area i p rects list cells cell cuts i_in left right bottom top edges listed shares item items is d =
     area_read (covered list) part area is ∙ ap pos (same_within (covered list) p part within ∙ placed)
   where
     first_in : i < length across
@@ -99,8 +99,8 @@ cell_is across row part from to area i p rects list cells cell lines i_in left r
     in_row : (x y : ℤ) → squares part x y ≡ true → squares row x y ≡ true
     in_row x y inside =
         let held = squares_bounds part x y inside in
-        let low : row.x1 ≤ℤ x = le_trans row.x1 part.x1 x (rw (left, edges.0) (line_le across 0 i (pos 0) lines (omega arith) first_in)) held.0 in
-        let high : x <ℤ row.x2 = lt_le_trans x part.x2 row.x2 held.1 (rw (right, edges.2) (line_le across (i + 1) (length across - 1) (pos 0) lines (omega (arith, i_in)) (omega (arith, i_in)))) in
+        let low : row.x1 ≤ℤ x = le_trans row.x1 part.x1 x (rw (left, edges.0) (cut_le across 0 i (pos 0) cuts (omega arith) first_in)) held.0 in
+        let high : x <ℤ row.x2 = lt_le_trans x part.x2 row.x2 held.1 (rw (right, edges.2) (cut_le across (i + 1) (length across - 1) (pos 0) cuts (omega (arith, i_in)) (omega (arith, i_in)))) in
         rw (is_between_true row.x1 row.x2 x low high, is_between_true row.y1 row.y2 y (rw (bottom, ← edges.1) held.2) (rw (top, ← edges.3) held.3)) refl
       where
         lt_le_trans : (a b c : ℤ) → a <ℤ b → b ≤ℤ c → a <ℤ c

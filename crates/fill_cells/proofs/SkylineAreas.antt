@@ -98,9 +98,9 @@ counted_parted towers column read_column count k same all counted = (
 in_columns : (r : Rect) (x y : ℤ) → squares r x y ≡ true → (r.x1 ≤ℤ x) × (x <ℤ r.x2)
 in_columns r x y here = is_between_bounds r.x1 r.x2 x (and_parts (is_between r.x1 r.x2 x) (is_between r.y1 r.y2 y) here).0
 
--- a line of a rectangle
-in_lines : (r : Rect) (x y : ℤ) → squares r x y ≡ true → (r.y1 ≤ℤ y) × (y <ℤ r.y2)
-in_lines r x y here = is_between_bounds r.y1 r.y2 y (and_parts (is_between r.x1 r.x2 x) (is_between r.y1 r.y2 y) here).1
+-- a cut of a rectangle
+in_cuts : (r : Rect) (x y : ℤ) → squares r x y ≡ true → (r.y1 ≤ℤ y) × (y <ℤ r.y2)
+in_cuts r x y here = is_between_bounds r.y1 r.y2 y (and_parts (is_between r.x1 r.x2 x) (is_between r.y1 r.y2 y) here).1
 
 lt_le_lt : (a b c : ℤ) → a <ℤ b → b ≤ℤ c → a <ℤ c
 lt_le_lt a b c h k = omega (arith, ints, clamps)
@@ -172,9 +172,9 @@ IsPiece piece r part = (x y : ℤ) → squares piece x y ≡ squares r x y && sq
 in_both : (piece r part : Rect) → IsPiece piece r part → LiesIn r piece × LiesIn part piece
 in_both piece r part each = (lies_in part r piece (λ x y. each x y ∙ and_comm (squares r x y) (squares part x y)), lies_in r part piece each)
 
--- a line that is above the lower edges of both is above that of the piece
+-- a cut that is above the lower edges of both is above that of the piece
 low_of : (piece r part : Rect) (y : ℤ) → IsPiece piece r part → r.y1 ≤ℤ y → part.y1 ≤ℤ y → piece.y1 ≤ℤ y
-low_of piece r part y each low_r low_part = by_lt_z y piece.y1 (λ below. (in_lines piece piece.x1 y (each piece.x1 y ∙ and_from _ _
+low_of piece r part y each low_r low_part = by_lt_z y piece.y1 (λ below. (in_cuts piece piece.x1 y (each piece.x1 y ∙ and_from _ _
     (within r (in_both piece r part each).0 low_r below) (within part (in_both piece r part each).1 low_part below))).0) (λ le. le)
   where
     within : (w : Rect) → LiesIn w piece → w.y1 ≤ℤ y → y <ℤ piece.y1 → squares w piece.x1 y ≡ true
@@ -210,7 +210,7 @@ alike : (rects sorted towers : List Rect) (part r piece : Rect) (k : ℕ) (area 
     → (x y : ℤ) → squares piece x y ≡ true → covered towers x y ≡ covered (take k sorted) x y
 alike rects sorted towers part r piece k area raised lt item each x y here =
     let both = and_parts (squares r x y) (squares part x y) (sym (each x y) ∙ here) in
-    raised.ahead x y k r (omega arith) lt (subst (λ q. q.y1 ≤ℤ y) item (in_lines r x y both.0).0) both.1
+    raised.ahead x y k r (omega arith) lt (subst (λ q. q.y1 ≤ℤ y) item (in_cuts r x y both.0).0) both.1
 
 -- in the part, a piece is its rectangle
 whole : (piece r part : Rect) (x y : ℤ) → IsPiece piece r part → squares part x y ≡ true → squares r x y ≡ squares piece x y
@@ -256,7 +256,7 @@ raised_more rects sorted towers new part r piece k area n raised lt item each n_
   begun = λ j d y le inside low low_part i e within. le_trans (get_or new i e).y1 piece.y1 y (settled.skyline.begun i e within)
       (low_of piece r part y each (le_trans r.y1 (get_or sorted j d).y1 y (later j d le inside) low) low_part);
   ahead = λ x y j d le inside low here.
-      settled.squares x y (low_of piece r part y each (le_trans r.y1 (get_or sorted j d).y1 y (later j d le inside) low) (in_lines part x y here).0)
+      settled.squares x y (low_of piece r part y each (le_trans r.y1 (get_or sorted j d).y1 y (later j d le inside) low) (in_cuts part x y here).0)
       ∙ (ap (λ b. b || squares piece x y) (raised.ahead x y j d (omega (arith, le)) inside low here)
       ∙ (ap (λ b. covered (take k sorted) x y || b) (sym (whole piece r part x y each here)) ∙ sym (pushed sorted k r lt item x y)));
   counted = (raised_sum rects sorted towers part r piece k area n raised lt item each n_is).1;

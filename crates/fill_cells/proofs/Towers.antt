@@ -82,16 +82,16 @@ around A C t r is = record {
     behind : (k : ℕ) (d : Rect) → get_or (A ++ t ∷ C) (length A + suc k) d ≡ get_or C k d
     behind k d = get_or-append-add A (t ∷ C) (suc k) d
 
--- towers from a column on, and towers up to a column, which begin at a line or below
-pub record Stands (line m : ℤ) (D : List Rect) : Type 0 where
+-- towers from a column on, and towers up to a column, which begin at a cut or below
+pub record Stands (cut m : ℤ) (D : List Rect) : Type 0 where
   pub apart : AreApart D
   pub from : All (λ q. m ≤ℤ q.x1) D
-  pub begun : All (λ q. q.y1 ≤ℤ line) D
+  pub begun : All (λ q. q.y1 ≤ℤ cut) D
 
-pub record Ends (line m : ℤ) (A : List Rect) : Type 0 where
+pub record Ends (cut m : ℤ) (A : List Rect) : Type 0 where
   pub apart : AreApart A
   pub upto : All (λ q. q.x2 ≤ℤ m) A
-  pub begun : All (λ q. q.y1 ≤ℤ line) A
+  pub begun : All (λ q. q.y1 ≤ℤ cut) A
 
 le_lt_le : (a b c d : ℤ) → a ≤ℤ b → b <ℤ c → c ≤ℤ d → a ≤ℤ d
 le_lt_le a b c d h k l = omega (arith, ints, clamps)
@@ -99,21 +99,21 @@ le_lt_le a b c d h k l = omega (arith, ints, clamps)
 le_lt : (a b c : ℤ) → a ≤ℤ b → b <ℤ c → a <ℤ c
 le_lt a b c h k = omega (arith, ints, clamps)
 
-one_more : (line m : ℤ) (q : Rect) (D : List Rect) → m ≤ℤ q.x1 → q.y1 ≤ℤ line → Stands line q.x2 D → Stands line m (q ∷ D)
-one_more line m q D from begun rest = record {
+one_more : (cut m : ℤ) (q : Rect) (D : List Rect) → m ≤ℤ q.x1 → q.y1 ≤ℤ cut → Stands cut q.x2 D → Stands cut m (q ∷ D)
+one_more cut m q D from begun rest = record {
   apart = AllPairs-cons Left q D rest.from rest.apart;
   from = All-cons (λ p. m ≤ℤ p.x1) q D from (λ k d lt. le_lt_le m q.x1 q.x2 (get_or D k d).x1 from q.wide (rest.from k d lt));
-  begun = All-cons (λ p. p.y1 ≤ℤ line) q D begun rest.begun;
+  begun = All-cons (λ p. p.y1 ≤ℤ cut) q D begun rest.begun;
 }
 
-standing : (line m : ℤ) (A D : List Rect) → Ends line m A → Stands line m D → IsSkyline line (A ++ D)
-standing line m A D ends stands = record {
+standing : (cut m : ℤ) (A D : List Rect) → Ends cut m A → Stands cut m D → IsSkyline cut (A ++ D)
+standing cut m A D ends stands = record {
   apart = joined A D m ends.apart stands.apart ends.upto stands.from;
-  begun = All-append (λ q. q.y1 ≤ℤ line) A D ends.begun stands.begun;
+  begun = All-append (λ q. q.y1 ≤ℤ cut) A D ends.begun stands.begun;
 }
 
-beyond : (line m n : ℤ) (D : List Rect) → n ≤ℤ m → Stands line m D → All (λ q. n <ℤ q.x2) D
-beyond line m n D le stands k d lt = le_lt n (get_or D k d).x1 (get_or D k d).x2 (le_trans n m (get_or D k d).x1 le (stands.from k d lt)) (get_or D k d).wide
+beyond : (cut m n : ℤ) (D : List Rect) → n ≤ℤ m → Stands cut m D → All (λ q. n <ℤ q.x2) D
+beyond cut m n D le stands k d lt = le_lt n (get_or D k d).x1 (get_or D k d).x2 (le_trans n m (get_or D k d).x1 le (stands.from k d lt)) (get_or D k d).wide
 
 opened : (X Y new : List Rect) (n : ℕ) (r : Rect) → new ≡ X ++ Y → n ≡ length X → IsSkyline r.y1 new → All (λ q. q.x2 ≤ℤ r.x1) X → All (λ q. r.x1 <ℤ q.x2) Y → IsOpen new n r
 opened X Y new n r new_is n_is skyline before after = record {
@@ -134,8 +134,8 @@ columns_squares l r from to x y is = rw (is.0, is.1, is.2, is.3) refl
 both_parts : (A D : List Rect) (x y : ℤ) → covered (A ++ D) x y ≡ (covered A x y || covered D x y)
 both_parts A D x y = list_any-append (λ q. squares q x y) A D
 
-weaker : (line m n : ℤ) (D : List Rect) → n ≤ℤ m → Stands line m D → Stands line n D
-weaker line m n D le stands = record { apart = stands.apart; from = λ k d lt. le_trans n m (get_or D k d).x1 le (stands.from k d lt); begun = stands.begun }
+weaker : (cut m n : ℤ) (D : List Rect) → n ≤ℤ m → Stands cut m D → Stands cut n D
+weaker cut m n D le stands = record { apart = stands.apart; from = λ k d lt. le_trans n m (get_or D k d).x1 le (stands.from k d lt); begun = stands.begun }
 
 self : (z : ℤ) → z ≤ℤ z
 self z = omega (arith, ints, clamps)

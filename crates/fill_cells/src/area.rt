@@ -132,7 +132,7 @@ fn halves_up(part: &Rect) -> Option<(Rect, Rect)>
     Some((lower, upper))
 }
 
-/// The line midway between two, or none where they are neighbours.
+/// The cut midway between two, or none where they are neighbours.
 fn middle(lo: i64, hi: i64) -> Option<i64>
     requires low { lowest ≤ℤ lo }
     requires ordered { lo <ℤ hi }

@@ -2,7 +2,7 @@
 ghost use Rattle.std.specs.Prelude.{◌≤ℤ◌, ◌<ℤ◌, IfOk};
 ghost use Rattle.fill_base.specs.Coordinates.{lowest, highest};
 ghost use Rattle.fill_region.specs.Squares.{covered};
-ghost use Rattle.fill_cells.specs.Mesh.{AreLines, AreRowAreas};
+ghost use Rattle.fill_cells.specs.Mesh.{AreCuts, AreRowAreas};
 
 use crate::area::covered_area;
 use crate::rows::listed;
@@ -10,7 +10,7 @@ use crate::shares::share_out;
 use fill_base::Rect;
 use std::alloc::{AllocError, Global};
 
-/// How many unit squares of each cell of a row some rectangle covers, from the left. The lines across, and those between which the row
+/// How many unit squares of each cell of a row some rectangle covers, from the left. The cuts across, and those between which the row
 /// lies, are in database units. The rectangles are shared out to the cells, so that each costs a step for each cell that it meets, and
 /// few lie in a cell. The lists of the cells are left in `lists`, whatever was in them before: given to the next row, they save it their memory.
 ///
@@ -24,7 +24,7 @@ pub fn row_areas(
     from: i64,
     to: i64,
 ) -> Result<Vec<i64>, AllocError>
-    requires across { AreLines across.now }
+    requires across { AreCuts across.now }
     requires low { lowest ≤ℤ from }
     requires ordered { from <ℤ to }
     requires high { to ≤ℤ highest }

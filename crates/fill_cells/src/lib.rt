@@ -4,7 +4,7 @@
 
 mod area;
 mod cells;
-mod lines;
+mod cuts;
 mod pieces;
 mod rows;
 mod shares;
@@ -12,5 +12,5 @@ mod skyline;
 
 pub use area::shared_area;
 pub use cells::row_areas;
-pub use lines::lines_at;
+pub use cuts::cuts_at;
 pub use rows::by_row;

@@ -106,7 +106,7 @@ fn joined(a: &Rect, b: &Rect) -> Option<Rect>
     None
 }
 
-/// The rectangle of the squares of two that lie between the same lines, and overlap or touch.
+/// The rectangle of the squares of two that lie between the same cuts, and overlap or touch.
 fn joined_across(a: &Rect, b: &Rect) -> Rect
     requires bottom { a.now.y1 ≡ b.now.y1 }
     requires top { a.now.y2 ≡ b.now.y2 }

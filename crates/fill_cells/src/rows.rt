@@ -2,7 +2,7 @@
 ghost use Rattle.std.specs.Prelude.{◌≡◌, ◌^◌, ◌<◌, ◌≤◌, ℤ, List, length, get_or, IfOk, OnOk};
 ghost use Rattle.fill_base.specs.declared.rect.Rect.{Rect};
 ghost use Rattle.fill_region.specs.Squares.{covered};
-ghost use Rattle.fill_cells.specs.Mesh.{AreLines, AreRowLists, gaps};
+ghost use Rattle.fill_cells.specs.Mesh.{AreCuts, AreRowLists, gaps};
 ghost use Rattle.fill_cells.specs.steps.Parts.{AreListed, IsListedAt};
 ghost use Rattle.fill_cells.specs.steps.Within.{AreWithin};
 
@@ -17,13 +17,13 @@ const DEEP: i64 = 64;
 /// The list of a row begins with room for so many places or more.
 const LEAST_ROOM: usize = 16;
 
-/// For each row between neighbouring lines the rectangles that meet it, by their places in the list, which take four bytes each. A
+/// For each row between neighbouring cuts the rectangles that meet it, by their places in the list, which take four bytes each. A
 /// rectangle costs a guess at the first row, and a step for each.
 ///
 /// # Errors
 /// `AllocError` where memory is refused.
 pub fn by_row(alloc: Global, rects: &[Rect], up: &[i64]) -> Result<Vec<Vec<u32>>, AllocError>
-    requires lines { AreLines up.now }
+    requires cuts { AreCuts up.now }
     requires few { length rects.now ≤ 2 ^ 32 }
     ensures { IfOk result (λ v. AreRowLists rects.now up.now v.items) }
 {
@@ -53,7 +53,7 @@ fn put(
     room: usize,
     place: usize,
 ) -> Result<(), AllocError>
-    requires lines { AreLines up.now }
+    requires cuts { AreCuts up.now }
     requires count { length lists.old ≡ gaps up.now }
     requires few { length rects.now ≤ 2 ^ 32 }
     requires place { place < length rects.now }

@@ -94,14 +94,14 @@ fn begins_past(towers: &[Rect], at: usize, column: i64) -> bool
     at == towers.len() || column <= towers[at].x1()
 }
 
-/// Past the tower at `at`, if there is one and it ends at the line or below, and so may give way to another.
-fn past_ended(towers: &[Rect], at: usize, line: i64) -> usize
+/// Past the tower at `at`, if there is one and it ends at the cut or below, and so may give way to another.
+fn past_ended(towers: &[Rect], at: usize, cut: i64) -> usize
     requires { at ≤ length towers.now }
     ensures from { at ≤ result }
     ensures within { result ≤ length towers.now }
-    ensures ended { (x y : ℤ) → line ≤ℤ y → covered (drop result towers.now) x y ≡ covered (drop at towers.now) x y }
+    ensures ended { (x y : ℤ) → cut ≤ℤ y → covered (drop result towers.now) x y ≡ covered (drop at towers.now) x y }
 {
-    if at < towers.len() && towers[at].y2() <= line {
+    if at < towers.len() && towers[at].y2() <= cut {
         at + 1
     } else {
         at

@@ -1,4 +1,4 @@
--- The lines at which the spans of an axis begin and end.
+-- The cuts at which the spans of an axis begin and end.
 use Rattle.std.proofs.Common.{◌≡◌, ℕ, ◌+◌, ◌^◌, ◌<◌, ℤ, pos, ◌+ℤ◌, ◌≤ℤ◌, ◌<ℤ◌, ◌↔◌, List, [], ◌∷◌, ◌++◌, true, false, length, get_or, refl, arith, ap, ◌∙◌, below_more, w64, FitsSigned}
 use Rattle.std.specs.Prelude.{int_lt}
 use Rattle.std.specs.Int.{int_min}
@@ -12,7 +12,7 @@ use Rattle.fill_base.proofs.Signed.{read, read_is, coordinate_fits, lt_le, le_tr
 use Rattle.fill_area.proofs.Begun.{by_lt}
 use Rattle.fill_area.specs.Parts.{AreParts, IsPart, part_begin, part_end}
 use Rattle.fill_area.specs.declared.parts.Parts.{Parts}
-use Rattle.fill_cells.specs.Mesh.{AreLines}
+use Rattle.fill_cells.specs.Mesh.{AreCuts}
 use Rattle.fill_measure.specs.steps.Ends.{HoldEnds}
 
 -- both ends of one span more
@@ -34,68 +34,68 @@ ends_more axis a lo hi old mid new before is mid_is new_is =
     kept : (z : ℤ) → Contains old z → Contains ((old ++ lo ∷ []) ++ hi ∷ []) z
     kept z h = Contains-append_left (old ++ lo ∷ []) (hi ∷ []) z (Contains-append_left old (lo ∷ []) z h)
 
--- the lines at numbers that hold both ends of each span
-pub lines_held : (axis : Parts) (x y : ℤ) (ends more lines : List ℤ) → Contains ends x → Contains ends y → x <ℤ y → HoldEnds ends axis axis.axis.count → ((z : ℤ) → Contains ends z → Contains more z)
-    → ((x y : ℤ) → Contains more x → Contains more y → x <ℤ y → AreLines lines) → ((z : ℤ) → Contains more z ↔ Contains lines z) → AreLines lines × HoldEnds lines axis axis.axis.count
-lines_held axis x y ends more lines has_x has_y some hold kept lines_of same = (
-  lines_of x y (kept x has_x) (kept y has_y) some,
+-- the cuts at numbers that hold both ends of each span
+pub cuts_held : (axis : Parts) (x y : ℤ) (ends more cuts : List ℤ) → Contains ends x → Contains ends y → x <ℤ y → HoldEnds ends axis axis.axis.count → ((z : ℤ) → Contains ends z → Contains more z)
+    → ((x y : ℤ) → Contains more x → Contains more y → x <ℤ y → AreCuts cuts) → ((z : ℤ) → Contains more z ↔ Contains cuts z) → AreCuts cuts × HoldEnds cuts axis axis.axis.count
+cuts_held axis x y ends more cuts has_x has_y some hold kept cuts_of same = (
+  cuts_of x y (kept x has_x) (kept y has_y) some,
   record { begins = λ a lt. (same _).0 (kept _ (hold.begins a lt)); ends = λ a lt. (same _).0 (kept _ (hold.ends a lt)) },
 )
 
 -- one part further
-pub stepped_fits : (line step last m : ℤ) → IsCoordinate line → IsCoordinate last → pos 0 ≤ℤ step → step ≤ℤ pos (2 ^ 31) → m ≡ int_min (read last) (read (read line +ℤ read step)) → IsCoordinate (read m)
-stepped_fits line step last m line_is last_is least most is =
+pub stepped_fits : (cut step last m : ℤ) → IsCoordinate cut → IsCoordinate last → pos 0 ≤ℤ step → step ≤ℤ pos (2 ^ 31) → m ≡ int_min (read last) (read (read cut +ℤ read step)) → IsCoordinate (read m)
+stepped_fits cut step last m cut_is last_is least most is =
     let fits : FitsSigned w64 step = step_fits step least most in
-    let sum : FitsSigned w64 (line +ℤ step) = sum_fits line step line_is.least line_is.most least most in
-    let m_is : m ≡ int_min last (line +ℤ step) = is ∙ rw (read_is last (coordinate_fits last last_is.least last_is.most), read_is line (coordinate_fits line line_is.least line_is.most), read_is step fits, read_is (line +ℤ step) sum) refl in
-    let here = between line step last line_is.least last_is.least last_is.most least in
-    rw (m_is, read_is (int_min last (line +ℤ step)) (coordinate_fits _ here.0 here.1)) (record { least = here.0; most = here.1 })
+    let sum : FitsSigned w64 (cut +ℤ step) = sum_fits cut step cut_is.least cut_is.most least most in
+    let m_is : m ≡ int_min last (cut +ℤ step) = is ∙ rw (read_is last (coordinate_fits last last_is.least last_is.most), read_is cut (coordinate_fits cut cut_is.least cut_is.most), read_is step fits, read_is (cut +ℤ step) sum) refl in
+    let here = between cut step last cut_is.least last_is.least last_is.most least in
+    rw (m_is, read_is (int_min last (cut +ℤ step)) (coordinate_fits _ here.0 here.1)) (record { least = here.0; most = here.1 })
   where
     step_fits : (step : ℤ) → pos 0 ≤ℤ step → step ≤ℤ pos (2 ^ 31) → FitsSigned w64 step
     step_fits step h k = omega (arith, ints)
 
-    sum_fits : (line step : ℤ) → lowest ≤ℤ line → line ≤ℤ highest → pos 0 ≤ℤ step → step ≤ℤ pos (2 ^ 31) → FitsSigned w64 (line +ℤ step)
-    sum_fits line step h i j k = omega (arith, ints)
+    sum_fits : (cut step : ℤ) → lowest ≤ℤ cut → cut ≤ℤ highest → pos 0 ≤ℤ step → step ≤ℤ pos (2 ^ 31) → FitsSigned w64 (cut +ℤ step)
+    sum_fits cut step h i j k = omega (arith, ints)
 
-    between : (line step last : ℤ) → lowest ≤ℤ line → lowest ≤ℤ last → last ≤ℤ highest → pos 0 ≤ℤ step → (lowest ≤ℤ int_min last (line +ℤ step)) × (int_min last (line +ℤ step) ≤ℤ highest)
-    between line step last h i j k = (omega (arith, ints, clamps), omega (arith, ints, clamps))
+    between : (cut step last : ℤ) → lowest ≤ℤ cut → lowest ≤ℤ last → last ≤ℤ highest → pos 0 ≤ℤ step → (lowest ≤ℤ int_min last (cut +ℤ step)) × (int_min last (cut +ℤ step) ≤ℤ highest)
+    between cut step last h i j k = (omega (arith, ints, clamps), omega (arith, ints, clamps))
 
 -- a coordinate, as the code reads it
 pub coordinate_read : (z : ℤ) → IsCoordinate z → IsCoordinate (read z)
 coordinate_read z is = rw (read_is z (coordinate_fits z is.least is.most)) is
 
--- one further line put
-pub between_more : (line : ℤ) (begun old new : List ℤ) → IsCoordinate line → All IsCoordinate old × ((z : ℤ) → Contains begun z → Contains old z) → new ≡ old ++ line ∷ []
+-- one further cut put
+pub between_more : (cut : ℤ) (begun old new : List ℤ) → IsCoordinate cut → All IsCoordinate old × ((z : ℤ) → Contains begun z → Contains old z) → new ≡ old ++ cut ∷ []
     → All IsCoordinate new × ((z : ℤ) → Contains begun z → Contains new z)
-between_more line begun old new is before new_is = rw new_is (All-push IsCoordinate old line before.0 is, λ z has. Contains-append_left old (line ∷ []) z (before.1 z has))
+between_more cut begun old new is before new_is = rw new_is (All-push IsCoordinate old cut before.0 is, λ z has. Contains-append_left old (cut ∷ []) z (before.1 z has))
 
 lt_is : (x y : ℤ) → x <ℤ y → int_lt x y ≡ true
 lt_is x y h = grind (arith, ints)
 
--- the lines below one come before the others
-pub parted : (lines : List ℤ) (line : ℤ) → AreLines lines → IsPartitionedBy (λ z. int_lt z line) lines
-parted lines line are i j d le lt at = by_lt i j
-    (λ below. lt_is _ line (lt_trans _ _ line (are.rising i j d below lt) (is_lt _ line at)))
-    (λ same. let e : i ≡ j = omega (arith, le, same) in ap (λ k. int_lt (get_or lines k d) line) e ∙ at)
+-- the cuts below one come before the others
+pub parted : (cuts : List ℤ) (cut : ℤ) → AreCuts cuts → IsPartitionedBy (λ z. int_lt z cut) cuts
+parted cuts cut are i j d le lt at = by_lt i j
+    (λ below. lt_is _ cut (lt_trans _ _ cut (are.rising i j d below lt) (is_lt _ cut at)))
+    (λ same. let e : i ≡ j = omega (arith, le, same) in ap (λ k. int_lt (get_or cuts k d) cut) e ∙ at)
   where
     lt_trans : (x y z : ℤ) → x <ℤ y → y <ℤ z → x <ℤ z
     lt_trans x y z h k = omega (arith, ints)
 
--- so many lines are below a line as stand before it
-pub line_at : (lines : List ℤ) (line : ℤ) (n : ℕ) → AreLines lines → Contains lines line → IsPartitionPoint (λ z. int_lt z line ≡ true) (λ z. int_lt z line ≡ false) lines n
-    → (n < length lines) × ((d : ℤ) → get_or lines n d ≡ line)
-line_at lines line n are has point = (rw here has.1, λ d. ap (λ k. get_or lines k d) here ∙ (get_or_default lines has.0 d line has.1 ∙ has.2))
+-- so many cuts are below a cut as stand before it
+pub cut_at : (cuts : List ℤ) (cut : ℤ) (n : ℕ) → AreCuts cuts → Contains cuts cut → IsPartitionPoint (λ z. int_lt z cut ≡ true) (λ z. int_lt z cut ≡ false) cuts n
+    → (n < length cuts) × ((d : ℤ) → get_or cuts n d ≡ cut)
+cut_at cuts cut n are has point = (rw here has.1, λ d. ap (λ k. get_or cuts k d) here ∙ (get_or_default cuts has.0 d cut has.1 ∙ has.2))
   where
     over : (x y : ℤ) → x ≡ y → x <ℤ y → ⊥
     over x y e lt = omega (arith, ints)
 
-    above : (x line z : ℤ) → line ≤ℤ x → x <ℤ z → z ≡ line → ⊥
-    above x line z le lt e = omega (arith, ints)
+    above : (x cut z : ℤ) → cut ≤ℤ x → x <ℤ z → z ≡ cut → ⊥
+    above x cut z le lt e = omega (arith, ints)
 
     here : n ≡ has.0
     here = by_lt n has.0
-        (λ early. absurd (above _ line _ (not_lt _ line (point.1 n line (omega arith) (omega (arith, early, has.1)))) (are.rising n has.0 line early has.1) has.2))
-        (λ le. by_lt has.0 n (λ late. absurd (over _ line has.2 (is_lt _ line (point.0 has.0 line (omega arith) late)))) (λ ge. omega (arith, le, ge)))
+        (λ early. absurd (above _ cut _ (not_lt _ cut (point.1 n cut (omega arith) (omega (arith, early, has.1)))) (are.rising n has.0 cut early has.1) has.2))
+        (λ le. by_lt has.0 n (λ late. absurd (over _ cut has.2 (is_lt _ cut (point.0 has.0 cut (omega arith) late)))) (λ ge. omega (arith, le, ge)))
 
 -- both ends of what counts, put to numbers
 pub record IsClipHeld (parts : Parts) (old new : List ℤ) : Type 0 where

@@ -1,8 +1,8 @@
-pub mod CornerSums
-pub mod Cutting
+pub mod SumsAbove
+pub mod Dividing
 pub mod Ends
 pub mod Listing
-pub mod Parting
+pub mod Chunking
 pub mod Placing
 pub mod Stacking
 pub mod Windowing

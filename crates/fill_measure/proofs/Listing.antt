@@ -9,29 +9,29 @@ use Rattle.fill_base.proofs.Between.{is_between_true}
 use Rattle.fill_base.proofs.Counting.{sum_between_same, count_between_same}
 use Rattle.fill_base.proofs.Signed.{read, read_is, coordinate_fits, lt_le}
 use Rattle.fill_region.specs.Squares.{covered}
-use Rattle.fill_cells.specs.Mesh.{AreLines, AreRowAreas, row_squares, gaps}
-use Rattle.fill_measure.specs.steps.Groups.{IsRow, cell_area}
+use Rattle.fill_cells.specs.Mesh.{AreCuts, AreRowAreas, row_squares, gaps}
+use Rattle.fill_measure.specs.steps.Bands.{IsRow, cell_area}
 
--- sets that agree between four lines have the same area there
+-- sets that agree between four cuts have the same area there
 same_between : (p q : ℤ → ℤ → Bool) (left bottom right top : ℤ) → left ≤ℤ right → bottom ≤ℤ top
     → ((x y : ℤ) → bottom ≤ℤ y → y <ℤ top → p x y ≡ q x y) → area_between p left bottom right top ≡ area_between q left bottom right top
 same_between p q left bottom right top wide tall same =
     sum_between_same (λ y. count_between (λ x. p x y) left right) (λ y. count_between (λ x. q x y) left right) bottom top tall
     (λ y low high. count_between_same (λ x. p x y) (λ x. q x y) left right wide (λ x from to. same x y low high))
 
--- a line, as the code reads it
-line_is : (lines : List ℤ) (i : ℕ) (d : ℤ) → AreLines lines → i < length lines → read (get_or lines i (pos 0)) ≡ get_or lines i d
-line_is lines i d are lt =
-    let is : IsCoordinate (get_or lines i (pos 0)) = are.coordinates i (pos 0) lt in
-    read_is (get_or lines i (pos 0)) (coordinate_fits (get_or lines i (pos 0)) is.least is.most) ∙ get_or_default lines i (pos 0) d lt
+-- a cut, as the code reads it
+cut_is : (cuts : List ℤ) (i : ℕ) (d : ℤ) → AreCuts cuts → i < length cuts → read (get_or cuts i (pos 0)) ≡ get_or cuts i d
+cut_is cuts i d are lt =
+    let is : IsCoordinate (get_or cuts i (pos 0)) = are.coordinates i (pos 0) lt in
+    read_is (get_or cuts i (pos 0)) (coordinate_fits (get_or cuts i (pos 0)) is.least is.most) ∙ get_or_default cuts i (pos 0) d lt
 
 -- one row, measured by a list that covers there the squares of the set
-pub row_is : (p : ℤ → ℤ → Bool) (across up row : List ℤ) (items : List Rect) (j : ℕ) → AreLines across → AreLines up → j < gaps up
+pub row_is : (p : ℤ → ℤ → Bool) (across up row : List ℤ) (items : List Rect) (j : ℕ) → AreCuts across → AreCuts up → j < gaps up
     → ((d : ℤ) (x y : ℤ) → row_squares (get_or up j d) (get_or up (j + 1) d) x y ≡ true → covered items x y ≡ p x y)
     → AreRowAreas (covered items) across (read (get_or up j (pos 0))) (read (get_or up (j + 1) (pos 0))) row → IsRow p across up j row
-row_is p across up row items j lines ups j_in agree areas = record {
+row_is p across up row items j cuts ups j_in agree areas = record {
   count = areas.count;
-  each = λ i d i_in. areas.each i d i_in ∙ ap pos (rw (line_is up j d ups first_in, line_is up (j + 1) d ups second_in) (whole d i i_in));
+  each = λ i d i_in. areas.each i d i_in ∙ ap pos (rw (cut_is up j d ups first_in, cut_is up (j + 1) d ups second_in) (whole d i i_in));
 }
   where
     first_in : j < length up
@@ -40,8 +40,8 @@ row_is p across up row items j lines ups j_in agree areas = record {
     second_in : j + 1 < length up
     second_in = omega (arith, j_in)
 
-    rises : (lines : List ℤ) (i : ℕ) (d : ℤ) → AreLines lines → i < gaps lines → get_or lines i d ≤ℤ get_or lines (i + 1) d
-    rises lines i d are i_in = lt_le (get_or lines i d) (get_or lines (i + 1) d) (are.rising i (i + 1) d (omega arith) (omega (arith, i_in)))
+    rises : (cuts : List ℤ) (i : ℕ) (d : ℤ) → AreCuts cuts → i < gaps cuts → get_or cuts i d ≤ℤ get_or cuts (i + 1) d
+    rises cuts i d are i_in = lt_le (get_or cuts i d) (get_or cuts (i + 1) d) (are.rising i (i + 1) d (omega arith) (omega (arith, i_in)))
 
     whole : (d : ℤ) (i : ℕ) → i < gaps across → area_between (covered items) (get_or across i d) (get_or up j d) (get_or across (i + 1) d) (get_or up (j + 1) d) ≡ cell_area p across up i j d
-    whole d i i_in = same_between (covered items) p (get_or across i d) (get_or up j d) (get_or across (i + 1) d) (get_or up (j + 1) d) (rises across i d lines i_in) (rises up j d ups j_in) (λ x y low high. agree d x y (is_between_true (get_or up j d) (get_or up (j + 1) d) y low high))
+    whole d i i_in = same_between (covered items) p (get_or across i d) (get_or up j d) (get_or across (i + 1) d) (get_or up (j + 1) d) (rises across i d cuts i_in) (rises up j d ups j_in) (λ x y low high. agree d x y (is_between_true (get_or up j d) (get_or up (j + 1) d) y low high))

@@ -9,12 +9,12 @@ use Rattle.fill_base.proofs.Signed.{read}
 use Rattle.fill_area.proofs.Measuring.{area_at, bounded, measured}
 use Rattle.fill_area.specs.Density.{window_area, AreMeasured, IsArea}
 use Rattle.fill_area.specs.Grid.{Grid, IsGrid, parts_across, parts_up}
-use Rattle.fill_cells.specs.Mesh.{AreLines}
-use Rattle.fill_measure.proofs.CornerSums.{block_small, count_read, lines_difference, rows_difference}
+use Rattle.fill_cells.specs.Mesh.{AreCuts}
+use Rattle.fill_measure.proofs.SumsAbove.{block_small, count_read, cuts_difference, rows_difference}
 use Rattle.fill_measure.specs.Sums.{areas_from}
 use Rattle.fill_measure.specs.declared.sides.Sides.{Sides}
 use Rattle.fill_measure.specs.declared.sums.WindowSums.{WindowSums}
-use Rattle.fill_measure.specs.steps.Corners.{block_area}
+use Rattle.fill_measure.specs.steps.PrefixSums.{block_area}
 use Rattle.fill_measure.specs.steps.Sides.{IsBetween}
 
 -- the area between the sides of a window
@@ -22,13 +22,13 @@ sides_area : (p : ℤ → ℤ → Bool) (g : Grid) (across up : List ℤ) (a b :
     → block_area p across up s.begin t.begin s.end t.end d ≡ window_area p g a b
 sides_area p g across up a b s t d x_is y_is = rw (x_is.begins d, x_is.ends d, y_is.begins d, y_is.ends d) refl
 
--- the area of a window, as the code finds it: the difference of what its sides across cut off from the lines at which it ends and begins
-pub window_of : (p : ℤ → ℤ → Bool) (g : Grid) (across up : List ℤ) (a b : ℕ) (s t : Sides) (x1 x0 y1 y0 : ℤ) → AreLines across → AreLines up → IsBetween (parts_across g) across a s → IsBetween (parts_up g) up b t
+-- the area of a window, as the code finds it: the difference of what its sides across cut off from the cuts at which it ends and begins
+pub window_of : (p : ℤ → ℤ → Bool) (g : Grid) (across up : List ℤ) (a b : ℕ) (s t : Sides) (x1 x0 y1 y0 : ℤ) → AreCuts across → AreCuts up → IsBetween (parts_across g) across a s → IsBetween (parts_up g) up b t
     → x1 ≡ pos (block_area p across up 0 0 s.end t.end (pos 0)) → x0 ≡ pos (block_area p across up 0 0 s.begin t.end (pos 0)) → y1 ≡ pos (block_area p across up 0 0 s.end t.begin (pos 0)) → y0 ≡ pos (block_area p across up 0 0 s.begin t.begin (pos 0))
     → (FitsSigned w64 (read x1 -ℤ read x0) × FitsSigned w64 (read y1 -ℤ read y0)) × (FitsSigned w64 (read (read x1 -ℤ read x0) -ℤ read (read y1 -ℤ read y0)) × (read (read (read x1 -ℤ read x0) -ℤ read (read y1 -ℤ read y0)) ≡ pos (window_area p g a b)))
 window_of p g across up a b s t x1 x0 y1 y0 x_are y_are column row x1_is x0_is y1_is y0_is =
-    let high = lines_difference p across up s.begin s.end t.end (read x1) (read x0) (pos 0) x_are y_are column.order.ordered column.order.within row.order.within (number s.end t.end x1 column.order.within row.order.within x1_is) (number s.begin t.end x0 left_in row.order.within x0_is) in
-    let low = lines_difference p across up s.begin s.end t.begin (read y1) (read y0) (pos 0) x_are y_are column.order.ordered column.order.within bottom_in (number s.end t.begin y1 column.order.within bottom_in y1_is) (number s.begin t.begin y0 left_in bottom_in y0_is) in
+    let high = cuts_difference p across up s.begin s.end t.end (read x1) (read x0) (pos 0) x_are y_are column.order.ordered column.order.within row.order.within (number s.end t.end x1 column.order.within row.order.within x1_is) (number s.begin t.end x0 left_in row.order.within x0_is) in
+    let low = cuts_difference p across up s.begin s.end t.begin (read y1) (read y0) (pos 0) x_are y_are column.order.ordered column.order.within bottom_in (number s.end t.begin y1 column.order.within bottom_in y1_is) (number s.begin t.begin y0 left_in bottom_in y0_is) in
     let whole = rows_difference p across up s.begin t.begin s.end t.end (read (read x1 -ℤ read x0)) (read (read y1 -ℤ read y0)) (pos 0) x_are y_are column.order.ordered column.order.within row.order.ordered row.order.within high.1 low.1 in
     ((high.0, low.0), (whole.0, whole.1 ∙ ap pos (sides_area p g across up a b s t (pos 0) column row)))
   where
@@ -41,7 +41,7 @@ window_of p g across up a b s t x1 x0 y1 y0 x_are y_are column row x1_is x0_is y
     number : (i j : ℕ) (z : ℤ) → i < length across → j < length up → z ≡ pos (block_area p across up 0 0 i j (pos 0)) → read z ≡ pos (block_area p across up 0 0 i j (pos 0))
     number i j z i_in j_in is = count_read z _ is (block_small p across up 0 0 i j (pos 0) x_are y_are (omega arith) i_in (omega arith) j_in)
 
--- the same of the sums' own lines and sides
+-- the same of the sums' own cuts and sides
 between : (sums : WindowSums) (a b : ℕ) (s t : Sides) → a < sums.windows.across.count → b < sums.windows.up.count → s ≡ get_or sums.columns.items a s → t ≡ get_or sums.rows.items b t
     → IsBetween (parts_across sums.windows) sums.across.items a s × IsBetween (parts_up sums.windows) sums.up.items b t
 between sums a b s t a_in b_in s_is t_is =
@@ -53,7 +53,7 @@ pub window_at : (p : ℤ → ℤ → Bool) (sums : WindowSums) (a b : ℕ) (s t 
     → (FitsSigned w64 (read x1 -ℤ read x0) × FitsSigned w64 (read y1 -ℤ read y0)) × (FitsSigned w64 (read (read x1 -ℤ read x0) -ℤ read (read y1 -ℤ read y0)) × (read (read (read x1 -ℤ read x0) -ℤ read (read y1 -ℤ read y0)) ≡ pos (window_area p sums.windows a b)))
 window_at p sums a b s t x1 x0 y1 y0 a_in b_in s_is t_is =
     let both = between sums a b s t a_in b_in s_is t_is in
-    window_of p sums.windows sums.across.items sums.up.items a b s t x1 x0 y1 y0 sums.across_lines sums.up_lines both.0 both.1
+    window_of p sums.windows sums.across.items sums.up.items a b s t x1 x0 y1 y0 sums.across_cuts sums.up_cuts both.0 both.1
 
 pub above_fits : (p : ℤ → ℤ → Bool) (sums : WindowSums) (a b : ℕ) (s t : Sides) (x1 x0 : ℤ) → a < sums.windows.across.count → b < sums.windows.up.count → s ≡ get_or sums.columns.items a s → t ≡ get_or sums.rows.items b t
     → x1 ≡ pos (block_area p sums.across.items sums.up.items 0 0 s.end t.end (pos 0)) → x0 ≡ pos (block_area p sums.across.items sums.up.items 0 0 s.begin t.end (pos 0)) → FitsSigned w64 (read x1 -ℤ read x0)

@@ -4,11 +4,11 @@ use Rattle.std.specs.List.{range_with_len}
 use Rattle.fill_area.specs.Density.{window_area}
 use Rattle.fill_area.specs.Grid.{Grid}
 use Rattle.fill_measure.specs.declared.sums.WindowSums.{WindowSums}
-use Rattle.fill_measure.specs.steps.Meshes.{AreAllCorners}
+use Rattle.fill_measure.specs.steps.Meshes.{AreAllPrefixSums}
 
--- the sums are those of the set of squares: what each tells of the squares below a line and left of another is so of this set
+-- the sums are those of the set of squares: what each tells of the squares below a cut and left of another is so of this set
 abbrev pub AreSumsOf : (ℤ → ℤ → Bool) → WindowSums → Type 0
-AreSumsOf p sums = AreAllCorners p sums.across.items sums.up.items sums.corners
+AreSumsOf p sums = AreAllPrefixSums p sums.across.items sums.up.items sums.prefix_sums
 
 -- the areas that the set has in `n` windows from the one at place `from` on, row by row
 abbrev pub areas_from : (ℤ → ℤ → Bool) → Grid → ℕ → ℕ → List ℤ

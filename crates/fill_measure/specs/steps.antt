@@ -1,9 +1,9 @@
 -- What serves the functions of the crate alone.
-pub mod Corners
-pub mod Cuts
+pub mod PrefixSums
+pub mod Divided
 pub mod Ends
-pub mod Groups
+pub mod Bands
 pub mod Meshes
-pub mod Parts
+pub mod Chunks
 pub mod Shapes
 pub mod Sides

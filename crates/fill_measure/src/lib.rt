@@ -2,17 +2,17 @@
 //! between, or from a region. A window's area is the count of its unit squares that the shapes hold: the layers above rely on that.
 #![tactic(auto)]
 
-mod corners;
+mod bands;
 mod cuts;
-mod groups;
-mod lines;
+mod divided;
 mod lists;
 mod measure;
 mod mesh;
 mod pitch;
+mod prefix_sums;
 mod sides;
 mod sums;
 mod windows;
 
-pub use measure::{measure_rects, measure_region, sum_rects};
+pub use measure::{measure_region, sum_rects};
 pub use sums::WindowSums;

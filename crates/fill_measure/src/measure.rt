@@ -7,10 +7,10 @@ ghost use Rattle.fill_area.specs.Grid.{all_coordinates};
 ghost use Rattle.fill_region.specs.Bands.{holds};
 ghost use Rattle.fill_region.specs.Squares.{covered};
 ghost use Rattle.fill_measure.specs.Sums.{AreSumsOf};
-ghost use Rattle.fill_measure.specs.steps.Cuts.{IsCut};
+ghost use Rattle.fill_measure.specs.steps.Divided.{IsDivided};
 
-use crate::cuts::cut_windows;
-use crate::lines::{lines_of, side_by_side};
+use crate::cuts::{cuts_of, side_by_side};
+use crate::divided::divided_windows;
 use crate::mesh::{Mesh, Shapes};
 use crate::pitch::pitch_of;
 use crate::sums::WindowSums;
@@ -20,26 +20,9 @@ use fill_region::Region;
 use std::alloc::{AllocError, Global};
 use std::thread::Threads;
 
-/// How many unit squares of each window some rectangle of some list holds: row by row, the window in column `a` and row `b` at
-/// `b * columns + a`. Each is a difference of sums, however many windows overlap. The answer is the same for any number of threads, and however
-/// the rectangles are shared out to the lists.
-///
-/// # Errors
-/// `AllocError` where memory is refused.
-pub fn measure_rects(
-    rt: &(impl Threads + Sync),
-    alloc: Global,
-    lists: &[Vec<Rect>],
-    windows: &Windows,
-) -> Result<Vec<i64>, AllocError>
-    ensures areas { IfOk result (λ v. AreMeasured (covered (flat_map vec_items lists.now)) windows.now v.items) }
-    ensures bounded { IfOk result (λ v. All IsArea v.items) }
-{
-    sum_rects(rt, alloc, lists, windows)?.areas(rt, alloc)
-}
-
-/// The sums of which each window's area is a difference, in terms of the squares that some rectangle of some list holds. The lines at
-/// which windows begin or end make a mesh, whose rows of cells are measured on all processors. The sums are the same for any number of them.
+/// The sums of which each window's area is a difference, however many windows overlap, in terms of the squares that some rectangle of
+/// some list holds. The cuts at which windows begin or end make a mesh, whose rows of cells are measured on all processors. The sums are
+/// the same for any number of them, and however the rectangles are shared out to the lists.
 ///
 /// # Errors
 /// `AllocError` where memory is refused.
@@ -53,15 +36,15 @@ pub fn sum_rects(
     ensures sums { IfOk result (AreSumsOf (covered (flat_map vec_items lists.now))) }
 {
     let pitch = pitch_of(lists, windows);
-    let across = lines_of(alloc, windows.parts_across(), pitch.across)?;
-    let up = lines_of(alloc, windows.parts_up(), pitch.up)?;
+    let across = cuts_of(alloc, windows.parts_across(), pitch.across)?;
+    let up = cuts_of(alloc, windows.parts_up(), pitch.up)?;
     let mesh = Mesh {
         shapes: Shapes::Rects(lists),
         across: &across,
         up: &up,
     };
-    let corners = mesh.corners(rt, alloc, lists)?;
-    WindowSums::new(alloc, windows, across, up, corners)
+    let prefix_sums = mesh.prefix_sums(rt, alloc, lists)?;
+    WindowSums::new(alloc, windows, across, up, prefix_sums)
 }
 
 /// How many squares of each window are in the region: `measure_all`, word for word. Where the windows overlap and a size is a multiple
@@ -96,36 +79,36 @@ fn measure_whole(
     ensures areas { IfOk result (λ v. AreMeasured (holds region.now) windows.now v.items) }
     ensures bounded { IfOk result (λ v. All IsArea v.items) }
 {
-    match cut_windows(windows) {
-        Some(cut) => measure_cut(rt, alloc, region, windows, &cut),
+    match divided_windows(windows) {
+        Some(divided) => measure_divided(rt, alloc, region, windows, &divided),
         None => measure_all(rt, alloc, region, windows),
     }
 }
 
 /// The same by the cells that the windows are cut into.
-fn measure_cut(
+fn measure_divided(
     rt: &(impl Threads + Sync),
     alloc: Global,
     region: &Region,
     windows: &Windows,
-    cut: &Windows,
+    divided: &Windows,
 ) -> Result<Vec<i64>, AllocError>
     requires whole { windows.now.clip ≡ all_coordinates }
-    requires cut_whole { cut.now.clip ≡ all_coordinates }
-    requires across { IsCut windows.now.across cut.now.across }
-    requires up { IsCut windows.now.up cut.now.up }
+    requires divided_whole { divided.now.clip ≡ all_coordinates }
+    requires across { IsDivided windows.now.across divided.now.across }
+    requires up { IsDivided windows.now.up divided.now.up }
     ensures areas { IfOk result (λ v. AreMeasured (holds region.now) windows.now v.items) }
     ensures bounded { IfOk result (λ v. All IsArea v.items) }
 {
     let _ = windows.len();
-    let across = side_by_side(alloc, cut.across())?;
-    let up = side_by_side(alloc, cut.up())?;
-    let cells = measure_all(rt, alloc, region, cut)?;
+    let across = side_by_side(alloc, divided.across())?;
+    let up = side_by_side(alloc, divided.up())?;
+    let cells = measure_all(rt, alloc, region, divided)?;
     let mesh = Mesh {
         shapes: Shapes::Region(region),
         across: &across,
         up: &up,
     };
-    let corners = mesh.corners_of(alloc, &cells)?;
-    WindowSums::new(alloc, windows, across, up, corners)?.areas(rt, alloc)
+    let prefix_sums = mesh.prefix_sums_of(alloc, &cells)?;
+    WindowSums::new(alloc, windows, across, up, prefix_sums)?.areas(rt, alloc)
 }

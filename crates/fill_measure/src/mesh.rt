@@ -1,5 +1,5 @@
-//! Shapes under a mesh of lines.
-ghost use Rattle.fill_cells.specs.Mesh.{AreLines};
+//! Shapes under a mesh of cuts.
+ghost use Rattle.fill_cells.specs.Mesh.{AreCuts};
 
 use fill_base::Rect;
 use fill_region::Region;
@@ -13,15 +13,15 @@ pub(crate) enum Shapes<'a> {
     Region(&'a Region),
 }
 
-/// Shapes, and the lines across and upwards that cut them into cells.
+/// Shapes, and the cuts across and upwards that cut them into cells.
 #[derive(Clone, Copy)]
 pub(crate) struct Mesh<'a> {
     /// The shapes.
     pub(crate) shapes: Shapes<'a>,
-    /// The lines across, from left to right.
+    /// The cuts across, from left to right.
     pub(crate) across: &'a [i64],
-    /// The lines upwards.
+    /// The cuts upwards.
     pub(crate) up: &'a [i64],
-    ghost across_lines: { AreLines across.now },
-    ghost up_lines: { AreLines up.now },
+    ghost across_cuts: { AreCuts across.now },
+    ghost up_cuts: { AreCuts up.now },
 }

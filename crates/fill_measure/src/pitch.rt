@@ -1,4 +1,4 @@
-//! How far apart the lines of a mesh are to be, so that its cells are neither too large nor too small for the rectangles. Areas are
+//! How far apart the cuts of a mesh are to be, so that its cells are neither too large nor too small for the rectangles. Areas are
 //! right at any pitch: it bears on time and memory alone.
 ghost use Rattle.std.specs.Prelude.{◌<◌};
 ghost use Rattle.fill_area.specs.Parts.{AreParts};
@@ -23,16 +23,17 @@ const QUARTERS: u64 = 4;
 /// they are, and few of them cross its sides.
 const APART: u64 = 16;
 
-/// Further lines make about so many parts of an axis at most.
+/// Further cuts make about so many parts of an axis at most.
 const MOST_PARTS: u64 = 4096;
 
 /// And about so many cells at most, where windows stand in one row or in one column: the mesh stays small.
-const MOST_CELLS: u64 = MOST_PARTS * MOST_PARTS;
+const MOST_CELLS: u64 = 4_194_304;
 
-/// There are about so many rows or more, unless they are lower than the rectangles then: all processors have rows to measure.
+/// There are about so many rows or more, unless they are lower than the rectangles or make too many cells then: all processors have rows
+/// to measure.
 const LEAST_ROWS: u64 = 16;
 
-/// How far apart lines are to be, in database units.
+/// How far apart cuts are to be, in database units.
 #[derive(Clone, Copy)]
 pub(crate) struct Pitch {
     /// Those across.
@@ -84,7 +85,7 @@ pub(crate) fn pitch_of(lists: &[Vec<Rect>], windows: &Windows) -> Pitch {
     let rows = (whole.height / LEAST_ROWS).max(mean.height);
     Pitch {
         across: in_quarters(mean.width, quarters).max(width),
-        up: in_quarters(mean.height, quarters).max(height).min(rows),
+        up: in_quarters(mean.height, quarters).min(rows).max(height),
     }
 }
 
@@ -151,7 +152,7 @@ fn in_quarters(length: u64, quarters: u64) -> u64 {
     length.saturating_mul(quarters) / QUARTERS
 }
 
-/// How far apart lines are at least that cut a length, where the windows have lines at the spans of the other axis.
+/// How far apart cuts are at least that cut a length, where the windows have cuts at the spans of the other axis.
 fn least_pitch(length: u64, other: Axis) -> u64 {
     let parts = (MOST_CELLS / u64::from(other.count).max(1)).clamp(1, MOST_PARTS);
     length.div_ceil(parts)

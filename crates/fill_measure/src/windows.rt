@@ -1,14 +1,14 @@
-//! The areas of windows whose sides are lines, by sums: each is a difference of four.
+//! The areas of windows whose sides are cuts, by sums: each is a difference of four.
 ghost use Rattle.std.specs.Prelude.{◌≡◌, ℤ, pos, Bool, ◌+◌, ◌*◌, ◌/◌, ◌%◌, ◌<◌, ◌≤◌, IfOk, All, length};
 ghost use Rattle.fill_area.specs.Density.{AreMeasured, IsArea, window_area};
 ghost use Rattle.fill_area.specs.Grid.{IsGrid, parts_across, parts_up};
-ghost use Rattle.fill_cells.specs.Mesh.{AreLines};
+ghost use Rattle.fill_cells.specs.Mesh.{AreCuts};
 ghost use Rattle.fill_measure.specs.Sums.{AreSumsOf, areas_from};
-ghost use Rattle.fill_measure.specs.steps.Corners.{block_area};
+ghost use Rattle.fill_measure.specs.steps.PrefixSums.{block_area};
 ghost use Rattle.fill_measure.specs.steps.Ends.{HoldEnds};
-ghost use Rattle.fill_measure.specs.steps.Meshes.{AreAllCorners};
+ghost use Rattle.fill_measure.specs.steps.Meshes.{AreAllPrefixSums};
 
-use crate::corners::Corners;
+use crate::prefix_sums::PrefixSums;
 use crate::sides::sides_of;
 use crate::sums::WindowSums;
 use fill_area::Windows;
@@ -17,21 +17,21 @@ use std::alloc::{AllocError, Global};
 use std::thread::Threads;
 
 impl WindowSums {
-    /// The sums of these windows, each of whose sides is one of the lines.
+    /// The sums of these windows, each of whose sides is one of the cuts.
     pub(crate) fn new(
         alloc: Global,
         windows: &Windows,
         across: Vec<i64>,
         up: Vec<i64>,
-        corners: Corners,
+        prefix_sums: PrefixSums,
     ) -> Result<WindowSums, AllocError>
-        requires across_lines { AreLines across.items }
-        requires up_lines { AreLines up.items }
+        requires across_cuts { AreCuts across.items }
+        requires up_cuts { AreCuts up.items }
         requires across { HoldEnds across.items (parts_across windows.now) windows.now.across.count }
         requires up { HoldEnds up.items (parts_up windows.now) windows.now.up.count }
-        requires measured { ∥ ((p : ℤ → ℤ → Bool) × AreAllCorners p across.items up.items corners) ∥₁ }
+        requires measured { ∥ ((p : ℤ → ℤ → Bool) × AreAllPrefixSums p across.items up.items prefix_sums) ∥₁ }
         ensures windows { IfOk result (λ s. s.windows ≡ windows.now) }
-        ensures sums { IfOk result (λ s. (p : ℤ → ℤ → Bool) → AreAllCorners p across.items up.items corners → AreSumsOf p s) }
+        ensures sums { IfOk result (λ s. (p : ℤ → ℤ → Bool) → AreAllPrefixSums p across.items up.items prefix_sums → AreSumsOf p s) }
     {
         let columns = sides_of(alloc, windows.parts_across(), &across)?;
         let rows = sides_of(alloc, windows.parts_up(), &up)?;
@@ -39,7 +39,7 @@ impl WindowSums {
             windows: *windows,
             across,
             up,
-            corners,
+            prefix_sums,
             columns,
             rows,
         })
@@ -52,17 +52,17 @@ impl WindowSums {
         &self.windows
     }
 
-    /// How many squares lie below the line upwards at `j` and left of the line across at `i`.
+    /// How many squares lie below the cut upwards at `j` and left of the cut across at `i`.
     fn number(&self, j: usize, i: usize) -> i64
-        requires line { j < length self.now.up.items }
+        requires cut { j < length self.now.up.items }
         requires column { i < length self.now.across.items }
         ensures { (p : ℤ → ℤ → Bool) → AreSumsOf p self.now → (d : ℤ) → result ≡ pos (block_area p self.now.across.items self.now.up.items 0 0 i j d) }
     {
         let width = self.across.len();
-        let height = self.corners.height;
-        let k = (j / height).min(self.corners.groups.len() - 1);
-        let group = self.corners.groups[k].as_slice();
-        self.corners.below[k * width + i] + group[(j - k * height) * width + i]
+        let height = self.prefix_sums.height;
+        let k = (j / height).min(self.prefix_sums.bands.len() - 1);
+        let band = self.prefix_sums.bands[k].as_slice();
+        self.prefix_sums.below[k * width + i] + band[(j - k * height) * width + i]
     }
 
     /// The area of the window in column `a` and row `b`.

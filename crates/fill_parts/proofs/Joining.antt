@@ -2,7 +2,7 @@
 use Rattle.std.proofs.Common.{◌≡◌, ℕ, ◌<◌, ℤ, true}
 use Rattle.std.proofs.Math.Path.{fun_ext}
 use Rattle.std.proofs.lemmas.Bool.{and_from, and_parts}
-use Rattle.fill_raster.specs.Axes.{groups}
+use Rattle.fill_raster.specs.Axes.{bands}
 use Rattle.fill_raster.specs.Lattice.{in_raster, tile_of}
 use Rattle.fill_raster.proofs.Blocks.{tile_parts}
 use Rattle.fill_raster.proofs.RasterLaws.{place_has_a_tile}
@@ -19,8 +19,8 @@ use Rattle.fill_parts.proofs.Cutting.{one_part, row_of_is, same_part}
 low_on : (plan : Plan) (layers : Layers) (i j : ℤ) → low_fill plan layers i j ≡ true → in_raster plan.raster i j ≡ true
 low_on plan layers i j h = (and_parts (in_raster plan.raster i j) _ (and_parts _ _ h).0).0
 
-own_part : (plan : Plan) (i j : ℤ) (count : ℕ) → IsPlan plan → 0 < count → in_raster plan.raster i j ≡ true → HasOnePart (groups plan.raster.up) count (row_at plan.raster i j)
-own_part plan i j count is some on = one_part (groups plan.raster.up) count (row_at plan.raster i j) some (tile_parts plan.raster (tile_of plan.raster i j) (place_has_a_tile plan.raster is.raster i j on)).row_below
+own_part : (plan : Plan) (i j : ℤ) (count : ℕ) → IsPlan plan → 0 < count → in_raster plan.raster i j ≡ true → HasOnePart (bands plan.raster.up) count (row_at plan.raster i j)
+own_part plan i j count is some on = one_part (bands plan.raster.up) count (row_at plan.raster i j) some (tile_parts plan.raster (tile_of plan.raster i j) (place_has_a_tile plan.raster is.raster i j on)).row_below
 
 pub parts_fill : PartsMakeTheFill
 parts_fill plan layers count is some = fun_ext (λ i. fun_ext (λ j.
@@ -30,5 +30,5 @@ parts_fill plan layers count is some = fun_ext (λ i. fun_ext (λ j.
 
 pub parts_apart : PartsAreApart
 parts_apart plan layers count k l i j is some h g =
-    let rows = groups plan.raster.up in let row = row_at plan.raster i j in
+    let rows = bands plan.raster.up in let row = row_at plan.raster i j in
     same_part rows count k l row some (row_of_is (part k count) rows row (and_parts (low_fill plan layers i j) _ h).1) (row_of_is (part l count) rows row (and_parts (low_fill plan layers i j) _ g).1)

@@ -8,10 +8,10 @@ use Rattle.std.proofs.lemmas.Int.{ints, clamps}
 use Rattle.fill_base.specs.Coordinates.{lowest, highest}
 use Rattle.fill_area.specs.Axes.{IsRangeOf, IsTouching}
 use Rattle.fill_area.specs.Grid.{Grid}
-use Rattle.fill_raster.specs.Axes.{groups}
+use Rattle.fill_raster.specs.Axes.{bands}
 use Rattle.fill_raster.specs.Lattice.{Lattice, IsLattice, tile_bottom, tile_left, tile_right, tile_top, tiles}
 use Rattle.fill_raster.proofs.Blocks.{tile_parts}
-use Rattle.fill_raster.proofs.Halos.{group_range}
+use Rattle.fill_raster.proofs.Halos.{band_range}
 use Rattle.fill_raster.proofs.Ranges.{both}
 use Rattle.fill_job.specs.Plans.{Plan}
 use Rattle.fill_job.specs.Searches.{some_below}
@@ -30,8 +30,8 @@ pub record AreEdges (r : Lattice) (tile : ℕ) : Type 0 where
 pub edges_kept : (r : Lattice) (tile : ℕ) → IsLattice r → tile < tiles r → AreEdges r tile
 edges_kept r tile is lt =
     let parts = tile_parts r tile lt in
-    let across = group_range r.across (tile % groups r.across) is.across parts.column_below in
-    let range = group_range r.up (tile / groups r.across) is.up parts.row_below in
+    let across = band_range r.across (tile % bands r.across) is.across parts.column_below in
+    let range = band_range r.up (tile / bands r.across) is.up parts.row_below in
     record { left = least (tile_left r tile) across.least; low = least (tile_bottom r tile) range.least; right = most (tile_right r tile) across.most; high = most (tile_top r tile) range.most }
   where
     least : (z : ℤ) → lowest ≤ℤ z → int_max (z -ℤ pos 0) lowest ≡ z
@@ -87,11 +87,11 @@ level_range plan r g tile c d low high is lt r_is g_is low_is high_is range =
     let top : high ≡ tile_top plan.raster tile = high_is ∙ (ap (λ s. int_min (tile_top s tile +ℤ pos 0) highest) r_is ∙ e.high) in
     rw (bottom, top, g_is) at range
 
-pub needed_by : (plan : Plan) (k : Part) (tile row rows c d first past low high : ℕ) → row ≡ tile / groups plan.raster.across → rows ≡ groups plan.raster.up → false ≡ has_row k rows row
+pub needed_by : (plan : Plan) (k : Part) (tile row rows c d first past low high : ℕ) → row ≡ tile / bands plan.raster.across → rows ≡ bands plan.raster.up → false ≡ has_row k rows row
     → IsRangeOf (IsTouching plan.windows.up (tile_bottom plan.raster tile) (tile_top plan.raster tile)) plan.windows.up.count c d
     → first ≡ first_row k plan.windows.up.count → past ≡ past_row k plan.windows.up.count → low ≡ max c first → high ≡ min d past → nat_lt low high ≡ needs_tile plan k tile
 needed_by plan k tile row rows c d first past low high row_is rows_is other range first_is past_is low_is high_is =
-    let not_own : has_tile plan k tile ≡ false = ap (λ n. has_row k n (tile / groups plan.raster.across)) (sym rows_is) ∙ (ap (has_row k rows) (sym row_is) ∙ sym other) in
+    let not_own : has_tile plan k tile ≡ false = ap (λ n. has_row k n (tile / bands plan.raster.across)) (sym rows_is) ∙ (ap (has_row k rows) (sym row_is) ∙ sym other) in
     let l : low ≡ max c (first_row k plan.windows.up.count) = low_is ∙ ap (max c) first_is in
     let h : high ≡ min d (past_row k plan.windows.up.count) = high_is ∙ ap (min d) past_is in
     ap (λ n. nat_lt n high) l ∙ (ap (nat_lt (max c (first_row k plan.windows.up.count))) h ∙ (level_some plan k tile c d range ∙ rw not_own refl))

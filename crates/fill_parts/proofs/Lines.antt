@@ -13,8 +13,7 @@ use Rattle.fill_raster.specs.Axes.{box_begin, box_end, first, past}
 use Rattle.fill_raster.specs.Lattice.{in_raster, box_squares, tile_of, tile_bottom, tile_top}
 use Rattle.fill_raster.proofs.RasterLaws.{places_range}
 use Rattle.fill_raster.proofs.Ranges.{first_past}
-use Rattle.fill_text.specs.Rules.{Values, value_of, windows_of}
-use Rattle.fill_text.specs.declared.keys.NumberKey.TheVariants.{Min, Max}
+use Rattle.fill_text.specs.Rules.{Values, limits_of, windows_of}
 use Rattle.fill_job.specs.Plans.{Plan, IsPlan, Layers, plan_of}
 use Rattle.fill_job.proofs.ReadSets.{bounded}
 use Rattle.fill_job.proofs.Searching.{some_below_has, some_within_same}
@@ -122,7 +121,7 @@ row_bounds n c low high some from to le = (le-div low n c some from, div_below n
 -- lines of a part whose measures are the same in its windows
 lines_by : (values : Values) (k : Part) (m n : ℕ → ℕ → Measures) → IsPlan (plan_of values) → IsPart k
     → ((a b : ℕ) → a < (plan_of values).windows.across.count → b < (plan_of values).windows.up.count → has_windows (plan_of values) k b ≡ true → m a b ≡ n a b)
-    → part_lines (windows_of values) (value_of values Min) (value_of values Max) m k ≡ part_lines (windows_of values) (value_of values Min) (value_of values Max) n k
+    → part_lines (windows_of values) (limits_of values) m k ≡ part_lines (windows_of values) (limits_of values) n k
 lines_by values k m n is part each =
     let g = (plan_of values).windows in
     let low = first_row k g.up.count in let high = past_row k g.up.count in
@@ -130,11 +129,11 @@ lines_by values k m n is part each =
     let rise = cut_le g.up.count k.count k.number (k.number + 1) some (more k.number) in
     let most : high ≤ g.up.count = rw (cut_ends g.up.count k.count some) at (cut_le g.up.count k.count (k.number + 1) k.count some (up k.number k.count part.below)) in
     let columns : 0 < g.across.count = one_some g.across.count is.windows.across.count_is.least in
-    flat_range (line_at g (value_of values Min) (value_of values Max) m) (line_at g (value_of values Min) (value_of values Max) n) (low * g.across.count) ((high - low) * g.across.count)
+    flat_range (line_at g (limits_of values) m) (line_at g (limits_of values) n) (low * g.across.count) ((high - low) * g.across.count)
     (λ l from to.
     let row = row_bounds l g.across.count low high columns from to rise in
     let own = is_row_of k g.up.count (l / g.across.count) (record { low = row.0; high = row.1 }) in
-    ap (λ t. window_line g (value_of values Min) (value_of values Max) t (l % g.across.count) (l / g.across.count))
+    ap (λ t. window_line g (limits_of values) t (l % g.across.count) (l / g.across.count))
     (each (l % g.across.count) (l / g.across.count) (mod_below l g.across.count columns) (below _ _ _ row.1 most) own))
   where
     count_some : (k n : ℕ) → k < n → 0 < n

@@ -9,10 +9,10 @@ use Rattle.fill_base.specs.Sides.{Sides}
 use Rattle.fill_base.proofs.Between.{is_between_true}
 use Rattle.fill_area.specs.Axes.{IsExtent, axis_begin, axis_end}
 use Rattle.fill_area.proofs.Axes.{extent}
-use Rattle.fill_raster.specs.Axes.{groups}
+use Rattle.fill_raster.specs.Axes.{bands}
 use Rattle.fill_raster.specs.Lattice.{tile_bottom, tile_left, tile_right, tile_top, tiles}
 use Rattle.fill_raster.proofs.Blocks.{tile_parts}
-use Rattle.fill_raster.proofs.Halos.{group_range}
+use Rattle.fill_raster.proofs.Halos.{band_range}
 use Rattle.fill_job.specs.Plans.{Plan, IsPlan}
 use Rattle.fill_parts.specs.Cuts.{Part}
 use Rattle.fill_parts.specs.Needs.{IsEnough, LieInside, in_coordinates, is_inside}
@@ -48,8 +48,8 @@ tile_in_range : (plan : Plan) (tile : ℕ) → IsPlan plan → tile < tiles plan
 tile_in_range plan tile is lt =
     let r = plan.raster in
     let parts = tile_parts r tile lt in
-    let across = group_range r.across (tile % groups r.across) is.raster.across parts.column_below in
-    let up = group_range r.up (tile / groups r.across) is.raster.up parts.row_below in
+    let across = band_range r.across (tile % bands r.across) is.raster.across parts.column_below in
+    let up = band_range r.up (tile / bands r.across) is.raster.up parts.row_below in
     record { left = across.least; low = up.least; wide = across.some; tall = up.some; right = across.most; high = up.most }
 
 -- a part for which such sides are enough needs nothing, so any sides are

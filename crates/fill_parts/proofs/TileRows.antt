@@ -8,11 +8,11 @@ use Rattle.std.proofs.lemmas.Nat.{div-add-mod'}
 use Rattle.std.proofs.Math.Nat.{mul-le-mul}
 use Rattle.fill_base.specs.Sides.{Sides}
 use Rattle.fill_area.specs.Grid.{window_bottom, window_top}
-use Rattle.fill_raster.specs.Axes.{IsAxis, box_begin, first, group_begin, group_end, group_first, group_past, groups, past}
+use Rattle.fill_raster.specs.Axes.{IsAxis, box_begin, first, band_begin, band_end, band_first, band_past, bands, past}
 use Rattle.fill_raster.specs.Lattice.{Lattice, IsLattice, tiles}
 use Rattle.fill_raster.specs.declared.axis.Axis.{Axis}
 use Rattle.fill_raster.proofs.Floors.{product_le}
-use Rattle.fill_raster.proofs.Groups.{group_is, in_group_of}
+use Rattle.fill_raster.proofs.Bands.{band_is, in_band_of}
 use Rattle.fill_raster.proofs.Tiling.{tiles_few}
 use Rattle.fill_job.specs.Plans.{Plan, IsPlan}
 use Rattle.fill_job.specs.Searches.{some_below}
@@ -20,7 +20,7 @@ use Rattle.fill_parts.specs.Cuts.{Part, has_row}
 use Rattle.fill_parts.specs.Needs.{has_windows, needs_tile, row_of}
 use Rattle.fill_parts.specs.steps.Hulls.{HoldsTile, IsEnoughBelow}
 
--- ---- groups follow one another
+-- ---- bands follow one another
 
 same_nat : (n : ℕ) → n ≤ n
 same_nat n = omega arith
@@ -31,16 +31,16 @@ begins_later a i j is le = on a.origin (i *ℤ a.step) (j *ℤ a.step) (product_
     on : (o x y : ℤ) → x ≤ℤ y → (o +ℤ x) ≤ℤ (o +ℤ y)
     on o x y h = omega (arith, ints)
 
-pub group_begin_le : (a : Axis) (g h : ℕ) → IsAxis a → g ≤ h → group_begin a g ≤ℤ group_begin a h
-group_begin_le a g h is le = begins_later a (group_first a g) (group_first a h) is (from (first a) (g * a.group) (h * a.group) (mul-le-mul le (same_nat a.group)))
+pub band_begin_le : (a : Axis) (g h : ℕ) → IsAxis a → g ≤ h → band_begin a g ≤ℤ band_begin a h
+band_begin_le a g h is le = begins_later a (band_first a g) (band_first a h) is (from (first a) (g * a.band) (h * a.band) (mul-le-mul le (same_nat a.band)))
   where
     from : (f : ℤ) (m n : ℕ) → m ≤ n → (f +ℤ pos m) ≤ℤ (f +ℤ pos n)
     from f m n h = omega (arith, ints)
 
-pub group_end_le : (a : Axis) (g h : ℕ) → IsAxis a → g ≤ h → group_end a g ≤ℤ group_end a h
-group_end_le a g h is le =
-    on (box_begin a (group_past a g -ℤ pos 1)) (box_begin a (group_past a h -ℤ pos 1)) a.length
-    (begins_later a (group_past a g -ℤ pos 1) (group_past a h -ℤ pos 1) is (last (first a) (g * a.group) (h * a.group) a.group (past a) (mul-le-mul le (same_nat a.group))))
+pub band_end_le : (a : Axis) (g h : ℕ) → IsAxis a → g ≤ h → band_end a g ≤ℤ band_end a h
+band_end_le a g h is le =
+    on (box_begin a (band_past a g -ℤ pos 1)) (box_begin a (band_past a h -ℤ pos 1)) a.length
+    (begins_later a (band_past a g -ℤ pos 1) (band_past a h -ℤ pos 1) is (last (first a) (g * a.band) (h * a.band) a.band (past a) (mul-le-mul le (same_nat a.band))))
   where
     on : (x y l : ℤ) → x ≤ℤ y → (x +ℤ l) ≤ℤ (y +ℤ l)
     on x y l h = omega (arith, ints)
@@ -57,8 +57,8 @@ some_columns rows (suc c) t lt = omega arith
 -- a tile between two of a row is of the row
 pub between_in_row : (t first last columns : ℕ) → 1 ≤ columns → first ≤ t → t ≤ last → first / columns ≡ last / columns → t / columns ≡ first / columns
 between_in_row t first last columns some low high same =
-    let f = in_group_of first columns some in let l = in_group_of last columns some in
-    group_is t columns (first / columns) some (under (first / columns * columns) first t f.0 low) (over (last / columns * columns) (first / columns * columns) columns last t l.1 high (ap (λ q. q * columns) same))
+    let f = in_band_of first columns some in let l = in_band_of last columns some in
+    band_is t columns (first / columns) some (under (first / columns * columns) first t f.0 low) (over (last / columns * columns) (first / columns * columns) columns last t l.1 high (ap (λ q. q * columns) same))
   where
     under : (q f t : ℕ) → q ≤ f → f ≤ t → q ≤ t
     under q f t h g = omega (arith, h, g)
@@ -89,27 +89,27 @@ same_le a b e = omega (arith, ints)
 pub tiles_between : (plan : Plan) (s : Sides) (first last : ℕ) → IsPlan plan → last < tiles plan.raster → row_of plan.raster first ≡ row_of plan.raster last → HoldsTile plan s first → HoldsTile plan s last
     → (tile : ℕ) → first ≤ tile → tile ≤ last → HoldsTile plan s tile
 tiles_between plan s first last is lt row low high tile from to =
-    let r = plan.raster in let columns = groups r.across in
-    let some = some_columns (groups r.up) columns last lt in
+    let r = plan.raster in let columns = bands r.across in
+    let some = some_columns (bands r.up) columns last lt in
     let e : tile / columns ≡ first / columns = between_in_row tile first last columns some from to row in
-    let left = group_begin_le r.across (first % columns) (tile % columns) is.raster.across (column_le first tile columns from (sym e)) in
-    let right = group_end_le r.across (tile % columns) (last % columns) is.raster.across (column_le tile last columns to (e ∙ row)) in
+    let left = band_begin_le r.across (first % columns) (tile % columns) is.raster.across (column_le first tile columns from (sym e)) in
+    let right = band_end_le r.across (tile % columns) (last % columns) is.raster.across (column_le tile last columns to (e ∙ row)) in
     record {
       halo = record {
-        from_left = le_trans _ _ _ low.halo.from_left (less_by (group_begin r.across (first % columns)) (group_begin r.across (tile % columns)) plan.spacing left);
-        from_bottom = le_trans _ _ _ low.halo.from_bottom (same_le (group_begin r.up (first / columns) -ℤ plan.spacing) (group_begin r.up (tile / columns) -ℤ plan.spacing) (ap (λ n. group_begin r.up n -ℤ plan.spacing) (sym e)));
-        to_right = le_trans _ _ _ (more_by (group_end r.across (tile % columns)) (group_end r.across (last % columns)) plan.spacing right) high.halo.to_right;
-        to_top = le_trans _ _ _ (same_le (group_end r.up (tile / columns) +ℤ plan.spacing) (group_end r.up (first / columns) +ℤ plan.spacing) (ap (λ n. group_end r.up n +ℤ plan.spacing) e)) low.halo.to_top;
+        from_left = le_trans _ _ _ low.halo.from_left (less_by (band_begin r.across (first % columns)) (band_begin r.across (tile % columns)) plan.spacing left);
+        from_bottom = le_trans _ _ _ low.halo.from_bottom (same_le (band_begin r.up (first / columns) -ℤ plan.spacing) (band_begin r.up (tile / columns) -ℤ plan.spacing) (ap (λ n. band_begin r.up n -ℤ plan.spacing) (sym e)));
+        to_right = le_trans _ _ _ (more_by (band_end r.across (tile % columns)) (band_end r.across (last % columns)) plan.spacing right) high.halo.to_right;
+        to_top = le_trans _ _ _ (same_le (band_end r.up (tile / columns) +ℤ plan.spacing) (band_end r.up (first / columns) +ℤ plan.spacing) (ap (λ n. band_end r.up n +ℤ plan.spacing) e)) low.halo.to_top;
       };
       windows = λ a b column rows level. low.windows a b column rows
-          (ap (λ n. int_lt (window_bottom plan.windows b) (group_end r.up n) && int_lt (group_begin r.up n) (window_top plan.windows b)) (sym e) ∙ level);
+          (ap (λ n. int_lt (window_bottom plan.windows b) (band_end r.up n) && int_lt (band_begin r.up n) (window_top plan.windows b)) (sym e) ∙ level);
     }
 
 -- all tiles of a row are needed, or none is
 pub needs_same : (plan : Plan) (k : Part) (t u : ℕ) → row_of plan.raster t ≡ row_of plan.raster u → needs_tile plan k t ≡ needs_tile plan k u
 needs_same plan k t u same =
     let r = plan.raster in
-    ap (λ row. has_row k (groups r.up) row || some_below (λ b. has_windows plan k b && (int_lt (window_bottom plan.windows b) (group_end r.up row) && int_lt (group_begin r.up row) (window_top plan.windows b))) plan.windows.up.count) same
+    ap (λ row. has_row k (bands r.up) row || some_below (λ b. has_windows plan k b && (int_lt (window_bottom plan.windows b) (band_end r.up row) && int_lt (band_begin r.up row) (window_top plan.windows b))) plan.windows.up.count) same
 
 -- ---- one row more
 
@@ -122,22 +122,22 @@ pub record IsTileRow (r : Lattice) (row columns : ℕ) : Type 0 where
   pub ordered : row * columns ≤ row * columns + (columns - 1)
   pub one : row_of r (row * columns) ≡ row_of r (row * columns + (columns - 1))
 
-pub tile_row : (r : Lattice) (row columns : ℕ) → IsLattice r → row < groups r.up → columns ≡ groups r.across → 1 ≤ columns → IsTileRow r row columns
+pub tile_row : (r : Lattice) (row columns : ℕ) → IsLattice r → row < bands r.up → columns ≡ bands r.across → 1 ≤ columns → IsTileRow r row columns
 tile_row r row columns is lt e some =
-    let few : groups r.up * columns ≤ 16777216 = rw (sym e) at (tiles_few r is) in
-    let rows : suc row * columns ≤ groups r.up * columns = mul-le-mul (up lt) (same_nat columns) in
-    let a : row * columns / columns ≡ row = group_is (row * columns) columns row some (same_nat (row * columns)) (more (row * columns) columns some) in
-    let b : (row * columns + (columns - 1)) / columns ≡ row = group_is (row * columns + (columns - 1)) columns row some (least (row * columns) (columns - 1)) (most (row * columns) columns some) in
+    let few : bands r.up * columns ≤ 16777216 = rw (sym e) at (tiles_few r is) in
+    let rows : suc row * columns ≤ bands r.up * columns = mul-le-mul (up lt) (same_nat columns) in
+    let a : row * columns / columns ≡ row = band_is (row * columns) columns row some (same_nat (row * columns)) (more (row * columns) columns some) in
+    let b : (row * columns + (columns - 1)) / columns ≡ row = band_is (row * columns + (columns - 1)) columns row some (least (row * columns) (columns - 1)) (most (row * columns) columns some) in
     record {
-      fits = fit (row * columns) columns (groups r.up * columns) (rw (next row columns) at rows) few;
-      first = subst (λ c. row * columns < groups r.up * c) e (below (row * columns) columns (groups r.up * columns) some (rw (next row columns) at rows));
-      last_fits = fit_last (row * columns) columns (groups r.up * columns) (rw (next row columns) at rows) few;
-      last = subst (λ c. row * columns + (columns - 1) < groups r.up * c) e (below_last (row * columns) columns (groups r.up * columns) some (rw (next row columns) at rows));
+      fits = fit (row * columns) columns (bands r.up * columns) (rw (next row columns) at rows) few;
+      first = subst (λ c. row * columns < bands r.up * c) e (below (row * columns) columns (bands r.up * columns) some (rw (next row columns) at rows));
+      last_fits = fit_last (row * columns) columns (bands r.up * columns) (rw (next row columns) at rows) few;
+      last = subst (λ c. row * columns + (columns - 1) < bands r.up * c) e (below_last (row * columns) columns (bands r.up * columns) some (rw (next row columns) at rows));
       ordered = least (row * columns) (columns - 1);
       one = subst (λ c. row * columns / c ≡ (row * columns + (columns - 1)) / c) e (a ∙ sym b);
     }
   where
-    up : row < groups r.up → suc row ≤ groups r.up
+    up : row < bands r.up → suc row ≤ bands r.up
     up h = omega (arith, h)
 
     next : (n c : ℕ) → suc n * c ≡ n * c + c

@@ -9,6 +9,7 @@ use Rattle.fill_area.specs.Grid.{Grid}
 use Rattle.fill_raster.specs.Lattice.{tile_of, tiles}
 use Rattle.fill_text.specs.Rules.{Values}
 use Rattle.fill_text.specs.Script.{change_of}
+use Rattle.fill_text.specs.declared.limits.Limits.{Limits}
 use Rattle.fill_text.specs.declared.script.Edit.{Edit}
 use Rattle.fill_job.specs.Plans.{Plan, IsPlan, Layers, PointSet, plan_of, low_windows, wanted}
 use Rattle.fill_job.specs.Searches.{some_below}
@@ -54,8 +55,8 @@ PartsFollow = (rows count : ℕ) → 0 < count → IsCut rows count
 
 -- the lines of some rows, and then those of the rows behind them, are the lines of all these rows
 abbrev pub RowsFollow : Type 0
-RowsFollow = (g : Grid) (least most : ℤ) (measures : ℕ → ℕ → Measures) (low middle high : ℕ) → low ≤ middle → middle ≤ high
-    → rows_lines g least most measures low middle ++ rows_lines g least most measures middle high ≡ rows_lines g least most measures low high
+RowsFollow = (g : Grid) (limits : Limits) (measures : ℕ → ℕ → Measures) (low middle high : ℕ) → low ≤ middle → middle ≤ high
+    → rows_lines g limits measures low middle ++ rows_lines g limits measures middle high ≡ rows_lines g limits measures low high
 
 -- the parts' reports, one after another, are the report
 abbrev pub PartsMakeTheReport : Type 0

@@ -5,7 +5,7 @@ use Rattle.fill_base.specs.Coordinates.{lowest, highest}
 use Rattle.fill_base.specs.Counts.{is_between}
 use Rattle.fill_base.specs.Sides.{Sides}
 use Rattle.fill_area.specs.Grid.{window_left, window_right, window_bottom, window_top}
-use Rattle.fill_raster.specs.Axes.{groups}
+use Rattle.fill_raster.specs.Axes.{bands}
 use Rattle.fill_raster.specs.Lattice.{Lattice, tiles, tile_of, tile_left, tile_right, tile_bottom, tile_top}
 use Rattle.fill_job.specs.Plans.{Plan, Layers, PointSet}
 use Rattle.fill_job.specs.Searches.{some_below}
@@ -13,14 +13,14 @@ use Rattle.fill_parts.specs.Cuts.{Part, has_row}
 
 -- the row of a tile, from 0 on, and of the tile of a place
 abbrev pub row_of : Lattice → ℕ → ℕ
-row_of r tile = tile / groups r.across
+row_of r tile = tile / bands r.across
 
 abbrev pub row_at : Lattice → ℤ → ℤ → ℕ
 row_at r i j = row_of r (tile_of r i j)
 
 -- the tile is of the part, and the windows of the row are
 abbrev pub has_tile : Plan → Part → ℕ → Bool
-has_tile plan part tile = has_row part (groups plan.raster.up) (row_of plan.raster tile)
+has_tile plan part tile = has_row part (bands plan.raster.up) (row_of plan.raster tile)
 
 abbrev pub has_windows : Plan → Part → ℕ → Bool
 has_windows plan part b = has_row part plan.windows.up.count b

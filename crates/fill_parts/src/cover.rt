@@ -8,8 +8,7 @@ ghost use Rattle.fill_parts.specs.steps.Hulls.{Reaches, sides_by};
 
 use crate::hull::Hull;
 use fill_area::Windows;
-use fill_base::Rect;
-use fill_base::rect::{HIGHEST, LOWEST};
+use fill_base::{HIGHEST, LOWEST, Rect};
 use std::ops::Range;
 
 impl Hull {

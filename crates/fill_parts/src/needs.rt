@@ -3,7 +3,7 @@ ghost use Rattle.std.specs.Prelude.{◌≡◌, ◌&&◌, ◌+◌, ◌*◌, ◌<�
 ghost use Rattle.fill_base.specs.Sides.{Sides};
 ghost use Rattle.fill_base.specs.Squares.{squares};
 ghost use Rattle.fill_area.specs.Axes.{IsRangeOf, IsTouching};
-ghost use Rattle.fill_raster.specs.Axes.{groups};
+ghost use Rattle.fill_raster.specs.Axes.{bands};
 ghost use Rattle.fill_raster.specs.Lattice.{tile_bottom, tile_top, tiles};
 ghost use Rattle.fill_text.specs.ValuesOfRules.{values_of};
 ghost use Rattle.fill_job.specs.Plans.{PointSet, plan_of};
@@ -13,8 +13,7 @@ ghost use Rattle.fill_parts.specs.steps.Hulls.{HoldsTile, IsEnoughBelow, Reaches
 
 use crate::hull::Hull;
 use crate::part::Part;
-use fill_base::Rect;
-use fill_base::rect::LOWEST;
+use fill_base::{LOWEST, Rect};
 use fill_job::laws::rules_make_a_plan;
 use fill_text::Rules;
 use std::ops::Range;
@@ -77,8 +76,8 @@ impl Part {
 
     /// Round what the part needs of the tiles of a row too.
     fn cover_needed(self, hull: Hull, rules: &Rules, row: u32) -> Hull
-        requires { row < groups (plan_of (values_of rules.now)).raster.up }
-        ensures { let plan = plan_of (values_of rules.now) in IsEnoughBelow plan self (sides_by hull) (row * groups plan.raster.across) → IsEnoughBelow plan self (sides_by result) ((row + 1) * groups plan.raster.across) }
+        requires { row < bands (plan_of (values_of rules.now)).raster.up }
+        ensures { let plan = plan_of (values_of rules.now) in IsEnoughBelow plan self (sides_by hull) (row * bands plan.raster.across) → IsEnoughBelow plan self (sides_by result) ((row + 1) * bands plan.raster.across) }
     {
         rules_make_a_plan(rules);
         let columns = rules.raster().tile_columns();

@@ -55,6 +55,13 @@ impl Part {
         self.count
     }
 
+    /// Tells what the type keeps: it is one of at most 4,096 parts. Does nothing at run time.
+    pub fn keeps_few(self)
+        ensures { IsPart self }
+    {
+        let _count = self.count;
+    }
+
     /// Where a part of this number begins in so many rows.
     fn cut(self, rows: u32, number: u32) -> u32
         requires { number ≤ self.count }

@@ -1,6 +1,6 @@
 pub mod Floors
 pub mod Ranges
-pub mod Groups
+pub mod Bands
 pub mod Reaching
 pub mod Reading
 pub mod Tiling

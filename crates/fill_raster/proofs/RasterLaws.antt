@@ -9,13 +9,13 @@ use Rattle.fill_base.specs.Counts.{is_between, count_between}
 use Rattle.fill_base.specs.Squares.{area_between}
 use Rattle.fill_base.proofs.Between.{is_between_true, is_between_bounds}
 use Rattle.fill_base.proofs.Counting.{count_between_const, sum_between_const}
-use Rattle.fill_raster.specs.Axes.{box_begin, box_end, first, past, extent, groups, group_first, group_past, group_begin, group_end, IsAxis, IsPitch}
+use Rattle.fill_raster.specs.Axes.{box_begin, box_end, first, past, extent, bands, band_first, band_past, band_begin, band_end, IsAxis, IsPitch}
 use Rattle.fill_raster.specs.Lattice.{in_raster}
 use Rattle.fill_raster.specs.Laws.{PlacesAreARange, PlacesAreCounted, EachPlaceHasATile, TilesAreBlocks, TileEdgesBoundItsBoxes, TileEdgesAreReached, KeepsGap, BoxesKeepTheSpacing}
 use Rattle.fill_raster.specs.declared.axis.Axis.{Axis}
 use Rattle.fill_raster.proofs.Blocks.{tile_parts, tile_is_block}
 use Rattle.fill_raster.proofs.Floors.{product_le, product_lt}
-use Rattle.fill_raster.proofs.Groups.{first_before_last}
+use Rattle.fill_raster.proofs.Bands.{first_before_last}
 use Rattle.fill_raster.proofs.Ranges.{on_range, first_past}
 use Rattle.fill_raster.proofs.Tiling.{tile_of_below}
 
@@ -42,11 +42,11 @@ tiles_blocks r is t lt i j = sym (tile_is_block r t i j is lt)
 
 -- ---- edges
 
--- a box of a group lies between the group's edges
-bounded : (a : Axis) (g : ℕ) (i : ℤ) → IsAxis a → is_between (group_first a g) (group_past a g) i ≡ true → (group_begin a g ≤ℤ box_begin a i) × (box_end a i ≤ℤ group_end a g)
+-- a box of a band lies between the band's edges
+bounded : (a : Axis) (g : ℕ) (i : ℤ) → IsAxis a → is_between (band_first a g) (band_past a g) i ≡ true → (band_begin a g ≤ℤ box_begin a i) × (box_end a i ≤ℤ band_end a g)
 bounded a g i is h =
-    let b = is_between_bounds (group_first a g) (group_past a g) i h in
-    (sooner a.origin _ _ (product_le (group_first a g) i a.step is.step_is.least b.0), later a.origin a.length _ _ (product_le i (group_past a g -ℤ pos 1) a.step is.step_is.least (under i (group_past a g) b.1)))
+    let b = is_between_bounds (band_first a g) (band_past a g) i h in
+    (sooner a.origin _ _ (product_le (band_first a g) i a.step is.step_is.least b.0), later a.origin a.length _ _ (product_le i (band_past a g -ℤ pos 1) a.step is.step_is.least (under i (band_past a g) b.1)))
   where
     under : (i p : ℤ) → i <ℤ p → i ≤ℤ (p -ℤ pos 1)
     under i p lt = omega (arith, ints, clamps)
@@ -60,13 +60,13 @@ bounded a g i is h =
 pub edges_bound : TileEdgesBoundItsBoxes
 edges_bound r is t lt i j h =
     let inside = tile_is_block r t i j is lt ∙ h in
-    let x = bounded r.across (t % groups r.across) i is.across (and_parts _ _ inside).0 in
-    let y = bounded r.up (t / groups r.across) j is.up (and_parts _ _ inside).1 in
+    let x = bounded r.across (t % bands r.across) i is.across (and_parts _ _ inside).0 in
+    let y = bounded r.up (t / bands r.across) j is.up (and_parts _ _ inside).1 in
     record { left = x.0; bottom = y.0; right = x.1; top = y.1 }
 
--- the first and the last place of a group are of the group
-ends : (a : Axis) (g : ℕ) → IsAxis a → g < groups a → (is_between (group_first a g) (group_past a g) (group_first a g) ≡ true) × (is_between (group_first a g) (group_past a g) (group_past a g -ℤ pos 1) ≡ true)
-ends a g is lt = both_ends (group_first a g) (group_past a g) (first_before_last a g is.group_is.least lt)
+-- the first and the last place of a band are of the band
+ends : (a : Axis) (g : ℕ) → IsAxis a → g < bands a → (is_between (band_first a g) (band_past a g) (band_first a g) ≡ true) × (is_between (band_first a g) (band_past a g) (band_past a g -ℤ pos 1) ≡ true)
+ends a g is lt = both_ends (band_first a g) (band_past a g) (first_before_last a g is.band_is.least lt)
   where
     both_ends : (f p : ℤ) → f <ℤ p → (is_between f p f ≡ true) × (is_between f p (p -ℤ pos 1) ≡ true)
     both_ends f p lt = (is_between_true f p f (omega (arith, ints, clamps)) lt, is_between_true f p (p -ℤ pos 1) (omega (arith, ints, clamps)) (omega (arith, ints, clamps)))
@@ -74,10 +74,10 @@ ends a g is lt = both_ends (group_first a g) (group_past a g) (first_before_last
 pub edges_reached : TileEdgesAreReached
 edges_reached r is t lt =
     let parts = tile_parts r t lt in
-    let x = ends r.across (t % groups r.across) is.across parts.column_below in
-    let y = ends r.up (t / groups r.across) is.up parts.row_below in
-    let i = group_first r.across (t % groups r.across) in let j = group_first r.up (t / groups r.across) in
-    let k = group_past r.across (t % groups r.across) -ℤ pos 1 in let l = group_past r.up (t / groups r.across) -ℤ pos 1 in
+    let x = ends r.across (t % bands r.across) is.across parts.column_below in
+    let y = ends r.up (t / bands r.across) is.up parts.row_below in
+    let i = band_first r.across (t % bands r.across) in let j = band_first r.up (t / bands r.across) in
+    let k = band_past r.across (t % bands r.across) -ℤ pos 1 in let l = band_past r.up (t / bands r.across) -ℤ pos 1 in
     record {
       i = i;
       j = j;

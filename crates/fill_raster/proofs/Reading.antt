@@ -9,10 +9,10 @@ use Rattle.fill_base.proofs.Distances.{distance, distance_is}
 use Rattle.fill_base.specs.Counts.{span_len}
 use Rattle.fill_base.specs.Limits.{IsLength, IsSpacing}
 use Rattle.fill_base.proofs.Signed.{read, read_is, pos_fits, lt_le, le_trans, coordinate_fits}
-use Rattle.fill_raster.specs.Axes.{box_begin, box_end, is_on, first, past, extent, groups, group_of, group_first, group_past, group_end, IsAxis, IsPitch}
+use Rattle.fill_raster.specs.Axes.{box_begin, box_end, is_on, first, past, extent, bands, band_of, band_first, band_past, band_end, IsAxis, IsPitch}
 use Rattle.fill_raster.specs.declared.axis.Axis.{Axis}
 use Rattle.fill_raster.proofs.Ranges.{IsIn, IsWithin, IsPlaceNumber, le_true, true_le, on_in, in_on, on_within, within_on, on_range, last, last_bounded, first_bounded, first_past, past_bounded, extent_bounded}
-use Rattle.fill_raster.proofs.Groups.{apart_below, first_in, last_in, groups_few, starts_below}
+use Rattle.fill_raster.proofs.Bands.{apart_below, first_in, last_in, bands_few, starts_below}
 
 -- ---- numbers that fit
 
@@ -177,43 +177,43 @@ end_reckoned a i z is on z_is =
 pub has_reckoned : (a : Axis) (i f p : ℤ) → IsAxis a → FitsSigned w64 i → f ≡ first a → p ≡ past a → int_le (read f) (read i) && int_lt (read i) (read p) ≡ is_on a i
 has_reckoned a i f p is fits f_is p_is = rw (f_is, p_is, first_read a is, past_read a is, read_is i fits) (sym (on_range a i is.step_is.least))
 
--- ---- groups
+-- ---- bands
 
-group_count_fits : (e g : ℕ) → e ≤ 2147483648 → 1 ≤ g → Fits w32 (div_ceil e g)
-group_count_fits e g few some = let h = groups_few e g some in small (div_ceil e g) e h few
+band_count_fits : (e g : ℕ) → e ≤ 2147483648 → 1 ≤ g → Fits w32 (div_ceil e g)
+band_count_fits e g few some = let h = bands_few e g some in small (div_ceil e g) e h few
   where
     small : (c e : ℕ) → c ≤ e → e ≤ 2147483648 → Fits w32 c
     small c e h few = omega (arith, h)
 
-pub groups_fit : (a : Axis) (e b c : ℕ) → IsAxis a → e ≡ extent a → b ≡ a.group → c ≡ div_ceil e b → Fits w32 c
-groups_fit a e b c is e_is b_is c_is = rw (c_is, e_is, b_is) (group_count_fits (extent a) a.group (extent_bounded a is) is.group_is.least)
+pub bands_fit : (a : Axis) (e b c : ℕ) → IsAxis a → e ≡ extent a → b ≡ a.band → c ≡ div_ceil e b → Fits w32 c
+bands_fit a e b c is e_is b_is c_is = rw (c_is, e_is, b_is) (band_count_fits (extent a) a.band (extent_bounded a is) is.band_is.least)
 
 pub extent_is : (a : Axis) (p f : ℤ) (d : ℕ) → IsAxis a → p ≡ past a → f ≡ first a → d ≡ distance (read f) (read p) → d ≡ extent a
 extent_is a p f d is p_is f_is d_is =
     let far : d ≡ distance (first a) (past a) = rw (f_is, p_is, first_read a is, past_read a is) at d_is in
     far ∙ distance_is (first a) (past a) (first_past a)
 
-pub group_of_fits : (a : Axis) (i f : ℤ) (d b : ℕ) → IsAxis a → is_on a i ≡ true → f ≡ first a → d ≡ distance (read f) (read i) → b ≡ a.group → Fits w32 (d / b) × (d / b ≡ group_of a i)
-group_of_fits a i f d b is on f_is d_is b_is =
+pub band_of_fits : (a : Axis) (i f : ℤ) (d b : ℕ) → IsAxis a → is_on a i ≡ true → f ≡ first a → d ≡ distance (read f) (read i) → b ≡ a.band → Fits w32 (d / b) × (d / b ≡ band_of a i)
+band_of_fits a i f d b is on f_is d_is b_is =
     let within = on_in a i is.step_is.least (on_within a i on) in
     let far : d ≡ distance (first a) i = rw (f_is, first_read a is, place_read a i is within) at d_is in
     let e : d ≡ span_len (first a) i = far ∙ distance_is (first a) i within.low in
-    rw (e, b_is) (small (span_len (first a) i) (extent a) a.group (apart_below a i within) (extent_bounded a is), refl)
+    rw (e, b_is) (small (span_len (first a) i) (extent a) a.band (apart_below a i within) (extent_bounded a is), refl)
   where
     small : (n e b : ℕ) → n < e → e ≤ 2147483648 → Fits w32 (n / b)
     small n e b lt few = let q = div-le_self n b in omega (arith, q)
 
--- the first place of a group
-pub group_first_reckoned : (a : Axis) (g : ℕ) (f m n : ℤ) → IsAxis a → g < groups a → f ≡ first a → m ≡ pos g → n ≡ pos a.group
-    → FitsSigned w64 (read f +ℤ read (read m *ℤ read n)) × (read (read f +ℤ read (read m *ℤ read n)) ≡ group_first a g) × FitsSigned w64 (read m *ℤ read n)
-group_first_reckoned a g f m n is lt f_is m_is n_is =
-    let within = first_in a g is.group_is.least lt in
-    let most = starts_below (extent a) a.group g is.group_is.least lt in
+-- the first place of a band
+pub band_first_reckoned : (a : Axis) (g : ℕ) (f m n : ℤ) → IsAxis a → g < bands a → f ≡ first a → m ≡ pos g → n ≡ pos a.band
+    → FitsSigned w64 (read f +ℤ read (read m *ℤ read n)) × (read (read f +ℤ read (read m *ℤ read n)) ≡ band_first a g) × FitsSigned w64 (read m *ℤ read n)
+band_first_reckoned a g f m n is lt f_is m_is n_is =
+    let within = first_in a g is.band_is.least lt in
+    let most = starts_below (extent a) a.band g is.band_is.least lt in
     let few = extent_bounded a is in
-    let g_few : g ≤ 2147483648 = below_few g (groups a) (extent a) lt (groups_few (extent a) a.group is.group_is.least) few in
-    let row_fits = pos_fits (g * a.group) (less (g * a.group) (extent a) most few) in
-    rw (f_is, m_is, n_is, first_read a is, read_is (pos g) (small_fits g g_few), read_is (pos a.group) (group_fits a.group is.group_is.most), read_is (pos (g * a.group)) row_fits)
-    (place_in_fits a (group_first a g) is within, place_read a (group_first a g) is within, row_fits)
+    let g_few : g ≤ 2147483648 = below_few g (bands a) (extent a) lt (bands_few (extent a) a.band is.band_is.least) few in
+    let row_fits = pos_fits (g * a.band) (less (g * a.band) (extent a) most few) in
+    rw (f_is, m_is, n_is, first_read a is, read_is (pos g) (small_fits g g_few), read_is (pos a.band) (band_fits a.band is.band_is.most), read_is (pos (g * a.band)) row_fits)
+    (place_in_fits a (band_first a g) is within, place_read a (band_first a g) is within, row_fits)
   where
     below_few : (g c e : ℕ) → g < c → c ≤ e → e ≤ 2147483648 → g ≤ 2147483648
     below_few g c e h k l = omega (arith, h, k, l)
@@ -224,32 +224,32 @@ group_first_reckoned a g f m n is lt f_is m_is n_is =
     small_fits : (g : ℕ) → g ≤ 2147483648 → FitsSigned w64 (pos g)
     small_fits g h = omega (arith, ints, clamps)
 
-    group_fits : (g : ℕ) → g ≤ 4096 → FitsSigned w64 (pos g)
-    group_fits g h = omega (arith, ints, clamps)
+    band_fits : (g : ℕ) → g ≤ 4096 → FitsSigned w64 (pos g)
+    band_fits g h = omega (arith, ints, clamps)
 
-pub first_place_read : (a : Axis) (g : ℕ) → IsAxis a → g < groups a → read (group_first a g) ≡ group_first a g
-first_place_read a g is lt = place_read a (group_first a g) is (first_in a g is.group_is.least lt)
+pub first_place_read : (a : Axis) (g : ℕ) → IsAxis a → g < bands a → read (band_first a g) ≡ band_first a g
+first_place_read a g is lt = place_read a (band_first a g) is (first_in a g is.band_is.least lt)
 
--- the place past the last of a group
-pub past_place_read : (a : Axis) (g : ℕ) → IsAxis a → g < groups a → read (group_past a g) ≡ group_past a g
+-- the place past the last of a band
+pub past_place_read : (a : Axis) (g : ℕ) → IsAxis a → g < bands a → read (band_past a g) ≡ band_past a g
 past_place_read a g is lt =
-    let last = in_number a (group_past a g -ℤ pos 1) is (last_in a g is.group_is.least lt) in
-    read_is (group_past a g) (next_fits (group_past a g) last)
+    let last = in_number a (band_past a g -ℤ pos 1) is (last_in a g is.band_is.least lt) in
+    read_is (band_past a g) (next_fits (band_past a g) last)
   where
     next_fits : (z : ℤ) → IsPlaceNumber (z -ℤ pos 1) → FitsSigned w64 z
     next_fits z is = let low : negsuc 2147483647 ≤ℤ (z -ℤ pos 1) = is.least in let high : (z -ℤ pos 1) ≤ℤ pos 2147483648 = is.most in omega (arith, ints, clamps)
 
-pub group_past_reckoned : (a : Axis) (g : ℕ) (z n p m : ℤ) → IsAxis a → g < groups a → z ≡ group_first a g → n ≡ pos a.group → p ≡ past a
-    → FitsSigned w64 (read z +ℤ read n) × (m ≡ int_min (read (read z +ℤ read n)) (read p) → read m ≡ group_past a g)
-group_past_reckoned a g z n p m is lt z_is n_is p_is =
-    let within = first_in a g is.group_is.least lt in
-    let number = in_number a (group_first a g) is within in
-    let plus = past_fits (group_first a g) a.group number is.group_is.most in
-    rw (z_is, n_is, p_is, past_read a is, place_read a (group_first a g) is within, read_is (pos a.group) (group_fits a.group is.group_is.most), read_is (group_first a g +ℤ pos a.group) plus)
-    (plus, λ m_is. rw m_is (read_is (group_past a g) (place_fits (group_past a g) (least (group_first a g) (past a) a.group number (past_bounded a is)))))
+pub band_past_reckoned : (a : Axis) (g : ℕ) (z n p m : ℤ) → IsAxis a → g < bands a → z ≡ band_first a g → n ≡ pos a.band → p ≡ past a
+    → FitsSigned w64 (read z +ℤ read n) × (m ≡ int_min (read (read z +ℤ read n)) (read p) → read m ≡ band_past a g)
+band_past_reckoned a g z n p m is lt z_is n_is p_is =
+    let within = first_in a g is.band_is.least lt in
+    let number = in_number a (band_first a g) is within in
+    let plus = past_fits (band_first a g) a.band number is.band_is.most in
+    rw (z_is, n_is, p_is, past_read a is, place_read a (band_first a g) is within, read_is (pos a.band) (band_fits a.band is.band_is.most), read_is (band_first a g +ℤ pos a.band) plus)
+    (plus, λ m_is. rw m_is (read_is (band_past a g) (place_fits (band_past a g) (least (band_first a g) (past a) a.band number (past_bounded a is)))))
   where
-    group_fits : (g : ℕ) → g ≤ 4096 → FitsSigned w64 (pos g)
-    group_fits g h = omega (arith, ints, clamps)
+    band_fits : (g : ℕ) → g ≤ 4096 → FitsSigned w64 (pos g)
+    band_fits g h = omega (arith, ints, clamps)
 
     past_fits : (z : ℤ) (b : ℕ) → IsPlaceNumber z → b ≤ 4096 → FitsSigned w64 (z +ℤ pos b)
     past_fits z b is few = let low : negsuc 2147483647 ≤ℤ z = is.least in let high : z ≤ℤ pos 2147483648 = is.most in omega (arith, ints, clamps)
@@ -259,21 +259,21 @@ group_past_reckoned a g z n p m is lt z_is n_is p_is =
         let low : negsuc 2147483647 ≤ℤ z = iz.least in let under : negsuc 2147483647 ≤ℤ p = ip.least in let high : p ≤ℤ pos 2147483648 = ip.most in
         record { least = omega (arith, ints, clamps); most = omega (arith, ints, clamps) }
 
--- ---- the edges of a group
+-- ---- the edges of a band
 
-pub first_on : (a : Axis) (g : ℕ) (z : ℤ) → IsAxis a → g < groups a → z ≡ group_first a g → is_on a (read z) ≡ true
+pub first_on : (a : Axis) (g : ℕ) (z : ℤ) → IsAxis a → g < bands a → z ≡ band_first a g → is_on a (read z) ≡ true
 first_on a g z is lt z_is =
-    let within = first_in a g is.group_is.least lt in
-    rw (z_is, place_read a (group_first a g) is within) (within_on a (group_first a g) (in_on a (group_first a g) is.step_is.least within))
+    let within = first_in a g is.band_is.least lt in
+    rw (z_is, place_read a (band_first a g) is within) (within_on a (band_first a g) (in_on a (band_first a g) is.step_is.least within))
 
-pub last_on : (a : Axis) (g : ℕ) (z : ℤ) → IsAxis a → g < groups a → z ≡ group_past a g
-    → FitsSigned w64 (read z -ℤ pos 1) × (read (read z -ℤ pos 1) ≡ group_past a g -ℤ pos 1) × (is_on a (read (read z -ℤ pos 1)) ≡ true)
+pub last_on : (a : Axis) (g : ℕ) (z : ℤ) → IsAxis a → g < bands a → z ≡ band_past a g
+    → FitsSigned w64 (read z -ℤ pos 1) × (read (read z -ℤ pos 1) ≡ band_past a g -ℤ pos 1) × (is_on a (read (read z -ℤ pos 1)) ≡ true)
 last_on a g z is lt z_is =
-    let within = last_in a g is.group_is.least lt in
-    let number = in_number a (group_past a g -ℤ pos 1) is within in
-    let next = next_fits (group_past a g) number in
-    rw (z_is, read_is (group_past a g) next, place_read a (group_past a g -ℤ pos 1) is within)
-    (place_fits _ number, refl, within_on a (group_past a g -ℤ pos 1) (in_on a (group_past a g -ℤ pos 1) is.step_is.least within))
+    let within = last_in a g is.band_is.least lt in
+    let number = in_number a (band_past a g -ℤ pos 1) is within in
+    let next = next_fits (band_past a g) number in
+    rw (z_is, read_is (band_past a g) next, place_read a (band_past a g -ℤ pos 1) is within)
+    (place_fits _ number, refl, within_on a (band_past a g -ℤ pos 1) (in_on a (band_past a g -ℤ pos 1) is.step_is.least within))
   where
     next_fits : (z : ℤ) → IsPlaceNumber (z -ℤ pos 1) → FitsSigned w64 z
     next_fits z is = let low : negsuc 2147483647 ≤ℤ (z -ℤ pos 1) = is.least in let high : (z -ℤ pos 1) ≤ℤ pos 2147483648 = is.most in omega (arith, ints, clamps)
@@ -283,12 +283,12 @@ far_fits a i is on =
     let w = on_within a i on in
     rw ((axis_read a is).step_is, place_read a i is (on_in a i is.step_is.least w)) (box_fits a i is w).far
 
-pub end_read : (a : Axis) (g : ℕ) (z e : ℤ) → IsAxis a → g < groups a → z ≡ group_past a g → e ≡ box_end a (read (read z -ℤ pos 1)) → read e ≡ group_end a g
+pub end_read : (a : Axis) (g : ℕ) (z e : ℤ) → IsAxis a → g < bands a → z ≡ band_past a g → e ≡ box_end a (read (read z -ℤ pos 1)) → read e ≡ band_end a g
 end_read a g z e is lt z_is e_is =
     let l = last_on a g z is lt z_is in
-    let on : is_on a (group_past a g -ℤ pos 1) ≡ true = rw l.1 at l.2 in
-    let b = box_fits a (group_past a g -ℤ pos 1) is (on_within a _ on) in
-    rw (e_is, l.1) (read_is (group_end a g) b.ends)
+    let on : is_on a (band_past a g -ℤ pos 1) ≡ true = rw l.1 at l.2 in
+    let b = box_fits a (band_past a g -ℤ pos 1) is (on_within a _ on) in
+    rw (e_is, l.1) (read_is (band_end a g) b.ends)
 
 -- ---- boxes as rectangles
 

@@ -6,12 +6,12 @@ use Rattle.std.proofs.Math.Nat.{mul-le-mul, mul_comm}
 use Rattle.std.proofs.lemmas.Nat.{mul-add-lt}
 use Rattle.fill_base.specs.Coordinates.{lowest, highest}
 use Rattle.fill_base.proofs.Signed.{read}
-use Rattle.fill_raster.specs.Axes.{box_begin, box_end, extent, groups, group_of, IsAxis}
+use Rattle.fill_raster.specs.Axes.{box_begin, box_end, extent, bands, band_of, IsAxis}
 use Rattle.fill_raster.specs.Lattice.{Lattice, IsLattice, in_raster, places, tiles, tile_of}
 use Rattle.fill_raster.specs.declared.axis.Axis.{Axis}
 use Rattle.fill_raster.proofs.Ranges.{extent_bounded, on_in, on_within}
 use Rattle.fill_raster.proofs.Reading.{box_begin_read, box_end_read, box_range, place_read}
-use Rattle.fill_raster.proofs.Groups.{groups_few, group_below}
+use Rattle.fill_raster.proofs.Bands.{bands_few, band_below}
 
 product_fits : (m n : ℕ) → m ≤ 2147483648 → n ≤ 2147483648 → Fits w64 (m * n)
 product_fits m n a b = let h : m * n ≤ 2147483648 * 2147483648 = mul-le-mul a b in small (m * n) h
@@ -81,9 +81,9 @@ tile_below g c row column r k = let h = mul-add-lt row c column g r k in let e =
 -- there are no more tiles than places
 pub tiles_few : (r : Lattice) → IsLattice r → tiles r ≤ 16777216
 tiles_few r is =
-    let columns : groups r.across ≤ extent r.across = groups_few (extent r.across) r.across.group is.across.group_is.least in
-    let rows : groups r.up ≤ extent r.up = groups_few (extent r.up) r.up.group is.up.group_is.least in
-    let product : groups r.up * groups r.across ≤ extent r.up * extent r.across = mul-le-mul rows columns in
+    let columns : bands r.across ≤ extent r.across = bands_few (extent r.across) r.across.band is.across.band_is.least in
+    let rows : bands r.up ≤ extent r.up = bands_few (extent r.up) r.up.band is.up.band_is.least in
+    let product : bands r.up * bands r.across ≤ extent r.up * extent r.across = mul-le-mul rows columns in
     let turned = mul_comm (extent r.up) (extent r.across) in
     few (tiles r) (extent r.up * extent r.across) (places r) product turned is.few
   where
@@ -92,15 +92,15 @@ tiles_few r is =
 
 pub tile_of_below : (r : Lattice) (i j : ℤ) → IsLattice r → in_raster r i j ≡ true → tile_of r i j < tiles r
 tile_of_below r i j is on =
-    tile_below (groups r.up) (groups r.across) (group_of r.up j) (group_of r.across i)
-    (group_below r.up j is.up.group_is.least (on_in r.up j is.up.step_is.least (on_within r.up j (and_parts _ _ on).1)))
-    (group_below r.across i is.across.group_is.least (on_in r.across i is.across.step_is.least (on_within r.across i (and_parts _ _ on).0)))
+    tile_below (bands r.up) (bands r.across) (band_of r.up j) (band_of r.across i)
+    (band_below r.up j is.up.band_is.least (on_in r.up j is.up.step_is.least (on_within r.up j (and_parts _ _ on).1)))
+    (band_below r.across i is.across.band_is.least (on_in r.across i is.across.step_is.least (on_within r.across i (and_parts _ _ on).0)))
 
 -- the tiles below the row of a place
-pub row_fits : (r : Lattice) (i j : ℤ) (row columns : ℕ) → IsLattice r → in_raster r i j ≡ true → row ≡ group_of r.up (read j) → columns ≡ groups r.across → Fits w32 (row * columns)
+pub row_fits : (r : Lattice) (i j : ℤ) (row columns : ℕ) → IsLattice r → in_raster r i j ≡ true → row ≡ band_of r.up (read j) → columns ≡ bands r.across → Fits w32 (row * columns)
 row_fits r i j row columns is on row_is columns_is =
     let j_in = on_in r.up j is.up.step_is.least (on_within r.up j (and_parts _ _ on).1) in
-    rw (row_is, columns_is, place_read r.up j is.up j_in) (small (group_of r.up j * groups r.across) (group_of r.across i) (tiles r) (tile_of_below r i j is on) (tiles_few r is))
+    rw (row_is, columns_is, place_read r.up j is.up j_in) (small (band_of r.up j * bands r.across) (band_of r.across i) (tiles r) (tile_of_below r i j is on) (tiles_few r is))
   where
     small : (m n t : ℕ) → m + n < t → t ≤ 16777216 → Fits w32 m
     small m n t lt few = omega (arith, lt, few)
@@ -112,7 +112,7 @@ pub record TileReckoned (r : Lattice) (i j : ℤ) (row columns column : ℕ) : T
   pub index : row * columns + column < tiles r
 
 pub tile_reckoned : (r : Lattice) (i j : ℤ) (row columns column : ℕ) → IsLattice r → in_raster r i j ≡ true
-    → row ≡ group_of r.up (read j) → columns ≡ groups r.across → column ≡ group_of r.across (read i) → TileReckoned r i j row columns column
+    → row ≡ band_of r.up (read j) → columns ≡ bands r.across → column ≡ band_of r.across (read i) → TileReckoned r i j row columns column
 tile_reckoned r i j row columns column is on row_is columns_is column_is =
     let i_in = on_in r.across i is.across.step_is.least (on_within r.across i (and_parts _ _ on).0) in
     let j_in = on_in r.up j is.up.step_is.least (on_within r.up j (and_parts _ _ on).1) in

@@ -33,37 +33,37 @@ past a = int_max (first a) (int_div_euclid ((a.high -ℤ a.length) -ℤ a.origin
 abbrev pub extent : Axis → ℕ
 extent a = span_len (first a) (past a)
 
--- how many groups there are, of as many places as the axis says; the last one may have fewer
-abbrev pub groups : Axis → ℕ
-groups a = div_ceil (extent a) a.group
+-- how many bands there are, of as many places as the axis says; the last one may have fewer
+abbrev pub bands : Axis → ℕ
+bands a = div_ceil (extent a) a.band
 
--- the group of a place, from 0 on
-abbrev pub group_of : Axis → ℤ → ℕ
-group_of a i = span_len (first a) i / a.group
+-- the band of a place, from 0 on
+abbrev pub band_of : Axis → ℤ → ℕ
+band_of a i = span_len (first a) i / a.band
 
--- the least place of a group, and the one past its last
-abbrev pub group_first : Axis → ℕ → ℤ
-group_first a g = first a +ℤ pos (g * a.group)
+-- the least place of a band, and the one past its last
+abbrev pub band_first : Axis → ℕ → ℤ
+band_first a g = first a +ℤ pos (g * a.band)
 
-abbrev pub group_past : Axis → ℕ → ℤ
-group_past a g = int_min (group_first a g +ℤ pos a.group) (past a)
+abbrev pub band_past : Axis → ℕ → ℤ
+band_past a g = int_min (band_first a g +ℤ pos a.band) (past a)
 
--- where the first box of a group begins, and where its last one ends
-abbrev pub group_begin : Axis → ℕ → ℤ
-group_begin a g = box_begin a (group_first a g)
+-- where the first box of a band begins, and where its last one ends
+abbrev pub band_begin : Axis → ℕ → ℤ
+band_begin a g = box_begin a (band_first a g)
 
-abbrev pub group_end : Axis → ℕ → ℤ
-group_end a g = box_end a (group_past a g -ℤ pos 1)
+abbrev pub band_end : Axis → ℕ → ℤ
+band_end a g = box_end a (band_past a g -ℤ pos 1)
 
 -- the same edges with a spacing beyond each, within the coordinates
 abbrev pub halo_begin : Axis → ℕ → ℤ → ℤ
-halo_begin a g spacing = int_max (group_begin a g -ℤ spacing) lowest
+halo_begin a g spacing = int_max (band_begin a g -ℤ spacing) lowest
 
 abbrev pub halo_end : Axis → ℕ → ℤ → ℤ
-halo_end a g spacing = int_min (group_end a g +ℤ spacing) highest
+halo_end a g spacing = int_min (band_end a g +ℤ spacing) highest
 
 -- from 1 to 4,096 places of a tile
-pub record IsGroup (n : ℕ) : Type 0 where
+pub record IsBand (n : ℕ) : Type 0 where
   pub least : 1 ≤ n
   pub most : n ≤ 4096
 
@@ -75,7 +75,7 @@ pub record IsAxis (a : Axis) : Type 0 where
   pub length_is : IsLength a.length
   pub step_is : IsLength a.step
   pub origin_is : IsCoordinate a.origin
-  pub group_is : IsGroup a.group
+  pub band_is : IsBand a.band
 
 -- a step is at least a box and the spacing
 abbrev pub IsPitch : Axis → ℤ → Type 0

@@ -3,7 +3,7 @@ use Rattle.std.specs.Prelude.{ℕ, ◌+◌, ◌*◌, ◌/◌, ◌%◌, ◌≤◌
 use Rattle.fill_base.specs.Counts.{is_between}
 use Rattle.fill_base.specs.declared.place.Point.{Point}
 use Rattle.fill_base.specs.declared.rect.Rect.{Rect}
-use Rattle.fill_raster.specs.Axes.{box_begin, box_end, is_on, is_on_within, extent, groups, group_of, group_begin, group_end, IsAxis, IsPitch}
+use Rattle.fill_raster.specs.Axes.{box_begin, box_end, is_on, is_on_within, extent, bands, band_of, band_begin, band_end, IsAxis, IsPitch}
 use Rattle.fill_raster.specs.declared.axis.Axis.{Axis}
 
 -- the columns of the places from left to right, and their rows upwards
@@ -15,8 +15,8 @@ pub record Lattice : Type 0 where
 -- tile across and up
 abbrev pub lattice_of : Rect → ℤ × ℤ → ℤ × ℤ → Point → ℕ × ℕ → Lattice
 lattice_of frame size step origin tile = record {
-  across = record { low = frame.x1; high = frame.x2; length = size.0; step = step.0; origin = origin.x; group = tile.0 };
-  up = record { low = frame.y1; high = frame.y2; length = size.1; step = step.1; origin = origin.y; group = tile.1 };
+  across = record { low = frame.x1; high = frame.x2; length = size.0; step = step.0; origin = origin.x; band = tile.0 };
+  up = record { low = frame.y1; high = frame.y2; length = size.1; step = step.1; origin = origin.y; band = tile.1 };
 }
 
 -- the place is on the raster: its box lies within the frame
@@ -37,26 +37,26 @@ places r = extent r.across * extent r.up
 
 -- how many tiles there are, and the tile of a place: by rows of tiles, lower rows first
 abbrev pub tiles : Lattice → ℕ
-tiles r = groups r.up * groups r.across
+tiles r = bands r.up * bands r.across
 
 abbrev pub tile_of : Lattice → ℤ → ℤ → ℕ
-tile_of r i j = group_of r.up j * groups r.across + group_of r.across i
+tile_of r i j = band_of r.up j * bands r.across + band_of r.across i
 
 abbrev pub in_tile : Lattice → ℕ → ℤ → ℤ → Bool
 in_tile r t i j = in_raster r i j && (tile_of r i j == t)
 
 -- the edges of the bounding rectangle of the boxes of a tile
 abbrev pub tile_left : Lattice → ℕ → ℤ
-tile_left r t = group_begin r.across (t % groups r.across)
+tile_left r t = band_begin r.across (t % bands r.across)
 
 abbrev pub tile_right : Lattice → ℕ → ℤ
-tile_right r t = group_end r.across (t % groups r.across)
+tile_right r t = band_end r.across (t % bands r.across)
 
 abbrev pub tile_bottom : Lattice → ℕ → ℤ
-tile_bottom r t = group_begin r.up (t / groups r.across)
+tile_bottom r t = band_begin r.up (t / bands r.across)
 
 abbrev pub tile_top : Lattice → ℕ → ℤ
-tile_top r t = group_end r.up (t / groups r.across)
+tile_top r t = band_end r.up (t / bands r.across)
 
 -- that rectangle, grown by a spacing on all sides, holds the square
 abbrev pub in_halo : Lattice → ℕ → ℤ → ℤ → ℤ → Bool

@@ -2,7 +2,7 @@
 use Rattle.std.specs.Prelude.{◌≡◌, ◌⊎◌, ℕ, ◌%◌, ◌/◌, ◌<◌, ℤ, ◌+ℤ◌, ◌≤ℤ◌, true, ◌&&◌}
 use Rattle.fill_base.specs.Counts.{is_between}
 use Rattle.fill_base.specs.Squares.{area_between}
-use Rattle.fill_raster.specs.Axes.{box_begin, box_end, first, past, groups, group_first, group_past}
+use Rattle.fill_raster.specs.Axes.{box_begin, box_end, first, past, bands, band_first, band_past}
 use Rattle.fill_raster.specs.Lattice.{Lattice, IsLattice, KeepsPitch, in_raster, in_tile, places, tiles, tile_of, tile_left, tile_bottom, tile_right, tile_top}
 use Rattle.fill_raster.specs.declared.axis.Axis.{Axis}
 
@@ -21,7 +21,7 @@ EachPlaceHasATile = (r : Lattice) → IsLattice r → (i j : ℤ) → in_raster 
 -- the places of a tile are those of a range of columns and a range of rows
 abbrev pub TilesAreBlocks : Type 0
 TilesAreBlocks = (r : Lattice) → IsLattice r → (t : ℕ) → t < tiles r → (i j : ℤ)
-    → in_tile r t i j ≡ is_between (group_first r.across (t % groups r.across)) (group_past r.across (t % groups r.across)) i && is_between (group_first r.up (t / groups r.across)) (group_past r.up (t / groups r.across)) j
+    → in_tile r t i j ≡ is_between (band_first r.across (t % bands r.across)) (band_past r.across (t % bands r.across)) i && is_between (band_first r.up (t / bands r.across)) (band_past r.up (t / bands r.across)) j
 
 -- the box of a place lies between the edges of a tile
 pub record IsBounded (r : Lattice) (t : ℕ) (i j : ℤ) : Type 0 where

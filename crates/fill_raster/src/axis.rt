@@ -4,10 +4,10 @@ ghost use Rattle.fill_base.specs.Limits.{IsSpacing};
 ghost use Rattle.fill_raster.specs.Axes.{IsAxis, IsPitch, is_on};
 ghost use Rattle.fill_raster.specs.Axes as spec;
 
-use fill_base::rect::{HIGHEST, LOWEST};
+use fill_base::{HIGHEST, LOWEST};
 
 /// Boxes of one length along a line, in database units: that of place `i`, any whole number, begins `i` steps after the
-/// origin. The raster's places are those whose box lies between the frame's edges, in groups from the least place on.
+/// origin. The raster's places are those whose box lies between the frame's edges, in bands from the least place on.
 #[derive(Clone, Copy, Debug, PartialEq, Eq)]
 pub struct Axis {
     /// The frame's lower edge.
@@ -20,8 +20,8 @@ pub struct Axis {
     pub step: i64,
     /// Where the box of place 0 begins.
     pub origin: i64,
-    /// How many places a group has; the last group may have fewer.
-    pub group: u32,
+    /// How many places a band has; the last band may have fewer.
+    pub band: u32,
 }
 
 impl Axis {
@@ -85,76 +85,76 @@ impl Axis {
         self.box_begin(i) + self.length
     }
 
-    /// How many groups there are.
-    pub(crate) fn groups(self) -> u32
+    /// How many bands there are.
+    pub(crate) fn bands(self) -> u32
         requires { IsAxis self }
-        ensures { result ≡ spec.groups self }
+        ensures { result ≡ spec.bands self }
     {
-        self.extent().div_ceil(u64::from(self.group)) as u32
+        self.extent().div_ceil(u64::from(self.band)) as u32
     }
 
-    /// The group of a place.
-    pub(crate) fn group_of(self, i: i64) -> u32
+    /// The band of a place.
+    pub(crate) fn band_of(self, i: i64) -> u32
         requires axis { IsAxis self }
         requires place { is_on self i ≡ true }
-        ensures { result ≡ spec.group_of self i }
+        ensures { result ≡ spec.band_of self i }
     {
-        (i.abs_diff(self.first()) / u64::from(self.group)) as u32
+        (i.abs_diff(self.first()) / u64::from(self.band)) as u32
     }
 
-    /// The least place of a group.
-    pub(crate) fn group_first(self, g: u32) -> i64
+    /// The least place of a band.
+    pub(crate) fn band_first(self, g: u32) -> i64
         requires axis { IsAxis self }
-        requires index { g < spec.groups self }
-        ensures { result ≡ spec.group_first self g }
+        requires index { g < spec.bands self }
+        ensures { result ≡ spec.band_first self g }
     {
-        self.first() + i64::from(g) * i64::from(self.group)
+        self.first() + i64::from(g) * i64::from(self.band)
     }
 
-    /// The place past the last one of a group.
-    pub(crate) fn group_past(self, g: u32) -> i64
+    /// The place past the last one of a band.
+    pub(crate) fn band_past(self, g: u32) -> i64
         requires axis { IsAxis self }
-        requires index { g < spec.groups self }
-        ensures { result ≡ spec.group_past self g }
+        requires index { g < spec.bands self }
+        ensures { result ≡ spec.band_past self g }
     {
-        (self.group_first(g) + i64::from(self.group)).min(self.past())
+        (self.band_first(g) + i64::from(self.band)).min(self.past())
     }
 
-    /// Where the first box of a group begins.
-    pub(crate) fn group_begin(self, g: u32) -> i64
+    /// Where the first box of a band begins.
+    pub(crate) fn band_begin(self, g: u32) -> i64
         requires axis { IsAxis self }
-        requires index { g < spec.groups self }
-        ensures { result ≡ spec.group_begin self g }
+        requires index { g < spec.bands self }
+        ensures { result ≡ spec.band_begin self g }
     {
-        self.box_begin(self.group_first(g))
+        self.box_begin(self.band_first(g))
     }
 
-    /// Where the last box of a group ends.
-    pub(crate) fn group_end(self, g: u32) -> i64
+    /// Where the last box of a band ends.
+    pub(crate) fn band_end(self, g: u32) -> i64
         requires axis { IsAxis self }
-        requires index { g < spec.groups self }
-        ensures { result ≡ spec.group_end self g }
+        requires index { g < spec.bands self }
+        ensures { result ≡ spec.band_end self g }
     {
-        self.box_end(self.group_past(g) - 1)
+        self.box_end(self.band_past(g) - 1)
     }
 
-    /// Where the halo of a group begins: a spacing before its first box, but within the coordinates.
+    /// Where the halo of a band begins: a spacing before its first box, but within the coordinates.
     pub(crate) fn halo_begin(self, g: u32, spacing: i64) -> i64
         requires axis { IsAxis self }
-        requires index { g < spec.groups self }
+        requires index { g < spec.bands self }
         requires spacing { IsSpacing spacing }
         ensures { result ≡ spec.halo_begin self g spacing }
     {
-        (self.group_begin(g) - spacing).max(LOWEST)
+        (self.band_begin(g) - spacing).max(LOWEST)
     }
 
-    /// Where the halo of a group ends: a spacing after its last box, but within the coordinates.
+    /// Where the halo of a band ends: a spacing after its last box, but within the coordinates.
     pub(crate) fn halo_end(self, g: u32, spacing: i64) -> i64
         requires axis { IsAxis self }
-        requires index { g < spec.groups self }
+        requires index { g < spec.bands self }
         requires spacing { IsSpacing spacing }
         ensures { result ≡ spec.halo_end self g spacing }
     {
-        (self.group_end(g) + spacing).min(HIGHEST)
+        (self.band_end(g) + spacing).min(HIGHEST)
     }
 }

@@ -5,7 +5,7 @@ ghost use Rattle.fill_base.specs.Coordinates.{lowest, highest, IsCoordinate, IsI
 ghost use Rattle.fill_base.specs.Counts.{is_between};
 ghost use Rattle.fill_base.specs.Limits.{IsLength, IsSpacing};
 ghost use Rattle.fill_base.specs.Squares.{squares};
-ghost use Rattle.fill_raster.specs.Axes.{IsAxis, IsGroup, box_begin, box_end, first, past, groups};
+ghost use Rattle.fill_raster.specs.Axes.{IsAxis, IsBand, box_begin, box_end, first, past, bands};
 ghost use Rattle.fill_raster.specs.Lattice as spec;
 ghost use Rattle.fill_raster.specs.Marks.{IsBlock, in_block};
 ghost use Rattle.fill_raster.specs.Lattice.{Lattice, IsLattice, KeepsPitch, HasFewPlaces, lattice_of, in_raster, in_tile, in_halo, box_squares, tile_left, tile_bottom, tile_right, tile_top};
@@ -91,8 +91,8 @@ impl Raster {
         requires origin_x { IsCoordinate origin.x }
         requires origin_y { IsCoordinate origin.y }
         requires fill_spacing { IsSpacing fill_spacing }
-        requires columns { IsGroup tile.0 }
-        requires rows { IsGroup tile.1 }
+        requires columns { IsBand tile.0 }
+        requires rows { IsBand tile.1 }
         ensures ok { IsOk result ↔ (KeepsPitch (lattice_of frame size step origin tile) fill_spacing × HasFewPlaces (lattice_of frame size step origin tile)) }
         ensures bad_pitch { (result ≡ Err RasterError.BadPitch) ↔ ¬ KeepsPitch (lattice_of frame size step origin tile) fill_spacing }
         ensures too_many { (result ≡ Err RasterError.TooManyPlaces) ↔ (KeepsPitch (lattice_of frame size step origin tile) fill_spacing × ¬ HasFewPlaces (lattice_of frame size step origin tile)) }
@@ -104,7 +104,7 @@ impl Raster {
             length: size.0,
             step: step.0,
             origin: origin.x,
-            group: tile.0,
+            band: tile.0,
         };
         let up = Axis {
             low: frame.y1(),
@@ -112,7 +112,7 @@ impl Raster {
             length: size.1,
             step: step.1,
             origin: origin.y,
-            group: tile.1,
+            band: tile.1,
         };
         Raster::checked(across, up, fill_spacing)
     }
@@ -197,7 +197,7 @@ impl Raster {
     pub fn tiles(&self) -> u32
         ensures { result ≡ spec.tiles self.now }
     {
-        self.up.groups() * self.across.groups()
+        self.up.bands() * self.across.bands()
     }
 
     /// The tile of a place.
@@ -206,7 +206,7 @@ impl Raster {
         ensures tile { result ≡ spec.tile_of self.now place.i place.j }
         ensures index { result < spec.tiles self.now }
     {
-        self.up.group_of(place.j) * self.across.groups() + self.across.group_of(place.i)
+        self.up.band_of(place.j) * self.across.bands() + self.across.band_of(place.i)
     }
 
     /// The columns and the rows of a tile: its places are exactly those with their `i` in the first range and their `j` in
@@ -229,10 +229,10 @@ impl Raster {
     {
         let (column, row) = (self.tile_column(tile), self.tile_row(tile));
         Block {
-            left: self.across.group_first(column),
-            bottom: self.up.group_first(row),
-            right: self.across.group_past(column),
-            top: self.up.group_past(row),
+            left: self.across.band_first(column),
+            bottom: self.up.band_first(row),
+            right: self.across.band_past(column),
+            top: self.up.band_past(row),
         }
     }
 
@@ -260,18 +260,18 @@ impl Raster {
     /// The column of a tile, among the columns of tiles.
     fn tile_column(&self, tile: u32) -> u32
         requires { tile < spec.tiles self.now }
-        ensures column { result ≡ tile % groups self.now.across }
-        ensures index { result < groups self.now.across }
+        ensures column { result ≡ tile % bands self.now.across }
+        ensures index { result < bands self.now.across }
     {
-        tile % self.across.groups()
+        tile % self.across.bands()
     }
 
     /// The row of a tile, among the rows of tiles, from 0 on.
     pub fn tile_row(&self, tile: u32) -> u32
         requires { tile < spec.tiles self.now }
-        ensures row { result ≡ tile / groups self.now.across }
-        ensures index { result < groups self.now.up }
+        ensures row { result ≡ tile / bands self.now.across }
+        ensures index { result < bands self.now.up }
     {
-        tile / self.across.groups()
+        tile / self.across.bands()
     }
 }

@@ -4,6 +4,7 @@ use Rattle.std.specs.List.{flat_map, range_with_len, join_with_byte}
 use Rattle.std.specs.Fmt.{signed_decimal}
 use Rattle.fill_area.specs.Grid.{Grid, counted_size, window_left, window_right, window_bottom, window_top}
 use Rattle.fill_area.specs.Density.{window_area}
+use Rattle.fill_text.specs.declared.limits.Limits.{Limits}
 use Rattle.fill_report.specs.declared.line.Measures.{Measures}
 use Rattle.fill_report.specs.declared.line.Density.{Density}
 use Rattle.fill_report.specs.declared.line.Density.TheVariants.{Low, High, Within}
@@ -13,10 +14,10 @@ abbrev pub share_of : ℤ → ℤ → ℤ
 share_of total size = if int_lt (pos 0) size then pos (unsigned_abs total * 1000000 / unsigned_abs size) else pos 0
 
 -- below the minimum, above the maximum, or neither
-abbrev pub density_of : ℤ → ℤ → ℤ → ℤ → Density
-density_of total least most size =
-    cond (int_lt (total *ℤ pos 1000000) (least *ℤ size)) Low
-    (cond (int_lt (most *ℤ size) (total *ℤ pos 1000000)) High Within)
+abbrev pub density_of : ℤ → Limits → ℤ → Density
+density_of total limits size =
+    cond (int_lt (total *ℤ pos 1000000) (limits.least *ℤ size)) Low
+    (cond (int_lt (limits.most *ℤ size) (total *ℤ pos 1000000)) High Within)
 
 abbrev pub density_word : Density → List ℕ
 density_word Low = codes "LOW"
@@ -41,40 +42,36 @@ measures_of drawn fill g a b = record {
   total = pos (window_area (λ x y. drawn x y || fill x y) g a b);
 }
 
-abbrev pub window_line : Grid → ℤ → ℤ → Measures → ℕ → ℕ → List ℕ
-window_line g least most measures a b = line_text (line_numbers g a b measures) (density_of measures.total least most (counted_size g a b))
+abbrev pub window_line : Grid → Limits → Measures → ℕ → ℕ → List ℕ
+window_line g limits measures a b = line_text (line_numbers g a b measures) (density_of measures.total limits (counted_size g a b))
 
 -- the line at place `k` of the report
-abbrev pub line_at : Grid → ℤ → ℤ → (ℕ → ℕ → Measures) → ℕ → List ℕ
-line_at g least most measures k = window_line g least most (measures (k % g.across.count) (k / g.across.count)) (k % g.across.count) (k / g.across.count)
+abbrev pub line_at : Grid → Limits → (ℕ → ℕ → Measures) → ℕ → List ℕ
+line_at g limits measures k = window_line g limits (measures (k % g.across.count) (k / g.across.count)) (k % g.across.count) (k / g.across.count)
 
 -- the `n` lines from place `from` on
-abbrev pub lines_from : Grid → ℤ → ℤ → (ℕ → ℕ → Measures) → ℕ → ℕ → List ℕ
-lines_from g least most measures from n = flat_map (line_at g least most measures) (range_with_len from n)
+abbrev pub lines_from : Grid → Limits → (ℕ → ℕ → Measures) → ℕ → ℕ → List ℕ
+lines_from g limits measures from n = flat_map (line_at g limits measures) (range_with_len from n)
 
 -- the first `n` lines
-abbrev pub first_lines : Grid → ℤ → ℤ → (ℕ → ℕ → Measures) → ℕ → List ℕ
-first_lines g least most measures n = lines_from g least most measures 0 n
+abbrev pub first_lines : Grid → Limits → (ℕ → ℕ → Measures) → ℕ → List ℕ
+first_lines g limits measures n = lines_from g limits measures 0 n
 
 -- the lines of all windows
-abbrev pub windows_text : Grid → ℤ → ℤ → (ℕ → ℕ → Measures) → List ℕ
-windows_text g least most measures = first_lines g least most measures (g.across.count * g.up.count)
+abbrev pub windows_text : Grid → Limits → (ℕ → ℕ → Measures) → List ℕ
+windows_text g limits measures = first_lines g limits measures (g.across.count * g.up.count)
 
 -- an area of metal and no fill
 abbrev pub metal_alone : ℤ → Measures
 metal_alone drawn = record { drawn = drawn; fill = pos 0; total = drawn }
-
--- areas of metal in a list, row by row, and no fill
-abbrev pub drawn_only : Grid → List ℤ → ℕ → ℕ → Measures
-drawn_only g totals a b = metal_alone (get_or totals (b * g.across.count + a) (pos 0))
 
 -- the measures of the windows from place `from` on are these areas of metal, and no fill
 abbrev pub AreDrawn : Grid → ℕ → List ℤ → (ℕ → ℕ → Measures) → Type 0
 AreDrawn g from areas measures = (i : ℕ) (d : ℤ) → i < length areas → metal_alone (get_or areas i d) ≡ measures ((from + i) % g.across.count) ((from + i) / g.across.count)
 
 -- the report of a set of metal and a set of fill
-abbrev pub report_text : (ℤ → ℤ → Bool) → (ℤ → ℤ → Bool) → Grid → ℤ → ℤ → List ℕ
-report_text drawn fill g least most = windows_text g least most (measures_of drawn fill g)
+abbrev pub report_text : (ℤ → ℤ → Bool) → (ℤ → ℤ → Bool) → Grid → Limits → List ℕ
+report_text drawn fill g limits = windows_text g limits (measures_of drawn fill g)
 
 -- no square
 abbrev pub nothing : ℤ → ℤ → Bool

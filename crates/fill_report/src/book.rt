@@ -1,10 +1,10 @@
 //! The report of a book's metal and fill.
 ghost use Rattle.std.specs.Prelude.{◌≡◌, ◌+◌, ◌-◌, ◌*◌, ◌/◌, ◌%◌, ◌<◌, ◌≤◌, IfOk};
-ghost use Rattle.fill_area.specs.Density.{IsArea, IsShare};
+ghost use Rattle.fill_text.specs.Limits.{AreShares};
+ghost use Rattle.fill_area.specs.Density.{IsArea};
 ghost use Rattle.fill_job.specs.Plans.{IsPlan, plan_of};
 ghost use Rattle.fill_core.specs.Accounts.{state_of};
-ghost use Rattle.fill_text.specs.Rules.{value_of, windows_of};
-ghost use Rattle.fill_text.specs.declared.keys.NumberKey.TheVariants.{Max, Min};
+ghost use Rattle.fill_text.specs.Rules.{limits_of, windows_of};
 ghost use Rattle.fill_report.specs.Report.{lines_from, measures_of};
 ghost use Rattle.fill_report.specs.BookReport.{boxes_of, fill_report};
 
@@ -15,6 +15,7 @@ use csv::{ByteRecord, Writer};
 use fill_area::Windows;
 use fill_core::FillBook;
 use fill_job::laws::rules_make_a_plan;
+use fill_text::Limits;
 use std::alloc::Global;
 use std::ops::Range;
 
@@ -31,15 +32,7 @@ pub fn report<B: FillBook>(alloc: Global, book: &B) -> Result<Vec<u8>, OutOfMemo
     // A law: the rules make a plan, and under a plan no box of a fill has a square of the metal.
     rules_make_a_plan(rules);
     let windows = rules.windows();
-    book_lines(
-        alloc,
-        book,
-        &windows,
-        0,
-        windows.len(),
-        rules.min(),
-        rules.max(),
-    )
+    book_lines(alloc, book, &windows, 0, windows.len(), rules.limits())
 }
 
 /// The lines of some rows of windows in that report.
@@ -54,7 +47,7 @@ pub fn rows_report<B: FillBook>(
     requires ordered { rows.start ≤ rows.end }
     requires within { rows.end ≤ (windows_of (B.account book.now).rules).up.count }
     ensures { let a = B.account book.now in let s = state_of a in let g = windows_of a.rules in IfOk result (λ v. v.items ≡
-        lines_from g (value_of a.rules Min) (value_of a.rules Max) (measures_of s.layers.metal (boxes_of (plan_of a.rules) s.fill) g) (rows.start * g.across.count) ((rows.end - rows.start) * g.across.count)) }
+        lines_from g (limits_of a.rules) (measures_of s.layers.metal (boxes_of (plan_of a.rules) s.fill) g) (rows.start * g.across.count) ((rows.end - rows.start) * g.across.count)) }
 {
     let rules = book.rules();
     rules_make_a_plan(rules);
@@ -63,32 +56,30 @@ pub fn rows_report<B: FillBook>(
     let columns = windows.columns() as usize;
     let from = rows.start as usize * columns;
     let count = (rows.end - rows.start) as usize * columns;
-    book_lines(alloc, book, &windows, from, count, rules.min(), rules.max())
+    book_lines(alloc, book, &windows, from, count, rules.limits())
 }
 
 /// The lines of so many of a book's windows from one on, row by row from the lowest, in a row from the left. A window is `LOW`
-/// below `least` parts in a million and `HIGH` above `most`.
+/// below the least density and `HIGH` above the greatest.
 fn book_lines<B: FillBook>(
     alloc: Global,
     book: &B,
     windows: &Windows,
     from: usize,
     count: usize,
-    least: i64,
-    most: i64,
+    limits: Limits,
 ) -> Result<Vec<u8>, OutOfMemory>
     requires plan { IsPlan (plan_of (B.account book.now).rules) }
     requires windows { windows.now ≡ (plan_of (B.account book.now).rules).windows }
-    requires least { IsShare least }
-    requires most { IsShare most }
+    requires limits { AreShares limits }
     requires within { from + count ≤ windows.now.across.count * windows.now.up.count }
-    ensures { let a = B.account book.now in let s = state_of a in IfOk result (λ v. v.items ≡ lines_from windows.now least most (measures_of s.layers.metal (boxes_of (plan_of a.rules) s.fill) windows.now) from count) }
+    ensures { let a = B.account book.now in let s = state_of a in IfOk result (λ v. v.items ≡ lines_from windows.now limits (measures_of s.layers.metal (boxes_of (plan_of a.rules) s.fill) windows.now) from count) }
 {
     let mut writer = Writer::from_writer(Vec::new(alloc));
     let mut row = ByteRecord::new(alloc);
     for k in from..from + count {
         let measures = measures_in(book, windows, k);
-        put_window(&mut writer, &mut row, windows, k, measures, least, most)?;
+        put_window(&mut writer, &mut row, windows, k, measures, limits)?;
     }
     let text = writer.into_inner()?;
     Ok(text)

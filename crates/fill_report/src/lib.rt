@@ -2,17 +2,15 @@
 //! too high. The layers above rely on the bytes being the text of the squares, each line and digit.
 #![tactic(auto)]
 
-pub mod book;
-pub mod error;
-pub mod line;
-pub mod metal;
+mod book;
+mod error;
+mod line;
+mod metal;
 mod rows;
-pub mod shapes;
 mod window;
 
 pub use book::{report, rows_report};
 pub use error::OutOfMemory;
 pub use line::{Density, Measures};
-pub use metal::{report_of, report_parts};
+pub use metal::{report_of, report_of_rects};
 pub use rows::rows_report_of_rects;
-pub use shapes::report_parts_of_rects;

@@ -1,11 +1,14 @@
-//! The report of metal alone.
-ghost use Rattle.std.specs.Prelude.{◌≡◌, ℕ, ◌+◌, ◌-◌, ◌*◌, ◌<◌, ◌≤◌, min, length, IfOk, All};
+//! The report of metal alone: of the rectangles that draw it, or of a region by its pieces.
+ghost use Rattle.std.specs.Prelude.{◌≡◌, ℕ, ◌+◌, ◌-◌, ◌*◌, ◌<◌, ◌≤◌, min, ℤ, Bool, length, IfOk, All};
 ghost use Rattle.std.specs.List.{flat_map};
 ghost use Rattle.std.specs.Vec.{vec_items};
 ghost use Rattle.fill_region.specs.Bands.{holds};
+ghost use Rattle.fill_region.specs.Squares.{covered};
+ghost use Rattle.fill_area.specs.Density.{IsArea};
+ghost use Rattle.fill_text.specs.Limits.{AreShares};
 ghost use Rattle.fill_text.specs.ValuesOfRules.{values_of};
-ghost use Rattle.fill_area.specs.Density.{IsArea, IsShare};
-ghost use Rattle.fill_report.specs.Report.{AreDrawn, lines_from, windows_text, report_text, drawn_only, nothing};
+ghost use Rattle.fill_measure.specs.Sums.{AreSumsOf};
+ghost use Rattle.fill_report.specs.Report.{AreDrawn, lines_from, measures_of, report_text, nothing};
 ghost use Rattle.fill_report.specs.RulesReport.{metal_report};
 
 use crate::error::OutOfMemory;
@@ -13,20 +16,21 @@ use crate::line::Measures;
 use crate::window::put_window;
 use csv::{ByteRecord, Writer};
 use fill_area::Windows;
-use fill_measure::measure_region;
+use fill_base::Rect;
+use fill_measure::{WindowSums, sum_rects};
 use fill_region::Region;
-use fill_text::Rules;
+use fill_text::{Limits, Rules};
 use rayon::prelude::*;
-use std::alloc::Global;
+use std::alloc::{AllocError, Global};
 use std::thread::Threads;
 
-/// The lines are made in at most so many parts.
-const MOST_PARTS: usize = 32;
+/// The lines are made in at most so many sections.
+const MOST_SECTIONS: usize = 32;
 
-/// A part has the lines of so many windows or more, or of all that are left: fewer take no longer than a thread needs to begin.
-const LEAST_PART: usize = 512;
+/// A section has the lines of so many windows or more, or of all that are left: fewer take no longer than a thread needs to begin.
+const LEAST_SECTION: usize = 512;
 
-/// A line is mostly no longer than so many bytes: each part has room for as many at the start.
+/// A line is mostly no longer than so many bytes: each section has room for as many at the start.
 const LINE: usize = 72;
 
 /// The report of a region's metal without fill, over the windows of the rules: one line a window with
@@ -43,124 +47,112 @@ pub fn report_of(
 ) -> Result<Vec<u8>, OutOfMemory>
     ensures { IfOk result (λ v. v.items ≡ metal_report (holds region.now) (values_of rules.now)) }
 {
-    let parts = report_parts(rt, alloc, region, rules)?;
-    let text = parts.concat(alloc)?;
+    let lists = in_one_list(alloc, region)?;
+    let sections = report_of_rects(rt, alloc, lists, rules)?;
+    let text = joined(alloc, &sections)?;
     Ok(text)
 }
 
-/// The same report in parts, as several threads make them: one after another, they are its text, which is nowhere put together.
+/// The pieces of the region, as one list.
+fn in_one_list(alloc: Global, region: &Region) -> Result<Vec<Vec<Rect>>, AllocError>
+    ensures { IfOk result (λ lists. covered (flat_map vec_items lists.items) ≡ holds region.now) }
+{
+    let pieces = region.pieces(alloc)?;
+    let mut lists = Vec::new(alloc);
+    lists.push(pieces)?;
+    Ok(lists)
+}
+
+/// The sections of a text, put together.
+fn joined(alloc: Global, sections: &[Vec<u8>]) -> Result<Vec<u8>, AllocError>
+    ensures { IfOk result (λ v. v.items ≡ flat_map vec_items sections.now) }
+{
+    sections.concat(alloc)
+}
+
+/// That report of the squares that some rectangle of some list holds, in sections that several threads make: one after another, they
+/// are its text, which is nowhere put together. The lists are taken, and let go of once the windows are measured, before a line is
+/// made.
 ///
 /// # Errors
 /// `OutOfMemory` where memory runs out.
-pub fn report_parts(
+pub fn report_of_rects(
     rt: &(impl Threads + Sync),
     alloc: Global,
-    region: &Region,
+    lists: Vec<Vec<Rect>>,
     rules: &Rules,
 ) -> Result<Vec<Vec<u8>>, OutOfMemory>
-    ensures { IfOk result (λ v. flat_map vec_items v.items ≡ metal_report (holds region.now) (values_of rules.now)) }
+    ensures { IfOk result (λ v. flat_map vec_items v.items ≡ metal_report (covered (flat_map vec_items lists.items)) (values_of rules.now)) }
 {
-    let least = rules.min();
-    let most = rules.max();
-    windows_report(rt, alloc, region, &rules.windows(), least, most)
+    let sums = sum_rects(rt, alloc, &lists, &rules.windows())?;
+    drop(lists);
+    lines_by_sums(rt, alloc, &sums, rules.limits())
 }
 
-/// The report of a region's metal without fill: one line a window, row by row from the lowest, in a
-/// row from the left. A window is `LOW` below `least` parts in a million and `HIGH` above `most`.
-fn windows_report(
+/// The lines of windows by their sums, and no fill, in sections that are made at once: a section's windows are summed and written by one thread.
+fn lines_by_sums(
     rt: &(impl Threads + Sync),
     alloc: Global,
-    region: &Region,
-    windows: &Windows,
-    least: i64,
-    most: i64,
+    sums: &WindowSums,
+    limits: Limits,
 ) -> Result<Vec<Vec<u8>>, OutOfMemory>
-    requires least { IsShare least }
-    requires most { IsShare most }
-    ensures { IfOk result (λ v. flat_map vec_items v.items ≡ report_text (holds region.now) nothing windows.now least most) }
+    requires limits { AreShares limits }
+    ensures { IfOk result (λ v. (p : ℤ → ℤ → Bool) → AreSumsOf p sums.now → flat_map vec_items v.items ≡ report_text p nothing sums.now.windows limits) }
 {
-    let totals = measure_region(rt, alloc, region, windows)?;
-    drawn_lines(rt, alloc, windows, &totals, least, most)
-}
-
-/// The lines of windows with these areas of metal, and no fill, in parts that are made at once.
-pub(crate) fn drawn_lines(
-    rt: &(impl Threads + Sync),
-    alloc: Global,
-    windows: &Windows,
-    totals: &[i64],
-    least: i64,
-    most: i64,
-) -> Result<Vec<Vec<u8>>, OutOfMemory>
-    requires count { length totals.now ≡ windows.now.across.count * windows.now.up.count }
-    requires areas { All IsArea totals.now }
-    requires least { IsShare least }
-    requires most { IsShare most }
-    ensures { IfOk result (λ v. flat_map vec_items v.items ≡ windows_text windows.now least most (drawn_only windows.now totals.now)) }
-{
-    let size = part_size(totals.len());
-    (0..totals.len().div_ceil(size))
+    let count = sums.windows().len();
+    let size = section_size(count);
+    (0..count.div_ceil(size))
         .into_par_iter()
         .with_min_len(1)
         .map(
             move |k: usize| -> Result<Vec<u8>, OutOfMemory>
-                requires count { length totals.now ≡ windows.now.across.count * windows.now.up.count }
-                requires within { k * size < length totals.now }
-                requires areas { All IsArea totals.now }
-                requires least { IsShare least }
-                requires most { IsShare most }
-                ensures { IfOk result (λ v. v.items ≡ lines_from windows.entry.now least most (drawn_only windows.entry.now totals.entry.now) (k * size) (min size (length totals.entry.now - k * size))) }
+                requires count { count ≡ sums.now.windows.across.count * sums.now.windows.up.count }
+                requires within { k * size < count }
+                requires limits { AreShares limits }
+                ensures { let windows = sums.entry.now.windows in IfOk result (λ v. (p : ℤ → ℤ → Bool) → AreSumsOf p sums.entry.now → v.items ≡ lines_from windows limits (measures_of p nothing windows) (k * size) (min size (count - k * size))) }
             {
                 let from = k * size;
-                let count = size.min(totals.len() - from);
-                part_lines(alloc, windows, totals, from, count, least, most)
+                section_by_sums(alloc, sums, from, size.min(count - from), limits)
             },
         )
         .collect::<Result<Vec<Vec<u8>>, OutOfMemory>>(rt, alloc)?
 }
 
-/// Of how many windows a part has the lines, where there are so many windows.
-pub(crate) fn part_size(count: usize) -> usize
-    ensures { 0 < result }
-{
-    count.div_ceil(MOST_PARTS).max(LEAST_PART)
-}
-
-/// The lines of `count` windows from the one at place `from` on, with these areas of metal and no fill.
-fn part_lines(
+/// The lines of `count` windows from the one at place `from` on, by their sums, and no fill.
+pub(crate) fn section_by_sums(
     alloc: Global,
-    windows: &Windows,
-    totals: &[i64],
+    sums: &WindowSums,
     from: usize,
     count: usize,
-    least: i64,
-    most: i64,
+    limits: Limits,
 ) -> Result<Vec<u8>, OutOfMemory>
-    requires count { length totals.now ≡ windows.now.across.count * windows.now.up.count }
-    requires within { from + count ≤ length totals.now }
-    requires areas { All IsArea totals.now }
-    requires least { IsShare least }
-    requires most { IsShare most }
-    ensures { IfOk result (λ v. v.items ≡ lines_from windows.now least most (drawn_only windows.now totals.now) from count) }
+    requires within { from + count ≤ sums.now.windows.across.count * sums.now.windows.up.count }
+    requires limits { AreShares limits }
+    ensures { IfOk result (λ v. (p : ℤ → ℤ → Bool) → AreSumsOf p sums.now → v.items ≡ lines_from sums.now.windows limits (measures_of p nothing sums.now.windows) from count) }
 {
-    let areas = &totals[from..from + count];
-    lines_of(alloc, windows, areas, from, least, most)
+    let areas = sums.areas_from(alloc, from, count)?;
+    lines_of(alloc, sums.windows(), &areas, from, limits)
+}
+
+/// Of how many windows a section has the lines, where there are so many windows.
+fn section_size(count: usize) -> usize
+    ensures { 0 < result }
+{
+    count.div_ceil(MOST_SECTIONS).max(LEAST_SECTION)
 }
 
 /// The lines of the windows from the one at place `from` on, with these areas of metal and no fill.
-pub(crate) fn lines_of(
+fn lines_of(
     alloc: Global,
     windows: &Windows,
     areas: &[i64],
     from: usize,
-    least: i64,
-    most: i64,
+    limits: Limits,
 ) -> Result<Vec<u8>, OutOfMemory>
     requires within { from + length areas.now ≤ windows.now.across.count * windows.now.up.count }
     requires areas { All IsArea areas.now }
-    requires least { IsShare least }
-    requires most { IsShare most }
-    ensures { IfOk result (λ v. (measures : ℕ → ℕ → Measures) → AreDrawn windows.now from areas.now measures → v.items ≡ lines_from windows.now least most measures from (length areas.now)) }
+    requires limits { AreShares limits }
+    ensures { IfOk result (λ v. (measures : ℕ → ℕ → Measures) → AreDrawn windows.now from areas.now measures → v.items ≡ lines_from windows.now limits measures from (length areas.now)) }
 {
     let lines = areas.len().min(windows.len());
     let text = Vec::with_capacity(alloc, lines.saturating_mul(LINE))?;
@@ -172,15 +164,7 @@ pub(crate) fn lines_of(
             fill: 0,
             total: areas[i],
         };
-        put_window(
-            &mut writer,
-            &mut row,
-            windows,
-            from + i,
-            measures,
-            least,
-            most,
-        )?;
+        put_window(&mut writer, &mut row, windows, from + i, measures, limits)?;
     }
     let text = writer.into_inner()?;
     Ok(text)

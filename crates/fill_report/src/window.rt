@@ -1,6 +1,7 @@
 //! The line of one window: where it lies, its areas, its share and its word.
 ghost use Rattle.std.specs.Prelude.{◌≡◌, ◌++◌, ◌*◌, ◌/◌, ◌%◌, ◌<◌, ℕ, List, Some, OnOk};
-ghost use Rattle.fill_area.specs.Density.{IsArea, IsShare};
+ghost use Rattle.fill_text.specs.Limits.{AreShares};
+ghost use Rattle.fill_area.specs.Density.{IsArea};
 ghost use Rattle.fill_report.specs.Report.{density_of, share_of, window_line};
 ghost use Rattle.fill_report.specs.Writing.{IsReady, written};
 
@@ -8,6 +9,7 @@ use crate::error::OutOfMemory;
 use crate::line::{Density, Measures, put_line};
 use csv::{ByteRecord, Writer};
 use fill_area::{Windows, is_high, is_low};
+use fill_text::Limits;
 
 /// Writes the line of the window at place `k`.
 pub(crate) fn put_window(
@@ -16,17 +18,15 @@ pub(crate) fn put_window(
     windows: &Windows,
     k: usize,
     measures: Measures,
-    least: i64,
-    most: i64,
+    limits: Limits,
 ) -> Result<(), OutOfMemory>
     requires ready { IsReady writer.old }
     requires within { k < windows.now.across.count * windows.now.up.count }
     requires total { IsArea measures.total }
-    requires least { IsShare least }
-    requires most { IsShare most }
+    requires limits { AreShares limits }
     ensures ready { OnOk result (IsReady writer.new) }
     ensures text { (front : List ℕ) → written writer.old ≡ Some front
-        → OnOk result (written writer.new ≡ Some (front ++ window_line windows.now least most measures (k % windows.now.across.count) (k / windows.now.across.count))) }
+        → OnOk result (written writer.new ≡ Some (front ++ window_line windows.now limits measures (k % windows.now.across.count) (k / windows.now.across.count))) }
 {
     let (a, b) = windows.column_and_row(k);
     let window = windows.rect(a, b);
@@ -43,12 +43,7 @@ pub(crate) fn put_window(
         measures.total,
         share(measures.total, size),
     ];
-    put_line(
-        writer,
-        row,
-        &numbers,
-        density(measures.total, least, most, size),
-    )
+    put_line(writer, row, &numbers, density(measures.total, limits, size))
 }
 
 /// A total in parts of a million of a window's size, rounded down; none where nothing counts.
@@ -65,16 +60,15 @@ fn share(total: i64, size: i64) -> i64
 }
 
 /// Whether a total is below the minimum of a window's size, above the maximum, or neither.
-fn density(total: i64, least: i64, most: i64, size: i64) -> Density
+fn density(total: i64, limits: Limits, size: i64) -> Density
     requires total { IsArea total }
-    requires least { IsShare least }
-    requires most { IsShare most }
+    requires limits { AreShares limits }
     requires size { IsArea size }
-    ensures { result ≡ density_of total least most size }
+    ensures { result ≡ density_of total limits size }
 {
-    if is_low(total, least, size) {
+    if is_low(total, limits.least, size) {
         Density::Low
-    } else if is_high(total, most, size) {
+    } else if is_high(total, limits.most, size) {
         Density::High
     } else {
         Density::Within

@@ -3,9 +3,9 @@
 //! a conflict.
 #![tactic(auto)]
 
-pub mod clearance;
-pub mod meeting;
-pub mod sizing;
+mod clearance;
+mod meeting;
+mod sizing;
 
 pub use clearance::{conflicts, is_clear};
 pub use meeting::mark_met;

@@ -8,8 +8,7 @@ ghost use Rattle.fill_size.specs.Distance.{IsSized, StaysInRange};
 ghost use Rattle.fill_size.specs.Growth.{Continues, FitsGrown, IsAdded};
 
 use crate::clearance::has_square;
-use fill_base::Rect;
-use fill_base::rect::{HIGHEST, LOWEST};
+use fill_base::{HIGHEST, LOWEST, Rect};
 use fill_region::Region;
 use fill_spans::Spans;
 use std::alloc::{AllocError, Global};

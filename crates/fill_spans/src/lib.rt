@@ -4,8 +4,8 @@
 
 mod joining;
 pub mod laws;
-pub mod operation;
-pub mod spans;
+mod operation;
+mod spans;
 pub mod sweep;
 mod walk;
 

@@ -16,8 +16,7 @@ use crate::joining::joined;
 use crate::operation::Operation;
 use crate::sweep::{edge_at, passed};
 use crate::walk::{add_columns, edge_below, first_above, length_between};
-use fill_base::Rect;
-use fill_base::rect::{HIGHEST, LOWEST};
+use fill_base::{HIGHEST, LOWEST, Rect};
 use std::alloc::{AllocError, Global};
 use std::marker::Model;
 

@@ -10,7 +10,7 @@ use Rattle.fill_base.specs.Counts.{span_len}
 use Rattle.fill_raster.specs.Axes.{first, past, extent}
 use Rattle.fill_raster.specs.Lattice.{Lattice}
 use Rattle.fill_raster.specs.declared.axis.Axis.{Axis}
-use Rattle.fill_raster.proofs.Groups.{starts_below}
+use Rattle.fill_raster.proofs.Bands.{starts_below}
 use Rattle.fill_raster.proofs.Ranges.{first_past}
 use Rattle.fill_stacks.specs.Counting.{AreRising, counted_row, heights_at, levels_at, rows_above, rows_below}
 use Rattle.fill_stacks.specs.Laws.{numbers_in}

@@ -1,5 +1,5 @@
 //! What of the metal and of the keep-outs each tile depends on.
-ghost use Rattle.std.specs.Prelude.{◌≡◌, ◌<◌, ℤ, pos, true, IfOk};
+ghost use Rattle.std.specs.Prelude.{◌≡◌, ◌<◌, ℤ, pos, true, false, IfOk};
 ghost use Rattle.fill_base.specs.Coordinates.{IsInRange};
 ghost use Rattle.fill_base.specs.Limits.{IsSpacing};
 ghost use Rattle.fill_region.specs.Bands.{holds};
@@ -23,22 +23,36 @@ fn stay_in_range(region: &Region)
     let _ = region.rows(0, 0);
 }
 
+/// The piece of some squares: where there are none, the one without squares once more, which takes no memory.
+fn piece_or_none(alloc: Global, squares: Region, none: &Piece) -> Result<Piece, AllocError>
+    requires { (x y : ℤ) → holds none.now x y ≡ false }
+    ensures { IfOk result (λ p. (x y : ℤ) → holds p x y ≡ holds squares x y) }
+{
+    if squares.is_empty() {
+        none.share()
+    } else {
+        Piece::new(alloc, squares)
+    }
+}
+
 /// The squares of a region in the bounding rectangle of the tile's boxes, grown by a distance on all sides.
 fn piece_of(
     alloc: Global,
     raster: &Raster,
     distance: i64,
     region: &Region,
+    none: &Piece,
     tile: u32,
 ) -> Result<Piece, AllocError>
     requires tile { tile < tiles raster.now }
     requires distance { IsSpacing distance }
+    requires none { (x y : ℤ) → holds none.now x y ≡ false }
     ensures { IfOk result (IsPiece raster.now distance (holds region.now) tile) }
 {
     let halo = raster.halo(tile, distance);
     stay_in_range(region);
     let clipped = region.clip(alloc, &halo)?;
-    Piece::new(alloc, clipped)
+    piece_or_none(alloc, clipped, none)
 }
 
 /// Those of each tile, made by as many threads as there are processors.
@@ -52,6 +66,7 @@ fn pieces_of(
     requires { IsSpacing distance }
     ensures { IfOk result (λ v. ArePieces raster.now distance (holds region.now) v.items) }
 {
+    let none = &Piece::new(alloc, Region::empty(alloc))?;
     (0..raster.tiles())
         .into_par_iter()
         .with_min_len(1)
@@ -59,8 +74,9 @@ fn pieces_of(
             |tile: u32| -> Result<Piece, AllocError>
                 requires tile { tile < tiles raster.now }
                 requires distance { IsSpacing distance }
+                requires none { (x y : ℤ) → holds none.now x y ≡ false }
                 ensures { IfOk result (IsPiece raster.entry.now distance (holds region.entry.now) tile) }
-            { piece_of(alloc, raster, distance, region, tile) },
+            { piece_of(alloc, raster, distance, region, none, tile) },
         )
         .collect::<Result<Vec<Piece>, AllocError>>(rt, alloc)?
 }

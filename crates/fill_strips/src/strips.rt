@@ -7,8 +7,7 @@ ghost use Rattle.fill_region.specs.Bands.{holds};
 ghost use Rattle.fill_region.specs.Squares.{covered};
 
 use crate::cuts::cuts_of;
-use fill_base::Rect;
-use fill_base::rect::{HIGHEST, LOWEST};
+use fill_base::{HIGHEST, LOWEST, Rect};
 use fill_region::Region;
 use rayon::{current_num_threads, join};
 use std::alloc::{AllocError, Global};

@@ -4,4 +4,5 @@ pub mod Untouched
 pub mod Changing
 pub mod Counted
 pub mod Following
+pub mod Held
 pub mod Enclosing

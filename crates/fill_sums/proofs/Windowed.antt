@@ -182,3 +182,35 @@ range_ends low a high k b le ge = rw (same_end high a le ge) refl
 
 pub range_ends_row : (low a high k : ℕ) (b : Bool) → a ≤ high → high ≤ a → b && in_range low high k ≡ b && in_range low a k
 range_ends_row low a high k b le ge = rw (same_end high a le ge) refl
+
+-- ---- neighbouring ranges
+
+range_joins : (low mid high k : ℕ) → low ≤ mid → mid ≤ high → in_range low high k ≡ in_range low mid k || in_range mid high k
+range_joins low mid high k h l = grind (arith, nat_tests)
+
+range_apart : (low mid high k : ℕ) → in_range mid high k ≡ true → in_range low mid k ≡ false
+range_apart low mid high k h = grind (arith, nat_tests)
+
+pub row_joins : (low mid high c d b : ℕ) → low ≤ mid → mid ≤ high → in_range low high c && (d == b) ≡ (in_range low mid c && (d == b)) || (in_range mid high c && (d == b))
+row_joins low mid high c d b h l = rw (range_joins low mid high c h l) (or_and (in_range low mid c) (in_range mid high c) (d == b))
+  where
+    or_and : (x y z : Bool) → (x || y) && z ≡ (x && z) || (y && z)
+    or_and true true true = refl
+    or_and true true false = refl
+    or_and true false true = refl
+    or_and true false false = refl
+    or_and false y z = refl
+
+pub row_apart : (low mid high c d b : ℕ) → in_range mid high c && (d == b) ≡ true → in_range low mid c && (d == b) ≡ false
+row_apart low mid high c d b h = rw (range_apart low mid high c (and_parts (in_range mid high c) (d == b) h).0) refl
+
+pub row_ahead : (low mid high a b c : ℕ) → in_range mid high a ≡ true → in_range low mid a && (b == c) ≡ false
+row_ahead low mid high a b c h = rw (range_apart low mid high a h) refl
+
+-- the windows of a range and of the next one have moved
+pub moved_both : (low mid high b : ℕ) (way : Way) (p : ℤ → ℤ → Bool) (g : Grid) (old new last : List ℤ) → low ≤ mid → mid ≤ high
+    → IsMovedAt (λ c d. in_range low mid c && (d == b)) way p g old new → IsMovedAt (λ c d. in_range mid high c && (d == b)) way p g new last
+    → IsMovedAt (λ c d. in_range low high c && (d == b)) way p g old last
+moved_both low mid high b way p g old new last h l first second =
+    moved_then (λ c d. in_range low mid c && (d == b)) (λ c d. in_range mid high c && (d == b)) (λ c d. in_range low high c && (d == b)) way p g old new last first second
+    (λ c d. row_joins low mid high c d b h l) (λ c d e. row_apart low mid high c d b e)

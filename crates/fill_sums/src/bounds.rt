@@ -4,8 +4,7 @@ ghost use Rattle.fill_base.specs.Squares.{squares};
 ghost use Rattle.fill_region.specs.Bands.{holds};
 ghost use Rattle.fill_sums.specs.steps.Bounds.{AreEnds};
 
-use fill_base::Rect;
-use fill_base::rect::{HIGHEST, LOWEST};
+use fill_base::{HIGHEST, LOWEST, Rect};
 use fill_region::Region;
 use fill_spans::Spans;
 

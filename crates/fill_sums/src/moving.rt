@@ -1,14 +1,14 @@
 //! Numbers, one for each window, that rise or fall by the area of a set.
 ghost use Rattle.std.specs.Prelude.{◌≡◌, ◌<◌, ◌≤◌, ◌*◌, ◌==◌, ◌&&◌, ℕ, ℤ, pos, true, length};
 ghost use Rattle.fill_base.specs.Squares.{squares};
-ghost use Rattle.fill_area.specs.Density.{IsArea};
+ghost use Rattle.fill_area.specs.Density.{IsArea, window_area};
 ghost use Rattle.fill_area.specs.Grid.{IsGrid};
 ghost use Rattle.fill_area.specs.Sharing.{IsWindow};
 ghost use Rattle.fill_sums.specs.Numbers.{AreNumbers, IsMoved, StaysWithin, in_range, moved};
-ghost use Rattle.fill_sums.specs.steps.Moving.{CanMove, IsMovedAt};
+ghost use Rattle.fill_sums.specs.steps.Moving.{AreAlike, CanMove, IsMovedAt};
 ghost use Rattle.fill_sums.specs.steps.Shapes.{squares_of};
 
-use crate::shape::Shape;
+use crate::shape::{Alike, Shape};
 use fill_area::Windows;
 use fill_base::Rect;
 
@@ -33,21 +33,29 @@ fn moved_by(way: Way, number: i64, area: i64) -> i64
     }
 }
 
-/// Moves the number of the window in column `a` and row `b`.
-fn move_window(windows: &Windows, numbers: &mut [i64], way: Way, shape: Shape<'_>, a: u32, b: u32)
+/// Moves the number of the window in column `a` and row `b`, in which the set has that area.
+fn move_number(
+    windows: &Windows,
+    numbers: &mut [i64],
+    way: Way,
+    _shape: Shape<'_>,
+    area: i64,
+    a: u32,
+    b: u32,
+)
     requires grid { IsGrid windows.now }
     requires window { IsWindow windows.now a b }
     requires count { length numbers.old ≡ windows.now.across.count * windows.now.up.count }
-    requires moves { CanMove way (squares_of shape) windows.now numbers.old a b }
-    ensures { IsMovedAt (λ c d. (c == a) && (d == b)) way (squares_of shape.entry) windows.now numbers.old numbers.new }
+    requires moves { CanMove way (squares_of _shape) windows.now numbers.old a b }
+    requires area { area ≡ pos (window_area (squares_of _shape) windows.now a b) }
+    ensures { IsMovedAt (λ c d. (c == a) && (d == b)) way (squares_of _shape.entry) windows.now numbers.old numbers.new }
 {
-    let area = shape.counted_in(windows, a, b);
     let k = b as usize * windows.columns() as usize + a as usize;
     numbers[k] = moved_by(way, numbers[k], area);
 }
 
 /// Moves the numbers of the windows of a row, from one column on and before another.
-fn move_row(
+fn move_each(
     windows: &Windows,
     numbers: &mut [i64],
     way: Way,
@@ -65,8 +73,56 @@ fn move_row(
     ensures { IsMovedAt (λ c d. in_range left right c && (d == b)) way (squares_of shape.entry) windows.now numbers.old numbers.new }
 {
     for a in left..right {
-        move_window(windows, numbers, way, shape, a, b);
+        let area = shape.counted_in(windows, a, b);
+        move_number(windows, numbers, way, shape, area, a, b);
     }
+}
+
+/// The same of windows in which the set has one area: nothing is measured.
+fn move_alike(
+    windows: &Windows,
+    numbers: &mut [i64],
+    way: Way,
+    shape: Shape<'_>,
+    alike: Alike,
+    b: u32,
+)
+    requires grid { IsGrid windows.now }
+    requires ordered { alike.from ≤ alike.to }
+    requires columns { alike.to ≤ windows.now.across.count }
+    requires row { b < windows.now.up.count }
+    requires count { length numbers.old ≡ windows.now.across.count * windows.now.up.count }
+    requires moves { (a : ℕ) → in_range alike.from alike.to a ≡ true → CanMove way (squares_of shape) windows.now numbers.old a b }
+    requires alike { AreAlike (squares_of shape) windows.now alike.from alike.to b alike.area }
+    ensures { IsMovedAt (λ c d. in_range alike.from alike.to c && (d == b)) way (squares_of shape.entry) windows.now numbers.old numbers.new }
+{
+    for a in alike.from..alike.to {
+        move_number(windows, numbers, way, shape, alike.area, a, b);
+    }
+}
+
+/// Moves the numbers of the windows of a row, from one column on and before another. Of those that hold all of a box none is measured.
+fn move_row(
+    windows: &Windows,
+    numbers: &mut [i64],
+    way: Way,
+    shape: Shape<'_>,
+    left: u32,
+    right: u32,
+    b: u32,
+)
+    requires grid { IsGrid windows.now }
+    requires ordered { left ≤ right }
+    requires columns { right ≤ windows.now.across.count }
+    requires row { b < windows.now.up.count }
+    requires count { length numbers.old ≡ windows.now.across.count * windows.now.up.count }
+    requires moves { (a : ℕ) → in_range left right a ≡ true → CanMove way (squares_of shape) windows.now numbers.old a b }
+    ensures { IsMovedAt (λ c d. in_range left right c && (d == b)) way (squares_of shape.entry) windows.now numbers.old numbers.new }
+{
+    let alike = shape.alike_in(windows, left, right, b);
+    move_each(windows, numbers, way, shape, left, alike.from, b);
+    move_alike(windows, numbers, way, shape, alike, b);
+    move_each(windows, numbers, way, shape, alike.to, right, b);
 }
 
 /// Moves the numbers of the windows of some rows, between the same columns each.

@@ -1,12 +1,24 @@
 //! What comes or goes.
-ghost use Rattle.std.specs.Prelude.{◌≡◌, ◌<◌, pos, ◌+ℤ◌};
+ghost use Rattle.std.specs.Prelude.{◌≡◌, ◌<◌, ◌≤◌, pos, ◌+ℤ◌};
 ghost use Rattle.fill_base.specs.Squares.{area_of};
 ghost use Rattle.fill_area.specs.Density.{window_area};
+ghost use Rattle.fill_sums.specs.steps.Moving.{AreAlike};
 
 use fill_area::{Windows, area_in};
 use fill_base::Rect;
 use fill_cells::shared_area;
 use fill_region::Region;
+
+/// Neighbouring columns of windows, in each of which a set has that area.
+#[derive(Clone, Copy)]
+pub(crate) struct Alike {
+    /// The first column.
+    pub(crate) from: u32,
+    /// The column past the last one.
+    pub(crate) to: u32,
+    /// How many squares of each window are in the set.
+    pub(crate) area: i64,
+}
 
 /// A set of squares.
 #[derive(Clone, Copy)]
@@ -39,6 +51,35 @@ impl<'a> Shape<'a> {
         match windows.part(a, b) {
             Some(part) => self.area_in(&part),
             None => 0,
+        }
+    }
+
+    /// The columns, from one on and before another, of those windows of row `b` that hold all of a box, where windows count whole; of
+    /// anything else none.
+    pub(crate) fn alike_in(self, windows: &Windows, left: u32, right: u32, b: u32) -> Alike
+        requires ordered { left ≤ right }
+        requires columns { right ≤ windows.now.across.count }
+        requires row { b < windows.now.up.count }
+        ensures from { left ≤ result.from }
+        ensures ordered { result.from ≤ result.to }
+        ensures to { result.to ≤ right }
+        ensures alike { AreAlike (squares_of self.entry) windows.now result.from result.to b result.area }
+    {
+        if let Shape::Box(rect) = self {
+            let (columns, rows) = windows.containing(rect);
+            if rows.start <= b && b < rows.end && windows.clip().is_none() {
+                let from = columns.start.clamp(left, right);
+                return Alike {
+                    from,
+                    to: columns.end.clamp(from, right),
+                    area: rect.area(),
+                };
+            }
+        }
+        Alike {
+            from: left,
+            to: left,
+            area: 0,
         }
     }
 }

@@ -1,7 +1,7 @@
 //! Windows measured straight from rectangles, beside those measured by a region, and by hand.
 use fill_area::{Windows, measure_all};
 use fill_base::{Point, Rect};
-use fill_measure::{measure_rects, measure_region, sum_rects};
+use fill_measure::{measure_region, sum_rects};
 use fill_region::Region;
 use std::alloc::Global;
 use std::test::Fail;
@@ -38,6 +38,17 @@ fn in_lists(alloc: Global, rects: &[Rect], count: usize) -> Result<Vec<Vec<Rect>
     Ok(lists)
 }
 
+/// The areas of all windows, measured straight from the rectangles.
+fn areas_of(
+    rt: &(impl Threads + Sync),
+    alloc: Global,
+    lists: &[Vec<Rect>],
+    windows: &Windows,
+) -> Result<Vec<i64>, Fail> {
+    let sums = sum_rects(rt, alloc, lists, windows)?;
+    Ok(sums.areas_from(alloc, 0, windows.len())?)
+}
+
 /// Whether the windows have the areas of the region of the rectangles, measured straight from one list of them, from several, and by
 /// the region's cells.
 fn are_those_of_the_region(
@@ -48,8 +59,8 @@ fn are_those_of_the_region(
 ) -> Result<bool, Fail> {
     let region = Region::from_rects(alloc, rects)?;
     let areas = measure_all(rt, alloc, &region, windows)?;
-    let straight = measure_rects(rt, alloc, &in_lists(alloc, rects, 1)?, windows)?;
-    let by_lists = measure_rects(rt, alloc, &in_lists(alloc, rects, 7)?, windows)?;
+    let straight = areas_of(rt, alloc, &in_lists(alloc, rects, 1)?, windows)?;
+    let by_lists = areas_of(rt, alloc, &in_lists(alloc, rects, 7)?, windows)?;
     let by_cells = measure_region(rt, alloc, &region, windows)?;
     Ok(straight == areas && by_lists == areas && by_cells == areas)
 }
@@ -93,7 +104,7 @@ fn squares_of_two_rectangles_count_once(rt: HostRuntime) -> Result<(), Fail> {
         Rect::new(5, 2, 9, 5)?,
     ];
     let lists = in_lists(alloc, &rects, 2)?;
-    let areas = measure_rects(&rt, alloc, &lists, &windows)?;
+    let areas = areas_of(&rt, alloc, &lists, &windows)?;
     assert_eq!(rt; areas.as_slice(), [15, 12, 11, 14].as_slice());
     Ok(())
 }

@@ -1,8 +1,7 @@
 ghost use Rattle.std.specs.Prelude.{◌≡◌};
 ghost use Rattle.fill_base.specs.Limits.{IsSpacing};
 
-use fill_base::rect::{HIGHEST, LOWEST};
-use fill_base::{Point, Rect};
+use fill_base::{HIGHEST, LOWEST, Point, Rect};
 use fill_raster::{Marks, Place, Raster, RasterError};
 use std::alloc::{AllocError, Global};
 use std::process::Abort;

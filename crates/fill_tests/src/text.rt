@@ -1,5 +1,5 @@
 use fill_area::Windows;
-use fill_base::{Point, Rect};
+use fill_base::{Layer, Point, Rect};
 use fill_raster::Raster;
 use fill_text::{
     Edit, Key, NumberKey, OptionalKey, RuleError, ScriptError, TextKey, read_rules, read_script,
@@ -153,13 +153,15 @@ fn every_rule_has_its_value(rt: HostRuntime) -> Result<(), Fail> {
     assert_eq!(rt; windows, [-27, -28, 3, 2]);
     let rest = [rules.min(), rules.max(), rules.tile_nx(), rules.tile_ny()];
     assert_eq!(rt; rest, [310_000, 820_000, 7, 8]);
-    let layers = [
-        rules.layer(),
-        rules.datatype(),
-        rules.fill_layer(),
-        rules.fill_datatype(),
-    ];
-    assert_eq!(rt; layers, [65_535, 1, 14, 13]);
+    let metal = Layer {
+        layer: 65_535,
+        data_type: 1,
+    };
+    let fill = Layer {
+        layer: 14,
+        data_type: 13,
+    };
+    assert_eq!(rt; [rules.metal_layer(), rules.fill_layer()], [metal, fill]);
     let want = Windows::new(Point { x: -27, y: -28 }, (43, 44), (35, 36), (3, 2))?;
     assert_eq!(rt; rules.windows(), want);
     assert!(rt; rules.top() == b"T".as_slice());
@@ -263,14 +265,18 @@ fn rules_and(alloc: Global, more: &str) -> Result<Vec<u8>, Fail> {
 fn optional_rules_have_their_values(rt: HostRuntime) -> Result<(), Fail> {
     let alloc = rt.alloc();
     let plain = read_rules(alloc, &rules_and(alloc, "")?)?;
-    assert_eq!(rt; plain.keep(), None);
+    assert_eq!(rt; plain.keep_layer(), None);
     let zero = read_rules(alloc, &rules_and(alloc, "padding,zero\n")?)?;
     assert!(rt; plain == zero);
     let keep = read_rules(
         alloc,
         &rules_and(alloc, "keep_datatype,65535\nkeep_layer,0\n")?,
     )?;
-    assert_eq!(rt; keep.keep(), Some((0, 65535)));
+    let layer = Layer {
+        layer: 0,
+        data_type: 65_535,
+    };
+    assert_eq!(rt; keep.keep_layer(), Some(layer));
     assert!(rt; keep != plain && keep == keep.copy(alloc)?);
     let ignored = read_rules(alloc, &rules_and(alloc, "padding,ignore\n")?)?;
     assert!(rt; ignored != plain && ignored == ignored.copy(alloc)?);

@@ -8,7 +8,7 @@ use Rattle.fill_base.specs.Coordinates.{lowest, highest, IsCoordinate}
 use Rattle.fill_base.specs.Limits.{IsLength, IsSpacing}
 use Rattle.fill_base.specs.Sides.{Sides}
 use Rattle.fill_base.proofs.Signed.{read, read_is, coordinate_fits}
-use Rattle.fill_raster.specs.Axes.{IsGroup}
+use Rattle.fill_raster.specs.Axes.{IsBand}
 use Rattle.fill_raster.specs.Lattice.{Lattice, KeepsPitch, HasFewPlaces, places}
 use Rattle.fill_text.specs.Rasters.{keeps_pitch, has_few_places, raster_with}
 use Rattle.fill_text.specs.declared.rule_error.RuleError.TheVariants.{BadPitch, TooManyPlaces}
@@ -20,9 +20,9 @@ pub side_fits : (z : ℤ) → pos 1 ≤ℤ z → z ≤ℤ pos 4096 → IsNonNega
 side_fits (pos n) least most = (tt, omega (arith, ints))
 side_fits (negsuc n) least most = absurd (omega (arith, ints))
 
-pub is_group : (z : ℤ) → pos 1 ≤ℤ z → z ≤ℤ pos 4096 → IsGroup (unsigned_abs z)
-is_group (pos n) least most = record { least = omega (arith, ints); most = omega (arith, ints) }
-is_group (negsuc n) least most = absurd (omega (arith, ints))
+pub is_band : (z : ℤ) → pos 1 ≤ℤ z → z ≤ℤ pos 4096 → IsBand (unsigned_abs z)
+is_band (pos n) least most = record { least = omega (arith, ints); most = omega (arith, ints) }
+is_band (negsuc n) least most = absurd (omega (arith, ints))
 
 pitch_true : (r : Lattice) (s : ℤ) → KeepsPitch r s → keeps_pitch r s ≡ true
 pitch_true r s h = rw (int_le_true _ _ h.0, int_le_true _ _ h.1) refl
@@ -78,8 +78,8 @@ coordinate_in v n e least most = rw (e, read_is n (coordinate_fits n least most)
 
 abbrev pub lattice_of_numbers : Sides → ℤ → ℤ → ℤ → ℤ → ℤ → ℤ → ℕ → ℕ → Lattice
 lattice_of_numbers f w h s t x y m n = record {
-  across = record { low = f.left; high = f.right; length = w; step = s; origin = x; group = m };
-  up = record { low = f.bottom; high = f.top; length = h; step = t; origin = y; group = n };
+  across = record { low = f.left; high = f.right; length = w; step = s; origin = x; band = m };
+  up = record { low = f.bottom; high = f.top; length = h; step = t; origin = y; band = n };
 }
 
 -- two rasters of the same numbers

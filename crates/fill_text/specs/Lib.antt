@@ -3,6 +3,7 @@ pub mod RectTests
 pub mod Grids
 pub mod Rasters
 pub mod Keys
+pub mod Limits
 pub mod Laws
 pub mod Numbers
 pub mod Refusals

@@ -4,6 +4,7 @@ use Rattle.std.specs.List.{list_all}
 use Rattle.fill_area.specs.Grid.{Grid, all_coordinates, clipped_to}
 use Rattle.fill_raster.specs.Lattice.{Lattice}
 use Rattle.fill_base.specs.Sides.{Sides, sides}
+use Rattle.fill_base.specs.declared.layer.Layer.{Layer}
 use Rattle.fill_text.specs.RectTests.{is_rect}
 use Rattle.fill_text.specs.Grids.{is_grid}
 use Rattle.fill_text.specs.Keys.{all_number_keys, key_name, key_named, number_rule, required_keys}
@@ -19,6 +20,7 @@ use Rattle.fill_text.specs.declared.keys.OptionalKey.{OptionalKey}
 use Rattle.fill_text.specs.declared.keys.OptionalKey.TheVariants.{KeepLayer, KeepDatatype}
 use Rattle.fill_text.specs.declared.keys.TextKey.{TextKey}
 use Rattle.fill_text.specs.declared.keys.TextKey.TheVariants as text
+use Rattle.fill_text.specs.declared.limits.Limits.{Limits}
 use Rattle.fill_text.specs.declared.rule_error.RuleError.{RuleError}
 use Rattle.fill_text.specs.declared.rule_error.RuleError.TheVariants.{BadRow, BadNumber, BadRule, BadRect, BadWindows, BadPitch, TooManyPlaces}
 
@@ -39,6 +41,26 @@ number_in numbers key = get_or numbers (number_rule key).index (pos 0)
 
 abbrev pub value_of : Values → NumberKey → ℤ
 value_of values key = number_in values.numbers key
+
+-- the least and the greatest density of a window
+abbrev pub limits_of : Values → Limits
+limits_of values = record { least = value_of values number.Min; most = value_of values number.Max }
+
+-- the layer of these two numbers
+abbrev pub layer_of : ℤ → ℤ → Layer
+layer_of layer data_type = record { layer = unsigned_abs layer; data_type = unsigned_abs data_type }
+
+-- the checked layer
+abbrev pub metal_layer : Values → Layer
+metal_layer values = layer_of (value_of values number.Layer) (value_of values number.Datatype)
+
+-- the layer of the keep-outs, if there are any
+abbrev pub keep_layer : Values → Option Layer
+keep_layer values = option_map (λ k. layer_of k.0 k.1) values.keep
+
+-- the layer of the fill boxes
+abbrev pub fill_layer : Values → Layer
+fill_layer values = layer_of (value_of values number.FillLayer) (value_of values number.FillDatatype)
 
 abbrev pub text_of : Values → TextKey → List ℕ
 text_of values text.Top = values.top
@@ -72,7 +94,7 @@ raster_of numbers = record {
     length = number_in numbers number.BoxW;
     step = number_in numbers number.StepX;
     origin = number_in numbers number.OriginX;
-    group = unsigned_abs (number_in numbers number.TileNx);
+    band = unsigned_abs (number_in numbers number.TileNx);
   };
   up = record {
     low = number_in numbers number.FrameY1;
@@ -80,7 +102,7 @@ raster_of numbers = record {
     length = number_in numbers number.BoxH;
     step = number_in numbers number.StepY;
     origin = number_in numbers number.OriginY;
-    group = unsigned_abs (number_in numbers number.TileNy);
+    band = unsigned_abs (number_in numbers number.TileNy);
   };
 }
 

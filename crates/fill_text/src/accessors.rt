@@ -3,14 +3,16 @@ ghost use Rattle.std.specs.Prelude.{◌≡◌, true};
 ghost use Rattle.fill_base.specs.Sides.{sides_of};
 ghost use Rattle.fill_raster.specs.Lattice.{KeepsPitch};
 ghost use Rattle.fill_text.specs.Keys.{IsWithin};
+ghost use Rattle.fill_text.specs.Limits.{AreShares};
 ghost use Rattle.fill_text.specs.Rules as spec;
-ghost use Rattle.fill_text.specs.Rules.{are_layers, value_of};
+ghost use Rattle.fill_text.specs.Rules.{value_of};
 ghost use Rattle.fill_text.specs.ValuesOfRules.{values_of};
 
 use crate::keys::NumberKey;
+use crate::limits::Limits;
 use crate::rules::Rules;
 use fill_area::Windows;
-use fill_base::Rect;
+use fill_base::{Layer, Rect};
 use fill_raster::Raster;
 
 impl Rules {
@@ -212,6 +214,17 @@ impl Rules {
         self.number(NumberKey::Max)
     }
 
+    /// The least and the greatest density.
+    pub fn limits(&self) -> Limits
+        ensures value { result ≡ spec.limits_of (values_of self.now) }
+        ensures range { AreShares result }
+    {
+        Limits {
+            least: self.min(),
+            most: self.max(),
+        }
+    }
+
     /// How many columns of places a tile has, 1 to 4,096.
     pub fn tile_nx(&self) -> i64
         ensures value { result ≡ value_of (values_of self.now) NumberKey.TileNx }
@@ -228,44 +241,35 @@ impl Rules {
         self.number(NumberKey::TileNy)
     }
 
-    /// The checked layer, 0 to 65,535.
-    pub fn layer(&self) -> i64
-        ensures value { result ≡ value_of (values_of self.now) NumberKey.Layer }
-        ensures range { IsWithin NumberKey.Layer result }
+    /// The checked layer.
+    pub fn metal_layer(&self) -> Layer
+        ensures { result ≡ spec.metal_layer (values_of self.now) }
     {
-        self.number(NumberKey::Layer)
+        Layer {
+            layer: self.number(NumberKey::Layer) as u16,
+            data_type: self.number(NumberKey::Datatype) as u16,
+        }
     }
 
-    /// The checked data type, 0 to 65,535.
-    pub fn datatype(&self) -> i64
-        ensures value { result ≡ value_of (values_of self.now) NumberKey.Datatype }
-        ensures range { IsWithin NumberKey.Datatype result }
+    /// The layer of the keep-outs, if there are any.
+    pub fn keep_layer(&self) -> Option<Layer>
+        ensures { result ≡ spec.keep_layer (values_of self.now) }
     {
-        self.number(NumberKey::Datatype)
+        let (layer, data_type) = self.keep?;
+        Some(Layer {
+            layer: layer as u16,
+            data_type: data_type as u16,
+        })
     }
 
-    /// The layer of the fill boxes, 0 to 65,535.
-    pub fn fill_layer(&self) -> i64
-        ensures value { result ≡ value_of (values_of self.now) NumberKey.FillLayer }
-        ensures range { IsWithin NumberKey.FillLayer result }
+    /// The layer of the fill boxes.
+    pub fn fill_layer(&self) -> Layer
+        ensures { result ≡ spec.fill_layer (values_of self.now) }
     {
-        self.number(NumberKey::FillLayer)
-    }
-
-    /// The data type of the fill boxes, 0 to 65,535.
-    pub fn fill_datatype(&self) -> i64
-        ensures value { result ≡ value_of (values_of self.now) NumberKey.FillDatatype }
-        ensures range { IsWithin NumberKey.FillDatatype result }
-    {
-        self.number(NumberKey::FillDatatype)
-    }
-
-    /// The layer and the data type of the keep-outs, each 0 to 65,535, if there are any.
-    pub fn keep(&self) -> Option<(i64, i64)>
-        ensures value { result ≡ (values_of self.now).keep }
-        ensures range { are_layers result ≡ true }
-    {
-        self.keep
+        Layer {
+            layer: self.number(NumberKey::FillLayer) as u16,
+            data_type: self.number(NumberKey::FillDatatype) as u16,
+        }
     }
 
     /// The name of the design's top cell, 1 to 1,024 bytes.

@@ -2,7 +2,7 @@
 ghost use Rattle.std.specs.Prelude.{◌≡◌, ◌<◌, find, bytes_eq};
 ghost use Rattle.fill_text.specs.Keys.{all_number_keys, all_optional_keys, all_text_keys, key_name, key_named, number_rule, optional_index, optional_name, text_name};
 
-use fill_base::rect::{HIGHEST, LOWEST};
+use fill_base::{HIGHEST, LOWEST};
 
 /// The longest side, step, spacing and count that a rule may ask for.
 const LARGEST: i64 = 1_048_576;

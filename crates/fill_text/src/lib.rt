@@ -11,6 +11,7 @@ mod accessors;
 mod entries;
 mod keys;
 pub mod laws;
+mod limits;
 mod numbers;
 mod rows;
 mod rule_error;
@@ -20,6 +21,7 @@ mod script;
 mod sides;
 
 pub use keys::{Key, NumberKey, OptionalKey, TextKey};
+pub use limits::Limits;
 pub use rule_error::RuleError;
 pub use rule_file::read_rules;
 pub use rules::{Numbers, Rules, Texts};

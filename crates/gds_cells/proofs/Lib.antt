@@ -12,7 +12,7 @@ pub mod Stepping
 pub mod Turns
 pub mod Arrays
 pub mod Wholes
-pub mod Running
+pub mod Chunking
 pub mod Capping
 pub mod CountsInOrder
 pub mod Naming

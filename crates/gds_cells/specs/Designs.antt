@@ -2,6 +2,7 @@
 use Rattle.std.specs.Prelude.{◌≡◌, ℕ, ◌<◌, List, [], ◌∷◌, map, take, slice_get, filter, if◌then◌else◌, Option, Some, None, All}
 use Rattle.std.specs.List.{flat_map, position_or_len}
 use Rattle.std.specs.Str.{bytes_eq}
+use Rattle.fill_base.specs.declared.layer.Layer.{Layer}
 use Rattle.gds_grammar.specs.Values.{Cell, Shape as Element}
 use Rattle.gds_cells.specs.declared.error.FlattenError.{FlattenError}
 use Rattle.gds_cells.specs.declared.placement.Placement.{Placement}
@@ -45,31 +46,31 @@ abbrev pub singles_among : List Entry → List Element → List (ℕ × Placemen
 singles_among cells elements = flat_map (λ e. singles_to cells (name_of e) (placements_of e)) elements
 
 -- what the cells draw on a layer and refer to
-abbrev pub hierarchy_of : List Entry → ℕ → ℕ → Hierarchy
-hierarchy_of cells layer data_type = record {
-  own = λ c. filter (is_shape layer data_type) (elements_at cells c);
+abbrev pub hierarchy_of : List Entry → Layer → Hierarchy
+hierarchy_of cells layer = record {
+  own = λ c. filter (is_shape layer) (elements_at cells c);
   singles = λ c. singles_among cells (elements_at cells c);
 }
 
 -- why an element is refused: a reference always, a shape where it's of the layer
-abbrev pub element_fault : ℕ → ℕ → Element → Option FlattenError
-element_fault layer data_type e = if is_shape layer data_type e then shape_fault e else reference_fault e
+abbrev pub element_fault : Layer → Element → Option FlattenError
+element_fault layer e = if is_shape layer e then shape_fault e else reference_fault e
 
-abbrev pub AreFine : ℕ → ℕ → List Element → Type 0
-AreFine layer data_type elements = All (λ e. element_fault layer data_type e ≡ None) elements
+abbrev pub AreFine : Layer → List Element → Type 0
+AreFine layer elements = All (λ e. element_fault layer e ≡ None) elements
 
 -- the first fault of the cells that the top reaches, in the order of the file
-pub record IsFirstFault (cells : List Entry) (top layer data_type : ℕ) (e : FlattenError) : Type 0 where
+pub record IsFirstFault (cells : List Entry) (top : ℕ) (layer : Layer) (e : FlattenError) : Type 0 where
   pub cell : ℕ
   pub index : ℕ
   pub element : Element
   pub reached : IsReached (graph_of cells) top cell
   pub stands : slice_get (elements_at cells cell) index ≡ Some element
-  pub faulty : element_fault layer data_type element ≡ Some e
-  pub before : AreFine layer data_type (take index (elements_at cells cell))
-  pub earlier : (c : ℕ) → c < cell → IsReached (graph_of cells) top c → AreFine layer data_type (elements_at cells c)
+  pub faulty : element_fault layer element ≡ Some e
+  pub before : AreFine layer (take index (elements_at cells cell))
+  pub earlier : (c : ℕ) → c < cell → IsReached (graph_of cells) top c → AreFine layer (elements_at cells c)
 
 -- no cell that the top reaches has a fault
-abbrev pub AllFine : List Entry → ℕ → ℕ → ℕ → Type 0
-AllFine cells top layer data_type =
-    (c : ℕ) → IsReached (graph_of cells) top c → AreFine layer data_type (elements_at cells c)
+abbrev pub AllFine : List Entry → ℕ → Layer → Type 0
+AllFine cells top layer =
+    (c : ℕ) → IsReached (graph_of cells) top c → AreFine layer (elements_at cells c)

@@ -107,21 +107,21 @@ array_fault transform columns rows points =
 -- ---- the single references that an element stands for
 
 abbrev pub placements_of : Element → List Placement
-placements_of (boundary l d points) = []
-placements_of (path l d wire) = []
+placements_of (boundary l points) = []
+placements_of (path l wire) = []
 placements_of (reference cell transform origin) = placement_of transform origin ∷ []
 placements_of (array cell transform columns rows points) = array_placements transform columns rows points
 
 -- the name of the cell that an element refers to
 abbrev pub name_of : Element → Option (List ℕ)
-name_of (boundary l d points) = None
-name_of (path l d wire) = None
+name_of (boundary l points) = None
+name_of (path l wire) = None
 name_of (reference cell transform origin) = Some cell
 name_of (array cell transform columns rows points) = Some cell
 
 -- why a reference is refused
 abbrev pub reference_fault : Element → Option FlattenError
-reference_fault (boundary l d points) = None
-reference_fault (path l d wire) = None
+reference_fault (boundary l points) = None
+reference_fault (path l wire) = None
 reference_fault (reference cell transform origin) = if is_bad_transform transform then Some BadTransform else None
 reference_fault (array cell transform columns rows points) = array_fault transform columns rows points

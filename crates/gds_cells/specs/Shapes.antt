@@ -1,6 +1,8 @@
 -- The shapes of a layer: what each covers, how far it goes, and why it's refused.
 use Rattle.std.specs.Prelude.{ℕ, ℤ, Bool, false, ◌&&◌, ◌==◌, List, [], map, cond, Option, Some, None, All}
 use Rattle.std.specs.List.{list_any}
+use Rattle.fill_base.specs.declared.layer.Layer.{Layer}
+use Rattle.gds_grammar.specs.Layers.{same_layer}
 use Rattle.gds_grammar.specs.Values.{boundary, path, reference, array, Shape as Element}
 use Rattle.gds_shape.specs.declared.bounds.Bounds.{Bounds}
 use Rattle.gds_shape.specs.declared.error.ShapeError.{ShapeError}
@@ -13,24 +15,24 @@ use Rattle.gds_cells.specs.declared.error.FlattenError.TheVariants.{NotManhattan
 use Rattle.gds_cells.specs.declared.placement.Placement.{Placement}
 use Rattle.gds_cells.specs.Placements.{carried_bounds}
 
--- a boundary or path of the layer and data type
-abbrev pub is_shape : ℕ → ℕ → Element → Bool
-is_shape layer data_type (boundary l d points) = l == layer && d == data_type
-is_shape layer data_type (path l d wire) = l == layer && d == data_type
-is_shape layer data_type (reference cell transform origin) = false
-is_shape layer data_type (array cell transform columns rows points) = false
+-- a boundary or path of the layer
+abbrev pub is_shape : Layer → Element → Bool
+is_shape layer (boundary l points) = same_layer l layer
+is_shape layer (path l wire) = same_layer l layer
+is_shape layer (reference cell transform origin) = false
+is_shape layer (array cell transform columns rows points) = false
 
 -- the squares that it covers
 abbrev pub covers_of : Element → ℤ → ℤ → Bool
-covers_of (boundary l d points) x y = covers points x y
-covers_of (path l d wire) x y = path_covers wire x y
+covers_of (boundary l points) x y = covers points x y
+covers_of (path l wire) x y = path_covers wire x y
 covers_of (reference cell transform origin) x y = false
 covers_of (array cell transform columns rows points) x y = false
 
 -- the points of a boundary, the rectangles of a path's segments
 abbrev pub parts_of : Element → List Bounds
-parts_of (boundary l d points) = map at_point points
-parts_of (path l d wire) = segments_of wire
+parts_of (boundary l points) = map at_point points
+parts_of (path l wire) = segments_of wire
 parts_of (reference cell transform origin) = []
 parts_of (array cell transform columns rows points) = []
 
@@ -53,7 +55,7 @@ refusal_if None = None
 
 -- why a shape is refused
 abbrev pub shape_fault : Element → Option FlattenError
-shape_fault (boundary l d points) = cond (list_any is_slanted (edges points)) (Some NotManhattan) None
-shape_fault (path l d wire) = refusal_if (path_fault wire)
+shape_fault (boundary l points) = cond (list_any is_slanted (edges points)) (Some NotManhattan) None
+shape_fault (path l wire) = refusal_if (path_fault wire)
 shape_fault (reference cell transform origin) = None
 shape_fault (array cell transform columns rows points) = None

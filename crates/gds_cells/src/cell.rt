@@ -6,7 +6,7 @@ use crate::shape::Shape;
 /// A cell's shapes of the layer and its references, in the order of the file.
 #[derive(Drop)]
 pub struct Cell<'a, 'b> {
-    /// The shapes of the layer, filled: those of one run of elements after another.
+    /// The shapes of the layer, filled: those of one chunk of elements after another.
     pub shapes: Vec<Vec<Shape<'a, 'b>>>,
     /// The references, each an array or single.
     pub links: Vec<Link>,
@@ -14,7 +14,7 @@ pub struct Cell<'a, 'b> {
 
 /// The shapes of the layer and the references of neighbouring elements of a cell, in the order of the file.
 #[derive(Drop)]
-pub struct Run<'a, 'b> {
+pub struct Chunk<'a, 'b> {
     /// The shapes of the layer, filled.
     pub shapes: Vec<Shape<'a, 'b>>,
     /// The references, each an array or single.

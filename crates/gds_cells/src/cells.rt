@@ -6,35 +6,34 @@ ghost use Rattle.gds_cells.specs.Designs.{graph_of};
 ghost use Rattle.gds_cells.specs.steps.Rows.{rows};
 ghost use Rattle.gds_cells.specs.steps.Built.{AreBuilt, IsFaultAmong};
 
-use crate::builder::Builder;
 use crate::cell::Cell;
+use crate::elements::cell_of;
 use crate::error::FlattenError;
 use crate::graph::elements_at;
 use crate::search::{links, number_at};
-use gds_grammar::Element;
-use indexmap::IndexMap;
+use fill_base::Layer;
+use gds_grammar::{Cells, Element};
 use std::alloc::Global;
+use std::thread::Threads;
 
 /// The cells of the library that have a step, built; the others are empty.
 ///
 /// # Errors
 /// The first fault of a reference or shape in the order of the file, of the cells that have a step,
 /// or `Memory` where memory is refused.
-pub fn cells_of<'a, 'b, B: Builder>(
-    builder: &B,
+pub fn cells_of<'a, 'b>(
+    rt: &(impl Threads + Sync),
     alloc: Global,
-    cells: &'a IndexMap<Vec<u8>, Vec<Element<'b>>>,
+    cells: &'a Cells<'b>,
     graph: &[Vec<usize>],
     steps: &[usize],
-    layer: u16,
-    data_type: u16,
+    layer: Layer,
 ) -> Result<Vec<Cell<'a, 'b>>, FlattenError>
-    requires ready { B.can_build builder.now }
     requires graph { rows graph.now ≡ graph_of (map cell_of cells.now.entries) }
-    ensures built { IfOk result (λ v. AreBuilt (map cell_of cells.now.entries) layer data_type steps.now
+    ensures built { IfOk result (λ v. AreBuilt (map cell_of cells.now.entries) layer steps.now
         (length (map cell_of cells.now.entries)) v.items) }
     ensures refused { IfErr result (λ e. (e ≡ FlattenError.Memory)
-        ⊎ IsFaultAmong (map cell_of cells.now.entries) layer data_type steps.now e) }
+        ⊎ IsFaultAmong (map cell_of cells.now.entries) layer steps.now e) }
 {
     let mut built = Vec::new(alloc);
     'cells: for index in 0..cells.len() {
@@ -46,14 +45,7 @@ pub fn cells_of<'a, 'b, B: Builder>(
             continue 'cells;
         }
         let elements = elements_at(cells, index);
-        let cell = builder.cell(
-            alloc,
-            cells,
-            elements,
-            links(graph, index),
-            layer,
-            data_type,
-        )?;
+        let cell = cell_of(rt, alloc, cells, elements, links(graph, index), layer)?;
         built.push(cell)?;
     }
     Ok(built)

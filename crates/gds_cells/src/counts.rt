@@ -33,13 +33,13 @@ pub fn count_link(link: &Link, each: usize) -> usize
     turns * each
 }
 
-/// How many shapes the runs have, at most `TOO_MANY`.
-fn count_own(runs: &[Vec<Shape<'_, '_>>]) -> usize
-    ensures { IsCapped (length (flat_map vec_items runs.now)) result }
+/// How many shapes the chunks have, at most `TOO_MANY`.
+fn count_own(chunks: &[Vec<Shape<'_, '_>>]) -> usize
+    ensures { IsCapped (length (flat_map vec_items chunks.now)) result }
 {
     let mut total = 0;
-    'runs: for run in runs {
-        total = capped(total + capped(run.len()));
+    'chunks: for chunk in chunks {
+        total = capped(total + capped(chunk.len()));
     }
     total
 }

@@ -7,12 +7,11 @@ ghost use Rattle.gds_cells.specs.Designs.{index_of, elements_at, targets, graph_
 ghost use Rattle.gds_cells.specs.References.{name_of};
 ghost use Rattle.gds_cells.specs.steps.Rows.{rows};
 
-use gds_grammar::Element;
-use indexmap::IndexMap;
+use gds_grammar::{Cells, Element};
 use std::alloc::{AllocError, Global};
 
 /// The index of the cell of this name, the number of cells where none has it.
-pub fn index_of(cells: &IndexMap<Vec<u8>, Vec<Element<'_>>>, name: &[u8]) -> usize
+pub fn index_of(cells: &Cells<'_>, name: &[u8]) -> usize
     ensures value { result ≡ index_of (map cell_of cells.now.entries) name.now }
     ensures within { result ≤ length cells.now.entries }
 {
@@ -20,10 +19,7 @@ pub fn index_of(cells: &IndexMap<Vec<u8>, Vec<Element<'_>>>, name: &[u8]) -> usi
 }
 
 /// The elements of the cell at the index.
-pub fn elements_at<'a, 'b>(
-    cells: &'a IndexMap<Vec<u8>, Vec<Element<'b>>>,
-    index: usize,
-) -> &'a [Element<'b>]
+pub fn elements_at<'a, 'b>(cells: &'a Cells<'b>, index: usize) -> &'a [Element<'b>]
     requires { index < length cells.now.entries }
     ensures { map shape_of result.now ≡ elements_at (map cell_of cells.now.entries) index }
 {
@@ -45,7 +41,7 @@ pub fn name_of<'b>(element: &Element<'b>) -> Option<&'b [u8]>
 /// The cells that the elements refer to, reference by reference.
 fn targets_of(
     alloc: Global,
-    cells: &IndexMap<Vec<u8>, Vec<Element<'_>>>,
+    cells: &Cells<'_>,
     elements: &[Element<'_>],
 ) -> Result<Vec<usize>, AllocError>
     ensures { IfOk result (λ v. v.items ≡ targets (map cell_of cells.now.entries) (map shape_of elements.now)) }
@@ -60,10 +56,7 @@ fn targets_of(
 }
 
 /// The cells that each cell refers to.
-pub fn graph_of(
-    alloc: Global,
-    cells: &IndexMap<Vec<u8>, Vec<Element<'_>>>,
-) -> Result<Vec<Vec<usize>>, AllocError>
+pub fn graph_of(alloc: Global, cells: &Cells<'_>) -> Result<Vec<Vec<usize>>, AllocError>
     ensures { IfOk result (λ v. rows v.items ≡ graph_of (map cell_of cells.now.entries)) }
 {
     let mut graph = Vec::new(alloc);

@@ -3,10 +3,11 @@
 //! and a prepared shape holds the squares that its element covers.
 #![tactic(auto)]
 
-mod builder;
 mod cell;
 mod cells;
+mod chunks;
 mod counts;
+mod elements;
 mod error;
 mod filled;
 mod graph;
@@ -18,17 +19,16 @@ mod one_rect;
 mod placement;
 mod reached;
 mod reference;
-mod runs;
 mod search;
 mod shape;
 mod shapes;
 
-pub use builder::{Alone, Builder, Together};
-pub use cell::{Cell, Run};
+pub use cell::{Cell, Chunk};
 pub use cells::cells_of;
 pub use counts::{TOO_MANY, count_link, counts_of};
 pub use error::FlattenError;
 pub use graph::{graph_of, index_of};
+pub use joined::join;
 pub use link::Link;
 pub use placement::Placement;
 pub use reached::survey;

@@ -3,8 +3,7 @@
 ghost use Rattle.std.specs.Prelude.{◌≡◌, ◌≤ℤ◌, ◌<ℤ◌, IfSome};
 ghost use Rattle.fill_base.specs.Coordinates.{lowest, highest};
 
-use fill_base::Rect;
-use fill_base::rect::LOWEST;
+use fill_base::{LOWEST, Rect};
 use gds_shape::Bounds;
 
 /// A rectangle that begins at the least coordinates, and an extent that is as large: of the one the right and upper edges are kept,

@@ -17,8 +17,7 @@ use crate::filled::Filled;
 use crate::joined::join;
 use crate::placement::Placement;
 use crate::shape::Shape;
-use fill_base::rect::LOWEST;
-use fill_base::{Point, Rect};
+use fill_base::{LOWEST, Layer, Point, Rect};
 use gds_grammar::{Boundary, Element, Path};
 use gds_shape::{
     Bounds, ShapeError, is_in_range, is_manhattan, put_boundary_at_corner, put_path_at_corner,
@@ -42,13 +41,13 @@ impl From<ShapeError> for FlattenError {
     }
 }
 
-/// Whether the element is a boundary or path of the layer and data type.
-fn is_shape(element: &Element<'_>, layer: u16, data_type: u16) -> bool
-    ensures { result ≡ is_shape layer data_type (shape_of element.now) }
+/// Whether the element is a boundary or path of the layer.
+fn is_shape(element: &Element<'_>, layer: Layer) -> bool
+    ensures { result ≡ is_shape layer (shape_of element.now) }
 {
     match element {
-        Element::Boundary(boundary) => boundary.layer == layer && boundary.data_type == data_type,
-        Element::Path(path) => path.layer == layer && path.data_type == data_type,
+        Element::Boundary(boundary) => boundary.layer == layer,
+        Element::Path(path) => path.layer == layer,
         Element::Ref(_) | Element::Array(_) => false,
     }
 }
@@ -97,7 +96,7 @@ fn path_shape<'a, 'b>(
     Ok(Shape { element, filled })
 }
 
-/// The element, filled, if it's a boundary or path of the layer and data type; `None` for every other
+/// The element, filled, if it's a boundary or path of the layer; `None` for every other
 /// one, which isn't looked at. The lists are room for its points, and one to fill it in, empty before and
 /// afterwards.
 ///
@@ -109,18 +108,17 @@ pub fn shape_of<'a, 'b>(
     points: &mut Vec<Point>,
     rects: &mut Vec<Rect>,
     element: &'a Element<'b>,
-    layer: u16,
-    data_type: u16,
+    layer: Layer,
 ) -> Result<Option<Shape<'a, 'b>>, FlattenError>
     requires { rects.old.items ≡ [] }
     ensures empty { IfOk result (λ o. rects.new.items ≡ []) }
-    ensures none { IfOk result (λ o. IfNone o (is_shape layer data_type (shape_of element.now) ≡ false)) }
-    ensures some { IfOk result (λ o. IfSome o (λ s. (is_shape layer data_type (shape_of element.now) ≡ true)
+    ensures none { IfOk result (λ o. IfNone o (is_shape layer (shape_of element.now) ≡ false)) }
+    ensures some { IfOk result (λ o. IfSome o (λ s. (is_shape layer (shape_of element.now) ≡ true)
         × (shape_fault (shape_of element.now) ≡ None) × (s.element.now ≡ element.now))) }
     ensures refused { IfErr result (λ e. (e ≡ FlattenError.Memory)
-        ⊎ ((is_shape layer data_type (shape_of element.now) ≡ true) × (shape_fault (shape_of element.now) ≡ Some e))) }
+        ⊎ ((is_shape layer (shape_of element.now) ≡ true) × (shape_fault (shape_of element.now) ≡ Some e))) }
 {
-    if !is_shape(element, layer, data_type) {
+    if !is_shape(element, layer) {
         return Ok(None);
     }
     match element {

@@ -5,6 +5,7 @@ use Rattle.std.specs.List.{flat_map}
 use Rattle.std.specs.Str.{bytes_eq}
 use Rattle.std.proofs.lemmas.List.{length-map}
 use Rattle.std.proofs.lemmas.Grind.{common_steps}
+use Rattle.fill_base.specs.declared.layer.Layer.{Layer}
 use Rattle.gds_grammar.specs.Values.{Shape as Element}
 use Rattle.gds_cells.specs.Designs.{Entry}
 use Rattle.gds_cells.specs.declared.cell.Cell.{Cell}
@@ -95,8 +96,8 @@ in_row links row is k d small = (
 
 -- ---- copies
 
-module _ (entries : List Entry) (layer data_type t : ℕ) (s : State) (surveyed : IsSurveyed (graph_of entries) t s) (cells : List Cell)
-    (built : AreBuilt entries layer data_type s.steps (length entries) cells) where
+module _ (entries : List Entry) (layer : Layer) (t : ℕ) (s : State) (surveyed : IsSurveyed (graph_of entries) t s) (cells : List Cell)
+    (built : AreBuilt entries layer s.steps (length entries) cells) where
   entries_long : length (graph_of entries) ≡ length entries
   entries_long = grind (arith, common_steps)
 
@@ -107,21 +108,21 @@ module _ (entries : List Entry) (layer data_type t : ℕ) (s : State) (surveyed 
       let small = surveyed.within q within in
       subst (λ x. x < length entries) is (subst (λ n. item s.order q < n) entries_long small)
 
-  cell_at : (c : ℕ) → IsReached (graph_of entries) t c → IsCellAt entries layer data_type cells c
+  cell_at : (c : ℕ) → IsReached (graph_of entries) t c → IsCellAt entries layer cells c
   cell_at c reached = built.built c (inside c reached) (surveyed.found c reached)
 
-  pub agree : (n c : ℕ) → IsReached (graph_of entries) t c → copies (hierarchy cells) n c ≡ copies (hierarchy_of entries layer data_type) n c
+  pub agree : (n c : ℕ) → IsReached (graph_of entries) t c → copies (hierarchy cells) n c ≡ copies (hierarchy_of entries layer) n c
   unfolding copies
   agree zero c reached = refl
   agree (suc n) c reached =
       let cell = cell_at c reached in
-      let own : own_in (slice_get cells c) ≡ (hierarchy_of entries layer data_type).own c = ap own_in cell.stands ∙ cell.is.own in
-      let singles : singles_in (slice_get cells c) ≡ (hierarchy_of entries layer data_type).singles c = ap singles_in cell.stands ∙ cell.is.singles in
+      let own : own_in (slice_get cells c) ≡ (hierarchy_of entries layer).own c = ap own_in cell.stands ∙ cell.is.own in
+      let singles : singles_in (slice_get cells c) ≡ (hierarchy_of entries layer).singles c = ap singles_in cell.stands ∙ cell.is.singles in
       let each = each_target entries (IsReached (graph_of entries) t) (elements_at entries c) (λ k within.
       subst (λ xs. IsReached (graph_of entries) t (item xs k)) (next_is entries entries c)
       (reached_next (graph_of entries) t c k reached (subst (λ xs. k < length xs) (sym (next_is entries entries c)) within))) in
-      rw (own, singles) (ap (λ cs. map own_copy ((hierarchy_of entries layer data_type).own c) ++ cs)
-      (same_flat (IsReached (graph_of entries) t) (copies (hierarchy cells) n) (copies (hierarchy_of entries layer data_type) n) (agree n)
+      rw (own, singles) (ap (λ cs. map own_copy ((hierarchy_of entries layer).own c) ++ cs)
+      (same_flat (IsReached (graph_of entries) t) (copies (hierarchy cells) n) (copies (hierarchy_of entries layer) n) (agree n)
       (singles_among entries (elements_at entries c)) each))
 
   pub tied : (q : ℕ) → q < length s.order → IsTied (graph_of entries) cells (item s.order q)

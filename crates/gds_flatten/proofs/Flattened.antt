@@ -3,6 +3,7 @@ use Rattle.std.proofs.Common.{◌≡◌, ℕ, ◌<◌, ◌≤◌, ◌⊎◌, inl
 use Rattle.std.specs.Prelude.{Option, Some, None, if◌then◌else◌, cond}
 use Rattle.std.specs.List.{list_any}
 use Rattle.std.proofs.lemmas.Grind.{common_steps}
+use Rattle.fill_base.specs.declared.layer.Layer.{Layer}
 use Rattle.fill_base.specs.declared.rect.Rect.{Rect}
 use Rattle.fill_region.specs.Squares.{covered}
 use Rattle.gds_grammar.specs.Values.{boundary, path, reference, array, Shape as Element}
@@ -76,40 +77,40 @@ own_drawn true o h = h
 own_drawn false o h = tt
 
 own_shape : (e : Element) → IsOwn (shape_fault e)
-own_shape (boundary l d points) = own_slant (list_any is_slanted (edges points))
-own_shape (path l d p) = own_drawn (is_drawn p) (fault_among p (corners_of p))
+own_shape (boundary l points) = own_slant (list_any is_slanted (edges points))
+own_shape (path l p) = own_drawn (is_drawn p) (fault_among p (corners_of p))
     (own_path (list_any is_slanted (edges (corners_of p))) (has_round_end p) (has_odd_width p) (doubles_back (corners_of p)) (has_bad_extension p))
 own_shape (reference cell transform origin) = tt
 own_shape (array cell transform columns rows points) = tt
 
 own_ref : (e : Element) → IsOwn (reference_fault e)
-own_ref (boundary l d points) = tt
-own_ref (path l d p) = tt
+own_ref (boundary l points) = tt
+own_ref (path l p) = tt
 own_ref (reference cell transform origin) = own_single (is_bad_transform transform)
 own_ref (array cell transform columns rows points) = own_reference (is_bad_transform transform) (is_bad_array columns rows points)
 
-own_fault : (layer data_type : ℕ) (e : Element) → IsOwn (element_fault layer data_type e)
-own_fault layer data_type e = cases (is_shape layer data_type e) where
+own_fault : (layer : Layer) (e : Element) → IsOwn (element_fault layer e)
+own_fault layer e = cases (is_shape layer e) where
   cases : (b : Bool) → IsOwn (if b then shape_fault e else reference_fault e)
   cases true = own_shape e
   cases false = own_ref e
 
-is_the_own : (layer data_type : ℕ) (e : Element) (f : FlattenError) → element_fault layer data_type e ≡ Some f → is_own f ≡ true
-is_the_own layer data_type e f is = subst (λ o. IsOwn o) is (own_fault layer data_type e)
+is_the_own : (layer : Layer) (e : Element) (f : FlattenError) → element_fault layer e ≡ Some f → is_own f ≡ true
+is_the_own layer e f is = subst (λ o. IsOwn o) is (own_fault layer e)
 
 -- ---- refusals
 
 -- what is known of the cells, their counts and the index of the top, once all is counted
-pub record IsDesign (entries : List Entry) (top : List ℕ) (layer data_type t : ℕ) (cells : List Cell) (counts : List ℕ) : Type 0 where
-  pub many : 4000001 ≤ item counts t → IsRefused entries top layer data_type TooManyShapes
-  pub few : (4000001 ≤ item counts t → ⊥) → IsCountable entries top layer data_type
-  pub same : copies (hierarchy cells) 256 t ≡ copies_of entries top layer data_type
+pub record IsDesign (entries : List Entry) (top : List ℕ) (layer : Layer) (t : ℕ) (cells : List Cell) (counts : List ℕ) : Type 0 where
+  pub many : 4000001 ≤ item counts t → IsRefused entries top layer TooManyShapes
+  pub few : (4000001 ≤ item counts t → ⊥) → IsCountable entries top layer
+  pub same : copies (hierarchy cells) 256 t ≡ copies_of entries top layer
   pub counted : AreCounted cells counts 256 t
   pub number : (4000001 ≤ item counts t → ⊥) → item counts t ≡ length (copies (hierarchy cells) 256 t)
 
-module _ (entries : List Entry) (top : List ℕ) (layer data_type : ℕ) where
-  refused_own : (e : FlattenError) → is_own e ≡ true → IsSound entries top → IsFirstFault entries (index_of entries top) layer data_type e
-      → IsRefused entries top layer data_type e
+module _ (entries : List Entry) (top : List ℕ) (layer : Layer) where
+  refused_own : (e : FlattenError) → is_own e ≡ true → IsSound entries top → IsFirstFault entries (index_of entries top) layer e
+      → IsRefused entries top layer e
   unfolding is_own
   refused_own BadTransform own sound fault = (sound, fault)
   refused_own BadArray own sound fault = (sound, fault)
@@ -140,7 +141,7 @@ module _ (entries : List Entry) (top : List ℕ) (layer data_type : ℕ) where
   lacked reached = subst (λ n. IsReached (graph_of entries) (index_of entries top) n) (sym long) reached
 
   pub unsound_refused : HasTop entries top → (e : FlattenError) → IsUnsound (graph_of entries) (index_of entries top) e
-      → IsRefused entries top layer data_type e
+      → IsRefused entries top layer e
   unsound_refused has Memory h = tt
   unsound_refused has MissingCell h = (has, lacks h)
   unsound_refused has Cycle h = (has, (λ l. h.0 (lacked l)), h.1)
@@ -165,10 +166,10 @@ module _ (entries : List Entry) (top : List ℕ) (layer data_type : ℕ) where
       shallow = surveyed.shallow;
     }
 
-    pub fault_refused : (e : FlattenError) → ((e ≡ Memory) ⊎ IsFaultAmong entries layer data_type s.steps e) → IsRefused entries top layer data_type e
-    fault_refused e (inl m) = subst (λ x. IsRefused entries top layer data_type x) (sym m) tt
+    pub fault_refused : (e : FlattenError) → ((e ≡ Memory) ⊎ IsFaultAmong entries layer s.steps e) → IsRefused entries top layer e
+    fault_refused e (inl m) = subst (λ x. IsRefused entries top layer x) (sym m) tt
     fault_refused e (inr among) =
-        refused_own e (is_the_own layer data_type among.fault.element e among.fault.faulty) sound (record {
+        refused_own e (is_the_own layer among.fault.element e among.fault.faulty) sound (record {
           cell = among.cell;
           index = among.fault.index;
           element = among.fault.element;
@@ -179,100 +180,100 @@ module _ (entries : List Entry) (top : List ℕ) (layer data_type : ℕ) where
           earlier = λ c less reached. among.earlier c less (surveyed.found c reached);
         })
 
-    pub fault_early : (e : FlattenError) → ((e ≡ Memory) ⊎ IsFaultAmong entries layer data_type s.steps e) → (e ≡ TooManyShapes → ⊥) × (e ≡ OutOfRange → ⊥)
+    pub fault_early : (e : FlattenError) → ((e ≡ Memory) ⊎ IsFaultAmong entries layer s.steps e) → (e ≡ TooManyShapes → ⊥) × (e ≡ OutOfRange → ⊥)
     unfolding is_own
     fault_early e (inl m) = ((λ is. let both : Memory ≡ TooManyShapes = sym m ∙ is in cc), (λ is. let both : Memory ≡ OutOfRange = sym m ∙ is in cc))
     fault_early e (inr among) =
-        let own = is_the_own layer data_type among.fault.element e among.fault.faulty in (
+        let own = is_the_own layer among.fault.element e among.fault.faulty in (
           (λ is. not_own TooManyShapes e refl own is),
           (λ is. not_own OutOfRange e refl own is),
         )
 
-    module _ (cells : List Cell) (built : AreBuilt entries layer data_type s.steps (length entries) cells) (counts : List ℕ)
+    module _ (cells : List Cell) (built : AreBuilt entries layer s.steps (length entries) cells) (counts : List ℕ)
         (right : (q : ℕ) → q < length s.order → IsCount (graph_of entries) cells (item s.order q) (item counts (item s.order q))) where
       top_reached : IsReached (graph_of entries) (index_of entries top) (index_of entries top)
       top_reached = (0, refl)
 
-      same_copies : copies (hierarchy cells) 256 (index_of entries top) ≡ copies_of entries top layer data_type
-      same_copies = agree entries layer data_type (index_of entries top) s surveyed cells built 256 (index_of entries top) top_reached
+      same_copies : copies (hierarchy cells) 256 (index_of entries top) ≡ copies_of entries top layer
+      same_copies = agree entries layer (index_of entries top) s surveyed cells built 256 (index_of entries top) top_reached
 
-      capped : IsCapped (length (copies_of entries top layer data_type)) (item counts (index_of entries top))
+      capped : IsCapped (length (copies_of entries top layer)) (item counts (index_of entries top))
       capped = subst (λ cs. IsCapped (length cs) (item counts (index_of entries top))) same_copies
-          (count_is entries layer data_type (index_of entries top) s surveyed cells built counts right (index_of entries top) top_reached)
+          (count_is entries layer (index_of entries top) s surveyed cells built counts right (index_of entries top) top_reached)
 
-      fine : AllFine entries (index_of entries top) layer data_type
+      fine : AllFine entries (index_of entries top) layer
       fine c reached =
           let (q, within, is) = surveyed.all c reached in
           let small : c < length entries = subst (λ n. c < n) long (subst (λ x. x < length (graph_of entries)) is (surveyed.within q within)) in
           (built.built c small (surveyed.found c reached)).fine
 
-      many_refused : 4000001 ≤ item counts (index_of entries top) → IsRefused entries top layer data_type TooManyShapes
+      many_refused : 4000001 ≤ item counts (index_of entries top) → IsRefused entries top layer TooManyShapes
       many_refused many = (sound, fine, by capped.exact) where
-        by : ((item counts (index_of entries top) ≡ length (copies_of entries top layer data_type))
-            ⊎ ((item counts (index_of entries top) ≡ 4000001) × (4000001 ≤ length (copies_of entries top layer data_type))))
-            → 4000000 < length (copies_of entries top layer data_type)
+        by : ((item counts (index_of entries top) ≡ length (copies_of entries top layer))
+            ⊎ ((item counts (index_of entries top) ≡ 4000001) × (4000001 ≤ length (copies_of entries top layer))))
+            → 4000000 < length (copies_of entries top layer)
         by (inl e) = omega (arith, many, e)
         by (inr (full, large)) = omega (arith, large)
 
-      countable : (4000001 ≤ item counts (index_of entries top) → ⊥) → IsCountable entries top layer data_type
+      countable : (4000001 ≤ item counts (index_of entries top) → ⊥) → IsCountable entries top layer
       countable few = record { sound = sound; fine = fine; few = by capped.exact } where
-        by : ((item counts (index_of entries top) ≡ length (copies_of entries top layer data_type))
-            ⊎ ((item counts (index_of entries top) ≡ 4000001) × (4000001 ≤ length (copies_of entries top layer data_type))))
-            → length (copies_of entries top layer data_type) ≤ 4000000
+        by : ((item counts (index_of entries top) ≡ length (copies_of entries top layer))
+            ⊎ ((item counts (index_of entries top) ≡ 4000001) × (4000001 ≤ length (copies_of entries top layer))))
+            → length (copies_of entries top layer) ≤ 4000000
         by (inl e) = omega (arith, few, e)
         by (inr (full, large)) = absurd (few (omega (arith, full)))
 
       number_is : (4000001 ≤ item counts (index_of entries top) → ⊥) → item counts (index_of entries top) ≡ length (copies (hierarchy cells) 256 (index_of entries top))
-      number_is few = by (count_is entries layer data_type (index_of entries top) s surveyed cells built counts right (index_of entries top) top_reached).exact where
+      number_is few = by (count_is entries layer (index_of entries top) s surveyed cells built counts right (index_of entries top) top_reached).exact where
         by : ((item counts (index_of entries top) ≡ length (copies (hierarchy cells) 256 (index_of entries top)))
             ⊎ ((item counts (index_of entries top) ≡ 4000001) × (4000001 ≤ length (copies (hierarchy cells) 256 (index_of entries top)))))
             → item counts (index_of entries top) ≡ length (copies (hierarchy cells) 256 (index_of entries top))
         by (inl e) = e
         by (inr (full, large)) = absurd (few (omega (arith, full)))
 
-      pub designed : IsDesign entries top layer data_type (index_of entries top) cells counts
+      pub designed : IsDesign entries top layer (index_of entries top) cells counts
       designed = record {
         many = many_refused;
         few = countable;
         same = same_copies;
-        counted = top_counted entries layer data_type (index_of entries top) s surveyed cells built counts right (index_of entries top) top_reached;
+        counted = top_counted entries layer (index_of entries top) s surveyed cells built counts right (index_of entries top) top_reached;
         number = number_is;
       }
 
 -- what the code's counts say, of the cells and the order as they are
-pub counts_right : (entries : List Entry) (layer data_type t : ℕ) (s : State) → IsSurveyed (graph_of entries) t s → (cells : List Cell)
-    → AreBuilt entries layer data_type s.steps (length entries) cells → (xs : List Cell) (ys counts : List ℕ) → xs ≡ cells → ys ≡ s.order
+pub counts_right : (entries : List Entry) (layer : Layer) (t : ℕ) (s : State) → IsSurveyed (graph_of entries) t s → (cells : List Cell)
+    → AreBuilt entries layer s.steps (length entries) cells → (xs : List Cell) (ys counts : List ℕ) → xs ≡ cells → ys ≡ s.order
     → ((g : Graph) → IsOrdered g ys → ((q : ℕ) → q < length ys → IsTied g xs (item ys q))
     → (q : ℕ) → q < length ys → IsCount g xs (item ys q) (item counts (item ys q)))
     → (q : ℕ) → q < length s.order → IsCount (graph_of entries) cells (item s.order q) (item counts (item s.order q))
-counts_right entries layer data_type t s surveyed cells built xs ys counts same order right =
+counts_right entries layer t s surveyed cells built xs ys counts same order right =
     subst (λ zs. (g : Graph) → IsOrdered g zs → ((q : ℕ) → q < length zs → IsTied g cells (item zs q))
     → (q : ℕ) → q < length zs → IsCount g cells (item zs q) (item counts (item zs q))) order
     (subst (λ zs. (g : Graph) → IsOrdered g ys → ((q : ℕ) → q < length ys → IsTied g zs (item ys q))
     → (q : ℕ) → q < length ys → IsCount g zs (item ys q) (item counts (item ys q))) same right)
-    (graph_of entries) surveyed.ordered (tied entries layer data_type t s surveyed cells built)
+    (graph_of entries) surveyed.ordered (tied entries layer t s surveyed cells built)
 
-pub unsound_told : (entries : List Entry) (top : List ℕ) (layer data_type t : ℕ) (g : Graph) → HasTop entries top → t ≡ index_of entries top
-    → g ≡ graph_of entries → (e : FlattenError) → IsUnsound g t e → IsRefused entries top layer data_type e
-unsound_told entries top layer data_type t g has at is e h =
-    unsound_refused entries top layer data_type has e (subst (λ i. IsUnsound (graph_of entries) i e) at (subst (λ x. IsUnsound x t e) is h))
+pub unsound_told : (entries : List Entry) (top : List ℕ) (layer : Layer) (t : ℕ) (g : Graph) → HasTop entries top → t ≡ index_of entries top
+    → g ≡ graph_of entries → (e : FlattenError) → IsUnsound g t e → IsRefused entries top layer e
+unsound_told entries top layer t g has at is e h =
+    unsound_refused entries top layer has e (subst (λ i. IsUnsound (graph_of entries) i e) at (subst (λ x. IsUnsound x t e) is h))
 
 pub told_surveyed : (entries : List Entry) (top : List ℕ) (t : ℕ) (g : Graph) (s : State) → t ≡ index_of entries top → g ≡ graph_of entries
     → IsSurveyed g t s → IsSurveyed (graph_of entries) (index_of entries top) s
 told_surveyed entries top t g s at is h = subst (λ i. IsSurveyed (graph_of entries) i s) at (subst (λ x. IsSurveyed x t s) is h)
 
 -- all that, of the values as the code has them
-pub design_told : (entries : List Entry) (top : List ℕ) (layer data_type t : ℕ) (s : State) (cells xs : List Cell) (steps ys counts : List ℕ)
+pub design_told : (entries : List Entry) (top : List ℕ) (layer : Layer) (t : ℕ) (s : State) (cells xs : List Cell) (steps ys counts : List ℕ)
     → HasTop entries top → t ≡ index_of entries top → IsSurveyed (graph_of entries) (index_of entries top) s
-    → steps ≡ s.steps → AreBuilt entries layer data_type steps (length entries) cells → xs ≡ cells → ys ≡ s.order
+    → steps ≡ s.steps → AreBuilt entries layer steps (length entries) cells → xs ≡ cells → ys ≡ s.order
     → ((g : Graph) → IsOrdered g ys → ((q : ℕ) → q < length ys → IsTied g xs (item ys q))
     → (q : ℕ) → q < length ys → IsCount g xs (item ys q) (item counts (item ys q)))
-    → IsDesign entries top layer data_type t cells counts
-design_told entries top layer data_type t s cells xs steps ys counts has at surveyed same_steps made same order right =
-    let built = subst (λ zs. AreBuilt entries layer data_type zs (length entries) cells) same_steps made in
-    subst (λ i. IsDesign entries top layer data_type i cells counts) (sym at)
-    (designed entries top layer data_type has s surveyed cells built counts
-    (counts_right entries layer data_type (index_of entries top) s surveyed cells built xs ys counts same order right))
+    → IsDesign entries top layer t cells counts
+design_told entries top layer t s cells xs steps ys counts has at surveyed same_steps made same order right =
+    let built = subst (λ zs. AreBuilt entries layer zs (length entries) cells) same_steps made in
+    subst (λ i. IsDesign entries top layer i cells counts) (sym at)
+    (designed entries top layer has s surveyed cells built counts
+    (counts_right entries layer (index_of entries top) s surveyed cells built xs ys counts same order right))
 
 -- ---- what is carried
 
@@ -288,15 +289,15 @@ walked P cells xs p i same is h =
     (subst (λ q. P (map (carry_copy q) (copies (hierarchy cells) 256 i))) is
     (subst (λ zs. P (map (carry_copy p) (copies (hierarchy zs) 256 i))) same h))
 
-module _ (entries : List Entry) (top : List ℕ) (layer data_type : ℕ) (cs : List Copy) (same : cs ≡ copies_of entries top layer data_type) where
-  pub all_inside : (rects : List Rect) → IsDrawn cs [] rects → AllStayInRange (copies_of entries top layer data_type)
+module _ (entries : List Entry) (top : List ℕ) (layer : Layer) (cs : List Copy) (same : cs ≡ copies_of entries top layer) where
+  pub all_inside : (rects : List Rect) → IsDrawn cs [] rects → AllStayInRange (copies_of entries top layer)
   all_inside rects h = subst AllStayInRange same h.inside
 
-  pub all_drawn : (rects : List Rect) → IsDrawn cs [] rects → (x y : ℤ) → covered rects x y ≡ drawn (copies_of entries top layer data_type) x y
+  pub all_drawn : (rects : List Rect) → IsDrawn cs [] rects → (x y : ℤ) → covered rects x y ≡ drawn (copies_of entries top layer) x y
   all_drawn rects h x y = h.added x y ∙ ap (λ ds. drawn ds x y) same
 
-  pub range_refused : IsCountable entries top layer data_type → (e : FlattenError) → ((e ≡ Memory) ⊎ ((e ≡ OutOfRange) × (AllStayInRange cs → ⊥)))
-      → IsRefused entries top layer data_type e
-  range_refused countable e (inl m) = subst (λ x. IsRefused entries top layer data_type x) (sym m) tt
-  range_refused countable e (inr (is, leaves)) = subst (λ x. IsRefused entries top layer data_type x) (sym is)
+  pub range_refused : IsCountable entries top layer → (e : FlattenError) → ((e ≡ Memory) ⊎ ((e ≡ OutOfRange) × (AllStayInRange cs → ⊥)))
+      → IsRefused entries top layer e
+  range_refused countable e (inl m) = subst (λ x. IsRefused entries top layer x) (sym m) tt
+  range_refused countable e (inr (is, leaves)) = subst (λ x. IsRefused entries top layer x) (sym is)
       (countable, (λ stay. leaves (subst AllStayInRange (sym same) stay)))

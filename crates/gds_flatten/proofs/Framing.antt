@@ -1,6 +1,7 @@
 -- What is known of the cells, their extents and the index of the top.
 use Rattle.std.proofs.Common.{◌≡◌, ◌⊎◌, inl, inr, ℕ, ℤ, ◌<◌, ◌≤◌, arith, Bool, true, false, ◌&&◌, ◌||◌, List, [], length, refl, sym, ap, subst, ◌∙◌}
 use Rattle.std.specs.Prelude.{Option}
+use Rattle.fill_base.specs.declared.layer.Layer.{Layer}
 use Rattle.gds_shape.specs.declared.bounds.Bounds.{Bounds}
 use Rattle.gds_cells.specs.Designs.{Entry, index_of, graph_of, AllFine}
 use Rattle.gds_cells.specs.declared.cell.Cell.{Cell}
@@ -23,35 +24,35 @@ use Rattle.gds_cells.specs.declared.error.FlattenError.TheVariants.{Memory, NoTo
 use Rattle.gds_flatten.proofs.Agreeing.{agree, tied, shallow, top_held, top_tight}
 use Rattle.gds_flatten.proofs.Flattened.{sound, long}
 
-pub record IsFramed (entries : List Entry) (top : List ℕ) (layer data_type t : ℕ) (cells : List Cell) (extents : List (Option Bounds)) : Type 0 where
+pub record IsFramed (entries : List Entry) (top : List ℕ) (layer : Layer) (t : ℕ) (cells : List Cell) (extents : List (Option Bounds)) : Type 0 where
   pub sound : IsSound entries top
-  pub fine : AllFine entries (index_of entries top) layer data_type
+  pub fine : AllFine entries (index_of entries top) layer
   pub held : AreHeld cells extents 256 t
   pub tight : IsTight (copies (hierarchy cells) 256 t) (extent_at extents t)
-  pub same : copies (hierarchy cells) 256 t ≡ copies_of entries top layer data_type
+  pub same : copies (hierarchy cells) 256 t ≡ copies_of entries top layer
 
-pub framed_told : (entries : List Entry) (top : List ℕ) (layer data_type t : ℕ) (s : State) (cells xs : List Cell) (steps ys : List ℕ) (extents : List (Option Bounds))
+pub framed_told : (entries : List Entry) (top : List ℕ) (layer : Layer) (t : ℕ) (s : State) (cells xs : List Cell) (steps ys : List ℕ) (extents : List (Option Bounds))
     → HasTop entries top → t ≡ index_of entries top → IsSurveyed (graph_of entries) (index_of entries top) s
-    → steps ≡ s.steps → AreBuilt entries layer data_type steps (length entries) cells → xs ≡ cells → ys ≡ s.order
+    → steps ≡ s.steps → AreBuilt entries layer steps (length entries) cells → xs ≡ cells → ys ≡ s.order
     → ((g : Graph) → IsOrdered g ys → ((q : ℕ) → q < length ys → IsTied g xs (item ys q))
     → (q : ℕ) → q < length ys → IsExtentOf g xs (item ys q) (extent_at extents (item ys q)))
-    → IsFramed entries top layer data_type t cells extents
-framed_told entries top layer data_type t s cells xs steps ys extents has at surveyed same_steps made same order right =
-    subst (λ i. IsFramed entries top layer data_type i cells extents) (sym at) (record {
-      sound = sound entries top layer data_type has s surveyed;
+    → IsFramed entries top layer t cells extents
+framed_told entries top layer t s cells xs steps ys extents has at surveyed same_steps made same order right =
+    subst (λ i. IsFramed entries top layer i cells extents) (sym at) (record {
+      sound = sound entries top layer has s surveyed;
       fine = fine;
-      held = top_held entries layer data_type (index_of entries top) s surveyed cells built extents extents_right (index_of entries top) (0, refl);
-      tight = top_tight entries layer data_type (index_of entries top) s surveyed cells built extents extents_right (index_of entries top) (0, refl);
-      same = agree entries layer data_type (index_of entries top) s surveyed cells built 256 (index_of entries top) (0, refl);
+      held = top_held entries layer (index_of entries top) s surveyed cells built extents extents_right (index_of entries top) (0, refl);
+      tight = top_tight entries layer (index_of entries top) s surveyed cells built extents extents_right (index_of entries top) (0, refl);
+      same = agree entries layer (index_of entries top) s surveyed cells built 256 (index_of entries top) (0, refl);
     })
   where
-    built : AreBuilt entries layer data_type s.steps (length entries) cells
-    built = subst (λ zs. AreBuilt entries layer data_type zs (length entries) cells) same_steps made
+    built : AreBuilt entries layer s.steps (length entries) cells
+    built = subst (λ zs. AreBuilt entries layer zs (length entries) cells) same_steps made
 
-    fine : AllFine entries (index_of entries top) layer data_type
+    fine : AllFine entries (index_of entries top) layer
     fine c reached =
         let (q, within, is) = surveyed.all c reached in
-        let small : c < length entries = subst (λ n. c < n) (long entries top layer data_type) (subst (λ x. x < length (graph_of entries)) is (surveyed.within q within)) in
+        let small : c < length entries = subst (λ n. c < n) (long entries top layer) (subst (λ x. x < length (graph_of entries)) is (surveyed.within q within)) in
         (built.built c small (surveyed.found c reached)).fine
 
     extents_right : (q : ℕ) → q < length s.order → IsExtentOf (graph_of entries) cells (item s.order q) (extent_at extents (item s.order q))
@@ -60,51 +61,51 @@ framed_told entries top layer data_type t s cells xs steps ys extents has at sur
         → (q : ℕ) → q < length zs → IsExtentOf g cells (item zs q) (extent_at extents (item zs q))) order
         (subst (λ zs. (g : Graph) → IsOrdered g ys → ((q : ℕ) → q < length ys → IsTied g zs (item ys q))
         → (q : ℕ) → q < length ys → IsExtentOf g zs (item ys q) (extent_at extents (item ys q))) same right)
-        (graph_of entries) surveyed.ordered (tied entries layer data_type (index_of entries top) s surveyed cells built)
+        (graph_of entries) surveyed.ordered (tied entries layer (index_of entries top) s surveyed cells built)
 
 -- chains are too short for an extent that is too far
-pub far_told : (entries : List Entry) (top : List ℕ) (layer data_type : ℕ) (s : State) (cells xs : List Cell) (steps ys : List ℕ) (e : FlattenError)
+pub far_told : (entries : List Entry) (top : List ℕ) (layer : Layer) (s : State) (cells xs : List Cell) (steps ys : List ℕ) (e : FlattenError)
     → HasTop entries top → IsSurveyed (graph_of entries) (index_of entries top) s
-    → steps ≡ s.steps → AreBuilt entries layer data_type steps (length entries) cells → xs ≡ cells → ys ≡ s.order
+    → steps ≡ s.steps → AreBuilt entries layer steps (length entries) cells → xs ≡ cells → ys ≡ s.order
     → (e ≡ Memory) ⊎ ((g : Graph) → IsOrdered g ys → ((q : ℕ) → q < length ys → IsTied g xs (item ys q)) → ((q : ℕ) → q < length ys → IsDeep g 256 (item ys q) → ⊥) → ⊥)
-    → (frame : Rect) → IsRefusedOn entries top layer data_type frame e
-far_told entries top layer data_type s cells xs steps ys e has surveyed same_steps made same order (inl m) frame = subst (IsRefusedOn entries top layer data_type frame) (sym m) tt
-far_told entries top layer data_type s cells xs steps ys e has surveyed same_steps made same order (inr never) frame =
+    → (frame : Rect) → IsRefusedOn entries top layer frame e
+far_told entries top layer s cells xs steps ys e has surveyed same_steps made same order (inl m) frame = subst (IsRefusedOn entries top layer frame) (sym m) tt
+far_told entries top layer s cells xs steps ys e has surveyed same_steps made same order (inr never) frame =
     absurd (subst (λ zs. ((g : Graph) → IsOrdered g zs → ((q : ℕ) → q < length zs → IsTied g cells (item zs q)) → ((q : ℕ) → q < length zs → IsDeep g 256 (item zs q) → ⊥) → ⊥)) order
     (subst (λ zs. ((g : Graph) → IsOrdered g ys → ((q : ℕ) → q < length ys → IsTied g zs (item ys q)) → ((q : ℕ) → q < length ys → IsDeep g 256 (item ys q) → ⊥) → ⊥)) same never)
-    (graph_of entries) surveyed.ordered (tied entries layer data_type (index_of entries top) s surveyed cells built)
-    (λ q within. shallow entries layer data_type (index_of entries top) s surveyed cells built (item s.order q) (surveyed.order q within)))
+    (graph_of entries) surveyed.ordered (tied entries layer (index_of entries top) s surveyed cells built)
+    (λ q within. shallow entries layer (index_of entries top) s surveyed cells built (item s.order q) (surveyed.order q within)))
   where
-    built : AreBuilt entries layer data_type s.steps (length entries) cells
-    built = subst (λ zs. AreBuilt entries layer data_type zs (length entries) cells) same_steps made
+    built : AreBuilt entries layer s.steps (length entries) cells
+    built = subst (λ zs. AreBuilt entries layer zs (length entries) cells) same_steps made
 
 -- what refuses a design before a copy is looked at, refuses a part of it
-pub told_on : (entries : List Entry) (top : List ℕ) (layer data_type : ℕ) (e : FlattenError) (frame : Rect) → (e ≡ TooManyShapes → ⊥) → (e ≡ OutOfRange → ⊥)
-    → IsRefused entries top layer data_type e → IsRefusedOn entries top layer data_type frame e
-told_on entries top layer data_type TooManyShapes frame many far h = absurd (many refl)
-told_on entries top layer data_type OutOfRange frame many far h = absurd (far refl)
-told_on entries top layer data_type Memory frame many far h = h
-told_on entries top layer data_type NoTop frame many far h = h
-told_on entries top layer data_type MissingCell frame many far h = h
-told_on entries top layer data_type Cycle frame many far h = h
-told_on entries top layer data_type TooDeep frame many far h = h
-told_on entries top layer data_type BadTransform frame many far h = h
-told_on entries top layer data_type BadArray frame many far h = h
-told_on entries top layer data_type NotManhattan frame many far h = h
-told_on entries top layer data_type RoundEnd frame many far h = h
-told_on entries top layer data_type OddWidth frame many far h = h
-told_on entries top layer data_type DoublesBack frame many far h = h
-told_on entries top layer data_type BadExtension frame many far h = h
+pub told_on : (entries : List Entry) (top : List ℕ) (layer : Layer) (e : FlattenError) (frame : Rect) → (e ≡ TooManyShapes → ⊥) → (e ≡ OutOfRange → ⊥)
+    → IsRefused entries top layer e → IsRefusedOn entries top layer frame e
+told_on entries top layer TooManyShapes frame many far h = absurd (many refl)
+told_on entries top layer OutOfRange frame many far h = absurd (far refl)
+told_on entries top layer Memory frame many far h = h
+told_on entries top layer NoTop frame many far h = h
+told_on entries top layer MissingCell frame many far h = h
+told_on entries top layer Cycle frame many far h = h
+told_on entries top layer TooDeep frame many far h = h
+told_on entries top layer BadTransform frame many far h = h
+told_on entries top layer BadArray frame many far h = h
+told_on entries top layer NotManhattan frame many far h = h
+told_on entries top layer RoundEnd frame many far h = h
+told_on entries top layer OddWidth frame many far h = h
+told_on entries top layer DoublesBack frame many far h = h
+told_on entries top layer BadExtension frame many far h = h
 
-module _ (entries : List Entry) (top : List ℕ) (layer data_type : ℕ) (cs : List Copy) (frame : Rect) (whole : IsSound entries top) (good : AllFine entries (index_of entries top) layer data_type)
-    (same : cs ≡ copies_of entries top layer data_type) where
-  pub walk_told : (e : FlattenError) (old : Found) → old.copies ≡ 0 → IsRefusalOn frame cs old e → IsRefusedOn entries top layer data_type frame e
-  walk_told e old none (inl m) = subst (IsRefusedOn entries top layer data_type frame) (sym m) tt
+module _ (entries : List Entry) (top : List ℕ) (layer : Layer) (cs : List Copy) (frame : Rect) (whole : IsSound entries top) (good : AllFine entries (index_of entries top) layer)
+    (same : cs ≡ copies_of entries top layer) where
+  pub walk_told : (e : FlattenError) (old : Found) → old.copies ≡ 0 → IsRefusalOn frame cs old e → IsRefusedOn entries top layer frame e
+  walk_told e old none (inl m) = subst (IsRefusedOn entries top layer frame) (sym m) tt
   walk_told e old none (inr (is, many)) =
       let here : 4000000 < met frame cs = omega (arith, none, many) in
-      subst (IsRefusedOn entries top layer data_type frame) (sym is) (whole, good, subst (λ ds. 4000000 < met frame ds) same here)
+      subst (IsRefusedOn entries top layer frame) (sym is) (whole, good, subst (λ ds. 4000000 < met frame ds) same here)
 
-  pub few_told : (old new : Found) → old.copies ≡ 0 → new.copies ≤ 4000000 → IsFound frame cs old new → IsCountableOn entries top layer data_type frame
+  pub few_told : (old new : Found) → old.copies ≡ 0 → new.copies ≤ 4000000 → IsFound frame cs old new → IsCountableOn entries top layer frame
   few_told old new none few found = record {
     sound = whole;
     fine = good;

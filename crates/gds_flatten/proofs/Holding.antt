@@ -39,13 +39,13 @@ pub clip_next : (f : Rect) (rects : List Rect) (k : ℕ) (d : Rect) (new old : B
     → new ≡ (old || (squares d x y && squares f x y)) → old ≡ (covered (take k rects) x y && squares f x y)
     → new ≡ (covered (take (k + 1) rects) x y && squares f x y)
 clip_next f rects k d new old x y lt is e so_far =
-    e ∙ rw (so_far, list_any_more (λ r. squares r x y) rects k d lt, sym is) (share (covered (take k rects) x y) (squares d x y) (squares f x y))
+    e ∙ rw (so_far, list_any_more (λ r. squares r x y) rects k d lt, sym is) (stretch (covered (take k rects) x y) (squares d x y) (squares f x y))
   where
-    share : (a b c : Bool) → ((a && c) || (b && c)) ≡ ((a || b) && c)
-    share true b true = refl
-    share true true false = refl
-    share true false false = refl
-    share false b c = refl
+    stretch : (a b c : Bool) → ((a && c) || (b && c)) ≡ ((a || b) && c)
+    stretch true b true = refl
+    stretch true true false = refl
+    stretch true false false = refl
+    stretch false b c = refl
 
 -- ---- the extent around both
 
@@ -124,13 +124,13 @@ shapes_more shapes k d lt is =
     ∙ ap (map own_copy) (map-append (λ (s : Shape). shape_of s.element.now) (take k shapes) (d ∷ []))
     ∙ map-append own_copy (own_of (take k shapes)) (shape_of d.element.now ∷ [])
 
-pub runs_more : (runs : List (Vec Shape)) (k : ℕ) (d : Vec Shape) → k < length runs → d ≡ get_or runs k d
-    → map own_copy (own_of (flat_map vec_items (take (k + 1) runs))) ≡ map own_copy (own_of (flat_map vec_items (take k runs))) ++ map own_copy (own_of d.items)
-runs_more runs k d lt is =
-    ap (λ rs. drawn_of (flat_map vec_items rs)) (take_more runs k d lt ∙ ap (λ s. take k runs ++ s ∷ []) (sym is))
-    ∙ ap drawn_of (flat_map-append vec_items (take k runs) (d ∷ []) ∙ ap (λ xs. flat_map vec_items (take k runs) ++ xs) (append_none d.items))
-    ∙ ap (map own_copy) (map-append (λ (s : Shape). shape_of s.element.now) (flat_map vec_items (take k runs)) d.items)
-    ∙ map-append own_copy (own_of (flat_map vec_items (take k runs))) (own_of d.items)
+pub chunks_more : (chunks : List (Vec Shape)) (k : ℕ) (d : Vec Shape) → k < length chunks → d ≡ get_or chunks k d
+    → map own_copy (own_of (flat_map vec_items (take (k + 1) chunks))) ≡ map own_copy (own_of (flat_map vec_items (take k chunks))) ++ map own_copy (own_of d.items)
+chunks_more chunks k d lt is =
+    ap (λ rs. drawn_of (flat_map vec_items rs)) (take_more chunks k d lt ∙ ap (λ s. take k chunks ++ s ∷ []) (sym is))
+    ∙ ap drawn_of (flat_map-append vec_items (take k chunks) (d ∷ []) ∙ ap (λ xs. flat_map vec_items (take k chunks) ++ xs) (append_none d.items))
+    ∙ ap (map own_copy) (map-append (λ (s : Shape). shape_of s.element.now) (flat_map vec_items (take k chunks)) d.items)
+    ∙ map-append own_copy (own_of (flat_map vec_items (take k chunks))) (own_of d.items)
   where
     append_none : {X : Type 0} (xs : List X) → xs ++ [] ≡ xs
     append_none [] = refl

@@ -4,9 +4,10 @@ use Rattle.std.specs.Prelude.{slice_get, filter, not, ◌&&◌, ◌==◌, Some, 
 use Rattle.std.specs.Str.{bytes_eq}
 use Rattle.std.proofs.lemmas.Bool.{and_parts, eqb-true}
 use Rattle.std.proofs.lemmas.List.{length-map}
+use Rattle.fill_base.specs.declared.layer.Layer.{Layer}
 use Rattle.fill_base.specs.declared.rect.Rect.{Rect}
 use Rattle.gds_grammar.specs.Values.{boundary, path, reference, array, Shape as Element}
-use Rattle.gds_grammar.specs.Layers.{is_kept, kept_shapes, kept_cell}
+use Rattle.gds_grammar.specs.Layers.{is_kept, kept_shapes, kept_cell, same_layer}
 use Rattle.gds_cells.specs.declared.error.FlattenError.{FlattenError}
 use Rattle.gds_cells.specs.declared.error.FlattenError.TheVariants as errors
 use Rattle.gds_cells.specs.Graphs.{Graph, IsReached, IsCyclic, IsTooDeep}
@@ -18,14 +19,14 @@ use Rattle.gds_flatten.specs.Frames.{met}
 use Rattle.gds_flatten.specs.Layers.{TellsOf, TellsOfWithin, LayersSuffice, LayersSufficeWithin}
 
 -- the first fault of a cell, by its place
-pub record IsAtIn (layer data_type : ℕ) (es : List Element) (e : FlattenError) : Type 0 where
+pub record IsAtIn (layer : Layer) (es : List Element) (e : FlattenError) : Type 0 where
   pub index : ℕ
   pub element : Element
   pub stands : slice_get es index ≡ Some element
-  pub faulty : element_fault layer data_type element ≡ Some e
-  pub before : AreFine layer data_type (take index es)
+  pub faulty : element_fault layer element ≡ Some e
+  pub before : AreFine layer (take index es)
 
-module _ (keep : ℕ → ℕ → Bool) where
+module _ (keep : Layer → Bool) where
   abbrev left : List Entry → List Entry
   left cells = map (kept_cell keep) cells
 
@@ -48,12 +49,12 @@ module _ (keep : ℕ → ℕ → Bool) where
   module _ (cells : List Entry) where
     targets_left : (es : List Element) → targets (left cells) (kept_shapes keep es) ≡ targets cells es
     targets_left [] = refl
-    targets_left (boundary l d points ∷ es) = cases (keep l d) (targets_left es) where
-      cases : (b : Bool) → targets (left cells) (kept_shapes keep es) ≡ targets cells es → targets (left cells) (cond b (boundary l d points ∷ kept_shapes keep es) (kept_shapes keep es)) ≡ targets cells es
+    targets_left (boundary l points ∷ es) = cases (keep l) (targets_left es) where
+      cases : (b : Bool) → targets (left cells) (kept_shapes keep es) ≡ targets cells es → targets (left cells) (cond b (boundary l points ∷ kept_shapes keep es) (kept_shapes keep es)) ≡ targets cells es
       cases true rest = rest
       cases false rest = rest
-    targets_left (path l d wire ∷ es) = cases (keep l d) (targets_left es) where
-      cases : (b : Bool) → targets (left cells) (kept_shapes keep es) ≡ targets cells es → targets (left cells) (cond b (path l d wire ∷ kept_shapes keep es) (kept_shapes keep es)) ≡ targets cells es
+    targets_left (path l wire ∷ es) = cases (keep l) (targets_left es) where
+      cases : (b : Bool) → targets (left cells) (kept_shapes keep es) ≡ targets cells es → targets (left cells) (cond b (path l wire ∷ kept_shapes keep es) (kept_shapes keep es)) ≡ targets cells es
       cases true rest = rest
       cases false rest = rest
     targets_left (reference name transform origin ∷ es) = rw (index_left cells name, targets_left es) refl
@@ -61,12 +62,12 @@ module _ (keep : ℕ → ℕ → Bool) where
 
     singles_left : (es : List Element) → singles_among (left cells) (kept_shapes keep es) ≡ singles_among cells es
     singles_left [] = refl
-    singles_left (boundary l d points ∷ es) = cases (keep l d) (singles_left es) where
-      cases : (b : Bool) → singles_among (left cells) (kept_shapes keep es) ≡ singles_among cells es → singles_among (left cells) (cond b (boundary l d points ∷ kept_shapes keep es) (kept_shapes keep es)) ≡ singles_among cells es
+    singles_left (boundary l points ∷ es) = cases (keep l) (singles_left es) where
+      cases : (b : Bool) → singles_among (left cells) (kept_shapes keep es) ≡ singles_among cells es → singles_among (left cells) (cond b (boundary l points ∷ kept_shapes keep es) (kept_shapes keep es)) ≡ singles_among cells es
       cases true rest = rest
       cases false rest = rest
-    singles_left (path l d wire ∷ es) = cases (keep l d) (singles_left es) where
-      cases : (b : Bool) → singles_among (left cells) (kept_shapes keep es) ≡ singles_among cells es → singles_among (left cells) (cond b (path l d wire ∷ kept_shapes keep es) (kept_shapes keep es)) ≡ singles_among cells es
+    singles_left (path l wire ∷ es) = cases (keep l) (singles_left es) where
+      cases : (b : Bool) → singles_among (left cells) (kept_shapes keep es) ≡ singles_among cells es → singles_among (left cells) (cond b (path l wire ∷ kept_shapes keep es) (kept_shapes keep es)) ≡ singles_among cells es
       cases true rest = rest
       cases false rest = rest
     singles_left (reference name transform origin ∷ es) = rw (index_left cells name, singles_left es) refl
@@ -81,87 +82,90 @@ module _ (keep : ℕ → ℕ → Bool) where
 
   -- ---- shapes of the layer stay
 
-  module _ (layer data_type : ℕ) (wanted : keep layer data_type ≡ true) where
-    on_layer : (l d : ℕ) → ((l == layer) && (d == data_type)) ≡ true → keep l d ≡ true
-    on_layer l d h =
-        let p = and_parts (l == layer) (d == data_type) h in
-        subst (λ a. keep a d ≡ true) (sym (eqb-true l layer p.0)) (subst (λ b. keep layer b ≡ true) (sym (eqb-true d data_type p.1)) wanted)
+  module _ (layer : Layer) (wanted : keep layer ≡ true) where
+    on_layer : (l : Layer) → same_layer l layer ≡ true → keep l ≡ true
+    on_layer l h =
+        let p = and_parts (l.layer == layer.layer) (l.data_type == layer.data_type) h in
+        let first = eqb-true l.layer layer.layer p.0 in
+        let second = eqb-true l.data_type layer.data_type p.1 in
+        let same : l ≡ layer = λ i. record { layer = first i; data_type = second i } in
+        subst (λ k. keep k ≡ true) (sym same) wanted
 
-    own_left : (es : List Element) → filter (is_shape layer data_type) (kept_shapes keep es) ≡ filter (is_shape layer data_type) es
+    own_left : (es : List Element) → filter (is_shape layer) (kept_shapes keep es) ≡ filter (is_shape layer) es
     own_left [] = refl
-    own_left (boundary l d points ∷ es) = cases (own_left es) (keep l d) refl ((l == layer) && (d == data_type)) refl where
-      cases : filter (is_shape layer data_type) (kept_shapes keep es) ≡ filter (is_shape layer data_type) es → (b : Bool) → keep l d ≡ b → (s : Bool) → ((l == layer) && (d == data_type)) ≡ s
-          → filter (is_shape layer data_type) (cond b (boundary l d points ∷ kept_shapes keep es) (kept_shapes keep es)) ≡ cond s (boundary l d points ∷ filter (is_shape layer data_type) es) (filter (is_shape layer data_type) es)
+    own_left (boundary l points ∷ es) = cases (own_left es) (keep l) refl (same_layer l layer) refl where
+      cases : filter (is_shape layer) (kept_shapes keep es) ≡ filter (is_shape layer) es → (b : Bool) → keep l ≡ b → (s : Bool) → same_layer l layer ≡ s
+          → filter (is_shape layer) (cond b (boundary l points ∷ kept_shapes keep es) (kept_shapes keep es)) ≡ cond s (boundary l points ∷ filter (is_shape layer) es) (filter (is_shape layer) es)
       cases rest true is s same = rw (same, rest) refl
       cases rest false is false same = rest
-      cases rest false is true same = let h = sym is ∙ on_layer l d same in absurd cc
-    own_left (path l d wire ∷ es) = cases (own_left es) (keep l d) refl ((l == layer) && (d == data_type)) refl where
-      cases : filter (is_shape layer data_type) (kept_shapes keep es) ≡ filter (is_shape layer data_type) es → (b : Bool) → keep l d ≡ b → (s : Bool) → ((l == layer) && (d == data_type)) ≡ s
-          → filter (is_shape layer data_type) (cond b (path l d wire ∷ kept_shapes keep es) (kept_shapes keep es)) ≡ cond s (path l d wire ∷ filter (is_shape layer data_type) es) (filter (is_shape layer data_type) es)
+      cases rest false is true same = let h = sym is ∙ on_layer l same in absurd cc
+    own_left (path l wire ∷ es) = cases (own_left es) (keep l) refl (same_layer l layer) refl where
+      cases : filter (is_shape layer) (kept_shapes keep es) ≡ filter (is_shape layer) es → (b : Bool) → keep l ≡ b → (s : Bool) → same_layer l layer ≡ s
+          → filter (is_shape layer) (cond b (path l wire ∷ kept_shapes keep es) (kept_shapes keep es)) ≡ cond s (path l wire ∷ filter (is_shape layer) es) (filter (is_shape layer) es)
       cases rest true is s same = rw (same, rest) refl
       cases rest false is false same = rest
-      cases rest false is true same = let h = sym is ∙ on_layer l d same in absurd cc
+      cases rest false is true same = let h = sym is ∙ on_layer l same in absurd cc
     own_left (reference name transform origin ∷ es) = own_left es
     own_left (array name transform columns rows points ∷ es) = own_left es
 
-    hierarchy_left : (cells : List Entry) → hierarchy_of (left cells) layer data_type ≡ hierarchy_of cells layer data_type
+    hierarchy_left : (cells : List Entry) → hierarchy_of (left cells) layer ≡ hierarchy_of cells layer
     hierarchy_left cells =
-        let own : (c : ℕ) → filter (is_shape layer data_type) (elements_at (left cells) c) ≡ filter (is_shape layer data_type) (elements_at cells c) =
-        λ c. ap (filter (is_shape layer data_type)) (elements_left cells c) ∙ own_left (elements_at cells c) in
+        let own : (c : ℕ) → filter (is_shape layer) (elements_at (left cells) c) ≡ filter (is_shape layer) (elements_at cells c) =
+        λ c. ap (filter (is_shape layer)) (elements_left cells c) ∙ own_left (elements_at cells c) in
         let singles : (c : ℕ) → singles_among (left cells) (elements_at (left cells) c) ≡ singles_among cells (elements_at cells c) =
         λ c. ap (singles_among (left cells)) (elements_left cells c) ∙ singles_left cells (elements_at cells c) in
         λ k. record { own = λ c. own c k; singles = λ c. singles c k }
 
-    copies_left : (cells : List Entry) (top : List ℕ) → copies_of (left cells) top layer data_type ≡ copies_of cells top layer data_type
+    copies_left : (cells : List Entry) (top : List ℕ) → copies_of (left cells) top layer ≡ copies_of cells top layer
     copies_left cells top =
         ap (λ (h : Hierarchy). copies h 256 (index_of (left cells) top)) (hierarchy_left cells)
-        ∙ ap (copies (hierarchy_of cells layer data_type) 256) (index_left cells top)
+        ∙ ap (copies (hierarchy_of cells layer) 256) (index_left cells top)
 
     -- ---- faults stay: what is left out has none
 
     abbrev fine : Element → Type 0
-    fine e = element_fault layer data_type e ≡ None
+    fine e = element_fault layer e ≡ None
 
     out_is_fine : (e : Element) → is_kept keep e ≡ false → fine e
-    out_is_fine (boundary l d points) out = cases ((l == layer) && (d == data_type)) refl where
-      cases : (s : Bool) → ((l == layer) && (d == data_type)) ≡ s → fine (boundary l d points)
+    out_is_fine (boundary l points) out = cases (same_layer l layer) refl where
+      cases : (s : Bool) → same_layer l layer ≡ s → fine (boundary l points)
       cases false same = rw same refl
-      cases true same = let h = sym out ∙ on_layer l d same in absurd cc
-    out_is_fine (path l d wire) out = cases ((l == layer) && (d == data_type)) refl where
-      cases : (s : Bool) → ((l == layer) && (d == data_type)) ≡ s → fine (path l d wire)
+      cases true same = let h = sym out ∙ on_layer l same in absurd cc
+    out_is_fine (path l wire) out = cases (same_layer l layer) refl where
+      cases : (s : Bool) → same_layer l layer ≡ s → fine (path l wire)
       cases false same = rw same refl
-      cases true same = let h = sym out ∙ on_layer l d same in absurd cc
+      cases true same = let h = sym out ∙ on_layer l same in absurd cc
     out_is_fine (reference name transform origin) out = absurd cc
     out_is_fine (array name transform columns rows points) out = absurd cc
 
-    none_fine : AreFine layer data_type []
+    none_fine : AreFine layer []
     none_fine k d lt = absurd (omega (arith, lt))
 
-    more_fine : (e : Element) (es : List Element) → fine e → AreFine layer data_type es → AreFine layer data_type (e ∷ es)
+    more_fine : (e : Element) (es : List Element) → fine e → AreFine layer es → AreFine layer (e ∷ es)
     more_fine e es h rest zero d lt = h
     more_fine e es h rest (suc k) d lt = rest k d (omega (arith, lt))
 
-    first_fine : (e : Element) (es : List Element) → AreFine layer data_type (e ∷ es) → fine e
+    first_fine : (e : Element) (es : List Element) → AreFine layer (e ∷ es) → fine e
     first_fine e es h = h zero e (omega arith)
 
-    rest_fine : (e : Element) (es : List Element) → AreFine layer data_type (e ∷ es) → AreFine layer data_type es
+    rest_fine : (e : Element) (es : List Element) → AreFine layer (e ∷ es) → AreFine layer es
     rest_fine e es h k d lt = h (suc k) d (omega (arith, lt))
 
-    fine_left : (es : List Element) → AreFine layer data_type es → AreFine layer data_type (kept_shapes keep es)
+    fine_left : (es : List Element) → AreFine layer es → AreFine layer (kept_shapes keep es)
     fine_left [] h = h
     fine_left (e ∷ es) h = cases (is_kept keep e) (fine_left es (rest_fine e es h)) where
-      cases : (b : Bool) → AreFine layer data_type (kept_shapes keep es) → AreFine layer data_type (cond b (e ∷ kept_shapes keep es) (kept_shapes keep es))
+      cases : (b : Bool) → AreFine layer (kept_shapes keep es) → AreFine layer (cond b (e ∷ kept_shapes keep es) (kept_shapes keep es))
       cases true rest = more_fine e (kept_shapes keep es) (first_fine e es h) rest
       cases false rest = rest
 
-    left_fine : (es : List Element) → AreFine layer data_type (kept_shapes keep es) → AreFine layer data_type es
+    left_fine : (es : List Element) → AreFine layer (kept_shapes keep es) → AreFine layer es
     left_fine [] h = h
     left_fine (e ∷ es) h = cases (left_fine es) (is_kept keep e) refl h where
-      cases : (AreFine layer data_type (kept_shapes keep es) → AreFine layer data_type es) → (b : Bool) → is_kept keep e ≡ b → AreFine layer data_type (cond b (e ∷ kept_shapes keep es) (kept_shapes keep es)) → AreFine layer data_type (e ∷ es)
+      cases : (AreFine layer (kept_shapes keep es) → AreFine layer es) → (b : Bool) → is_kept keep e ≡ b → AreFine layer (cond b (e ∷ kept_shapes keep es) (kept_shapes keep es)) → AreFine layer (e ∷ es)
       cases rest true is h = more_fine e es (first_fine e (kept_shapes keep es) h) (rest (rest_fine e (kept_shapes keep es) h))
       cases rest false is h = more_fine e es (out_is_fine e is) (rest h)
 
-    next_at : (x : Element) (es : List Element) (e : FlattenError) → fine x → IsAtIn layer data_type es e → IsAtIn layer data_type (x ∷ es) e
+    next_at : (x : Element) (es : List Element) (e : FlattenError) → fine x → IsAtIn layer es e → IsAtIn layer (x ∷ es) e
     next_at x es e h at = record {
       index = suc at.index;
       element = at.element;
@@ -170,27 +174,27 @@ module _ (keep : ℕ → ℕ → Bool) where
       before = more_fine x (take at.index es) h at.before;
     }
 
-    at_left : (es : List Element) (e : FlattenError) (k : ℕ) (y : Element) → slice_get es k ≡ Some y → element_fault layer data_type y ≡ Some e → AreFine layer data_type (take k es)
-        → IsAtIn layer data_type (kept_shapes keep es) e
+    at_left : (es : List Element) (e : FlattenError) (k : ℕ) (y : Element) → slice_get es k ≡ Some y → element_fault layer y ≡ Some e → AreFine layer (take k es)
+        → IsAtIn layer (kept_shapes keep es) e
     at_left [] e k y stands faulty before = absurd cc
     at_left (x ∷ es) e zero y stands faulty before = cases (is_kept keep x) refl where
       same : x ≡ y
       same = cc
 
-      cases : (b : Bool) → is_kept keep x ≡ b → IsAtIn layer data_type (cond b (x ∷ kept_shapes keep es) (kept_shapes keep es)) e
+      cases : (b : Bool) → is_kept keep x ≡ b → IsAtIn layer (cond b (x ∷ kept_shapes keep es) (kept_shapes keep es)) e
       cases true is = record { index = zero; element = y; stands = stands; faulty = faulty; before = none_fine }
-      cases false is = let h = sym (out_is_fine x is) ∙ ap (element_fault layer data_type) same ∙ faulty in absurd cc
+      cases false is = let h = sym (out_is_fine x is) ∙ ap (element_fault layer) same ∙ faulty in absurd cc
     at_left (x ∷ es) e (suc k) y stands faulty before = cases (is_kept keep x) (at_left es e k y stands faulty (rest_fine x (take k es) before)) where
-      cases : (b : Bool) → IsAtIn layer data_type (kept_shapes keep es) e → IsAtIn layer data_type (cond b (x ∷ kept_shapes keep es) (kept_shapes keep es)) e
+      cases : (b : Bool) → IsAtIn layer (kept_shapes keep es) e → IsAtIn layer (cond b (x ∷ kept_shapes keep es) (kept_shapes keep es)) e
       cases true later = next_at x (kept_shapes keep es) e (first_fine x (take k es) before) later
       cases false later = later
 
-    left_at : (es : List Element) (e : FlattenError) (k : ℕ) (y : Element) → slice_get (kept_shapes keep es) k ≡ Some y → element_fault layer data_type y ≡ Some e
-        → AreFine layer data_type (take k (kept_shapes keep es)) → IsAtIn layer data_type es e
+    left_at : (es : List Element) (e : FlattenError) (k : ℕ) (y : Element) → slice_get (kept_shapes keep es) k ≡ Some y → element_fault layer y ≡ Some e
+        → AreFine layer (take k (kept_shapes keep es)) → IsAtIn layer es e
     left_at [] e k y stands faulty before = absurd cc
     left_at (x ∷ es) e k y stands faulty before = cases (λ j at fine_before. left_at es e j y at faulty fine_before) (is_kept keep x) refl k stands before where
-      cases : ((j : ℕ) → slice_get (kept_shapes keep es) j ≡ Some y → AreFine layer data_type (take j (kept_shapes keep es)) → IsAtIn layer data_type es e) → (b : Bool) → is_kept keep x ≡ b → (k : ℕ) → slice_get (cond b (x ∷ kept_shapes keep es) (kept_shapes keep es)) k ≡ Some y
-          → AreFine layer data_type (take k (cond b (x ∷ kept_shapes keep es) (kept_shapes keep es))) → IsAtIn layer data_type (x ∷ es) e
+      cases : ((j : ℕ) → slice_get (kept_shapes keep es) j ≡ Some y → AreFine layer (take j (kept_shapes keep es)) → IsAtIn layer es e) → (b : Bool) → is_kept keep x ≡ b → (k : ℕ) → slice_get (cond b (x ∷ kept_shapes keep es) (kept_shapes keep es)) k ≡ Some y
+          → AreFine layer (take k (cond b (x ∷ kept_shapes keep es) (kept_shapes keep es))) → IsAtIn layer (x ∷ es) e
       cases rest true is zero stands before = record { index = zero; element = y; stands = stands; faulty = faulty; before = none_fine }
       cases rest true is (suc k) stands before =
           next_at x es e (first_fine x (take k (kept_shapes keep es)) before) (rest k stands (rest_fine x (take k (kept_shapes keep es)) before))
@@ -198,15 +202,15 @@ module _ (keep : ℕ → ℕ → Bool) where
 
 -- ---- what is told of one library is told of another that has the same references, copies and faults
 
-module _ (layer data_type : ℕ) (cells others : List Entry) (top : List ℕ) where
+module _ (layer : Layer) (cells others : List Entry) (top : List ℕ) where
   pub record IsSame : Type 0 where
     pub index : index_of others top ≡ index_of cells top
     pub many : length others ≡ length cells
     pub graph : graph_of others ≡ graph_of cells
-    pub copies : copies_of others top layer data_type ≡ copies_of cells top layer data_type
-    pub fine : (c : ℕ) → AreFine layer data_type (elements_at others c) → AreFine layer data_type (elements_at cells c)
-    pub fault : (c k : ℕ) (y : Element) (e : FlattenError) → slice_get (elements_at others c) k ≡ Some y → element_fault layer data_type y ≡ Some e
-        → AreFine layer data_type (take k (elements_at others c)) → IsAtIn layer data_type (elements_at cells c) e
+    pub copies : copies_of others top layer ≡ copies_of cells top layer
+    pub fine : (c : ℕ) → AreFine layer (elements_at others c) → AreFine layer (elements_at cells c)
+    pub fault : (c k : ℕ) (y : Element) (e : FlattenError) → slice_get (elements_at others c) k ≡ Some y → element_fault layer y ≡ Some e
+        → AreFine layer (take k (elements_at others c)) → IsAtIn layer (elements_at cells c) e
 
   module _ (same : IsSame) where
     told : (P : Graph → ℕ → ℕ → Type 0) → P (graph_of others) (index_of others top) (length others) → P (graph_of cells) (index_of cells top) (length cells)
@@ -223,10 +227,10 @@ module _ (layer data_type : ℕ) (cells others : List Entry) (top : List ℕ) wh
       shallow = told (λ g t n. IsTooDeep g t → ⊥) s.shallow;
     }
 
-    all_fine : AllFine others (index_of others top) layer data_type → AllFine cells (index_of cells top) layer data_type
-    all_fine h = told (λ g t n. (c : ℕ) → IsReached g t c → AreFine layer data_type (elements_at cells c)) (λ c reached. same.fine c (h c reached))
+    all_fine : AllFine others (index_of others top) layer → AllFine cells (index_of cells top) layer
+    all_fine h = told (λ g t n. (c : ℕ) → IsReached g t c → AreFine layer (elements_at cells c)) (λ c reached. same.fine c (h c reached))
 
-    first : (e : FlattenError) → IsFirstFault others (index_of others top) layer data_type e → IsFirstFault cells (index_of cells top) layer data_type e
+    first : (e : FlattenError) → IsFirstFault others (index_of others top) layer e → IsFirstFault cells (index_of cells top) layer e
     first e f =
         let at = same.fault f.cell f.index f.element e f.stands f.faulty f.before in
         record {
@@ -237,13 +241,13 @@ module _ (layer data_type : ℕ) (cells others : List Entry) (top : List ℕ) wh
           stands = at.stands;
           faulty = at.faulty;
           before = at.before;
-          earlier = told (λ g t n. (c : ℕ) → c < f.cell → IsReached g t c → AreFine layer data_type (elements_at cells c)) (λ c lt reached. same.fine c (f.earlier c lt reached));
+          earlier = told (λ g t n. (c : ℕ) → c < f.cell → IsReached g t c → AreFine layer (elements_at cells c)) (λ c lt reached. same.fine c (f.earlier c lt reached));
         }
 
-    countable : IsCountable others top layer data_type → IsCountable cells top layer data_type
+    countable : IsCountable others top layer → IsCountable cells top layer
     countable h = record { sound = sound h.sound; fine = all_fine h.fine; few = subst (λ cs. length cs ≤ 4000000) same.copies h.few }
 
-    refused : (e : FlattenError) → IsRefused others top layer data_type e → IsRefused cells top layer data_type e
+    refused : (e : FlattenError) → IsRefused others top layer e → IsRefused cells top layer e
     refused errors.Memory h = tt
     refused errors.NoTop h = told (λ g t n. t < n → ⊥) h
     refused errors.MissingCell h = (told (λ g t n. t < n) h.0, told (λ g t n. IsReached g t n) h.1)
@@ -259,14 +263,14 @@ module _ (layer data_type : ℕ) (cells others : List Entry) (top : List ℕ) wh
     refused errors.TooManyShapes h = (sound h.0, all_fine h.1, subst (λ cs. 4000000 < length cs) same.copies h.2)
     refused errors.OutOfRange h = (countable h.0, subst (λ cs. AllStayInRange cs → ⊥) same.copies h.1)
 
-    pub tells : TellsOf cells others top layer data_type
+    pub tells : TellsOf cells others top layer
     tells = record { copies = same.copies; countable = countable; refused = refused }
 
     module _ (frame : Rect) where
-      countable_on : IsCountableOn others top layer data_type frame → IsCountableOn cells top layer data_type frame
+      countable_on : IsCountableOn others top layer frame → IsCountableOn cells top layer frame
       countable_on h = record { sound = sound h.sound; fine = all_fine h.fine; few = subst (λ cs. met frame cs ≤ 4000000) same.copies h.few }
 
-      refused_on : (e : FlattenError) → IsRefusedOn others top layer data_type frame e → IsRefusedOn cells top layer data_type frame e
+      refused_on : (e : FlattenError) → IsRefusedOn others top layer frame e → IsRefusedOn cells top layer frame e
       refused_on errors.Memory h = refused errors.Memory h
       refused_on errors.NoTop h = refused errors.NoTop h
       refused_on errors.MissingCell h = refused errors.MissingCell h
@@ -282,40 +286,40 @@ module _ (layer data_type : ℕ) (cells others : List Entry) (top : List ℕ) wh
       refused_on errors.TooManyShapes h = (sound h.0, all_fine h.1, subst (λ cs. 4000000 < met frame cs) same.copies h.2)
       refused_on errors.OutOfRange h = (countable_on h.0, subst (λ cs. AllStayInRange cs → ⊥) same.copies h.1)
 
-      pub tells_within : TellsOfWithin cells others top layer data_type frame
+      pub tells_within : TellsOfWithin cells others top layer frame
       tells_within = record { copies = same.copies; countable = countable_on; refused = refused_on }
 
 -- ---- so do the library and what is left of it
 
-module _ (keep : ℕ → ℕ → Bool) (cells : List Entry) (top : List ℕ) (layer data_type : ℕ) (wanted : keep layer data_type ≡ true) where
-  left_is_same : IsSame layer data_type cells (left keep cells) top
+module _ (keep : Layer → Bool) (cells : List Entry) (top : List ℕ) (layer : Layer) (wanted : keep layer ≡ true) where
+  left_is_same : IsSame layer cells (left keep cells) top
   left_is_same = record {
     index = index_left keep cells top;
     many = many_left keep cells;
     graph = graph_left keep cells;
-    copies = copies_left keep layer data_type wanted cells top;
-    fine = λ c h. left_fine keep layer data_type wanted (elements_at cells c) (subst (AreFine layer data_type) (elements_left keep cells c) h);
+    copies = copies_left keep layer wanted cells top;
+    fine = λ c h. left_fine keep layer wanted (elements_at cells c) (subst (AreFine layer) (elements_left keep cells c) h);
     fault = λ c k y e stands faulty before.
         let es = elements_left keep cells c in
-        left_at keep layer data_type wanted (elements_at cells c) e k y (subst (λ xs. slice_get xs k ≡ Some y) es stands) faulty (subst (λ xs. AreFine layer data_type (take k xs)) es before);
+        left_at keep layer wanted (elements_at cells c) e k y (subst (λ xs. slice_get xs k ≡ Some y) es stands) faulty (subst (λ xs. AreFine layer (take k xs)) es before);
   }
 
-  whole_is_same : IsSame layer data_type (left keep cells) cells top
+  whole_is_same : IsSame layer (left keep cells) cells top
   whole_is_same = record {
     index = sym (index_left keep cells top);
     many = sym (many_left keep cells);
     graph = sym (graph_left keep cells);
-    copies = sym (copies_left keep layer data_type wanted cells top);
-    fine = λ c h. subst (AreFine layer data_type) (sym (elements_left keep cells c)) (fine_left keep layer data_type wanted (elements_at cells c) h);
+    copies = sym (copies_left keep layer wanted cells top);
+    fine = λ c h. subst (AreFine layer) (sym (elements_left keep cells c)) (fine_left keep layer wanted (elements_at cells c) h);
     fault = λ c k y e stands faulty before.
-        subst (λ xs. IsAtIn layer data_type xs e) (sym (elements_left keep cells c)) (at_left keep layer data_type wanted (elements_at cells c) e k y stands faulty before);
+        subst (λ xs. IsAtIn layer xs e) (sym (elements_left keep cells c)) (at_left keep layer wanted (elements_at cells c) e k y stands faulty before);
   }
 
 pub layers_suffice : LayersSuffice
-layers_suffice keep cells top layer data_type wanted = (
-  tells layer data_type cells (left keep cells) top (left_is_same keep cells top layer data_type wanted),
-  tells layer data_type (left keep cells) cells top (whole_is_same keep cells top layer data_type wanted),
+layers_suffice keep cells top layer wanted = (
+  tells layer cells (left keep cells) top (left_is_same keep cells top layer wanted),
+  tells layer (left keep cells) cells top (whole_is_same keep cells top layer wanted),
 )
 
 pub layers_suffice_within : LayersSufficeWithin
-layers_suffice_within keep cells top layer data_type frame wanted = tells_within layer data_type cells (left keep cells) top (left_is_same keep cells top layer data_type wanted) frame
+layers_suffice_within keep cells top layer frame wanted = tells_within layer cells (left keep cells) top (left_is_same keep cells top layer wanted) frame

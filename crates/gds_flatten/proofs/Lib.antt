@@ -4,6 +4,7 @@ pub mod Beside
 pub mod Missed
 pub mod Inside
 pub mod Busy
+pub mod Chained
 pub mod Sparse
 pub mod Drawing
 pub mod Sharing

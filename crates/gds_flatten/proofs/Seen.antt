@@ -54,8 +54,8 @@ pub unseen_on : (r : Rect) (cs : List Copy) (old : List Rect) → IsUnseen r cs 
 unseen_on r cs old unseen x y on = rw (unseen x y on) (or_false (covered old x y))
 
 -- a square of both is one where they meet
-share : (r : Rect) (b : Bounds) (x y : ℤ) → in_bounds b x y ≡ true → squares r x y ≡ true → meets r b ≡ true
-share r b x y h k =
+stretch : (r : Rect) (b : Bounds) (x y : ℤ) → in_bounds b x y ≡ true → squares r x y ≡ true → meets r b ≡ true
+stretch r b x y h k =
     let p = and_parts _ _ h in
     let u = and_parts _ _ p.0 in
     let v = and_parts _ _ p.1 in
@@ -80,7 +80,7 @@ within_unseen : (r : Rect) (at : Placement) (b : Bounds) (s : ℤ → ℤ → Bo
     → (x y : ℤ) → squares r x y ≡ true → carried at s x y ≡ false
 within_unseen r at b s ordered lies apart x y on = not_true (carried at s x y) (λ seen.
     let held = bounds_back at b x y ordered ∙ lies (back_x at x y) (back_y at x y) seen in
-    let both = sym (share r (carried_bounds at b) x y held on) ∙ apart in cc)
+    let both = sym (stretch r (carried_bounds at b) x y held on) ∙ apart in cc)
 
 pub held_unseen : (r : Rect) (at : Placement) (b : Bounds) (cs : List Copy) → IsOrdered b → LiesWithin (drawn cs) b → meets r (carried_bounds at b) ≡ false
     → IsUnseen r (map (carry_copy at) cs)

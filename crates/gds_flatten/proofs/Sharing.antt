@@ -1,4 +1,4 @@
--- Parts of lists of copies, as shares of a walk have them.
+-- Parts of lists of copies, as stretches of a walk have them.
 use Rattle.std.proofs.Common.{◌≡◌, ℕ, zero, suc, ◌+◌, ◌-◌, ◌*◌, ◌<◌, ◌≤◌, ◌⊎◌, inl, inr, List, [], ◌∷◌, ◌++◌, get_or, length, take, drop, map, min, refl, sym, ap, subst, arith, ◌∙◌}
 use Rattle.std.specs.Prelude.{slice_get, Some, ◌||◌}
 use Rattle.std.specs.Int.{div_ceil}
@@ -95,7 +95,7 @@ module _ (at : Placement) where
       flat_map_single carried_shape (part f t shapes)
       ∙ sym (ap (part f t) (flat_map_single carried_shape shapes) ∙ (ap (drop f) (take-map carried_shape t shapes) ∙ drop-map carried_shape f (take t shapes)))
 
--- ---- counts that stop at 4,000,001 count as much of a share as all do
+-- ---- counts that stop at 4,000,001 count as much of a stretch as all do
 
 many : (m n each : ℕ) → IsCapped n each → (m * each ≡ m * n) ⊎ ((4000001 ≤ m * each) × (4000001 ≤ m * n))
 many zero n each h = inl (grind (arith, common_steps))
@@ -142,7 +142,7 @@ module _ (at : Placement) (below : ℕ → List Copy) (l : Link) where
       joined m n a b e g = grind (arith, common_steps, e, g)
 
   module _ (each : ℕ) (capped : IsCapped (length (below l.cell)) each) (f t : ℕ) (first_few : f ≤ 4000000) (last_few : t ≤ 4000000) where
-    -- no copies of the share come before its first turn
+    -- no copies of the stretch come before its first turn
     pub turns_begin : (k : ℕ) → k * each ≤ f → part f t (flat_map (single_copies at below l) (range_with_len 0 k)) ≡ []
     turns_begin k h =
         let long = turns_long k in
@@ -190,11 +190,11 @@ module _ (at : Placement) (below : ℕ → List Copy) (l : Link) where
           subst (λ n. IsDrawn (part f t (flat_map (single_copies at below l) (range_with_len 0 n))) old new) split
           (rw (later k (turns - k) (behind_many t (k * each) (k * length (below l.cell)) last_few (omega (arith, past, most)) (many k (length (below l.cell)) each capped))) h)
 
-    -- a link that comes before the share adds nothing
+    -- a link that comes before the stretch adds nothing
     pub link_before : (old : List Rect) → (l.columns * l.rows) * each ≤ f → IsDrawn (part f t (link_copies at below l)) old old
     link_before old h = turns_begun (l.columns * l.rows) h old
 
-    -- what's left of a share behind a link
+    -- what's left of a stretch behind a link
     pub link_passed : (passed g u : ℕ) → passed ≡ (l.columns * l.rows) * each → g ≡ f - passed → u ≡ t - passed
         → (g ≡ f - length (link_copies at below l)) × (u ≡ t - length (link_copies at below l))
     link_passed passed g u is first last =
@@ -205,7 +205,7 @@ module _ (at : Placement) (below : ℕ → List Copy) (l : Link) where
 
 -- ---- links of a cell, one after another
 
--- the share f up to t of the first k of a list is drawn, and what's left of it behind them is g up to u
+-- the stretch f up to t of the first k of a list is drawn, and what's left of it behind them is g up to u
 pub record IsShared {X : Type 0} (draw : X → List Copy) (xs : List X) (k f t g u : ℕ) (old new : List Rect) : Type 0 where
   pub drawn : IsDrawn (part f t (flat_map draw (take k xs))) old new
   pub from : g ≡ f - length (flat_map draw (take k xs))
@@ -233,7 +233,7 @@ next_shared draw xs k d f t g u h v old mid new within before next first last =
       to = let left = before.to in omega (arith, last, left, long);
     }
 
--- nothing of the share is left for the rest of the list
+-- nothing of the stretch is left for the rest of the list
 pub rest_shared : {X : Type 0} (draw : X → List Copy) (xs ys : List X) (k f t g u : ℕ) (old new : List Rect) → xs ≡ ys → u ≡ 0
     → IsShared draw xs k f t g u old new → IsDrawn (part f t (flat_map draw ys)) old new
 rest_shared draw xs ys k f t g u old new same none shared =
@@ -268,45 +268,45 @@ own_leave cells n i cell at some is leaves all =
     first_leaves (flat_map (shape_copies at) (shapes_in cell)) (flat_map (link_copies at (copies (hierarchy cells) (n - 1))) cell.links.items) leaves
     (subst (λ cs. AllStayInRange cs) (all_copies cells n i cell at some is) all)
 
--- ---- runs of shapes, one after another
+-- ---- chunks of shapes, one after another
 
-abbrev pub run_copies : Placement → Vec Shape → List Copy
-run_copies at run = flat_map (shape_copies at) run.items
+abbrev pub chunk_copies : Placement → Vec Shape → List Copy
+chunk_copies at chunk = flat_map (shape_copies at) chunk.items
 
-pub of_runs : (at : Placement) (runs : List (Vec Shape)) → flat_map (run_copies at) runs ≡ flat_map (shape_copies at) (flat_map vec_items runs)
-of_runs at [] = refl
-of_runs at (run ∷ runs) = ap (λ cs. flat_map (shape_copies at) run.items ++ cs) (of_runs at runs) ∙ sym (flat_map-append (shape_copies at) run.items (flat_map vec_items runs))
+pub of_chunks : (at : Placement) (chunks : List (Vec Shape)) → flat_map (chunk_copies at) chunks ≡ flat_map (shape_copies at) (flat_map vec_items chunks)
+of_chunks at [] = refl
+of_chunks at (chunk ∷ chunks) = ap (λ cs. flat_map (shape_copies at) chunk.items ++ cs) (of_chunks at chunks) ∙ sym (flat_map-append (shape_copies at) chunk.items (flat_map vec_items chunks))
 
-module _ (at : Placement) (runs : List (Vec Shape)) (k : ℕ) (run : Vec Shape) (within : k < length runs) (run_is : run ≡ get_or runs k run) where
-  pub run_shared : (f t g u h v : ℕ) (own : List Shape) (old mid new : List Rect) → IsShared (run_copies at) runs k f t g u old mid → own ≡ part g u run.items
-      → IsDrawn (flat_map (shape_copies at) own) mid new → h ≡ g - length run.items → v ≡ u - length run.items → IsShared (run_copies at) runs (k + 1) f t h v old new
-  run_shared f t g u h v own old mid new before own_is drawn first last =
-      let long = own_long at run.items in
-      next_shared (run_copies at) runs k run f t g u h v old mid new within before
-      (subst (λ r. IsDrawn (part g u (run_copies at r)) mid new) run_is (subst (λ cs. IsDrawn cs mid new) (ap (flat_map (shape_copies at)) own_is ∙ own_part at g u run.items) drawn))
-      (subst (λ r. h ≡ g - length (run_copies at r)) run_is (first ∙ ap (λ n. g - n) (sym long)))
-      (subst (λ r. v ≡ u - length (run_copies at r)) run_is (last ∙ ap (λ n. u - n) (sym long)))
+module _ (at : Placement) (chunks : List (Vec Shape)) (k : ℕ) (chunk : Vec Shape) (within : k < length chunks) (chunk_is : chunk ≡ get_or chunks k chunk) where
+  pub chunk_shared : (f t g u h v : ℕ) (own : List Shape) (old mid new : List Rect) → IsShared (chunk_copies at) chunks k f t g u old mid → own ≡ part g u chunk.items
+      → IsDrawn (flat_map (shape_copies at) own) mid new → h ≡ g - length chunk.items → v ≡ u - length chunk.items → IsShared (chunk_copies at) chunks (k + 1) f t h v old new
+  chunk_shared f t g u h v own old mid new before own_is drawn first last =
+      let long = own_long at chunk.items in
+      next_shared (chunk_copies at) chunks k chunk f t g u h v old mid new within before
+      (subst (λ r. IsDrawn (part g u (chunk_copies at r)) mid new) chunk_is (subst (λ cs. IsDrawn cs mid new) (ap (flat_map (shape_copies at)) own_is ∙ own_part at g u chunk.items) drawn))
+      (subst (λ r. h ≡ g - length (chunk_copies at r)) chunk_is (first ∙ ap (λ n. g - n) (sym long)))
+      (subst (λ r. v ≡ u - length (chunk_copies at r)) chunk_is (last ∙ ap (λ n. u - n) (sym long)))
 
-  pub run_leaves : (g u : ℕ) (own : List Shape) → own ≡ part g u run.items → (AllStayInRange (flat_map (shape_copies at) own) → ⊥)
-      → AllStayInRange (flat_map (shape_copies at) (flat_map vec_items runs)) → ⊥
-  run_leaves g u own own_is leaves all =
-      next_leaves (run_copies at) runs k run within
-      (λ stay. leaves (subst AllStayInRange (sym (ap (flat_map (shape_copies at)) own_is ∙ own_part at g u run.items))
-      (part_stays g u (run_copies at run) (subst (λ r. AllStayInRange (run_copies at r)) (sym run_is) stay))))
-      (subst AllStayInRange (sym (of_runs at runs)) all)
+  pub chunk_leaves : (g u : ℕ) (own : List Shape) → own ≡ part g u chunk.items → (AllStayInRange (flat_map (shape_copies at) own) → ⊥)
+      → AllStayInRange (flat_map (shape_copies at) (flat_map vec_items chunks)) → ⊥
+  chunk_leaves g u own own_is leaves all =
+      next_leaves (chunk_copies at) chunks k chunk within
+      (λ stay. leaves (subst AllStayInRange (sym (ap (flat_map (shape_copies at)) own_is ∙ own_part at g u chunk.items))
+      (part_stays g u (chunk_copies at chunk) (subst (λ r. AllStayInRange (chunk_copies at r)) (sym chunk_is) stay))))
+      (subst AllStayInRange (sym (of_chunks at chunks)) all)
 
-pub all_runs : (at : Placement) (runs : List (Vec Shape)) (k f t g u : ℕ) (old new : List Rect) → (k < length runs → ⊥) → IsShared (run_copies at) runs k f t g u old new
-    → IsDrawn (part f t (flat_map (shape_copies at) (flat_map vec_items runs))) old new
-    × ((g ≡ f - length (flat_map vec_items runs)) × (u ≡ t - length (flat_map vec_items runs)))
-all_runs at runs k f t g u old new ended shared =
-    let whole : take k runs ≡ runs = grind (arith, common_steps, ended) in
-    let long : length (flat_map (run_copies at) (take k runs)) ≡ length (flat_map vec_items runs) =
-    ap (λ rs. length (flat_map (run_copies at) rs)) whole ∙ ap length (of_runs at runs) ∙ own_long at (flat_map vec_items runs) in (
-      subst (λ cs. IsDrawn (part f t cs) old new) (of_runs at runs) (all_shared (run_copies at) runs runs k f t g u old new refl ended shared),
+pub all_chunks : (at : Placement) (chunks : List (Vec Shape)) (k f t g u : ℕ) (old new : List Rect) → (k < length chunks → ⊥) → IsShared (chunk_copies at) chunks k f t g u old new
+    → IsDrawn (part f t (flat_map (shape_copies at) (flat_map vec_items chunks))) old new
+    × ((g ≡ f - length (flat_map vec_items chunks)) × (u ≡ t - length (flat_map vec_items chunks)))
+all_chunks at chunks k f t g u old new ended shared =
+    let whole : take k chunks ≡ chunks = grind (arith, common_steps, ended) in
+    let long : length (flat_map (chunk_copies at) (take k chunks)) ≡ length (flat_map vec_items chunks) =
+    ap (λ rs. length (flat_map (chunk_copies at) rs)) whole ∙ ap length (of_chunks at chunks) ∙ own_long at (flat_map vec_items chunks) in (
+      subst (λ cs. IsDrawn (part f t cs) old new) (of_chunks at chunks) (all_shared (chunk_copies at) chunks chunks k f t g u old new refl ended shared),
       (shared.from ∙ ap (λ n. f - n) long, shared.to ∙ ap (λ n. t - n) long),
     )
 
--- ---- shares of all copies, put together
+-- ---- stretches of all copies, put together
 
 behind_drawn : (cs : List Copy) (before rects : List Rect) → IsDrawn cs [] rects → IsDrawn cs before (before ++ rects)
 behind_drawn cs before rects h = record {
@@ -322,7 +322,7 @@ next_part k size xs = by_drop (k * size) (k * size + size) size xs ∙ same_part
   by_drop f t (suc n) (y ∷ ys) =
       by_drop f t n ys ∙ same_part (suc (n + f)) (suc (n + t)) (suc n + f) (suc n + t) (y ∷ ys) (omega arith) (omega arith)
 
--- shares of `size` copies each
+-- stretches of `size` copies each
 pub parts_drawn : (size : ℕ) (parts : List (Vec Rect)) (cs : List Copy) → length cs ≤ length parts * size
     → ((k : ℕ) (d : Vec Rect) → k < length parts → IsDrawn (part (k * size) (k * size + size) cs) [] (get_or parts k d).items)
     → IsDrawn cs [] (flat_map vec_items parts)

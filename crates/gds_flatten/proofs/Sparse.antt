@@ -31,9 +31,9 @@ use Rattle.gds_flatten.proofs.Tight.{all_from, all_first, all_rest, all_coordina
 -- ---- a copy whose shape has no parts
 
 nothing_covered : (e : Element) (x y : ℤ) → parts_of e ≡ [] → covers_of e x y ≡ false
-nothing_covered (boundary l d []) x y none = refl
-nothing_covered (boundary l d (p ∷ points)) x y none = let more = ap length none in absurd (grind (arith, common_steps, more))
-nothing_covered (path l d wire) x y none = rw none refl
+nothing_covered (boundary l []) x y none = refl
+nothing_covered (boundary l (p ∷ points)) x y none = let more = ap length none in absurd (grind (arith, common_steps, more))
+nothing_covered (path l wire) x y none = rw none refl
 nothing_covered (reference cell transform origin) x y none = refl
 nothing_covered (array cell transform columns rows points) x y none = refl
 

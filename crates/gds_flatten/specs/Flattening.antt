@@ -1,5 +1,6 @@
 -- What flattening answers, and when each refusal comes.
 use Rattle.std.specs.Prelude.{ℕ, ◌<◌, ◌≤◌, List, length}
+use Rattle.fill_base.specs.declared.layer.Layer.{Layer}
 use Rattle.fill_base.specs.declared.rect.Rect.{Rect}
 use Rattle.gds_cells.specs.declared.error.FlattenError.{FlattenError}
 use Rattle.gds_cells.specs.declared.error.FlattenError.TheVariants.{Memory, NoTop, MissingCell, Cycle, TooDeep, TooManyShapes, OutOfRange}
@@ -23,45 +24,45 @@ pub record IsSound (cells : List Entry) (top : List ℕ) : Type 0 where
   pub shallow : IsTooDeep (graph_of cells) (index_of cells top) → ⊥
 
 -- the copies of shapes that the top draws, through chains of at most 256 cells
-abbrev pub copies_of : List Entry → List ℕ → ℕ → ℕ → List Copy
-copies_of cells top layer data_type = copies (hierarchy_of cells layer data_type) 256 (index_of cells top)
+abbrev pub copies_of : List Entry → List ℕ → Layer → List Copy
+copies_of cells top layer = copies (hierarchy_of cells layer) 256 (index_of cells top)
 
 -- references and shapes are sound, and there are not too many copies
-pub record IsCountable (cells : List Entry) (top : List ℕ) (layer data_type : ℕ) : Type 0 where
+pub record IsCountable (cells : List Entry) (top : List ℕ) (layer : Layer) : Type 0 where
   pub sound : IsSound cells top
-  pub fine : AllFine cells (index_of cells top) layer data_type
-  pub few : length (copies_of cells top layer data_type) ≤ 4000000
+  pub fine : AllFine cells (index_of cells top) layer
+  pub few : length (copies_of cells top layer) ≤ 4000000
 
 -- why a design is refused: each cause is the first in this order
-abbrev pub IsRefused : List Entry → List ℕ → ℕ → ℕ → FlattenError → Type 0
-IsRefused cells top layer data_type Memory = Unit {0}
-IsRefused cells top layer data_type NoTop = HasTop cells top → ⊥
-IsRefused cells top layer data_type MissingCell = HasTop cells top × LacksCell cells top
-IsRefused cells top layer data_type Cycle =
+abbrev pub IsRefused : List Entry → List ℕ → Layer → FlattenError → Type 0
+IsRefused cells top layer Memory = Unit {0}
+IsRefused cells top layer NoTop = HasTop cells top → ⊥
+IsRefused cells top layer MissingCell = HasTop cells top × LacksCell cells top
+IsRefused cells top layer Cycle =
     HasTop cells top × (LacksCell cells top → ⊥) × IsCyclic (graph_of cells) (index_of cells top)
-IsRefused cells top layer data_type TooDeep =
+IsRefused cells top layer TooDeep =
     HasTop cells top × (LacksCell cells top → ⊥) × (IsCyclic (graph_of cells) (index_of cells top) → ⊥)
     × IsTooDeep (graph_of cells) (index_of cells top)
-IsRefused cells top layer data_type TooManyShapes =
-    IsSound cells top × AllFine cells (index_of cells top) layer data_type
-    × (4000000 < length (copies_of cells top layer data_type))
-IsRefused cells top layer data_type OutOfRange =
-    IsCountable cells top layer data_type × (AllStayInRange (copies_of cells top layer data_type) → ⊥)
-IsRefused cells top layer data_type e =
-    IsSound cells top × IsFirstFault cells (index_of cells top) layer data_type e
+IsRefused cells top layer TooManyShapes =
+    IsSound cells top × AllFine cells (index_of cells top) layer
+    × (4000000 < length (copies_of cells top layer))
+IsRefused cells top layer OutOfRange =
+    IsCountable cells top layer × (AllStayInRange (copies_of cells top layer) → ⊥)
+IsRefused cells top layer e =
+    IsSound cells top × IsFirstFault cells (index_of cells top) layer e
 
 -- so too of a part of a design, but that only the copies count whose extents meet the frame
-pub record IsCountableOn (cells : List Entry) (top : List ℕ) (layer data_type : ℕ) (frame : Rect) : Type 0 where
+pub record IsCountableOn (cells : List Entry) (top : List ℕ) (layer : Layer) (frame : Rect) : Type 0 where
   pub sound : IsSound cells top
-  pub fine : AllFine cells (index_of cells top) layer data_type
-  pub few : met frame (copies_of cells top layer data_type) ≤ 4000000
+  pub fine : AllFine cells (index_of cells top) layer
+  pub few : met frame (copies_of cells top layer) ≤ 4000000
 
 -- why a design is refused of which a part is asked for: for the same causes, but that of the copies only those
 -- are too many that meet the frame; one that passes the range is a cause wherever it lies
-abbrev pub IsRefusedOn : List Entry → List ℕ → ℕ → ℕ → Rect → FlattenError → Type 0
-IsRefusedOn cells top layer data_type frame TooManyShapes =
-    IsSound cells top × AllFine cells (index_of cells top) layer data_type
-    × (4000000 < met frame (copies_of cells top layer data_type))
-IsRefusedOn cells top layer data_type frame OutOfRange =
-    IsCountableOn cells top layer data_type frame × (AllStayInRange (copies_of cells top layer data_type) → ⊥)
-IsRefusedOn cells top layer data_type frame e = IsRefused cells top layer data_type e
+abbrev pub IsRefusedOn : List Entry → List ℕ → Layer → Rect → FlattenError → Type 0
+IsRefusedOn cells top layer frame TooManyShapes =
+    IsSound cells top × AllFine cells (index_of cells top) layer
+    × (4000000 < met frame (copies_of cells top layer))
+IsRefusedOn cells top layer frame OutOfRange =
+    IsCountableOn cells top layer frame × (AllStayInRange (copies_of cells top layer) → ⊥)
+IsRefusedOn cells top layer frame e = IsRefused cells top layer e

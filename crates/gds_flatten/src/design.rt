@@ -1,4 +1,4 @@
-//! A design whose copies are counted: it's carried in shares of them, by several threads at once.
+//! A design whose copies are counted: it's carried in stretches of them, by several threads at once.
 
 ghost use Rattle.std.specs.Prelude.{◌≡◌, ◌+◌, ◌*◌, ◌≤◌, ◌<◌, [], length, IfOk, IfErr};
 ghost use Rattle.std.specs.List.{flat_map};
@@ -7,7 +7,7 @@ ghost use Rattle.gds_cells.specs.steps.Counting.{AreCounted};
 ghost use Rattle.gds_cells.specs.steps.Walks.{part, top_copies, IsDrawn, IsRefusal};
 
 use crate::idle::drop_idle;
-use crate::share::Share;
+use crate::stretch::Stretch;
 use crate::walk::carry_cell;
 use fill_base::Rect;
 use gds_cells::{Cell, FlattenError, Placement};
@@ -18,11 +18,11 @@ use std::thread::Threads;
 /// How many cells a chain may have, the top among them.
 pub const DEEPEST: u32 = 256;
 
-/// The copies are cut into at most so many shares, which threads carry.
-const MOST_SHARES: usize = 16;
+/// The copies are cut into at most so many stretches, which threads carry.
+const MOST_STRETCHES: usize = 16;
 
-/// A share has so many copies or more, or all that are left: fewer take no longer than a thread needs to begin.
-const LEAST_SHARE: usize = 4_096;
+/// A stretch has so many copies or more, or all that are left: fewer take no longer than a thread needs to begin.
+const LEAST_STRETCH: usize = 4_096;
 
 /// The cells that a top reaches, and how many copies of shapes it draws: 4,000,000 or fewer.
 #[derive(Drop)]
@@ -61,39 +61,26 @@ impl Design<'_, '_> {
         }
     }
 
-    /// The rectangles of a share of the copies.
-    fn carried(&self, alloc: Global, share: Share) -> Result<Vec<Rect>, FlattenError>
+    /// The rectangles of a stretch of the copies.
+    fn carried(&self, alloc: Global, stretch: Stretch) -> Result<Vec<Rect>, FlattenError>
         requires counted { AreCounted self.now.cells.items self.now.counts.items 256 self.now.top }
-        ensures drawn { IfOk result (λ v. IsDrawn (part share.from share.to (top_copies self.now.cells.items self.now.top)) [] v.items) }
+        ensures drawn { IfOk result (λ v. IsDrawn (part stretch.from stretch.to (top_copies self.now.cells.items self.now.top)) [] v.items) }
         ensures refused { IfErr result (IsRefusal (top_copies self.now.cells.items self.now.top)) }
     {
-        let mut rects = Vec::with_capacity(alloc, share.to - share.from)?;
+        let mut rects = Vec::with_capacity(alloc, stretch.to - stretch.from)?;
         carry_cell(
             &self.cells,
             &self.counts,
             DEEPEST,
             self.top,
             &Placement::shift(0, 0),
-            share,
+            stretch,
             &mut rects,
         )?;
         Ok(rects)
     }
 
-    /// The rectangles of all copies.
-    pub fn rects(&self, alloc: Global) -> Result<Vec<Rect>, FlattenError>
-        requires counted { AreCounted self.now.cells.items self.now.counts.items 256 self.now.top }
-        ensures drawn { IfOk result (λ v. IsDrawn (top_copies self.now.cells.items self.now.top) [] v.items) }
-        ensures refused { IfErr result (IsRefusal (top_copies self.now.cells.items self.now.top)) }
-    {
-        let all = Share {
-            from: 0,
-            to: self.number,
-        };
-        self.carried(alloc, all)
-    }
-
-    /// The rectangles of all copies in parts, each of a share of them that a thread carries.
+    /// The rectangles of all copies in parts, each of a stretch of them that a thread carries.
     pub fn parts(
         &self,
         rt: &(impl Threads + Sync),
@@ -103,7 +90,7 @@ impl Design<'_, '_> {
         ensures drawn { IfOk result (λ v. IsDrawn (top_copies self.now.cells.items self.now.top) [] (flat_map vec_items v.items)) }
         ensures refused { IfErr result (IsRefusal (top_copies self.now.cells.items self.now.top)) }
     {
-        let size = self.number.div_ceil(MOST_SHARES).max(LEAST_SHARE);
+        let size = self.number.div_ceil(MOST_STRETCHES).max(LEAST_STRETCH);
         (0..self.number.div_ceil(size))
             .into_par_iter()
             .with_min_len(1)
@@ -120,7 +107,7 @@ impl Design<'_, '_> {
             .collect::<Result<Vec<Vec<Rect>>, FlattenError>>(rt, alloc)?
     }
 
-    /// The rectangles of the share at the index, where each share has so many copies.
+    /// The rectangles of the stretch at the index, where each stretch has so many copies.
     fn part(&self, alloc: Global, size: usize, index: usize) -> Result<Vec<Rect>, FlattenError>
         requires counted { AreCounted self.now.cells.items self.now.counts.items 256 self.now.top }
         requires few { size ≤ 4000000 }
@@ -130,10 +117,10 @@ impl Design<'_, '_> {
         ensures refused { IfErr result (IsRefusal (top_copies self.now.cells.items self.now.top)) }
     {
         let from = index * size;
-        let share = Share {
+        let stretch = Stretch {
             from,
             to: (from + size).min(self.number),
         };
-        self.carried(alloc, share)
+        self.carried(alloc, stretch)
     }
 }

@@ -50,14 +50,14 @@ fn with_shapes(before: Option<Bounds>, shapes: &[Shape<'_, '_>]) -> Option<Bound
     extent
 }
 
-/// The extent of the shapes of all runs.
-fn own_extent(runs: &[Vec<Shape<'_, '_>>]) -> Option<Bounds>
+/// The extent of the shapes of all chunks.
+fn own_extent(chunks: &[Vec<Shape<'_, '_>>]) -> Option<Bounds>
     ensures fine { IsFineIf result }
-    ensures right { IsRight (map own_copy (own_of (flat_map vec_items runs.now))) result }
+    ensures right { IsRight (map own_copy (own_of (flat_map vec_items chunks.now))) result }
 {
     let mut extent = None;
-    'runs: for run in runs {
-        extent = with_shapes(extent, run);
+    'chunks: for chunk in chunks {
+        extent = with_shapes(extent, chunk);
     }
     extent
 }

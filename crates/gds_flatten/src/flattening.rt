@@ -21,20 +21,19 @@ use crate::extents::extents_of;
 use crate::found::Found;
 use crate::framed::{carry_cell_on, clipped, extent_at};
 use crate::idle::drop_unseen;
-use fill_base::Rect;
+use fill_base::{Layer, Rect};
 use fill_region::Region;
 use gds_cells::{
-    Alone, Builder, Cell, FlattenError, Placement, TOO_MANY, Together, cells_of, counts_of,
-    graph_of, index_of, number_at, survey,
+    Cell, FlattenError, Placement, TOO_MANY, cells_of, counts_of, graph_of, index_of, number_at,
+    survey,
 };
-use gds_grammar::{Element, Library};
+use gds_grammar::{Cells, Element, Library};
 use gds_shape::{Bounds, is_in_range};
-use indexmap::IndexMap;
 use std::alloc::Global;
 use std::thread::Threads;
 
 /// The index of the top.
-fn top_of(cells: &IndexMap<Vec<u8>, Vec<Element<'_>>>, top: &[u8]) -> Result<usize, FlattenError>
+fn top_of(cells: &Cells<'_>, top: &[u8]) -> Result<usize, FlattenError>
     ensures found { IfOk result (λ c. HasTop (map cell_of cells.now.entries) top.now × (c ≡ index_of (map cell_of cells.now.entries) top.now)) }
     ensures refused { IfErr result (λ e. (e ≡ FlattenError.NoTop) × (HasTop (map cell_of cells.now.entries) top.now → ⊥)) }
 {
@@ -47,34 +46,24 @@ fn top_of(cells: &IndexMap<Vec<u8>, Vec<Element<'_>>>, top: &[u8]) -> Result<usi
 }
 
 /// The design of the top on the layer, its copies counted.
-fn counted_of<'a, 'b, B: Builder>(
-    builder: &B,
+fn counted_of<'a, 'b>(
+    rt: &(impl Threads + Sync),
     alloc: Global,
     library: &'a Library<'b>,
     top: &[u8],
-    layer: u16,
-    data_type: u16,
+    layer: Layer,
 ) -> Result<Design<'a, 'b>, FlattenError>
-    requires { B.can_build builder.now }
-    ensures fine { IfOk result (λ d. IsCountable (contents_of library.now).cells top.now layer data_type) }
+    ensures fine { IfOk result (λ d. IsCountable (contents_of library.now).cells top.now layer) }
     ensures counted { IfOk result (λ d. AreCounted d.cells.items d.counts.items 256 d.top) }
     ensures same { IfOk result (λ d. top_copies d.cells.items d.top
-        ≡ copies_of (contents_of library.now).cells top.now layer data_type) }
-    ensures refused { IfErr result (λ e. IsRefused (contents_of library.now).cells top.now layer data_type e) }
+        ≡ copies_of (contents_of library.now).cells top.now layer) }
+    ensures refused { IfErr result (λ e. IsRefused (contents_of library.now).cells top.now layer e) }
 {
     let cells = &library.cells;
     let top = top_of(cells, top)?;
     let graph = graph_of(alloc, cells)?;
     let found = survey(alloc, &graph, top)?;
-    let built = cells_of(
-        builder,
-        alloc,
-        cells,
-        &graph,
-        &found.steps,
-        layer,
-        data_type,
-    )?;
+    let built = cells_of(rt, alloc, cells, &graph, &found.steps, layer)?;
     let counts = counts_of(alloc, &built, &found.order)?;
     let number = number_at(&counts, top);
     if number >= TOO_MANY {
@@ -89,22 +78,20 @@ fn counted_of<'a, 'b, B: Builder>(
 }
 
 /// The design of the top on the layer, its copies counted, without links to cells that draw nothing.
-fn design_of<'a, 'b, B: Builder>(
-    builder: &B,
+fn design_of<'a, 'b>(
+    rt: &(impl Threads + Sync),
     alloc: Global,
     library: &'a Library<'b>,
     top: &[u8],
-    layer: u16,
-    data_type: u16,
+    layer: Layer,
 ) -> Result<Design<'a, 'b>, FlattenError>
-    requires { B.can_build builder.now }
-    ensures fine { IfOk result (λ d. IsCountable (contents_of library.now).cells top.now layer data_type) }
+    ensures fine { IfOk result (λ d. IsCountable (contents_of library.now).cells top.now layer) }
     ensures counted { IfOk result (λ d. AreCounted d.cells.items d.counts.items 256 d.top) }
     ensures same { IfOk result (λ d. top_copies d.cells.items d.top
-        ≡ copies_of (contents_of library.now).cells top.now layer data_type) }
-    ensures refused { IfErr result (λ e. IsRefused (contents_of library.now).cells top.now layer data_type e) }
+        ≡ copies_of (contents_of library.now).cells top.now layer) }
+    ensures refused { IfErr result (λ e. IsRefused (contents_of library.now).cells top.now layer e) }
 {
-    let design = counted_of(builder, alloc, library, top, layer, data_type)?;
+    let design = counted_of(rt, alloc, library, top, layer)?;
     Ok(design.without_idle())
 }
 
@@ -144,26 +131,26 @@ impl Framed<'_, '_> {
 
 /// The cells of the top on the layer, with their extents.
 fn extended_of<'a, 'b>(
+    rt: &(impl Threads + Sync),
     alloc: Global,
     library: &'a Library<'b>,
     top: &[u8],
-    layer: u16,
-    data_type: u16,
+    layer: Layer,
 ) -> Result<Framed<'a, 'b>, FlattenError>
     ensures sound { IfOk result (λ d. IsSound (contents_of library.now).cells top.now) }
-    ensures fine { IfOk result (λ d. AllFine (contents_of library.now).cells (index_of (contents_of library.now).cells top.now) layer data_type) }
+    ensures fine { IfOk result (λ d. AllFine (contents_of library.now).cells (index_of (contents_of library.now).cells top.now) layer) }
     ensures extents { IfOk result (λ d. All IsFineIf d.extents.items) }
     ensures held { IfOk result (λ d. AreHeld d.cells.items d.extents.items 256 d.top) }
     ensures tight { IfOk result (λ d. IsTight (top_copies d.cells.items d.top) (extent_at d.extents.items d.top)) }
     ensures same { IfOk result (λ d. top_copies d.cells.items d.top
-        ≡ copies_of (contents_of library.now).cells top.now layer data_type) }
-    ensures refused { IfErr result (λ e. (frame : Rect) → IsRefusedOn (contents_of library.now).cells top.now layer data_type frame e) }
+        ≡ copies_of (contents_of library.now).cells top.now layer) }
+    ensures refused { IfErr result (λ e. (frame : Rect) → IsRefusedOn (contents_of library.now).cells top.now layer frame e) }
 {
     let cells = &library.cells;
     let top = top_of(cells, top)?;
     let graph = graph_of(alloc, cells)?;
     let found = survey(alloc, &graph, top)?;
-    let built = cells_of(&Alone, alloc, cells, &graph, &found.steps, layer, data_type)?;
+    let built = cells_of(rt, alloc, cells, &graph, &found.steps, layer)?;
     let extents = extents_of(alloc, &built, &found.order)?;
     Ok(Framed {
         cells: built,
@@ -174,22 +161,22 @@ fn extended_of<'a, 'b>(
 
 /// The same, without links to cells that have no extent, and so without copies whose shapes have no parts.
 fn framed_of<'a, 'b>(
+    rt: &(impl Threads + Sync),
     alloc: Global,
     library: &'a Library<'b>,
     top: &[u8],
-    layer: u16,
-    data_type: u16,
+    layer: Layer,
 ) -> Result<Framed<'a, 'b>, FlattenError>
     ensures sound { IfOk result (λ d. IsSound (contents_of library.now).cells top.now) }
-    ensures fine { IfOk result (λ d. AllFine (contents_of library.now).cells (index_of (contents_of library.now).cells top.now) layer data_type) }
+    ensures fine { IfOk result (λ d. AllFine (contents_of library.now).cells (index_of (contents_of library.now).cells top.now) layer) }
     ensures extents { IfOk result (λ d. All IsFineIf d.extents.items) }
     ensures held { IfOk result (λ d. AreHeld d.cells.items d.extents.items 256 d.top) }
-    ensures tight { IfOk result (λ d. IsTight (copies_of (contents_of library.now).cells top.now layer data_type) (extent_at d.extents.items d.top)) }
+    ensures tight { IfOk result (λ d. IsTight (copies_of (contents_of library.now).cells top.now layer) (extent_at d.extents.items d.top)) }
     ensures but { IfOk result (λ d. AreBut (top_copies d.cells.items d.top)
-        (copies_of (contents_of library.now).cells top.now layer data_type)) }
-    ensures refused { IfErr result (λ e. (frame : Rect) → IsRefusedOn (contents_of library.now).cells top.now layer data_type frame e) }
+        (copies_of (contents_of library.now).cells top.now layer)) }
+    ensures refused { IfErr result (λ e. (frame : Rect) → IsRefusedOn (contents_of library.now).cells top.now layer frame e) }
 {
-    let framed = extended_of(alloc, library, top, layer, data_type)?;
+    let framed = extended_of(rt, alloc, library, top, layer)?;
     Ok(framed.without_unseen())
 }
 
@@ -207,27 +194,27 @@ fn is_inside(extent: Option<Bounds>) -> bool
 }
 
 /// What the top draws on the layer within a frame, as rectangles that the frame holds. Copies of cells whose
-/// extent doesn't meet the frame are not entered, so a part of a chip costs its share of the copies.
+/// extent doesn't meet the frame are not entered, so a part of a chip costs its part of the copies.
 ///
 /// # Errors
-/// Those of `flatten_rects`, but that only the copies count for `TooManyShapes` whose extents meet the
+/// Those of `flatten_parts`, but that only the copies count for `TooManyShapes` whose extents meet the
 /// frame: more than 4,000,000 of them. `OutOfRange` is answered wherever the copy lies.
 pub fn flatten_within(
+    rt: &(impl Threads + Sync),
     alloc: Global,
     library: &Library<'_>,
     top: &[u8],
-    layer: u16,
-    data_type: u16,
+    layer: Layer,
     frame: &Rect,
 ) -> Result<Vec<Rect>, FlattenError>
-    ensures fine { IfOk result (λ v. IsCountableOn (contents_of library.now).cells top.now layer data_type frame.now) }
-    ensures inside { IfOk result (λ v. AllStayInRange (copies_of (contents_of library.now).cells top.now layer data_type)) }
+    ensures fine { IfOk result (λ v. IsCountableOn (contents_of library.now).cells top.now layer frame.now) }
+    ensures inside { IfOk result (λ v. AllStayInRange (copies_of (contents_of library.now).cells top.now layer)) }
     ensures squares { IfOk result (λ v. (x y : ℤ) → covered v.items x y
-        ≡ (drawn (copies_of (contents_of library.now).cells top.now layer data_type) x y && squares frame.now x y)) }
-    ensures range { IfOk result (λ v. (x y : ℤ) → drawn (copies_of (contents_of library.now).cells top.now layer data_type) x y ≡ true → IsInRange x y) }
-    ensures refused { IfErr result (λ e. IsRefusedOn (contents_of library.now).cells top.now layer data_type frame.now e) }
+        ≡ (drawn (copies_of (contents_of library.now).cells top.now layer) x y && squares frame.now x y)) }
+    ensures range { IfOk result (λ v. (x y : ℤ) → drawn (copies_of (contents_of library.now).cells top.now layer) x y ≡ true → IsInRange x y) }
+    ensures refused { IfErr result (λ e. IsRefusedOn (contents_of library.now).cells top.now layer frame.now e) }
 {
-    let framed = framed_of(alloc, library, top, layer, data_type)?;
+    let framed = framed_of(rt, alloc, library, top, layer)?;
     let mut found = Found::new(alloc);
     carry_cell_on(
         &framed.cells,
@@ -245,123 +232,52 @@ pub fn flatten_within(
     Ok(rects)
 }
 
-/// The rectangles that the top draws on the layer, as many as its copies of shapes come to; together
-/// they are what is drawn. All lengths are database units (Calma GDSII Stream Format Manual, release
-/// 6.0, with this project's profile).
-///
-/// # Errors
-/// Of the cells that the top reaches alone, the first of these: `NoTop`; `MissingCell`; `Cycle`;
-/// `TooDeep`; the first fault of a reference, or of a shape of the layer and data type, in the order
-/// of the file; `TooManyShapes` above 4,000,000 copies of shapes; `OutOfRange` where a copy passes the
-/// coordinates from -2^30 to 2^30. Or `Memory` where memory is refused.
-pub fn flatten_rects(
-    alloc: Global,
-    library: &Library<'_>,
-    top: &[u8],
-    layer: u16,
-    data_type: u16,
-) -> Result<Vec<Rect>, FlattenError>
-    ensures fine { IfOk result (λ v. IsCountable (contents_of library.now).cells top.now layer data_type) }
-    ensures inside { IfOk result (λ v. AllStayInRange (copies_of (contents_of library.now).cells top.now layer data_type)) }
-    ensures squares { IfOk result (λ v. (x y : ℤ) → covered v.items x y
-        ≡ drawn (copies_of (contents_of library.now).cells top.now layer data_type) x y) }
-    ensures refused { IfErr result (λ e. IsRefused (contents_of library.now).cells top.now layer data_type e) }
-{
-    let design = design_of(&Alone, alloc, library, top, layer, data_type)?;
-    design.rects(alloc)
-}
-
 /// The rectangles that the top draws on the layer, in parts, as several threads carry them: those of
 /// all parts together are what is drawn. All lengths are database units (Calma GDSII Stream Format
 /// Manual, release 6.0, with this project's profile).
 ///
 /// # Errors
-/// Those of `flatten_rects`.
+/// Of the cells that the top reaches alone, the first of these: `NoTop`; `MissingCell`; `Cycle`;
+/// `TooDeep`; the first fault of a reference, or of a shape of the layer, in the order
+/// of the file; `TooManyShapes` above 4,000,000 copies of shapes; `OutOfRange` where a copy passes the
+/// coordinates from -2^30 to 2^30. Or `Memory` where memory is refused.
 pub fn flatten_parts(
     rt: &(impl Threads + Sync),
     alloc: Global,
     library: &Library<'_>,
     top: &[u8],
-    layer: u16,
-    data_type: u16,
+    layer: Layer,
 ) -> Result<Vec<Vec<Rect>>, FlattenError>
-    ensures fine { IfOk result (λ v. IsCountable (contents_of library.now).cells top.now layer data_type) }
-    ensures inside { IfOk result (λ v. AllStayInRange (copies_of (contents_of library.now).cells top.now layer data_type)) }
+    ensures fine { IfOk result (λ v. IsCountable (contents_of library.now).cells top.now layer) }
+    ensures inside { IfOk result (λ v. AllStayInRange (copies_of (contents_of library.now).cells top.now layer)) }
     ensures squares { IfOk result (λ v. (x y : ℤ) → covered (flat_map vec_items v.items) x y
-        ≡ drawn (copies_of (contents_of library.now).cells top.now layer data_type) x y) }
-    ensures refused { IfErr result (λ e. IsRefused (contents_of library.now).cells top.now layer data_type e) }
+        ≡ drawn (copies_of (contents_of library.now).cells top.now layer) x y) }
+    ensures refused { IfErr result (λ e. IsRefused (contents_of library.now).cells top.now layer e) }
 {
-    let design = design_of(&Together(rt), alloc, library, top, layer, data_type)?;
+    let design = design_of(rt, alloc, library, top, layer)?;
     design.parts(rt, alloc)
 }
 
 /// The squares that the top draws on the layer, as a region.
 ///
 /// # Errors
-/// Those of `flatten_rects`.
+/// Those of `flatten_parts`.
 pub fn flatten(
+    rt: &(impl Threads + Sync),
     alloc: Global,
     library: &Library<'_>,
     top: &[u8],
-    layer: u16,
-    data_type: u16,
+    layer: Layer,
 ) -> Result<Region, FlattenError>
     ensures region { IfOk result IsRegion }
-    ensures fine { IfOk result (λ r. IsCountable (contents_of library.now).cells top.now layer data_type) }
-    ensures inside { IfOk result (λ r. AllStayInRange (copies_of (contents_of library.now).cells top.now layer data_type)) }
+    ensures fine { IfOk result (λ r. IsCountable (contents_of library.now).cells top.now layer) }
+    ensures inside { IfOk result (λ r. AllStayInRange (copies_of (contents_of library.now).cells top.now layer)) }
     ensures squares { IfOk result (λ r. (x y : ℤ) → holds r x y
-        ≡ drawn (copies_of (contents_of library.now).cells top.now layer data_type) x y) }
-    ensures refused { IfErr result (λ e. IsRefused (contents_of library.now).cells top.now layer data_type e) }
+        ≡ drawn (copies_of (contents_of library.now).cells top.now layer) x y) }
+    ensures refused { IfErr result (λ e. IsRefused (contents_of library.now).cells top.now layer e) }
 {
-    let rects = flatten_rects(alloc, library, top, layer, data_type)?;
-    let region = Region::from_rects(alloc, &rects)?;
-    Ok(region)
-}
-
-/// What `flatten_within` answers, as `flatten_parts` answers it: as parts, of which there is one.
-///
-/// # Errors
-/// Those of `flatten_within`.
-pub fn flatten_parts_within(
-    alloc: Global,
-    library: &Library<'_>,
-    top: &[u8],
-    layer: u16,
-    data_type: u16,
-    frame: &Rect,
-) -> Result<Vec<Vec<Rect>>, FlattenError>
-    ensures fine { IfOk result (λ v. IsCountableOn (contents_of library.now).cells top.now layer data_type frame.now) }
-    ensures inside { IfOk result (λ v. AllStayInRange (copies_of (contents_of library.now).cells top.now layer data_type)) }
-    ensures squares { IfOk result (λ v. (x y : ℤ) → covered (flat_map vec_items v.items) x y
-        ≡ (drawn (copies_of (contents_of library.now).cells top.now layer data_type) x y && squares frame.now x y)) }
-    ensures refused { IfErr result (λ e. IsRefusedOn (contents_of library.now).cells top.now layer data_type frame.now e) }
-{
-    let rects = flatten_within(alloc, library, top, layer, data_type, frame)?;
-    let mut parts = Vec::new(alloc);
-    parts.push(rects)?;
-    Ok(parts)
-}
-
-/// The squares that the top draws on the layer within a frame, as a region.
-///
-/// # Errors
-/// Those of `flatten_within`.
-pub fn flatten_region_within(
-    alloc: Global,
-    library: &Library<'_>,
-    top: &[u8],
-    layer: u16,
-    data_type: u16,
-    frame: &Rect,
-) -> Result<Region, FlattenError>
-    ensures region { IfOk result IsRegion }
-    ensures fine { IfOk result (λ r. IsCountableOn (contents_of library.now).cells top.now layer data_type frame.now) }
-    ensures inside { IfOk result (λ r. AllStayInRange (copies_of (contents_of library.now).cells top.now layer data_type)) }
-    ensures squares { IfOk result (λ r. (x y : ℤ) → holds r x y
-        ≡ (drawn (copies_of (contents_of library.now).cells top.now layer data_type) x y && squares frame.now x y)) }
-    ensures refused { IfErr result (λ e. IsRefusedOn (contents_of library.now).cells top.now layer data_type frame.now e) }
-{
-    let rects = flatten_within(alloc, library, top, layer, data_type, frame)?;
+    let parts = flatten_parts(rt, alloc, library, top, layer)?;
+    let rects = parts.concat(alloc)?;
     let region = Region::from_rects(alloc, &rects)?;
     Ok(region)
 }

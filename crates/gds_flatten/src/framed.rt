@@ -119,19 +119,19 @@ fn carry_shapes_on(
     Ok(())
 }
 
-/// The same of the shapes of all runs.
+/// The same of the shapes of all chunks.
 fn carry_own_on(
-    runs: &[Vec<Shape<'_, '_>>],
+    chunks: &[Vec<Shape<'_, '_>>],
     at: &Placement,
     frame: &Rect,
     found: &mut Found,
 ) -> Result<(), FlattenError>
     requires { IsWithin 257 at.now }
-    ensures found { OnOk result (IsFound frame.now (flat_map (shape_copies at.now) (flat_map vec_items runs.now)) found.old found.new) }
-    ensures refused { IfErr result (IsRefusalOn frame.now (flat_map (shape_copies at.now) (flat_map vec_items runs.now)) found.old) }
+    ensures found { OnOk result (IsFound frame.now (flat_map (shape_copies at.now) (flat_map vec_items chunks.now)) found.old found.new) }
+    ensures refused { IfErr result (IsRefusalOn frame.now (flat_map (shape_copies at.now) (flat_map vec_items chunks.now)) found.old) }
 {
-    'runs: for run in runs {
-        carry_shapes_on(run, at, frame, found)?;
+    'chunks: for chunk in chunks {
+        carry_shapes_on(chunk, at, frame, found)?;
     }
     Ok(())
 }

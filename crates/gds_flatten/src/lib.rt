@@ -3,6 +3,7 @@
 //! references say, and each refusal comes exactly where its cause is the first.
 #![tactic(auto)]
 
+mod chain;
 mod corners;
 mod design;
 mod extents;
@@ -11,12 +12,9 @@ mod found;
 mod framed;
 mod idle;
 pub mod laws;
-mod share;
+mod stretch;
 mod walk;
 mod whole;
 
-pub use flattening::{
-    flatten, flatten_parts, flatten_parts_within, flatten_rects, flatten_region_within,
-    flatten_within,
-};
+pub use flattening::{flatten, flatten_parts, flatten_within};
 pub use gds_cells::FlattenError;

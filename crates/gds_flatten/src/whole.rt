@@ -85,18 +85,18 @@ fn carry_shapes_in(
     Ok(())
 }
 
-/// The same of the shapes of all runs.
+/// The same of the shapes of all chunks.
 fn carry_own_in(
-    runs: &[Vec<Shape<'_, '_>>],
+    chunks: &[Vec<Shape<'_, '_>>],
     at: &Placement,
     found: &mut Found,
 ) -> Result<(), FlattenError>
     requires { IsWithin 257 at.now }
-    ensures found { OnOk result ((r : Rect) → AreInside r (flat_map (shape_copies at.now) (flat_map vec_items runs.now)) → IsFound r (flat_map (shape_copies at.now) (flat_map vec_items runs.now)) found.old found.new) }
-    ensures refused { IfErr result (λ e. (r : Rect) → AreInside r (flat_map (shape_copies at.now) (flat_map vec_items runs.now)) → IsRefusalOn r (flat_map (shape_copies at.now) (flat_map vec_items runs.now)) found.old e) }
+    ensures found { OnOk result ((r : Rect) → AreInside r (flat_map (shape_copies at.now) (flat_map vec_items chunks.now)) → IsFound r (flat_map (shape_copies at.now) (flat_map vec_items chunks.now)) found.old found.new) }
+    ensures refused { IfErr result (λ e. (r : Rect) → AreInside r (flat_map (shape_copies at.now) (flat_map vec_items chunks.now)) → IsRefusalOn r (flat_map (shape_copies at.now) (flat_map vec_items chunks.now)) found.old e) }
 {
-    'runs: for run in runs {
-        carry_shapes_in(run, at, found)?;
+    'chunks: for chunk in chunks {
+        carry_shapes_in(chunk, at, found)?;
     }
     Ok(())
 }

@@ -2,6 +2,7 @@
 use Rattle.std.specs.Prelude.{ℕ, Bool, true, false, List, [], ◌∷◌, length, map, take, drop, Option, Some, None, ◌==◌, nat_lt, ◌/◌, ◌%◌, ◌&&◌, ◌||◌, not, if◌then◌else◌}
 use Rattle.std.specs.Ordering.{int_eq}
 use Rattle.std.specs.List.{list_all}
+use Rattle.fill_base.specs.declared.layer.Layer.{Layer}
 use Rattle.fill_base.specs.declared.place.Point.{Point}
 use Rattle.gds_record.specs.declared.kind.TheConstants as kinds
 use Rattle.gds_record.specs.Records.{Rec}
@@ -124,6 +125,9 @@ value_if read None = None
 abbrev pub word_in : ℕ → List Rec → ℕ
 word_in kind before = value_of word_of (body_of kind before)
 
+abbrev pub layer_in : List Rec → Layer
+layer_in before = record { layer = word_in kinds.LAYER before; data_type = word_in kinds.DATATYPE before }
+
 abbrev pub name_in : List Rec → List ℕ
 name_in before = value_of trimmed (body_of kinds.SNAME before)
 
@@ -144,9 +148,9 @@ rows_in before = value_of (λ body. word_of (drop 2 body)) (body_of kinds.COLROW
 -- what an element with these records before XY says; texts, nodes and boxes say nothing
 abbrev pub shapes_in : ElementKind → List Rec → List ℕ → List Shape
 shapes_in Boundary before xy =
-    boundary (word_in kinds.LAYER before) (word_in kinds.DATATYPE before) (points_of xy) ∷ []
+    boundary (layer_in before) (points_of xy) ∷ []
 shapes_in Path before xy =
-    path (word_in kinds.LAYER before) (word_in kinds.DATATYPE before) (record {
+    path (layer_in before) (record {
       path_type = value_if word_of (body_of kinds.PATHTYPE before);
       width = value_if number_of (body_of kinds.WIDTH before);
       begin_extension = value_if number_of (body_of kinds.BGNEXTN before);

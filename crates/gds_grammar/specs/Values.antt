@@ -1,6 +1,7 @@
 -- What a library says, without where it lies in memory.
 use Rattle.std.specs.Prelude.{ℕ, ℤ, List, map, Option}
 use Rattle.std.specs.Global.{Vec}
+use Rattle.fill_base.specs.declared.layer.Layer.{Layer}
 use Rattle.fill_base.specs.declared.place.Point.{Point}
 use Rattle.gds_grammar.specs.Points.{points_of}
 use Rattle.gds_grammar.specs.declared.element.Path as paths
@@ -20,8 +21,8 @@ pub record Wire : Type 0 where
   pub points : List Point
 
 pub data Shape : Type 0 where
-  boundary : (layer data_type : ℕ) (points : List Point) → Shape
-  path : (layer data_type : ℕ) (wire : Wire) → Shape
+  boundary : (layer : Layer) (points : List Point) → Shape
+  path : (layer : Layer) (wire : Wire) → Shape
   reference : (cell : List ℕ) (transform : Transform) (origin : Point) → Shape
   array : (cell : List ℕ) (transform : Transform) (columns rows : ℕ) (points : List Point) → Shape
 
@@ -47,13 +48,13 @@ wire_of p = record {
 }
 
 abbrev pub shape_of_path : paths.Path → Shape
-shape_of_path p = path p.layer p.data_type (wire_of p)
+shape_of_path p = path p.layer (wire_of p)
 
 abbrev pub shape_of_reference : references.Ref → Shape
 shape_of_reference r = reference r.cell.now r.transform r.origin
 
 abbrev pub shape_of : Element → Shape
-shape_of (elements.Boundary b) = boundary b.layer b.data_type (points_in b.points)
+shape_of (elements.Boundary b) = boundary b.layer (points_in b.points)
 shape_of (elements.Path p) = shape_of_path p.value
 shape_of (elements.Ref r) = shape_of_reference r.value
 shape_of (elements.Array a) =

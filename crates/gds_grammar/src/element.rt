@@ -5,7 +5,7 @@ ghost use Rattle.gds_record.specs.Numbers.{IsStored};
 ghost use Rattle.gds_grammar.specs.Points.{points_of};
 
 use crate::element::points::Points;
-use fill_base::Point;
+use fill_base::{Layer, Point};
 
 pub mod body;
 pub mod points;
@@ -27,10 +27,8 @@ pub struct Transform {
 /// A filled polygon.
 #[derive(Debug, Drop)]
 pub struct Boundary<'a> {
-    /// LAYER, as an unsigned number (this project's profile).
-    pub layer: u16,
-    /// DATATYPE, as an unsigned number (this project's profile).
-    pub data_type: u16,
+    /// LAYER and DATATYPE.
+    pub layer: Layer,
     /// Its points.
     pub points: Points<'a>,
     pub ghost filled: { 0 < length (points_of points.xy.now) },
@@ -41,10 +39,8 @@ pub struct Boundary<'a> {
 /// A wire along a chain of points.
 #[derive(Debug, Drop)]
 pub struct Path<'a> {
-    /// LAYER, as an unsigned number (this project's profile).
-    pub layer: u16,
-    /// DATATYPE, as an unsigned number (this project's profile).
-    pub data_type: u16,
+    /// LAYER and DATATYPE.
+    pub layer: Layer,
     /// PATHTYPE, the shape of its ends.
     pub path_type: Option<u16>,
     /// WIDTH in database units; a negative one is not magnified.

@@ -17,5 +17,4 @@ mod well_formed;
 pub use element::points::Points;
 pub use element::{Array, Boundary, Element, Path, Ref, Transform};
 pub use error::LibraryError;
-pub use library::{Library, read_layers, read_library};
-pub use wanted::Layer;
+pub use library::{Cells, Library, read_layers, read_library};

@@ -14,10 +14,16 @@ use crate::element::Element;
 use crate::error::{Cause, LibraryError, Refusal, Stop};
 use crate::head::{Head, read_head};
 use crate::next::{expect, next};
-use crate::wanted::{Layer, Wanted};
+use crate::wanted::Wanted;
+use fill_base::Layer;
 use gds_record::{kind, name};
 use indexmap::IndexMap;
 use std::alloc::{AllocError, Global};
+use std::hash::{BuildHasherDefault, DefaultHasher};
+
+/// The elements of each cell in the order of the file, by the cell's name, in the order of the file. Names are found by SipHash, which no
+/// file can steer: a hostile one can't make all of its names fall on one another.
+pub type Cells<'a> = IndexMap<Vec<u8>, Vec<Element<'a>>, BuildHasherDefault<DefaultHasher>>;
 
 /// A library: its cells, which the manual calls structures, by their names in the order of the
 /// file.
@@ -29,11 +35,11 @@ pub struct Library<'a> {
     pub units: [u8; 16],
     /// The elements of each cell in the order of the file, by the cell's name without the
     /// zero bytes at its end.
-    pub cells: IndexMap<Vec<u8>, Vec<Element<'a>>>,
+    pub cells: Cells<'a>,
 }
 
 /// Whether a cell has the name.
-pub fn has_cell(cells: &IndexMap<Vec<u8>, Vec<Element<'_>>>, name: &[u8]) -> bool
+pub fn has_cell(cells: &Cells<'_>, name: &[u8]) -> bool
     ensures { result ≡ has_name (map cell_of cells.now.entries) name.now }
 {
     cells.contains_key(name)
@@ -41,7 +47,7 @@ pub fn has_cell(cells: &IndexMap<Vec<u8>, Vec<Element<'_>>>, name: &[u8]) -> boo
 
 /// Puts a cell at the end.
 pub fn add_cell<'a>(
-    cells: &mut IndexMap<Vec<u8>, Vec<Element<'a>>>,
+    cells: &mut Cells<'a>,
     name: Vec<u8>,
     elements: Vec<Element<'a>>,
 ) -> Result<(), AllocError>
@@ -116,7 +122,7 @@ fn read<'a>(
     let mut library = Library {
         dates,
         units,
-        cells: IndexMap::new(alloc),
+        cells: IndexMap::with_hasher(alloc, BuildHasherDefault::new()),
     };
     let mut rest = behind;
     'cells: loop {

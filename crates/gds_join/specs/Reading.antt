@@ -15,8 +15,8 @@ use Rattle.gds_out.specs.Places.{PlaceSet}
 
 -- where the single references of a shape stand; a reference that flattening refuses stands nowhere
 abbrev pub corners_of : Shape → List Point
-corners_of (boundary layer data_type points) = []
-corners_of (path layer data_type wire) = []
+corners_of (boundary layer points) = []
+corners_of (path layer wire) = []
 corners_of (reference cell transform origin) = if is_bad_transform transform then [] else origin ∷ []
 corners_of (array cell transform columns rows points) =
     if is_bad_transform transform then []

@@ -16,8 +16,7 @@ use fill_base::Place;
 use fill_state::Filled;
 use fill_text::Rules;
 use gds_cells::{Link, array_link, reference_link};
-use gds_grammar::{Element, Library};
-use indexmap::IndexMap;
+use gds_grammar::{Cells, Element, Library};
 
 /// The place of the raster whose box has this lower left corner.
 fn place_at(rules: &Rules, x: i64, y: i64) -> Option<Place>
@@ -103,10 +102,7 @@ fn fill_elements(rules: &Rules, filled: &mut Filled, elements: &[Element<'_>])
 }
 
 /// The elements of the cell at the index.
-pub(crate) fn elements_at<'a, 'b>(
-    cells: &'a IndexMap<Vec<u8>, Vec<Element<'b>>>,
-    index: usize,
-) -> &'a [Element<'b>]
+pub(crate) fn elements_at<'a, 'b>(cells: &'a Cells<'b>, index: usize) -> &'a [Element<'b>]
     requires { index < length cells.now.entries }
     ensures { map shape_of result.now ≡ elements_at (map cell_of cells.now.entries) index }
 {

@@ -204,9 +204,6 @@ corner_is r s x y x' y' is part x_is x_at y_is y_at =
     let ry : read y ≡ box_begin r.up s.row = ap read (y_is ∙ y_at) ∙ stored_read _ c.low c.high in
     rw (rx, ry) refl
 
-pub layer_read : (z v : ℤ) → z ≡ v → pos 0 ≤ℤ z → z ≤ℤ pos 65535 → unsigned_abs (read z) ≡ unsigned_abs v
-layer_read z v is low high = ap unsigned_abs (stored_read z (omega (arith, ints)) (omega (arith, ints)) ∙ is)
-
 -- a stack of one box, and of more
 pub stack_one : (cell cell' : List ℕ) (r : Lattice) (s : Stack) (p : Point) → ((s.columns == 1) && (s.rows == 1)) ≡ true → cell ≡ cell' → p ≡ at (box_begin r.across s.column) (box_begin r.up s.row)
     → reference_records cell p.x p.y ≡ stack_records cell' r s

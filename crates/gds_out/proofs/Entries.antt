@@ -2,6 +2,7 @@
 use Rattle.std.proofs.Common.{◌≡◌, refl, ap, ◌∙◌, ℕ, suc, ◌*◌, ◌/◌, ◌%◌, true, false, List, [], ◌∷◌, ◌++◌, map}
 use Rattle.std.specs.List.{flat_map, filter, range_with_len, AllByRecursion}
 use Rattle.std.proofs.lemmas.Bool.{eq-eqb}
+use Rattle.fill_base.specs.declared.layer.Layer.{Layer}
 use Rattle.fill_base.specs.declared.place.Point.{Point}
 use Rattle.gds_grammar.specs.Values.{Shape, boundary, path, reference, array}
 use Rattle.gds_shape.specs.Winding.{covers}
@@ -15,14 +16,14 @@ use Rattle.gds_cells.specs.Shapes.{is_shape, covers_of}
 
 -- the single references of a shape
 abbrev pub singles_of : List Entry → Shape → List (ℕ × Placement)
-singles_of cells (boundary l d ps) = []
-singles_of cells (path l d wire) = []
+singles_of cells (boundary l ps) = []
+singles_of cells (path l wire) = []
 singles_of cells (reference name t o) = (index_of cells name, placement_of t o) ∷ []
 singles_of cells (array name t m n ps) = map (λ p. (index_of cells name, p)) (map (λ k. placement_of t (grid_point ps m n (k % m) (k / m))) (range_with_len 0 (m * n)))
 
 singles_are : (cells : List Entry) (e : Shape) → singles_to cells (name_of e) (placements_of e) ≡ singles_of cells e
-singles_are cells (boundary l d ps) = refl
-singles_are cells (path l d wire) = refl
+singles_are cells (boundary l ps) = refl
+singles_are cells (path l wire) = refl
 singles_are cells (reference name t o) = refl
 singles_are cells (array name t m n ps) = refl
 
@@ -32,43 +33,43 @@ singles_by_shape cells (e ∷ es) = ap (λ s. s ++ singles_among cells es) (sing
 
 -- a reference or an array
 abbrev pub IsLink : Shape → Type 0
-IsLink (boundary l d ps) = ⊥
-IsLink (path l d wire) = ⊥
+IsLink (boundary l ps) = ⊥
+IsLink (path l wire) = ⊥
 IsLink (reference name t o) = Unit {0}
 IsLink (array name t m n ps) = Unit {0}
 
-not_drawn : (l d : ℕ) (e : Shape) → IsLink e → is_shape l d e ≡ false
-not_drawn l d (boundary a b ps) is = absurd is
-not_drawn l d (path a b wire) is = absurd is
-not_drawn l d (reference name t o) is = refl
-not_drawn l d (array name t m n ps) is = refl
+not_drawn : (l : Layer) (e : Shape) → IsLink e → is_shape l e ≡ false
+not_drawn l (boundary a ps) is = absurd is
+not_drawn l (path a wire) is = absurd is
+not_drawn l (reference name t o) is = refl
+not_drawn l (array name t m n ps) is = refl
 
-pub links_draw_nothing : (l d : ℕ) (es : List Shape) → AllByRecursion IsLink es → filter (is_shape l d) es ≡ []
-links_draw_nothing l d [] all = refl
-links_draw_nothing l d (e ∷ es) all = rw (not_drawn l d e all.0) (links_draw_nothing l d es all.1)
+pub links_draw_nothing : (l : Layer) (es : List Shape) → AllByRecursion IsLink es → filter (is_shape l) es ≡ []
+links_draw_nothing l [] all = refl
+links_draw_nothing l (e ∷ es) all = rw (not_drawn l e all.0) (links_draw_nothing l es all.1)
 
--- a boundary of a layer and data type
-pub record IsBoundary (l d : ℕ) (ps : List Point) (e : Shape) : Type 0 where
-  pub drawn : is_shape l d e ≡ true
+-- a boundary of a layer
+pub record IsBoundary (l : Layer) (ps : List Point) (e : Shape) : Type 0 where
+  pub drawn : is_shape l e ≡ true
   pub squares : covers_of e ≡ covers ps
   pub nowhere : (cells : List Entry) → singles_to cells (name_of e) (placements_of e) ≡ []
 
-is_boundary : (l d : ℕ) (ps : List Point) (e : Shape) → e ≡ boundary l d ps → IsBoundary l d ps e
-is_boundary l d ps e is = rw is (record { drawn = rw (eq-eqb l l refl, eq-eqb d d refl) refl; squares = refl; nowhere = λ cells. refl })
+is_boundary : (l : Layer) (ps : List Point) (e : Shape) → e ≡ boundary l ps → IsBoundary l ps e
+is_boundary l ps e is = rw is (record { drawn = rw (eq-eqb l.layer l.layer refl, eq-eqb l.data_type l.data_type refl) refl; squares = refl; nowhere = λ cells. refl })
 
 -- the one element of a cell of one boundary
-pub record OneBoundary (l d : ℕ) (ps : List Point) (es : List Shape) : Type 0 where
+pub record OneBoundary (l : Layer) (ps : List Point) (es : List Shape) : Type 0 where
   pub element : Shape
-  pub own : filter (is_shape l d) es ≡ element ∷ []
+  pub own : filter (is_shape l) es ≡ element ∷ []
   pub squares : covers_of element ≡ covers ps
   pub singles : (cells : List Entry) → singles_among cells es ≡ []
 
-pub one_boundary : (l d : ℕ) (ps : List Point) (es : List Shape) → es ≡ boundary l d ps ∷ [] → OneBoundary l d ps es
-one_boundary l d ps [] is = absurd (cc is)
-one_boundary l d ps (e ∷ []) is =
-    let b = is_boundary l d ps e (cc is) in
+pub one_boundary : (l : Layer) (ps : List Point) (es : List Shape) → es ≡ boundary l ps ∷ [] → OneBoundary l ps es
+one_boundary l ps [] is = absurd (cc is)
+one_boundary l ps (e ∷ []) is =
+    let b = is_boundary l ps e (cc is) in
     record { element = e; own = rw b.drawn refl; squares = b.squares; singles = λ cells. rw (b.nowhere cells) refl }
-one_boundary l d ps (e ∷ f ∷ es) is = absurd (cc is)
+one_boundary l ps (e ∷ f ∷ es) is = absurd (cc is)
 
 -- ---- copies
 

@@ -5,6 +5,7 @@ use Rattle.std.specs.List.{flat_map, list_all, AllByRecursion}
 use Rattle.std.proofs.lemmas.Bool.{and_parts}
 use Rattle.std.proofs.lemmas.Int.{ints}
 use Rattle.std.proofs.lemmas.List.{append-nil}
+use Rattle.fill_base.specs.declared.layer.Layer.{Layer}
 use Rattle.fill_base.specs.declared.place.Point.{Point}
 use Rattle.gds_record.specs.Numbers.{trimmed, point_of, IsStored}
 use Rattle.gds_grammar.specs.declared.element.ElementKind.TheVariants.{Boundary, Reference, Array}
@@ -14,12 +15,12 @@ use Rattle.gds_grammar.specs.Values.{Shape, Contents, boundary, reference, array
 use Rattle.fill_base.specs.Limits.{IsLength}
 use Rattle.fill_raster.specs.Axes.{IsAxis, box_begin}
 use Rattle.fill_raster.specs.Lattice.{Lattice}
-use Rattle.fill_text.specs.Rules.{Values, is_fill_name, is_name_byte, raster_of}
+use Rattle.fill_text.specs.Rules.{Values, fill_layer, is_fill_name, is_name_byte, raster_of}
 use Rattle.fill_text.specs.ValuesOfRules.{values_of}
 use Rattle.fill_text.specs.declared.rules.Rules.{Rules}
 use Rattle.gds_out.specs.FillText as text
 use Rattle.gds_out.specs.FillText.{rec, padded, word_bytes, point_bytes, points_bytes, coordinates}
-use Rattle.gds_out.specs.FillContents.{layer_of, data_type_of, box_points, corner_of, stack_points, plain, stack_shapes}
+use Rattle.gds_out.specs.FillContents.{box_points, corner_of, stack_points, plain, stack_shapes}
 use Rattle.gds_out.specs.Laws.{TextIsALibrary}
 use Rattle.fill_stacks.specs.Laws.{IsOnRaster}
 use Rattle.fill_stacks.specs.Places.{PlaceSet}
@@ -79,7 +80,7 @@ abbrev box_part : Values → ElementPart
 box_part v = record {
   element = Boundary;
   start = rec 0x08 0x00 [];
-  before = rec 0x0d 0x02 (word_bytes (layer_of v)) ∷ rec 0x0e 0x02 (word_bytes (data_type_of v)) ∷ [];
+  before = rec 0x0d 0x02 (word_bytes (fill_layer v).layer) ∷ rec 0x0e 0x02 (word_bytes (fill_layer v).data_type) ∷ [];
   xy = rec 0x10 0x03 (points_bytes (map coordinates (box_points (raster_of v.numbers))));
   strings = [];
   properties = [];
@@ -125,13 +126,13 @@ array_says cell n m ps name few small stored = same (name_kept cell name) (word_
     same : {a b : List ℕ} {m n k l : ℕ} {ps qs : List Point} → a ≡ b → m ≡ n → k ≡ l → ps ≡ qs → array a plain m k ps ∷ [] ≡ array b plain n l qs ∷ []
     same e f g h = cc
 
-box_says : (rules : Rules) → let v : Values = values_of rules in element_shapes (box_part v) ≡ boundary (layer_of v) (data_type_of v) (box_points (raster_of v.numbers)) ∷ []
+box_says : (rules : Rules) → let v : Values = values_of rules in element_shapes (box_part v) ≡ boundary (fill_layer v) (box_points (raster_of v.numbers)) ∷ []
 box_says rules =
     let r = raster_of (values_of rules).numbers in
     same (word_back _ (layer_few rules)) (word_back _ (data_type_few rules)) (points_back (box_points r) (stored r.across.length r.up.length (across_is rules).length_is (up_is rules).length_is))
   where
-    same : {m n k l : ℕ} {ps qs : List Point} → m ≡ n → k ≡ l → ps ≡ qs → boundary m k ps ∷ [] ≡ boundary n l qs ∷ []
-    same f g h = cc
+    same : {a b : Layer} {ps qs : List Point} → a.layer ≡ b.layer → a.data_type ≡ b.data_type → ps ≡ qs → boundary a ps ∷ [] ≡ boundary b qs ∷ []
+    same f g h = λ i. boundary (record { layer = f i; data_type = g i }) (h i) ∷ []
 
     corner : (x y : ℤ) → pos 0 ≤ℤ x → x ≤ℤ pos 1048576 → pos 0 ≤ℤ y → y ≤ℤ pos 1048576 → let p : Point = record { x = x; y = y } in IsStored p
     corner x y a b c d = record { left = omega (arith, ints); right = omega (arith, ints); low = omega (arith, ints); high = omega (arith, ints) }

@@ -11,7 +11,7 @@ use Rattle.fill_base.proofs.Signed.{read, read_is, le_trans}
 use Rattle.gds_record.specs.Records.{Rec, spelling}
 use Rattle.fill_raster.specs.Axes.{first, past}
 use Rattle.fill_raster.specs.Lattice.{Lattice, IsLattice}
-use Rattle.fill_raster.proofs.Groups.{starts_below}
+use Rattle.fill_raster.proofs.Bands.{starts_below}
 use Rattle.fill_raster.proofs.Ranges.{first_bounded, past_bounded, extent_bounded}
 use Rattle.fill_stacks.specs.Counting.{as_piece}
 use Rattle.fill_stacks.specs.Runs.{Run, run, runs, piece, pieces, numbers_from}

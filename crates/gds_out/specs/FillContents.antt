@@ -1,23 +1,15 @@
 -- What a fill library says: the contents that its text spells.
-use Rattle.std.specs.Prelude.{ℕ, ◌==◌, ℤ, pos, ◌+ℤ◌, ◌*ℤ◌, unsigned_abs, ◌&&◌, if◌then◌else◌, List, [], ◌∷◌, None}
+use Rattle.std.specs.Prelude.{ℕ, ◌==◌, ℤ, pos, ◌+ℤ◌, ◌*ℤ◌, ◌&&◌, if◌then◌else◌, List, [], ◌∷◌, None}
 use Rattle.std.specs.List.{flat_map}
 use Rattle.fill_base.specs.declared.place.Point.{Point}
 use Rattle.fill_raster.specs.Axes.{box_begin}
 use Rattle.fill_raster.specs.Lattice.{Lattice}
-use Rattle.fill_text.specs.Rules.{Values, value_of, raster_of}
-use Rattle.fill_text.specs.declared.keys.NumberKey.TheVariants.{FillLayer, FillDatatype}
+use Rattle.fill_text.specs.Rules.{Values, fill_layer, raster_of}
 use Rattle.gds_grammar.specs.declared.element.Transform.{Transform}
 use Rattle.gds_grammar.specs.Values.{Shape, Cell, Contents, boundary, reference, array}
 use Rattle.fill_stacks.specs.Places.{PlaceSet}
 use Rattle.fill_stacks.specs.Stacks.{stacks}
 use Rattle.fill_stacks.specs.declared.pieces.Stack.{Stack}
-
--- the fill layer and the fill data type
-abbrev pub layer_of : Values → ℕ
-layer_of v = unsigned_abs (value_of v FillLayer)
-
-abbrev pub data_type_of : Values → ℕ
-data_type_of v = unsigned_abs (value_of v FillDatatype)
 
 -- the points of the boundary of the one box
 abbrev pub box_points : Lattice → List Point
@@ -48,7 +40,7 @@ stack_shapes cell r s =
 
 -- the cell of the one box
 abbrev pub box_cell : Values → Cell
-box_cell v = record { name = v.fill_cell; shapes = boundary (layer_of v) (data_type_of v) (box_points (raster_of v.numbers)) ∷ [] }
+box_cell v = record { name = v.fill_cell; shapes = boundary (fill_layer v) (box_points (raster_of v.numbers)) ∷ [] }
 
 -- the cell that refers to it
 abbrev pub top_cell : Values → PlaceSet → Cell

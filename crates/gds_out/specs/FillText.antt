@@ -1,14 +1,13 @@
 -- The text of a fill library: which records stand in it, by the numbers of the manual (Calma GDSII Stream Format Manual, release
 -- 6.0), and their bytes.
-use Rattle.std.specs.Prelude.{ℕ, ◌%◌, ◌==◌, ℤ, pos, ◌+ℤ◌, ◌*ℤ◌, unsigned_abs, ◌&&◌, if◌then◌else◌, List, [], ◌∷◌, ◌++◌, length}
+use Rattle.std.specs.Prelude.{ℕ, ◌%◌, ◌==◌, ℤ, pos, ◌+ℤ◌, ◌*ℤ◌, ◌&&◌, if◌then◌else◌, List, [], ◌∷◌, ◌++◌, length}
 use Rattle.std.specs.List.{flat_map}
 use Rattle.std.specs.Int.{w16, w32, to_be_bytes, cast_unsigned}
 use Rattle.gds_record.specs.Records.{Rec, spelling}
 use Rattle.fill_base.specs.declared.place.Point.{Point}
 use Rattle.fill_raster.specs.Axes.{box_begin}
 use Rattle.fill_raster.specs.Lattice.{Lattice}
-use Rattle.fill_text.specs.Rules.{Values, value_of, raster_of}
-use Rattle.fill_text.specs.declared.keys.NumberKey.TheVariants.{FillLayer, FillDatatype}
+use Rattle.fill_text.specs.Rules.{Values, fill_layer, raster_of}
 use Rattle.fill_stacks.specs.Places.{PlaceSet}
 use Rattle.fill_stacks.specs.Stacks.{stacks}
 use Rattle.fill_stacks.specs.declared.pieces.Stack.{Stack}
@@ -51,8 +50,8 @@ box_corners r =
 abbrev pub cell_records : List ℕ → Values → List Rec
 cell_records dates v =
     rec 0x05 0x02 dates ∷ rec 0x06 0x06 (padded v.fill_cell)
-    ∷ rec 0x08 0x00 [] ∷ rec 0x0d 0x02 (word_bytes (unsigned_abs (value_of v FillLayer)))
-    ∷ rec 0x0e 0x02 (word_bytes (unsigned_abs (value_of v FillDatatype)))
+    ∷ rec 0x08 0x00 [] ∷ rec 0x0d 0x02 (word_bytes (fill_layer v).layer)
+    ∷ rec 0x0e 0x02 (word_bytes (fill_layer v).data_type)
     ∷ rec 0x10 0x03 (points_bytes (box_corners (raster_of v.numbers))) ∷ rec 0x11 0x00 []
     ∷ rec 0x07 0x00 [] ∷ []
 

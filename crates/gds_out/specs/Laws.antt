@@ -6,7 +6,7 @@ use Rattle.std.specs.Ordering.{int_eq}
 use Rattle.fill_base.specs.declared.place.Point.{Point}
 use Rattle.fill_raster.specs.Axes.{box_begin}
 use Rattle.fill_raster.specs.Lattice.{Lattice, IsLattice, in_raster, box_squares}
-use Rattle.fill_text.specs.Rules.{Values, raster_of}
+use Rattle.fill_text.specs.Rules.{Values, fill_layer, raster_of}
 use Rattle.fill_text.specs.ValuesOfRules.{values_of}
 use Rattle.fill_text.specs.declared.rules.Rules.{Rules}
 use Rattle.fill_stacks.specs.Places.{PlaceSet, filled_places}
@@ -20,7 +20,7 @@ use Rattle.gds_grammar.specs.Grammar.{IsLibrary, all_rules}
 use Rattle.gds_grammar.specs.Outcomes.{Spells}
 use Rattle.gds_grammar.specs.Values.{Contents}
 use Rattle.gds_shape.specs.Winding.{covers}
-use Rattle.gds_out.specs.FillContents.{layer_of, data_type_of, box_points, corner_of, stack_points, fill_contents}
+use Rattle.gds_out.specs.FillContents.{box_points, corner_of, stack_points, fill_contents}
 use Rattle.gds_out.specs.FillText.{fill_records, fill_text}
 
 -- where the single references of a stack stand: an array's as flattening finds them from its points
@@ -60,9 +60,9 @@ abbrev pub TextIsALibrary : Type 0
 TextIsALibrary = (rules : Rules) (units dates : List ℕ) (filled : PlaceSet) → length units ≡ 16 → length dates ≡ 24
     → IsLibrary all_rules (fill_records units dates (values_of rules) filled) (fill_contents units dates (values_of rules) filled)
 
--- the squares of each shape copy of a library from fill_top on, on the fill layer and data type, in the order of flattening
+-- the squares of each shape copy of a library from fill_top on, on the fill layer, in the order of flattening
 abbrev pub boxes_of : Values → Contents → List (ℤ → ℤ → Bool)
-boxes_of v library = map copy_covers (copies_of library.cells v.fill_top (layer_of v) (data_type_of v))
+boxes_of v library = map copy_covers (copies_of library.cells v.fill_top (fill_layer v))
 
 -- of any library that the text spells these are the boxes of the filled places, each once, in another order, and no other
 abbrev pub BoxesAreThePlaces : Type 0

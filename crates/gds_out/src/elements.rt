@@ -1,6 +1,6 @@
 //! The elements of a fill library: the boundary of one box, and references to its cell.
 
-ghost use Rattle.std.specs.Prelude.{◌≡◌, ◌≤◌, ◌≤ℤ◌, ◌+ℤ◌, ◌*ℤ◌, ◌==◌, ◌&&◌, pos, negsuc, unsigned_abs, length, OnOk};
+ghost use Rattle.std.specs.Prelude.{◌≡◌, ◌≤◌, ◌≤ℤ◌, ◌+ℤ◌, ◌*ℤ◌, ◌==◌, ◌&&◌, pos, negsuc, length, OnOk};
 ghost use Rattle.fill_base.specs.Limits.{IsLength};
 ghost use Rattle.gds_record.specs.Numbers.{IsStored};
 ghost use Rattle.fill_text.specs.Rules.{raster_of};
@@ -107,15 +107,6 @@ pub(crate) fn put_stack(writer: &mut Writer, rules: &Rules, stack: Stack) -> Res
     put_array(writer, rules.fill_cell(), corner, step, stack)
 }
 
-/// A layer or a data type as a word.
-fn word(number: i64) -> u16
-    requires low { pos 0 ≤ℤ number }
-    requires high { number ≤ℤ pos 65535 }
-    ensures { result ≡ unsigned_abs number }
-{
-    number as u16
-}
-
 /// Writes the cell of one box.
 pub(crate) fn put_cell(
     writer: &mut Writer,
@@ -125,11 +116,12 @@ pub(crate) fn put_cell(
     ensures { OnOk result (Adds writer.old writer.new (cell_records dates.now (values_of rules.now))) }
 {
     let (width, height) = (rules.box_w(), rules.box_h());
+    let layer = rules.fill_layer();
     writer.put(kind::BGNSTR, form::WORDS, dates)?;
     writer.put_name(kind::STRNAME, rules.fill_cell())?;
     writer.put(kind::BOUNDARY, form::NONE, &[])?;
-    writer.put_word(kind::LAYER, word(rules.fill_layer()))?;
-    writer.put_word(kind::DATATYPE, word(rules.fill_datatype()))?;
+    writer.put_word(kind::LAYER, layer.layer)?;
+    writer.put_word(kind::DATATYPE, layer.data_type)?;
     writer.put_points(&[
         Point { x: 0, y: 0 },
         Point { x: 0, y: height },

@@ -6,14 +6,21 @@ ghost use Rattle.gds_out.specs.steps.Tiles.{OfTiles};
 
 use crate::fill_library;
 use fill_area::area_in;
-use fill_base::{Point, Rect};
+use fill_base::{Layer, Point, Rect};
 use fill_raster::{Marks, Place, Raster};
 use fill_text::{Rules, read_rules};
-use gds_flatten::{flatten, flatten_rects};
+use gds_flatten::{flatten, flatten_parts};
 use gds_grammar::{Element, read_library};
 use std::alloc::{AllocError, Global};
 use std::process::Abort;
 use std::test::Fail;
+use std::thread::Threads;
+
+/// The layer of the boxes.
+const BOXES: Layer = Layer {
+    layer: 10,
+    data_type: 1,
+};
 
 /// The rules but for boxes, steps and tiles.
 const OTHER_RULES: &str = "spacing,2
@@ -328,7 +335,7 @@ fn standing(alloc: Global) -> Result<Vec<Place>, AllocError> {
 
 /// Asserts that the library of these places, or of all but some, is so many boxes, each where its place is, and no more.
 fn assert_boxes(
-    rt: &impl Abort,
+    rt: &(impl Abort + Threads + Sync),
     alloc: Global,
     only: &[Place],
     but: &[Place],
@@ -337,7 +344,7 @@ fn assert_boxes(
     let text = library(alloc, WORKED_RULES, only, but)?;
     let read = read_library(alloc, &text)?;
     assert_eq!(rt; read.units, UNITS);
-    let metal = flatten(alloc, &read, b"FILLTOP", 10, 1)?;
+    let metal = flatten(rt, alloc, &read, b"FILLTOP", BOXES)?;
     let frame = Rect::new(0, 0, 100, 100)?;
     assert_eq!(rt; area_in(&metal, &frame), want);
     for k in 0..100u16 {
@@ -445,7 +452,7 @@ fn a_cell_of_one_box(rt: HostRuntime) -> Result<(), Fail> {
     for element in elements {
         match element {
             Element::Boundary(b) => {
-                assert_eq!(rt; (b.layer, b.data_type), (10, 1));
+                assert_eq!(rt; b.layer, BOXES);
                 let points = [
                     Point { x: 0, y: 0 },
                     Point { x: 0, y: 4 },
@@ -480,20 +487,25 @@ fn an_array_has_three_points(rt: HostRuntime) -> Result<(), Fail> {
 }
 
 /// The boxes of the fill library of these places.
-fn boxes_of(alloc: Global, places: &[Place]) -> Result<Vec<Rect>, Fail> {
+fn boxes_of(
+    rt: &(impl Threads + Sync),
+    alloc: Global,
+    places: &[Place],
+) -> Result<Vec<Rect>, Fail> {
     let text = library(alloc, WORKED_RULES, places, &[])?;
     let read = read_library(alloc, &text)?;
-    Ok(flatten_rects(alloc, &read, b"FILLTOP", 10, 1)?)
+    let parts = flatten_parts(rt, alloc, &read, b"FILLTOP", BOXES)?;
+    Ok(parts.concat(alloc)?)
 }
 
 #[test]
 fn its_copies_are_the_boxes(rt: HostRuntime) -> Result<(), Fail> {
     let want = [[3, 3, 7, 7], [13, 3, 17, 7], [53, 23, 57, 27]];
-    let boxes = boxes_of(rt.alloc(), &THREE)?;
+    let boxes = boxes_of(&rt, rt.alloc(), &THREE)?;
     assert_eq!(rt; boxes.len(), 3);
     for (one, want) in boxes.iter().zip(want) {
         assert_eq!(rt; [one.x1(), one.y1(), one.x2(), one.y2()], want);
     }
-    assert!(rt; boxes_of(rt.alloc(), &NOWHERE)?.is_empty());
+    assert!(rt; boxes_of(&rt, rt.alloc(), &NOWHERE)?.is_empty());
     Ok(())
 }

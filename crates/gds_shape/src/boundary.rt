@@ -16,8 +16,7 @@ use crate::error::ShapeError;
 use crate::extent::{move_to_corner, points_extent};
 use crate::lines::put_swept;
 use crate::strip::put_gap;
-use fill_base::rect::is_coordinate;
-use fill_base::{Point, Rect};
+use fill_base::{Point, Rect, is_coordinate};
 use fill_region::Region;
 use std::alloc::{AllocError, Global};
 

@@ -4,8 +4,7 @@ ghost use Rattle.std.specs.Prelude.{◌≡◌, ◌<◌, length, map, IfSome, IfN
 ghost use Rattle.gds_shape.specs.Extents.{at_point, joined, IsExtent, IsNarrow, IsNear, corner_move};
 
 use crate::bounds::Bounds;
-use fill_base::Point;
-use fill_base::rect::{HIGHEST, LOWEST};
+use fill_base::{HIGHEST, LOWEST, Point};
 
 /// A point as a rectangle of no extent.
 fn at_point(point: Point) -> Bounds

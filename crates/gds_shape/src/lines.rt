@@ -13,8 +13,7 @@ ghost use Rattle.gds_shape.specs.steps.Lines.{IsNextLine, IsCrossed};
 use crate::edge::Edge;
 use crate::edges::edges_of;
 use crate::strip::put_strip;
-use fill_base::rect::{HIGHEST, LOWEST};
-use fill_base::{Point, Rect};
+use fill_base::{HIGHEST, LOWEST, Point, Rect};
 use std::alloc::{AllocError, Global};
 
 /// How many edges begin at the line or below.

@@ -12,8 +12,7 @@ ghost use Rattle.gds_shape.specs.steps.Ranges.{IsStretch};
 
 use crate::bounds::Bounds;
 use crate::strip::put_gap;
-use fill_base::rect::is_coordinate;
-use fill_base::{Point, Rect};
+use fill_base::{Point, Rect, is_coordinate};
 use std::alloc::{AllocError, Global};
 
 /// The lesser end of a segment from `a` to `b`.

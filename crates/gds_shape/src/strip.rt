@@ -7,8 +7,7 @@ ghost use Rattle.fill_region.specs.Squares.{covered};
 ghost use Rattle.gds_shape.specs.steps.Edges.{left_of, going, AreRisingBy};
 
 use crate::edge::Edge;
-use fill_base::Rect;
-use fill_base::rect::LOWEST;
+use fill_base::{LOWEST, Rect};
 use std::alloc::AllocError;
 
 /// Appends the rectangle between two neighbouring edges, where it lies inside and holds a square.

@@ -1,9 +1,12 @@
 //! Whole designs, each read from the bytes of a library that the test writes, and what by hand comes of
 //! its cell 0.
 
-use crate::records::{METAL, begin_cell, finished, head, name_of, put, put_points, put_shape};
+use crate::records::{
+    CHECKED, METAL, begin_cell, finished, head, name_of, put, put_points, put_shape,
+};
+use fill_base::Layer;
 use fill_region::Region;
-use gds_flatten::{FlattenError, flatten, flatten_parts, flatten_rects};
+use gds_flatten::{FlattenError, flatten, flatten_parts};
 use gds_grammar::read_library;
 use std::alloc::Global;
 use std::test::*;
@@ -178,10 +181,14 @@ fn edges_of(alloc: Global, region: &Region) -> Result<Vec<Edges>, Fail> {
 }
 
 /// The pieces of what cell 0 draws on the layer `METAL`.
-pub(crate) fn drawn(alloc: Global, cells: Cells<'_>) -> Result<Vec<Edges>, Fail> {
+pub(crate) fn drawn(
+    rt: &(impl Threads + Sync),
+    alloc: Global,
+    cells: Cells<'_>,
+) -> Result<Vec<Edges>, Fail> {
     let bytes = design(alloc, cells)?;
     let library = read_library(alloc, &bytes)?;
-    let region = flatten(alloc, &library, &name_of(0), METAL, 0)?;
+    let region = flatten(rt, alloc, &library, &name_of(0), CHECKED)?;
     edges_of(alloc, &region)
 }
 
@@ -193,7 +200,7 @@ fn drawn_in_parts(
 ) -> Result<Vec<Edges>, Fail> {
     let bytes = design(alloc, cells)?;
     let library = read_library(alloc, &bytes)?;
-    let parts = flatten_parts(rt, alloc, &library, &name_of(0), METAL, 0)?;
+    let parts = flatten_parts(rt, alloc, &library, &name_of(0), CHECKED)?;
     let region = Region::from_rects(alloc, &parts.concat(alloc)?)?;
     edges_of(alloc, &region)
 }
@@ -207,13 +214,12 @@ pub(crate) fn refused(
     let bytes = design(alloc, cells)?;
     let library = read_library(alloc, &bytes)?;
     let top = name_of(0);
-    let error = flatten(alloc, &library, &top, METAL, 0).err();
-    let alike = flatten_rects(alloc, &library, &top, METAL, 0).err();
-    let in_parts = flatten_parts(rt, alloc, &library, &top, METAL, 0).err();
-    if error == alike && error == in_parts {
+    let error = flatten(rt, alloc, &library, &top, CHECKED).err();
+    let in_parts = flatten_parts(rt, alloc, &library, &top, CHECKED).err();
+    if error == in_parts {
         Ok(error)
     } else {
-        Err("the three answer otherwise".into())
+        Err("both answer otherwise".into())
     }
 }
 
@@ -343,6 +349,16 @@ const DRAWN: &[Case<&'static [Edges]>] = &[
         name: "reflected",
         cells: &[(0, &[Draft::Turned(1, (0x8000, 0), HERE)]), (1, SHAPE)],
         outcome: &[(0, -2, 4, 0)],
+    },
+    Case {
+        name: "an array of a cell that leads to its shape, turned and then reflected",
+        cells: &[
+            (0, &[Draft::Array(1, (2, 1), &[(0, 0), (2000, 0), (0, 50)])]),
+            (1, &[Draft::Turned(2, (0x8000, 0), (0, 100))]),
+            (2, &[Draft::Turned(3, (0, RIGHT), (10, 0))]),
+            (3, SHAPE),
+        ],
+        outcome: &[(8, 96, 10, 100), (1008, 96, 1010, 100)],
     },
     Case {
         name: "columns and rows",
@@ -677,7 +693,7 @@ const REFUSED: &[Case<FlattenError>] = &[
 #[test]
 fn drawn_designs(rt: HostRuntime) -> Result<(), Fail> {
     for case in DRAWN {
-        let edges = drawn(rt.alloc(), case.cells)?;
+        let edges = drawn(&rt, rt.alloc(), case.cells)?;
         assert_eq!(rt; edges.as_slice(), case.outcome, "{}", case.name);
         let edges = drawn_in_parts(&rt, rt.alloc(), case.cells)?;
         assert_eq!(rt; edges.as_slice(), case.outcome, "{}, in parts", case.name);
@@ -700,8 +716,8 @@ fn rectangles_of_each_copy(rt: HostRuntime) -> Result<(), Fail> {
     let top: &[Draft<'static>] = &[Draft::Ref(1, HERE), Draft::Ref(1, (2, 0))];
     let bytes = design(rt.alloc(), &[(0, top), (1, SHAPE)])?;
     let library = read_library(rt.alloc(), &bytes)?;
-    let rects = flatten_rects(rt.alloc(), &library, &name_of(0), METAL, 0)?;
-    assert_eq!(rt; rects.len(), 2);
+    let parts = flatten_parts(&rt, rt.alloc(), &library, &name_of(0), CHECKED)?;
+    assert_eq!(rt; parts.concat(rt.alloc())?.len(), 2);
     Ok(())
 }
 
@@ -710,10 +726,14 @@ fn rectangles_of_each_copy(rt: HostRuntime) -> Result<(), Fail> {
 fn tops(rt: HostRuntime) -> Result<(), Fail> {
     let bytes = design(rt.alloc(), &[(0, SHAPE), (1, &[])])?;
     let library = read_library(rt.alloc(), &bytes)?;
-    let refused = flatten(rt.alloc(), &library, b"AA\0", METAL, 0).err();
+    let refused = flatten(&rt, rt.alloc(), &library, b"AA\0", CHECKED).err();
     assert_eq!(rt; refused, Some(FlattenError::NoTop));
     for (name, data_type) in [(b"AB", 0), (b"AA", 1)] {
-        let nothing = flatten(rt.alloc(), &library, name, METAL, data_type)?;
+        let layer = Layer {
+            layer: METAL,
+            data_type,
+        };
+        let nothing = flatten(&rt, rt.alloc(), &library, name, layer)?;
         assert_eq!(rt; nothing.is_empty(), true);
     }
     Ok(())
@@ -735,17 +755,21 @@ fn chain(alloc: Global, cells: u16) -> Result<Vec<u8>, Fail> {
 fn chains(rt: HostRuntime) -> Result<(), Fail> {
     let bytes = chain(rt.alloc(), 256)?;
     let deep = read_library(rt.alloc(), &bytes)?;
-    let region = flatten(rt.alloc(), &deep, &name_of(0), METAL, 0)?;
+    let region = flatten(&rt, rt.alloc(), &deep, &name_of(0), CHECKED)?;
     let edges = edges_of(rt.alloc(), &region)?;
     assert_eq!(rt; edges.as_slice(), [(255, 0, 259, 2)].as_slice());
     let more = chain(rt.alloc(), 257)?;
     let deeper = read_library(rt.alloc(), &more)?;
-    let refused = flatten(rt.alloc(), &deeper, &name_of(0), METAL, 0).err();
+    let refused = flatten(&rt, rt.alloc(), &deeper, &name_of(0), CHECKED).err();
     assert_eq!(rt; refused, Some(FlattenError::TooDeep));
     // Also where the layer has no shape.
-    let refused = flatten(rt.alloc(), &deeper, &name_of(0), 9, 0).err();
+    let other = Layer {
+        layer: 9,
+        data_type: 0,
+    };
+    let refused = flatten(&rt, rt.alloc(), &deeper, &name_of(0), other).err();
     assert_eq!(rt; refused, Some(FlattenError::TooDeep));
-    let region = flatten(rt.alloc(), &deeper, &name_of(1), METAL, 0)?;
+    let region = flatten(&rt, rt.alloc(), &deeper, &name_of(1), CHECKED)?;
     assert_eq!(rt; region.is_empty(), false);
     Ok(())
 }

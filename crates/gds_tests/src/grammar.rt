@@ -1,8 +1,7 @@
 //! Libraries, record by record.
 
-use fill_base::Point;
+use fill_base::{Layer, Point};
 use gds_grammar::*;
-use indexmap::IndexMap;
 use std::alloc::{AllocError, Global};
 use std::process::Abort;
 use std::test::*;
@@ -82,13 +81,13 @@ fn error_of(alloc: Global, bytes: &[u8]) -> Option<LibraryError> {
     }
 }
 
-/// The layer, the data type and the points of the only element of a cell, where that is a boundary.
-fn only_boundary<'a>(elements: &[Element<'a>]) -> Option<(u16, u16, Points<'a>)> {
+/// The layer and the points of the only element of a cell, where that is a boundary.
+fn only_boundary<'a>(elements: &[Element<'a>]) -> Option<(Layer, Points<'a>)> {
     let [element] = elements else {
         return None;
     };
     match element {
-        Element::Boundary(b) => Some((b.layer, b.data_type, b.points)),
+        Element::Boundary(b) => Some((b.layer, b.points)),
         _ => None,
     }
 }
@@ -109,8 +108,8 @@ fn is_one_wire(rt: &impl Abort, alloc: Global, bytes: &[u8]) -> Result<(), Fail>
     assert_eq!(rt; library.units[..8], [0x41, 0x10, 0, 0, 0, 0, 0, 0][..]);
     assert_eq!(rt; library.cells.len(), 1);
     let elements = library.cells.get(b"TOP".as_slice()).ok_or("no cell TOP")?;
-    let (layer, data_type, points) = only_boundary(elements).ok_or("no boundary")?;
-    assert_eq!(rt; (layer, data_type), (7, 0));
+    let (layer, points) = only_boundary(elements).ok_or("no boundary")?;
+    assert_eq!(rt; (layer.layer, layer.data_type), (7, 0));
     assert_eq!(rt; points.to_vec(alloc)?.as_slice(), WIRE);
     Ok(())
 }
@@ -507,8 +506,8 @@ fn fill_without_a_box(rt: HostRuntime) -> Result<(), Fail> {
     let top = cells.get(b"FILLTOP".as_slice()).ok_or("no cell FILLTOP")?;
     assert!(rt; top.is_empty());
     let elements = cells.get(b"BOX4".as_slice()).ok_or("no cell BOX4")?;
-    let (layer, data_type, points) = only_boundary(elements).ok_or("no boundary")?;
-    assert_eq!(rt; (layer, data_type), (10, 1));
+    let (layer, points) = only_boundary(elements).ok_or("no boundary")?;
+    assert_eq!(rt; (layer.layer, layer.data_type), (10, 1));
     assert_eq!(rt; points.to_vec(rt.alloc())?.as_slice(), FOUR_BY_FOUR);
     Ok(())
 }
@@ -529,7 +528,7 @@ const EXTENDED: &[&[u8]] = &[
 
 /// Whether a path is that one, but for its points.
 fn is_extended(p: &Path<'_>) -> bool {
-    (p.layer, p.data_type) == (7, 0)
+    (p.layer.layer, p.layer.data_type) == (7, 0)
         && (p.path_type, p.width) == (Some(4), Some(-4))
         && (p.begin_extension, p.end_extension) == (Some(5), None)
 }

@@ -2,11 +2,12 @@
 //! of its bytes changed to each value.
 
 use crate::designs::{Draft, OBLONG, put_cell};
-use crate::records::{METAL, finished, head, name_of};
+use crate::records::{CHECKED, METAL, finished, head, name_of};
 use gds_flatten::{FlattenError, flatten};
 use gds_grammar::read_library;
 use std::alloc::Global;
 use std::test::*;
+use std::thread::Threads;
 
 /// A reference to a cell that moves nothing.
 fn to(cell: u16) -> Draft<'static> {
@@ -38,11 +39,11 @@ fn looped(alloc: Global, cells: u16) -> Result<Vec<u8>, Fail> {
 fn two_hundred_cells_that_double(rt: HostRuntime) -> Result<(), Fail> {
     let bytes = doubling(rt.alloc(), 200, &[Draft::Boundary(METAL, OBLONG)])?;
     let library = read_library(rt.alloc(), &bytes)?;
-    let refused = flatten(rt.alloc(), &library, &name_of(0), METAL, 0).err();
+    let refused = flatten(&rt, rt.alloc(), &library, &name_of(0), CHECKED).err();
     assert_eq!(rt; refused, Some(FlattenError::TooManyShapes));
     let bytes = doubling(rt.alloc(), 200, &[])?;
     let library = read_library(rt.alloc(), &bytes)?;
-    let region = flatten(rt.alloc(), &library, &name_of(0), METAL, 0)?;
+    let region = flatten(&rt, rt.alloc(), &library, &name_of(0), CHECKED)?;
     assert!(rt; region.is_empty());
     Ok(())
 }
@@ -52,16 +53,16 @@ fn a_loop_is_told_before_a_chain_too_deep(rt: HostRuntime) -> Result<(), Fail> {
     for cells in [1, 255, 256, 257] {
         let bytes = looped(rt.alloc(), cells)?;
         let library = read_library(rt.alloc(), &bytes)?;
-        let refused = flatten(rt.alloc(), &library, &name_of(0), METAL, 0).err();
+        let refused = flatten(&rt, rt.alloc(), &library, &name_of(0), CHECKED).err();
         assert_eq!(rt; refused, Some(FlattenError::Cycle), "{cells}");
     }
     Ok(())
 }
 
 /// Whether the bytes are a library whose cell 0 draws something that is taken.
-fn is_drawn(alloc: Global, bytes: &[u8]) -> bool {
+fn is_drawn(rt: &(impl Threads + Sync), alloc: Global, bytes: &[u8]) -> bool {
     match read_library(alloc, bytes) {
-        Ok(library) => flatten(alloc, &library, &name_of(0), METAL, 0).is_ok(),
+        Ok(library) => flatten(rt, alloc, &library, &name_of(0), CHECKED).is_ok(),
         Err(_) => false,
     }
 }
@@ -85,7 +86,7 @@ fn each_byte_may_have_each_value(rt: HostRuntime) -> Result<(), Fail> {
         let kept = bytes.get(at).copied().unwrap_or(0);
         for value in 0..=255 {
             set(&mut bytes, at, value);
-            if is_drawn(rt.alloc(), &bytes) {
+            if is_drawn(&rt, rt.alloc(), &bytes) {
                 taken = taken.wrapping_add(1);
             }
         }

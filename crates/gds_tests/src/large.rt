@@ -1,7 +1,7 @@
 //! Designs of many copies, which several threads carry in shares.
 
 use crate::designs::{Draft, EDGE, SQUARE, design, drawn, refused};
-use crate::records::{METAL, name_of};
+use crate::records::{CHECKED, METAL, name_of};
 use gds_flatten::{FlattenError, flatten_parts};
 use gds_grammar::read_library;
 use std::test::*;
@@ -13,7 +13,7 @@ fn large_design(rt: HostRuntime) -> Result<(), Fail> {
     let top = [Draft::Array(1, (10, 10), &[(0, 0), (1000, 0), (0, 400)])];
     let middle = [Draft::Array(2, (50, 20), &[(0, 0), (100, 0), (0, 40)])];
     let square = [Draft::Boundary(METAL, SQUARE)];
-    let edges = drawn(alloc, &[(0, &top), (1, &middle), (2, &square)])?;
+    let edges = drawn(&rt, alloc, &[(0, &top), (1, &middle), (2, &square)])?;
     assert_eq!(rt; edges.len(), 100_000);
     let mut wrong = 0u32;
     let mut next = (0i64, 0i64);
@@ -61,7 +61,7 @@ fn parts_of_a_large_design(rt: HostRuntime) -> Result<(), Fail> {
     let square = [Draft::Boundary(METAL, SQUARE)];
     let bytes = design(alloc, &[(0, &top), (1, &middle), (2, &square)])?;
     let library = read_library(alloc, &bytes)?;
-    let parts = flatten_parts(&rt, alloc, &library, &name_of(0), METAL, 0)?;
+    let parts = flatten_parts(&rt, alloc, &library, &name_of(0), CHECKED)?;
     let mut lengths = Vec::new(alloc);
     for part in &parts {
         lengths.push(part.len())?;

@@ -2,8 +2,8 @@
 
 use crate::designs::SQUARE;
 use crate::records::{begin_cell, finished, head, name_of, put, put_points};
-use fill_base::Point;
-use gds_grammar::{Element, Layer, Library, read_layers};
+use fill_base::{Layer, Point};
+use gds_grammar::{Element, Library, read_layers};
 use std::alloc::Global;
 use std::mem;
 use std::test::*;
@@ -41,11 +41,16 @@ fn mixed(alloc: Global) -> Result<Vec<u8>, Fail> {
     finished(bytes)
 }
 
+/// The two numbers of a layer.
+fn pair(layer: Layer) -> (u16, u16) {
+    (layer.layer, layer.data_type)
+}
+
 /// What an element is, as in the table; 10 and 11 are references and arrays.
 fn told(element: &Element<'_>) -> (u8, (u16, u16)) {
     match element {
-        Element::Boundary(boundary) => (8, (boundary.layer, boundary.data_type)),
-        Element::Path(path) => (9, (path.layer, path.data_type)),
+        Element::Boundary(boundary) => (8, pair(boundary.layer)),
+        Element::Path(path) => (9, pair(path.layer)),
         Element::Ref(_) => (10, (0, 0)),
         Element::Array(_) => (11, (0, 0)),
     }

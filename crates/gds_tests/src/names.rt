@@ -1,17 +1,11 @@
 //! Cells whose names are as long as a record holds.
 
 use crate::designs::{SQUARE, put_boundary};
-use crate::records::{DATES, METAL, begin_cell, finished, head, name_of, put, put_points};
-use gds_flatten::flatten_rects;
-use gds_grammar::{Layer, LibraryError, read_layers};
+use crate::records::{CHECKED, DATES, METAL, begin_cell, finished, head, name_of, put, put_points};
+use gds_flatten::flatten_parts;
+use gds_grammar::{LibraryError, read_layers};
 use std::alloc::Global;
 use std::test::*;
-
-/// The layer of the designs.
-const LAYERS: &[Layer] = &[Layer {
-    layer: METAL,
-    data_type: 0,
-}];
 
 /// How many bytes the longest name has: the length of its record is 65,534, the last even one.
 const LONGEST: usize = 65_530;
@@ -46,13 +40,13 @@ fn longest_names(rt: HostRuntime) -> Result<(), Fail> {
     let alloc = rt.alloc();
     let mut name = name_of_length(alloc, LONGEST)?;
     let bytes = named(alloc, &name)?;
-    let library = read_layers(alloc, &bytes, LAYERS)?;
+    let library = read_layers(alloc, &bytes, &[CHECKED])?;
     assert!(rt;
         library.cells.contains_key(name.as_slice()),
         "no cell of the name"
     );
     for (top, corner) in [(name.as_slice(), (0, 0)), (&name_of(0), (30, 40))] {
-        let rects = flatten_rects(alloc, &library, top, METAL, 0)?;
+        let rects = flatten_parts(&rt, alloc, &library, top, CHECKED)?.concat(alloc)?;
         assert_eq!(rt; rects.len(), 1);
         for rect in &rects {
             assert_eq!(rt; (rect.x1(), rect.y1()), corner);
@@ -60,7 +54,7 @@ fn longest_names(rt: HostRuntime) -> Result<(), Fail> {
     }
     name.push(b'N')?;
     let bytes = named(alloc, &name)?;
-    let refused = read_layers(alloc, &bytes, LAYERS).err();
+    let refused = read_layers(alloc, &bytes, &[CHECKED]).err();
     assert_eq!(rt; refused, Some(LibraryError::BadLength));
     Ok(())
 }

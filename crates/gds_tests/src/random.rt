@@ -1,12 +1,14 @@
 //! Random designs: what lies in a frame is what all of the design draws, met with the frame.
 
 use crate::designs::{RIGHT, Turn, put_array, put_boundary, put_single};
-use crate::records::{METAL, begin_cell, finished, head, name_of, put};
+use crate::records::{CHECKED, METAL, begin_cell, finished, head, name_of, put};
 use fill_base::Rect;
-use gds_flatten::{flatten, flatten_region_within};
+use fill_region::Region;
+use gds_flatten::{flatten, flatten_within};
 use gds_grammar::read_library;
 use std::alloc::Global;
 use std::test::*;
+use std::thread::Threads;
 
 /// Numbers that look random: a linear congruential generator.
 #[derive(Drop)]
@@ -99,15 +101,20 @@ fn frame_of(dice: &mut Dice) -> Result<Rect, Fail> {
 }
 
 /// How many of so many frames hold something else than the design met with them.
-fn wrong_frames(alloc: Global, dice: &mut Dice, frames: u32) -> Result<u32, Fail> {
+fn wrong_frames(
+    rt: &(impl Threads + Sync),
+    alloc: Global,
+    dice: &mut Dice,
+    frames: u32,
+) -> Result<u32, Fail> {
     let bytes = random_design(alloc, dice)?;
     let library = read_library(alloc, &bytes)?;
-    let whole = flatten(alloc, &library, &name_of(0), METAL, 0)?;
+    let whole = flatten(rt, alloc, &library, &name_of(0), CHECKED)?;
     let mut wrong = 0u32;
     for _ in 0..frames {
         let frame = frame_of(dice)?;
-        let part = flatten_region_within(alloc, &library, &name_of(0), METAL, 0, &frame)?;
-        if part != whole.clip(alloc, &frame)? {
+        let part = flatten_within(rt, alloc, &library, &name_of(0), CHECKED, &frame)?;
+        if Region::from_rects(alloc, &part)? != whole.clip(alloc, &frame)? {
             wrong = wrong.wrapping_add(1);
         }
     }
@@ -118,7 +125,7 @@ fn wrong_frames(alloc: Global, dice: &mut Dice, frames: u32) -> Result<u32, Fail
 fn frames_of_random_designs(rt: HostRuntime) -> Result<(), Fail> {
     let mut dice = Dice { state: 1 };
     for _ in 0..12u32 {
-        assert_eq!(rt; wrong_frames(rt.alloc(), &mut dice, 200)?, 0);
+        assert_eq!(rt; wrong_frames(&rt, rt.alloc(), &mut dice, 200)?, 0);
     }
     Ok(())
 }

@@ -1,10 +1,17 @@
 //! The records of a library that a test writes.
 
+use fill_base::Layer;
 use std::alloc::Global;
 use std::test::*;
 
-/// The layer of the designs; their data type is 0.
+/// The number of the checked layer of the designs.
 pub(crate) const METAL: u16 = 7;
+
+/// The checked layer.
+pub(crate) const CHECKED: Layer = Layer {
+    layer: METAL,
+    data_type: 0,
+};
 
 /// The data of BGNLIB and of BGNSTR: no dates.
 pub(crate) const DATES: &[u8] = &[0; 24];

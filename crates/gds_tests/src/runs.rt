@@ -1,9 +1,9 @@
 //! Cells of many elements, which several threads build in runs.
 
 use crate::designs::{Draft, SLANTED, SQUARE, UNEVEN, design, refused};
-use crate::records::{METAL, name_of};
+use crate::records::{CHECKED, METAL, name_of};
 use fill_base::Rect;
-use gds_flatten::{FlattenError, flatten_parts, flatten_rects};
+use gds_flatten::{FlattenError, flatten_parts};
 use gds_grammar::read_library;
 use std::test::*;
 
@@ -55,10 +55,7 @@ fn cell_of_many_elements(rt: HostRuntime) -> Result<(), Fail> {
     let high = [Draft::Boundary(METAL, HIGHER)];
     let bytes = design(alloc, &[(0, &top), (1, &low), (2, &high)])?;
     let library = read_library(alloc, &bytes)?;
-    let rects = flatten_rects(alloc, &library, &name_of(0), METAL, 0)?;
-    assert_eq!(rt; rects.len(), 30_000);
-    assert_eq!(rt; out_of_place(&rects), 0);
-    let parts = flatten_parts(&rt, alloc, &library, &name_of(0), METAL, 0)?;
+    let parts = flatten_parts(&rt, alloc, &library, &name_of(0), CHECKED)?;
     let rects = parts.concat(alloc)?;
     assert_eq!(rt; rects.len(), 30_000);
     assert_eq!(rt; out_of_place(&rects), 0);

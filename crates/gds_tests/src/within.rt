@@ -1,15 +1,14 @@
 //! Parts of designs: what their cell 0 draws within a frame, by hand.
 
 use crate::designs::{Cells, Draft, EDGE, Edges, OBLONG, RIGHT, SLANTED, SQUARE, design};
-use crate::records::{METAL, name_of};
+use crate::records::{CHECKED, METAL, name_of};
 use fill_base::Rect;
 use fill_region::Region;
-use gds_flatten::{
-    FlattenError, flatten_parts_within, flatten_rects, flatten_region_within, flatten_within,
-};
+use gds_flatten::{FlattenError, flatten_parts, flatten_within};
 use gds_grammar::read_library;
 use std::alloc::Global;
 use std::test::*;
+use std::thread::Threads;
 
 /// A design, a frame, and what of the design lies in it.
 struct Part {
@@ -28,19 +27,19 @@ fn region_of(alloc: Global, all: &[Edges]) -> Result<Region, Fail> {
     Ok(Region::from_rects(alloc, &rects)?)
 }
 
-/// What lies in the frame, as a region; or `None` where the three forms differ.
-fn found(alloc: Global, cells: Cells<'_>, frame: Edges) -> Result<Option<Region>, Fail> {
+/// What lies in the frame, as a region.
+fn found(
+    rt: &(impl Threads + Sync),
+    alloc: Global,
+    cells: Cells<'_>,
+    frame: Edges,
+) -> Result<Region, Fail> {
     let bytes = design(alloc, cells)?;
     let library = read_library(alloc, &bytes)?;
     let frame = Rect::new(frame.0, frame.1, frame.2, frame.3)?;
     let top = name_of(0);
-    let region = flatten_region_within(alloc, &library, &top, METAL, 0, &frame)?;
-    let rects = flatten_within(alloc, &library, &top, METAL, 0, &frame)?;
-    let parts = flatten_parts_within(alloc, &library, &top, METAL, 0, &frame)?;
-    let parts = parts.concat(alloc)?;
-    let is_same = region == Region::from_rects(alloc, &rects)?
-        && region == Region::from_rects(alloc, &parts)?;
-    Ok(is_same.then_some(region))
+    let rects = flatten_within(rt, alloc, &library, &top, CHECKED, &frame)?;
+    Ok(Region::from_rects(alloc, &rects)?)
 }
 
 /// Four by two squares at the origin.
@@ -174,7 +173,7 @@ const PARTS: &[Part] = &[
 #[test]
 fn parts_of_designs(rt: HostRuntime) -> Result<(), Fail> {
     for part in PARTS {
-        let found = found(rt.alloc(), part.cells, part.frame)?.ok_or("three forms, two answers")?;
+        let found = found(&rt, rt.alloc(), part.cells, part.frame)?;
         let wanted = region_of(rt.alloc(), part.outcome)?;
         assert!(rt; found == wanted, "{}", part.name);
     }
@@ -212,7 +211,7 @@ fn parts_of_refused_designs(rt: HostRuntime) -> Result<(), Fail> {
     for (cells, error) in REFUSED {
         let bytes = design(rt.alloc(), *cells)?;
         let library = read_library(rt.alloc(), &bytes)?;
-        let refused = flatten_within(rt.alloc(), &library, &name_of(0), METAL, 0, &frame).err();
+        let refused = flatten_within(&rt, rt.alloc(), &library, &name_of(0), CHECKED, &frame).err();
         assert_eq!(rt; refused, Some(*error));
     }
     Ok(())
@@ -229,11 +228,11 @@ fn part_of_too_many(rt: HostRuntime) -> Result<(), Fail> {
     let square = [Draft::Boundary(METAL, SQUARE)];
     let bytes = design(alloc, &[(0, &top), (1, &square)])?;
     let library = read_library(alloc, &bytes)?;
-    let refused = flatten_rects(alloc, &library, &name_of(0), METAL, 0).err();
+    let refused = flatten_parts(&rt, alloc, &library, &name_of(0), CHECKED).err();
     assert_eq!(rt; refused, Some(FlattenError::TooManyShapes));
     // Ten of the first row.
     let few = Rect::new(0, 0, 100, 10)?;
-    let rects = flatten_within(alloc, &library, &name_of(0), METAL, 0, &few)?;
+    let rects = flatten_within(&rt, alloc, &library, &name_of(0), CHECKED, &few)?;
     assert_eq!(rt; rects.len(), 10);
     Ok(())
 }
@@ -254,10 +253,10 @@ fn parts_that_meet_too_many(rt: HostRuntime) -> Result<(), Fail> {
     let bytes = design(alloc, &[(0, &top), (1, &line)])?;
     let library = read_library(alloc, &bytes)?;
     let all = Rect::new(-5, -15, 20_000, 20_000)?;
-    let refused = flatten_within(alloc, &library, &name_of(0), METAL, 0, &all).err();
+    let refused = flatten_within(&rt, alloc, &library, &name_of(0), CHECKED, &all).err();
     assert_eq!(rt; refused, Some(FlattenError::TooManyShapes));
     let most = Rect::new(-5, -5, 20_000, 20_000)?;
-    let rects = flatten_within(alloc, &library, &name_of(0), METAL, 0, &most)?;
+    let rects = flatten_within(&rt, alloc, &library, &name_of(0), CHECKED, &most)?;
     assert_eq!(rt; rects.len(), 0);
     Ok(())
 }
@@ -278,7 +277,7 @@ fn parts_with_idle_references(rt: HostRuntime) -> Result<(), Fail> {
     let bytes = design(alloc, &cells)?;
     let library = read_library(alloc, &bytes)?;
     let frame = Rect::new(-5, -5, 20_000, 20_000)?;
-    let rects = flatten_within(alloc, &library, &name_of(0), METAL, 0, &frame)?;
+    let rects = flatten_within(&rt, alloc, &library, &name_of(0), CHECKED, &frame)?;
     assert_eq!(rt; rects.len(), 0);
     Ok(())
 }

@@ -9,10 +9,10 @@ use Rattle.fill_region.specs.Squares.{covered}
 abbrev pub AreApart : List Rect → Type 0
 AreApart towers = (i j : ℕ) (d : Rect) → i < j → j < length towers → (get_or towers i d).x2 ≤ℤ (get_or towers j d).x1
 
--- and begins at the line or below
-pub record IsSkyline (line : ℤ) (towers : List Rect) : Type 0 where
+-- and begins at the cut or below
+pub record IsSkyline (cut : ℤ) (towers : List Rect) : Type 0 where
   pub apart : AreApart towers
-  pub begun : All (λ t. t.y1 ≤ℤ line) towers
+  pub begun : All (λ t. t.y1 ≤ℤ cut) towers
 
 -- the rectangle is to be put to the towers, of which `at` end left of it
 pub record IsOpen (towers : List Rect) (at : ℕ) (rect : Rect) : Type 0 where

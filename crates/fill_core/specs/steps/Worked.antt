@@ -17,8 +17,8 @@ use Rattle.fill_core.specs.declared.event.Reply.TheVariants.{Placed, Stale, Alre
 abbrev pub small : Plan
 small = record {
   raster = record {
-    across = record { low = pos 0; high = pos 4; length = pos 1; step = pos 2; origin = pos 0; group = 1 };
-    up = record { low = pos 0; high = pos 4; length = pos 1; step = pos 2; origin = pos 0; group = 1 };
+    across = record { low = pos 0; high = pos 4; length = pos 1; step = pos 2; origin = pos 0; band = 1 };
+    up = record { low = pos 0; high = pos 4; length = pos 1; step = pos 2; origin = pos 0; band = 1 };
   };
   windows = record {
     across = record { first = pos 0; length = pos 4; step = pos 4; count = 1 };

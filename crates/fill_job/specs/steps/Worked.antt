@@ -8,8 +8,8 @@ use Rattle.fill_job.specs.Plans.{Plan, PointSet, WindowSet}
 abbrev pub worked : Plan
 worked = record {
   raster = record {
-    across = record { low = pos 0; high = pos 100; length = pos 4; step = pos 10; origin = pos 3; group = 4 };
-    up = record { low = pos 0; high = pos 100; length = pos 4; step = pos 10; origin = pos 3; group = 4 };
+    across = record { low = pos 0; high = pos 100; length = pos 4; step = pos 10; origin = pos 3; band = 4 };
+    up = record { low = pos 0; high = pos 100; length = pos 4; step = pos 10; origin = pos 3; band = 4 };
   };
   windows = record {
     across = record { first = pos 0; length = pos 50; step = pos 25; count = 3 };

@@ -1,27 +1,27 @@
--- What numbers on lines say of a set of squares, and those of a mesh of the squares that its shapes have.
+-- What numbers on cuts say of a set of squares, and those of a mesh of the squares that its shapes have.
 use Rattle.std.specs.Prelude.{ℕ, ◌+◌, ◌-◌, ◌*◌, ◌<◌, ◌≤◌, min, ℤ, Bool, List, length, get_or}
 use Rattle.std.specs.Global.{Vec}
 use Rattle.fill_cells.specs.Mesh.{gaps}
-use Rattle.fill_measure.specs.declared.corners.Corners.{Corners}
+use Rattle.fill_measure.specs.declared.prefix_sums.PrefixSums.{PrefixSums}
 use Rattle.fill_measure.specs.declared.mesh.Mesh.{Mesh}
-use Rattle.fill_measure.specs.steps.Corners.{AreCorners}
-use Rattle.fill_measure.specs.steps.Groups.{AreCells, IsRow}
+use Rattle.fill_measure.specs.steps.PrefixSums.{ArePrefixSums}
+use Rattle.fill_measure.specs.steps.Bands.{AreCells, IsRow}
 use Rattle.fill_measure.specs.steps.Shapes.{squares_of}
 
--- the corners of the group of `height` rows at index `k`, above its lowest line, where the last group may have fewer rows
-abbrev pub IsGroup : (ℤ → ℤ → Bool) → List ℤ → List ℤ → ℕ → ℕ → List ℤ → Type 0
-IsGroup p across up height k corners = AreCorners p across up (k * height) 1 ((min height (gaps up - k * height) + 1) * length across) corners
+-- the prefix sums of the band of `height` rows at index `k`, above its lowest cut, where the last band may have fewer rows
+abbrev pub IsBand : (ℤ → ℤ → Bool) → List ℤ → List ℤ → ℕ → ℕ → List ℤ → Type 0
+IsBand p across up height k prefix_sums = ArePrefixSums p across up (k * height) 1 ((min height (gaps up - k * height) + 1) * length across) prefix_sums
 
--- the corners of all groups of `height` rows
-pub record AreGroups (p : ℤ → ℤ → Bool) (across up : List ℤ) (height : ℕ) (groups : List (Vec ℤ)) : Type 0 where
-  pub all : gaps up ≤ length groups * height
-  pub some : (k : ℕ) → k < length groups → k * height < gaps up
-  pub each : (k : ℕ) (d : Vec ℤ) → k < length groups → IsGroup p across up height k (get_or groups k d).items
+-- the prefix sums of all bands of `height` rows
+pub record AreBands (p : ℤ → ℤ → Bool) (across up : List ℤ) (height : ℕ) (bands : List (Vec ℤ)) : Type 0 where
+  pub all : gaps up ≤ length bands * height
+  pub some : (k : ℕ) → k < length bands → k * height < gaps up
+  pub each : (k : ℕ) (d : Vec ℤ) → k < length bands → IsBand p across up height k (get_or bands k d).items
 
--- the corners of all groups, and how many squares lie below each and left of each line across
-pub record AreAllCorners (p : ℤ → ℤ → Bool) (across up : List ℤ) (corners : Corners) : Type 0 where
-  pub groups : AreGroups p across up corners.height corners.groups.items
-  pub below : AreCorners p across up 0 corners.height (length corners.groups.items * length across) corners.below.items
+-- the prefix sums of all bands, and how many squares lie below each and left of each cut across
+pub record AreAllPrefixSums (p : ℤ → ℤ → Bool) (across up : List ℤ) (prefix_sums : PrefixSums) : Type 0 where
+  pub bands : AreBands p across up prefix_sums.height prefix_sums.bands.items
+  pub below : ArePrefixSums p across up 0 prefix_sums.height (length prefix_sums.bands.items * length across) prefix_sums.below.items
 
 -- the areas of all cells of a mesh, row by row
 abbrev pub AreCellsOf : Mesh → List ℤ → Type 0
@@ -31,21 +31,21 @@ AreCellsOf mesh cells = AreCells (squares_of mesh.shapes) mesh.across.now mesh.u
 abbrev pub IsRowOf : Mesh → ℕ → List ℤ → Type 0
 IsRowOf mesh j areas = IsRow (squares_of mesh.shapes) mesh.across.now mesh.up.now j areas
 
--- the corners on `n` lines from the line `from` on, above that line
-abbrev pub AreCornersOf : Mesh → ℕ → ℕ → List ℤ → Type 0
-AreCornersOf mesh from n corners = AreCorners (squares_of mesh.shapes) mesh.across.now mesh.up.now from 1 (n * length mesh.across.now) corners
+-- the prefix sums on `n` cuts from the cut `from` on, above that cut
+abbrev pub ArePrefixSumsOf : Mesh → ℕ → ℕ → List ℤ → Type 0
+ArePrefixSumsOf mesh from n prefix_sums = ArePrefixSums (squares_of mesh.shapes) mesh.across.now mesh.up.now from 1 (n * length mesh.across.now) prefix_sums
 
-abbrev pub IsGroupOf : Mesh → ℕ → ℕ → List ℤ → Type 0
-IsGroupOf mesh height k corners = IsGroup (squares_of mesh.shapes) mesh.across.now mesh.up.now height k corners
+abbrev pub IsBandOf : Mesh → ℕ → ℕ → List ℤ → Type 0
+IsBandOf mesh height k prefix_sums = IsBand (squares_of mesh.shapes) mesh.across.now mesh.up.now height k prefix_sums
 
--- those of its groups
-abbrev pub AreGroupsOf : Mesh → ℕ → List (Vec ℤ) → Type 0
-AreGroupsOf mesh height groups = AreGroups (squares_of mesh.shapes) mesh.across.now mesh.up.now height groups
+-- those of its bands
+abbrev pub AreBandsOf : Mesh → ℕ → List (Vec ℤ) → Type 0
+AreBandsOf mesh height bands = AreBands (squares_of mesh.shapes) mesh.across.now mesh.up.now height bands
 
--- how many squares lie below each of the first `n` groups and left of each line across
+-- how many squares lie below each of the first `n` bands and left of each cut across
 abbrev pub AreBelow : Mesh → ℕ → ℕ → List ℤ → Type 0
-AreBelow mesh height n below = AreCorners (squares_of mesh.shapes) mesh.across.now mesh.up.now 0 height (n * length mesh.across.now) below
+AreBelow mesh height n below = ArePrefixSums (squares_of mesh.shapes) mesh.across.now mesh.up.now 0 height (n * length mesh.across.now) below
 
 -- all of these
-abbrev pub AreAllCornersOf : Mesh → Corners → Type 0
-AreAllCornersOf mesh corners = AreAllCorners (squares_of mesh.shapes) mesh.across.now mesh.up.now corners
+abbrev pub AreAllPrefixSumsOf : Mesh → PrefixSums → Type 0
+AreAllPrefixSumsOf mesh prefix_sums = AreAllPrefixSums (squares_of mesh.shapes) mesh.across.now mesh.up.now prefix_sums

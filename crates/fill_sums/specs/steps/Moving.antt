@@ -1,10 +1,10 @@
 -- Numbers of which some have moved.
-use Rattle.std.specs.Prelude.{◌≡◌, ℕ, ℤ, pos, ◌≤ℤ◌, Bool, cond, List, length}
+use Rattle.std.specs.Prelude.{◌≡◌, ℕ, ℤ, pos, ◌≤ℤ◌, Bool, true, cond, List, length}
 use Rattle.fill_area.specs.Density.{window_area}
 use Rattle.fill_area.specs.Grid.{Grid}
 use Rattle.fill_area.specs.Sharing.{IsWindow}
 use Rattle.fill_sums.specs.declared.moving.Way.{Way}
-use Rattle.fill_sums.specs.Numbers.{moved, number_at, window_size}
+use Rattle.fill_sums.specs.Numbers.{in_range, moved, number_at, window_size}
 
 -- the number of this window may move
 pub record CanMove (way : Way) (p : ℤ → ℤ → Bool) (g : Grid) (numbers : List ℤ) (a b : ℕ) : Type 0 where
@@ -17,3 +17,7 @@ pub record CanMove (way : Way) (p : ℤ → ℤ → Bool) (g : Grid) (numbers : 
 pub record IsMovedAt (done : ℕ → ℕ → Bool) (way : Way) (p : ℤ → ℤ → Bool) (g : Grid) (old new : List ℤ) : Type 0 where
   pub count : length new ≡ length old
   pub each : (a b : ℕ) → IsWindow g a b → number_at g new a b ≡ cond (done a b) (moved way (number_at g old a b) (window_area p g a b)) (number_at g old a b)
+
+-- the set has this area in each window of row `b` from one column on and before another
+abbrev pub AreAlike : (ℤ → ℤ → Bool) → Grid → ℕ → ℕ → ℕ → ℤ → Type 0
+AreAlike p g from to b area = (a : ℕ) → in_range from to a ≡ true → area ≡ pos (window_area p g a b)

@@ -1,13 +1,14 @@
 -- Cells as they are built from their elements.
 use Rattle.std.specs.Prelude.{◌≡◌, ◌⊎◌, ℕ, ◌*◌, ◌<◌, ◌≤◌, List, [], ◌∷◌, ◌++◌, map, length, take, drop, filter, get_or, slice_get, Option, Some, None, Result, IfOk, IfErr}
 use Rattle.std.specs.List.{flat_map}
+use Rattle.fill_base.specs.declared.layer.Layer.{Layer}
 use Rattle.gds_grammar.specs.Values.{cell_of, shape_of, Shape as Element}
 use Rattle.gds_cells.specs.declared.cell.Cell.{Cell}
-use Rattle.gds_cells.specs.declared.cell.Run.{Run}
+use Rattle.gds_cells.specs.declared.cell.Chunk.{Chunk}
 use Rattle.gds_cells.specs.declared.link.Link.{Link}
 use Rattle.gds_cells.specs.declared.shape.Shape.{Shape}
-use Rattle.gds_cells.specs.declared.runs.Targets.{Targets}
-use Rattle.gds_cells.specs.declared.runs.Targets.TheVariants.{Row, Names}
+use Rattle.gds_cells.specs.declared.chunks.Targets.{Targets}
+use Rattle.gds_cells.specs.declared.chunks.Targets.TheVariants.{Row, Names}
 use Rattle.gds_cells.specs.declared.error.FlattenError.{FlattenError}
 use Rattle.gds_cells.specs.declared.error.FlattenError.TheVariants.{Memory}
 use Rattle.gds_cells.specs.declared.placement.Placement.{Placement}
@@ -38,61 +39,61 @@ Leads (Row row) cells elements = row.now ≡ targets cells elements
 Leads (Names names) cells elements = map cell_of names.now.entries ≡ cells
 
 -- one more element, which refers to the cell at the index if it refers to any
-pub record IsAdded (e : Element) (layer data_type index : ℕ) (old new : Run) : Type 0 where
-  pub fine : element_fault layer data_type e ≡ None
-  pub own : own_of new.shapes.items ≡ own_of old.shapes.items ++ filter (is_shape layer data_type) (e ∷ [])
+pub record IsAdded (e : Element) (layer : Layer) (index : ℕ) (old new : Chunk) : Type 0 where
+  pub fine : element_fault layer e ≡ None
+  pub own : own_of new.shapes.items ≡ own_of old.shapes.items ++ filter (is_shape layer) (e ∷ [])
   pub links : links_from new.links.items ≡ links_from old.links.items ++ index_if index (name_of e)
   pub singles : singles_from new.links.items ≡ singles_from old.links.items ++ map (λ p. (index, p)) (placements_of e)
 
 -- shapes and references are those that the elements say
-pub record AreOf (cells : List Entry) (layer data_type : ℕ) (elements : List Element) (shapes : List Shape) (references : List Link) : Type 0 where
-  pub own : own_of shapes ≡ filter (is_shape layer data_type) elements
+pub record AreOf (cells : List Entry) (layer : Layer) (elements : List Element) (shapes : List Shape) (references : List Link) : Type 0 where
+  pub own : own_of shapes ≡ filter (is_shape layer) elements
   pub links : links_from references ≡ targets cells elements
   pub singles : singles_from references ≡ singles_among cells elements
 
--- a run, a cell has what its elements say
-abbrev pub IsRun : List Entry → ℕ → ℕ → List Element → Run → Type 0
-IsRun cells layer data_type elements run = AreOf cells layer data_type elements run.shapes.items run.links.items
+-- a chunk, a cell has what its elements say
+abbrev pub IsChunk : List Entry → Layer → List Element → Chunk → Type 0
+IsChunk cells layer elements chunk = AreOf cells layer elements chunk.shapes.items chunk.links.items
 
-abbrev pub IsCell : List Entry → ℕ → ℕ → List Element → Cell → Type 0
-IsCell cells layer data_type elements cell = AreOf cells layer data_type elements (shapes_in cell) cell.links.items
+abbrev pub IsCell : List Entry → Layer → List Element → Cell → Type 0
+IsCell cells layer elements cell = AreOf cells layer elements (shapes_in cell) cell.links.items
 
 -- those of `size` elements at index `k`, or all that are left
-abbrev pub run_at : {X : Type 0} → ℕ → ℕ → List X → List X
-run_at size k elements = take size (drop (k * size) elements)
+abbrev pub chunk_at : {X : Type 0} → ℕ → ℕ → List X → List X
+chunk_at size k elements = take size (drop (k * size) elements)
 
 -- the first fault of a cell
-pub record IsFaulty (layer data_type : ℕ) (elements : List Element) (e : FlattenError) : Type 0 where
+pub record IsFaulty (layer : Layer) (elements : List Element) (e : FlattenError) : Type 0 where
   pub index : ℕ
   pub element : Element
   pub stands : slice_get elements index ≡ Some element
-  pub faulty : element_fault layer data_type element ≡ Some e
-  pub before : AreFine layer data_type (take index elements)
+  pub faulty : element_fault layer element ≡ Some e
+  pub before : AreFine layer (take index elements)
 
--- what the runs of `size` elements came to
-pub record AreRuns (cells : List Entry) (layer data_type size : ℕ) (elements : List Element) (runs : List (Result Run FlattenError)) : Type 0 where
-  pub all : length elements ≤ length runs * size
-  pub built : (k : ℕ) (d : Result Run FlattenError) → k < length runs → IfOk (get_or runs k d) (λ run. IsRun cells layer data_type (run_at size k elements) run)
-  pub fine : (k : ℕ) (d : Result Run FlattenError) → k < length runs → IfOk (get_or runs k d) (λ run. AreFine layer data_type (run_at size k elements))
-  pub refused : (k : ℕ) (d : Result Run FlattenError) → k < length runs → IfErr (get_or runs k d) (λ e. (e ≡ Memory) ⊎ IsFaulty layer data_type (run_at size k elements) e)
+-- what the chunks of `size` elements came to
+pub record AreChunks (cells : List Entry) (layer : Layer) (size : ℕ) (elements : List Element) (chunks : List (Result Chunk FlattenError)) : Type 0 where
+  pub all : length elements ≤ length chunks * size
+  pub built : (k : ℕ) (d : Result Chunk FlattenError) → k < length chunks → IfOk (get_or chunks k d) (λ chunk. IsChunk cells layer (chunk_at size k elements) chunk)
+  pub fine : (k : ℕ) (d : Result Chunk FlattenError) → k < length chunks → IfOk (get_or chunks k d) (λ chunk. AreFine layer (chunk_at size k elements))
+  pub refused : (k : ℕ) (d : Result Chunk FlattenError) → k < length chunks → IfErr (get_or chunks k d) (λ e. (e ≡ Memory) ⊎ IsFaulty layer (chunk_at size k elements) e)
 
 -- the cell at the index is the one that its elements say
-pub record IsCellAt (entries : List Entry) (layer data_type : ℕ) (cells : List Cell) (c : ℕ) : Type 0 where
+pub record IsCellAt (entries : List Entry) (layer : Layer) (cells : List Cell) (c : ℕ) : Type 0 where
   pub cell : Cell
   pub stands : slice_get cells c ≡ Some cell
-  pub is : IsCell entries layer data_type (elements_at entries c) cell
-  pub fine : AreFine layer data_type (elements_at entries c)
+  pub is : IsCell entries layer (elements_at entries c) cell
+  pub fine : AreFine layer (elements_at entries c)
 
 -- the first cells are built, those without a step as empty ones
-pub record AreBuilt (entries : List Entry) (layer data_type : ℕ) (steps : List ℕ) (n : ℕ) (cells : List Cell) : Type 0 where
+pub record AreBuilt (entries : List Entry) (layer : Layer) (steps : List ℕ) (n : ℕ) (cells : List Cell) : Type 0 where
   pub long : length cells ≡ n
-  pub built : (c : ℕ) → c < n → 0 < item steps c → IsCellAt entries layer data_type cells c
+  pub built : (c : ℕ) → c < n → 0 < item steps c → IsCellAt entries layer cells c
   pub nothing_own : (c : ℕ) → item steps c ≡ 0 → own_in (slice_get cells c) ≡ []
   pub nothing_below : (c : ℕ) → item steps c ≡ 0 → singles_in (slice_get cells c) ≡ []
 
 -- the first fault of the cells that have a step
-pub record IsFaultAmong (entries : List Entry) (layer data_type : ℕ) (steps : List ℕ) (e : FlattenError) : Type 0 where
+pub record IsFaultAmong (entries : List Entry) (layer : Layer) (steps : List ℕ) (e : FlattenError) : Type 0 where
   pub cell : ℕ
   pub marked : 0 < item steps cell
-  pub fault : IsFaulty layer data_type (elements_at entries cell) e
-  pub earlier : (c : ℕ) → c < cell → 0 < item steps c → AreFine layer data_type (elements_at entries c)
+  pub fault : IsFaulty layer (elements_at entries cell) e
+  pub earlier : (c : ℕ) → c < cell → 0 < item steps c → AreFine layer (elements_at entries c)

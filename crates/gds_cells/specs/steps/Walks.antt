@@ -19,7 +19,7 @@ use Rattle.gds_cells.specs.Copies.{Copy, Hierarchy, own_copy, carry_copy, copies
 abbrev pub singles_of : Link → List (ℕ × Placement)
 singles_of l = map (λ p. (l.cell, p)) (singles l)
 
--- the shapes of all runs of a cell
+-- the shapes of all chunks of a cell
 abbrev pub shapes_in : Cell → List Shape
 shapes_in c = flat_map vec_items c.shapes.items
 

@@ -9,7 +9,7 @@ ghost use Rattle.gds_record.specs.Numbers.{word_of, number_of, IsStored};
 ghost use Rattle.gds_grammar.specs.Forms.{among, kinds_of_2, kinds_of_4, kinds_of_8, IsWell};
 ghost use Rattle.gds_grammar.specs.Values.{boundary, path, reference, array, points_in, wire_of};
 ghost use Rattle.gds_grammar.specs.Points.{points_of};
-ghost use Rattle.gds_grammar.specs.Elements.{kinds_in, body_of, value_if, word_in, name_in, columns_in, rows_in, transform_in, shapes_in};
+ghost use Rattle.gds_grammar.specs.Elements.{kinds_in, body_of, value_if, word_in, layer_in, name_in, columns_in, rows_in, transform_in, shapes_in};
 ghost use Rattle.gds_grammar.specs.Layers.{kept_shapes};
 ghost use Rattle.gds_grammar.specs.steps.Reading.{IsBody, shapes_of};
 ghost use Rattle.gds_grammar.specs.steps.Keeping.{keeps};
@@ -18,7 +18,7 @@ use crate::element::points::Points;
 use crate::element::{Array, Boundary, Element, ElementKind, Path, Ref, Transform};
 use crate::next::array_of;
 use crate::wanted::{Wanted, is_wanted};
-use fill_base::Point;
+use fill_base::{Layer, Point};
 use gds_record::{Record, kind, name, number, point, word};
 use std::alloc::{AllocError, Global};
 
@@ -96,15 +96,26 @@ fn transform_of(before: &[Record<'_>]) -> Transform
     }
 }
 
+fn layer_of(before: &[Record<'_>]) -> Layer
+    requires well { AllByRecursion IsWell (map view before.now) }
+    requires layer { among (kinds_in (map view before.now)) kinds.LAYER ≡ true }
+    requires data_type { among (kinds_in (map view before.now)) kinds.DATATYPE ≡ true }
+    ensures { result ≡ layer_in (map view before.now) }
+{
+    Layer {
+        layer: word_at(before, kind::LAYER),
+        data_type: word_at(before, kind::DATATYPE),
+    }
+}
+
 fn boundary_of<'a>(before: &[Record<'a>], xy: &'a [u8]) -> Boundary<'a>
     requires well { AllByRecursion IsWell (map view before.now) }
     requires body { IsBody ElementKind.Boundary (map view before.now) xy.now }
-    ensures { boundary result.layer result.data_type (points_in result.points) ∷ []
+    ensures { boundary result.layer (points_in result.points) ∷ []
         ≡ shapes_in ElementKind.Boundary (map view before.now) xy.now }
 {
     Boundary {
-        layer: word_at(before, kind::LAYER),
-        data_type: word_at(before, kind::DATATYPE),
+        layer: layer_of(before),
         points: Points { xy },
     }
 }
@@ -112,12 +123,11 @@ fn boundary_of<'a>(before: &[Record<'a>], xy: &'a [u8]) -> Boundary<'a>
 fn path_of<'a>(before: &[Record<'a>], xy: &'a [u8]) -> Path<'a>
     requires well { AllByRecursion IsWell (map view before.now) }
     requires body { IsBody ElementKind.Path (map view before.now) xy.now }
-    ensures { path result.layer result.data_type (wire_of result) ∷ []
+    ensures { path result.layer (wire_of result) ∷ []
         ≡ shapes_in ElementKind.Path (map view before.now) xy.now }
 {
     Path {
-        layer: word_at(before, kind::LAYER),
-        data_type: word_at(before, kind::DATATYPE),
+        layer: layer_of(before),
         path_type: word_if(before, kind::PATHTYPE),
         width: number_if(before, kind::WIDTH),
         begin_extension: number_if(before, kind::BGNEXTN),
@@ -182,13 +192,9 @@ fn is_kept(wanted: Wanted<'_>, before: &[Record<'_>]) -> bool
     requires well { AllByRecursion IsWell (map view before.now) }
     requires layer { among (kinds_in (map view before.now)) kinds.LAYER ≡ true }
     requires data_type { among (kinds_in (map view before.now)) kinds.DATATYPE ≡ true }
-    ensures { result ≡ keeps wanted.entry (word_in kinds.LAYER (map view before.now)) (word_in kinds.DATATYPE (map view before.now)) }
+    ensures { result ≡ keeps wanted.entry (layer_in (map view before.now)) }
 {
-    is_wanted(
-        wanted,
-        word_at(before, kind::LAYER),
-        word_at(before, kind::DATATYPE),
-    )
+    is_wanted(wanted, layer_of(before))
 }
 
 /// The boundary with these records before its points, if it is kept.

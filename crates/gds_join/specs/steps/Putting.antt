@@ -2,7 +2,7 @@
 use Rattle.std.specs.Prelude.{◌≡◌, ◌⊎◌, ℕ, ℤ, true, false, ◌&&◌, ◌||◌, nat_lt}
 use Rattle.std.specs.Ordering.{int_eq}
 use Rattle.fill_base.specs.Counts.{is_between}
-use Rattle.fill_raster.specs.Axes.{groups}
+use Rattle.fill_raster.specs.Axes.{bands}
 use Rattle.fill_raster.specs.Lattice.{Lattice, in_raster, tile_of}
 use Rattle.fill_parts.specs.Cuts.{Part, has_row}
 use Rattle.fill_parts.specs.Needs.{row_at}
@@ -12,7 +12,7 @@ use Rattle.gds_join.specs.declared.error.PartError.TheVariants.{OtherRows, Place
 
 -- the place is of the part's tiles
 abbrev pub is_own : Lattice → Part → PlaceSet
-is_own r k i j = has_row k (groups r.up) (row_at r i j)
+is_own r k i j = has_row k (bands r.up) (row_at r i j)
 
 -- the places of the fill that pass a test are put, and none of them was hindered
 pub record IsPut (old new fill own where_at : PlaceSet) : Type 0 where

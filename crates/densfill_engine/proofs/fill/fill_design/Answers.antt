@@ -25,11 +25,11 @@ returns-in_err-fill_tiles-clause-unfinished g c =
 pub returns-then-workers-gt1-clause-filled : goal.returns-then-workers-gt1-clause-filled
 returns-then-workers-gt1-clause-filled g c =
     both_ok c.texts_of.result (λ f library report. texts_of_run (fill_terms (values_of c.args.rules) c.args.design.metal c.args.design.keep) c.in_ok-book.book c.in_ok-book-2.book c.in_ok-book.pass.calls c.args.edits.now c.args.workers c.args.limit
-    c.args.design.units c.args.design.dates f.library.items f.report.items c.rules_make_a_plan.ensures c.in_ok-book.ensures.book (ap (λ (h : Held). h.calls) c.in_ok-book.ensures.pass)
+    c.args.design.units c.args.design.dates f.library.items f.report.items c.rules_make_a_plan.ensures c.if-workers-gt1.true c.in_ok-book.ensures.book (ap (λ (h : Held). h.calls) c.in_ok-book.ensures.pass)
     c.in_ok-book-2.ensures.finished library report) c.texts_of.ensures.library c.texts_of.ensures.report
 
 pub returns-clause-filled : goal.returns-clause-filled
 returns-clause-filled g c =
     both_ok c.texts_of-2.result (λ f library report. texts_are (fill_terms (values_of c.args.rules) c.args.design.metal c.args.design.keep) c.in_ok-book.book c.edit_all.new.book c.args.edits.now c.args.limit
     c.in_ok-book.ensures.book c.in_ok-edit_all.ensures.edited c.fill_tiles.new.book c.args.design.units c.args.design.dates f.library.items f.report.items
-    c.args.workers c.rules_make_a_plan.ensures (only_one c.args.workers c.requires.workers.0 c.if-workers-gt1.false) c.in_ok-fill_tiles.ensures.run c.in_ok-fill_tiles.ensures.complete library report) c.texts_of-2.ensures.library c.texts_of-2.ensures.report
+    c.args.workers c.fill_after_edits.ensures c.edits_are_changes.ensures c.rules_make_a_plan.ensures (only_one c.args.workers c.requires.workers.0 c.if-workers-gt1.false) c.in_ok-fill_tiles.ensures.run c.in_ok-fill_tiles.ensures.complete library report) c.texts_of-2.ensures.library c.texts_of-2.ensures.report

@@ -18,4 +18,4 @@ returns-clause-drawn g c =
 pub returns-clause-refused : goal.returns-clause-refused
 returns-clause-refused g c =
     let cells = (contents_of c.args.library.now).cells in
-    subst (λ t. IfErr c.flatten_parts.result (λ e. IsRefused cells t c.args.layer.layer c.args.layer.data_type e)) c.top.ensures c.flatten_parts.ensures.refused
+    subst (λ t. IfErr c.flatten_parts.result (λ e. IsRefused cells t c.args.layer e)) c.top.ensures c.flatten_parts.ensures.refused

@@ -4,9 +4,8 @@ use Rattle.std.specs.Vec.{vec_items}
 use Rattle.std.proofs.lemmas.List.{append-nil}
 use Rattle.fill_region.specs.Squares.{covered}
 use Rattle.fill_job.specs.Plans.{PointSet}
-use Rattle.fill_text.specs.Rules.{value_of, windows_of}
+use Rattle.fill_text.specs.Rules.{limits_of, windows_of}
 use Rattle.fill_text.specs.ValuesOfRules.{values_of}
-use Rattle.fill_text.specs.declared.keys.NumberKey.TheVariants.{Max, Min}
 use Rattle.fill_report.specs.Report.{lines_from, measures_of, nothing}
 use Rattle.fill_parts.specs.Cuts.{first_row, past_row}
 use Rattle.densfill_engine.proofs.part.part_lines.Goals as goal
@@ -17,7 +16,7 @@ returns g c =
     let w = windows_of v in
     let k = c.args.part in
     let n = w.across.count in
-    let lines : PointSet → ℕ → ℕ → List ℕ = λ p low high. lines_from w (value_of v Min) (value_of v Max) (measures_of p nothing w) (low * n) ((high - low) * n) in
+    let lines : PointSet → ℕ → ℕ → List ℕ = λ p low high. lines_from w (limits_of v) (measures_of p nothing w) (low * n) ((high - low) * n) in
     let count : c.rows.result ≡ w.up.count = c.rows.ensures ∙ ap (λ q. q.up.count) c.windows.ensures in
     let metal : covered (flat_map vec_items c.in_ok-lists.lists.items) ≡ covered c.args.rects.items = ap (λ ls. covered (flat_map vec_items ls)) c.in_ok-lists.ensures ∙ ap covered (append-nil c.args.rects.items) in
     ap (flat_map vec_items) c.in_ok-texts.ensures

@@ -8,7 +8,7 @@ use Rattle.densfill_engine.proofs.PartChecking.{drawn_within, not_within}
 use Rattle.densfill_engine.proofs.within.metal_within.Goals as goal
 
 pub returns-in_err-rects-clause-refused : goal.returns-in_err-rects-clause-refused
-returns-in_err-rects-clause-refused c =
+returns-in_err-rects-clause-refused g c =
     let p = err_from_is_err_and c.from_residual-in_err-rects.result c.from_residual-in_err-rects.ensures.1 in
     let read = c.in_ok-library.ensures.ok in
     let layer = c.metal_layer-layer.result in
@@ -16,7 +16,7 @@ returns-in_err-rects-clause-refused c =
     c.layers_suffice_within.ensures c.requires read.1 read.2 layer c.metal_layer-layer.ensures (among_first layer []) c.in_err-rects.field-0.0 (rw c.top.ensures at c.in_err-rects.ensures.refused))
 
 pub returns-clause-metal : goal.returns-clause-metal
-returns-clause-metal c =
+returns-clause-metal g c =
     let read = c.in_ok-library.ensures.ok in
     let layer = c.metal_layer-layer.result in
     drawn_within c.args.bytes.now (values_of c.args.rules.now) read.0 (contents_of c.in_ok-library.library) (layer ∷ []) c.args.frame.now

@@ -6,7 +6,7 @@ use Rattle.fill_base.proofs.Signed.{read, read_is}
 use Rattle.fill_region.specs.Squares.{covered}
 use Rattle.fill_cells.specs.Mesh.{gaps}
 use Rattle.fill_cells.specs.steps.Within.{AreWithin}
-use Rattle.fill_cells.proofs.Gaps.{line_read}
+use Rattle.fill_cells.proofs.Gaps.{cut_read}
 use Rattle.fill_cells.proofs.RowAreas.{first_none, first_more, first_all, left_all, left_more, cell_is}
 use Rattle.fill_cells.proofs.cells.row_areas.Goals as goal
 
@@ -28,7 +28,7 @@ from_edges-part-requires-clause-wide c =
     let across = c.args.across.now in
     let i = c.loop-i.i in
     let i_in : i < gaps across = in_gaps across c.share_out.new.lists c.len-i-end.result i c.len-i-end.ensures c.in_ok-share_out.ensures.count c.loop-i-test.true in
-    rw (line_read across i (pos 0) c.requires.across (omega (arith, i_in)), line_read across (i + 1) (pos 0) c.requires.across (omega (arith, i_in)))
+    rw (cut_read across i (pos 0) c.requires.across (omega (arith, i_in)), cut_read across (i + 1) (pos 0) c.requires.across (omega (arith, i_in)))
     (c.requires.across.rising i (i + 1) (pos 0) (omega arith) (omega (arith, i_in)))
 
 pub from_edges-part-requires-clause-right : goal.from_edges-part-requires-clause-right
@@ -36,7 +36,7 @@ from_edges-part-requires-clause-right c =
     let across = c.args.across.now in
     let i = c.loop-i.i in
     let i_in : i < gaps across = in_gaps across c.share_out.new.lists c.len-i-end.result i c.len-i-end.ensures c.in_ok-share_out.ensures.count c.loop-i-test.true in
-    rw (line_read across (i + 1) (pos 0) c.requires.across (omega (arith, i_in))) (c.requires.across.coordinates (i + 1) (pos 0) (omega (arith, i_in))).most
+    rw (cut_read across (i + 1) (pos 0) c.requires.across (omega (arith, i_in))) (c.requires.across.coordinates (i + 1) (pos 0) (omega (arith, i_in))).most
 
 pub loop-i-preserved : goal.loop-i-preserved
 loop-i-preserved c =
@@ -49,12 +49,12 @@ loop-i-preserved c =
           c.in_ok-push.ensures.items
           (cell_is across c.from_edges-row.result c.from_edges-part.result (read c.args.from) (read c.args.to) c.in_ok-area.area i (covered c.args.rects.items) c.deref.result.now c.deref_mut.result.now c.share_out.new.lists.items cell
           c.requires.across i_in
-          (c.from_edges-row.ensures.0 ∙ line_read across 0 (pos 0) c.requires.across (omega (arith, i_in)))
-          (c.from_edges-row.ensures.2 ∙ line_read across (length across - 1) (pos 0) c.requires.across (omega (arith, i_in)))
+          (c.from_edges-row.ensures.0 ∙ cut_read across 0 (pos 0) c.requires.across (omega (arith, i_in)))
+          (c.from_edges-row.ensures.2 ∙ cut_read across (length across - 1) (pos 0) c.requires.across (omega (arith, i_in)))
           c.from_edges-row.ensures.1 c.from_edges-row.ensures.3 (
-            c.from_edges-part.ensures.0 ∙ line_read across i (pos 0) c.requires.across (omega (arith, i_in)),
+            c.from_edges-part.ensures.0 ∙ cut_read across i (pos 0) c.requires.across (omega (arith, i_in)),
             c.from_edges-part.ensures.1,
-            c.from_edges-part.ensures.2 ∙ line_read across (i + 1) (pos 0) c.requires.across (omega (arith, i_in)),
+            c.from_edges-part.ensures.2 ∙ cut_read across (i + 1) (pos 0) c.requires.across (omega (arith, i_in)),
             c.from_edges-part.ensures.3,
           )
           (subst (AreWithin c.from_edges-row.result (covered c.args.rects.items)) (sym c.deref.ensures.value) c.in_ok-listed.ensures) c.in_ok-share_out.ensures

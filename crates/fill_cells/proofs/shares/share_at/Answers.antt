@@ -13,9 +13,9 @@ use Rattle.fill_cells.proofs.shares.share_at.Goals as goal
 pub returns : goal.returns
 returns c =
     let within : c.args.k < length c.args.lists.now = omega (arith, c.requires.count, c.requires.within) in
-    more_at (Vec Rect) (λ v. covered v.items) (cell_squares c.args.row.now) c.args.lines.now c.args.rect.now c.args.k c.args.lists.now c.hold.new.list within
+    more_at (Vec Rect) (λ v. covered v.items) (cell_squares c.args.row.now) c.args.cuts.now c.args.rect.now c.args.k c.args.lists.now c.hold.new.list within
     (λ d e x y inside. subst (λ (v : Vec Rect). AreMore c.from_edges-cell.result c.args.rect.now v.items c.hold.new.list.items) (get_or_default c.args.lists.now c.args.k c.index-lists-k.result e within) c.in_ok-hold.ensures x y
-    (cell_within c.args.row.now c.from_edges-cell.result c.args.lines.now c.args.k c.requires.lines c.requires.within (
+    (cell_within c.args.row.now c.from_edges-cell.result c.args.cuts.now c.args.k c.requires.cuts c.requires.within (
       c.from_edges-cell.ensures.0,
       edge c.y1.result c.args.row.now.y1 c.from_edges-cell.result.y1 (y1_fits c.args.row.now) c.y1.ensures c.from_edges-cell.ensures.1,
       c.from_edges-cell.ensures.2,

@@ -1,5 +1,5 @@
 use Rattle.std.proofs.Common.{arith}
-use Rattle.fill_measure.proofs.Parting.{put_more, none_more}
+use Rattle.fill_measure.proofs.Chunking.{put_more, none_more}
 use Rattle.fill_measure.proofs.lists.put_listed.Goals.{in-Some+in_ok-push, in_default}
 use Rattle.fill_measure.proofs.lists.put_listed.Goals as goal
 

@@ -1,15 +1,15 @@
 use Rattle.std.proofs.Common.{◌<◌, ap, subst, sym, ◌∙◌, length}
 use Rattle.std.proofs.lemmas.List.{take_all}
-use Rattle.fill_measure.specs.steps.Parts.{listed_by_parts}
-use Rattle.fill_measure.proofs.Parting.{listed_more}
+use Rattle.fill_measure.specs.steps.Chunks.{listed_by_chunks}
+use Rattle.fill_measure.proofs.Chunking.{listed_more}
 use Rattle.fill_measure.proofs.lists.row_of.Goals as goal
 
-pub loop-part-preserved : goal.loop-part-preserved
-loop-part-preserved c =
-    let part = c.part-item.result in
-    let j_in : c.args.j < length part.rows.items = subst (λ v. c.args.j < length v.rows.items) (sym c.part-item.is) (c.requires c.loop-part.part-index part c.loop-part-test.true) in
-    listed_more c.args.parts.now part c.loop-part.row.items c.put_listed.new.row.items c.index.result.now _ c.loop-part.part-index c.args.j c.loop-part-test.true c.part-item.is j_in c.index.ensures c.deref.ensures.value
-    c.in_ok-put_listed.ensures c.loop-part.invariant
+pub loop-chunk-preserved : goal.loop-chunk-preserved
+loop-chunk-preserved c =
+    let chunk = c.chunk-item.result in
+    let j_in : c.args.j < length chunk.rows.items = subst (λ v. c.args.j < length v.rows.items) (sym c.chunk-item.is) (c.requires c.loop-chunk.chunk-index chunk c.loop-chunk-test.true) in
+    listed_more c.args.chunks.now chunk c.loop-chunk.row.items c.put_listed.new.row.items c.index.result.now _ c.loop-chunk.chunk-index c.args.j c.loop-chunk-test.true c.chunk-item.is j_in c.index.ensures c.deref.ensures.value
+    c.in_ok-put_listed.ensures c.loop-chunk.invariant
 
 pub returns : goal.returns
-returns c = λ x y. c.loop-part.invariant x y ∙ ap (λ ps. listed_by_parts c.args.j ps x y) (take_all c.loop-part.part-index c.args.parts.now c.loop-part-test.false)
+returns c = λ x y. c.loop-chunk.invariant x y ∙ ap (λ ps. listed_by_chunks c.args.j ps x y) (take_all c.loop-chunk.chunk-index c.args.chunks.now c.loop-chunk-test.false)

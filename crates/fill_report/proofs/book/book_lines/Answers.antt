@@ -1,5 +1,4 @@
 use Rattle.std.proofs.Common.{◌≡◌, ◌+◌, ◌++◌, [], Some, arith, refl, rules}
-use Rattle.fill_base.proofs.Signed.{read_is}
 use Rattle.fill_job.specs.Plans.{plan_of}
 use Rattle.fill_core.specs.Accounts.{state_of}
 use Rattle.fill_report.proofs.RowEnds.{all_follow, none_yet, one_follows}
@@ -16,7 +15,7 @@ loop-k-init g c =
     record {
       from = omega arith;
       ready = search rules;
-      text = none_yet c.args.windows.now _ _ (measures_of s.layers.metal (boxes_of (plan_of a.rules) s.fill) c.args.windows.now) c.args.from c.from_writer-writer.result empty;
+      text = none_yet c.args.windows.now _ (measures_of s.layers.metal (boxes_of (plan_of a.rules) s.fill) c.args.windows.now) c.args.from c.from_writer-writer.result empty;
     }
 
 pub loop-k-preserved : goal.loop-k-preserved
@@ -26,7 +25,7 @@ loop-k-preserved g c =
     record {
       from = omega (arith, c.loop-k.invariant.from);
       ready = c.in_ok-put_window.ensures.ready;
-      text = one_follows c.args.windows.now _ _ (measures_of s.layers.metal (boxes_of (plan_of a.rules) s.fill) c.args.windows.now) c.args.from _ c.loop-k.k c.loop-k.writer c.put_window.new.writer
+      text = one_follows c.args.windows.now _ (measures_of s.layers.metal (boxes_of (plan_of a.rules) s.fill) c.args.windows.now) c.args.from _ c.loop-k.k c.loop-k.writer c.put_window.new.writer
           c.loop-k.invariant.from c.measures_in-measures.ensures.measures c.loop-k.invariant.text c.in_ok-put_window.ensures.text;
     }
 
@@ -34,6 +33,5 @@ pub returns : goal.returns
 returns g c =
     let a = g.B.FillBook.account c.args.book.now in
     let s = state_of a in
-    rw (read_is c.args.least c.ranges.least, read_is c.args.most c.ranges.most) at
-    (all_follow c.args.windows.now _ _ (measures_of s.layers.metal (boxes_of (plan_of a.rules) s.fill) c.args.windows.now) c.args.from c.loop-k.k c.args.count (c.args.from + c.args.count) c.in_ok-text.text.items (c.loop-k.writer.wtr.inner.items ++ c.loop-k.writer.wtr.buf)
-    refl c.loop-k-test.false (c.loop-k.auto.k-end (omega arith)) c.in_ok-text.ensures.ok c.loop-k.invariant.text)
+    all_follow c.args.windows.now _ (measures_of s.layers.metal (boxes_of (plan_of a.rules) s.fill) c.args.windows.now) c.args.from c.loop-k.k c.args.count (c.args.from + c.args.count) c.in_ok-text.text.items (c.loop-k.writer.wtr.inner.items ++ c.loop-k.writer.wtr.buf)
+    refl c.loop-k-test.false (c.loop-k.auto.k-end (omega arith)) c.in_ok-text.ensures.ok c.loop-k.invariant.text

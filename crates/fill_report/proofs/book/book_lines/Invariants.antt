@@ -13,5 +13,5 @@ invariant-loop-k g l =
     record {
       from : l.from ≤ l.k;
       ready : IsReady l.writer;
-      text : written l.writer ≡ Some (lines_from l.windows l.least l.most (measures_of s.layers.metal (boxes_of (plan_of a.rules) s.fill) l.windows) l.from (l.k - l.from));
+      text : written l.writer ≡ Some (lines_from l.windows l.limits (measures_of s.layers.metal (boxes_of (plan_of a.rules) s.fill) l.windows) l.from (l.k - l.from));
     }

@@ -1,10 +1,8 @@
-use Rattle.std.proofs.Common.{◌≡◌, ◌∙◌, ◌*◌, ℕ, ap, rules, subst, FitsSigned, w64}
+use Rattle.std.proofs.Common.{◌≡◌, ◌∙◌, ◌*◌, ℕ, ap, subst}
 use Rattle.std.specs.Prelude.{IfOk}
 use Rattle.fill_area.specs.Grid.{Grid}
-use Rattle.fill_base.proofs.Signed.{read_is}
-use Rattle.fill_text.specs.Rules.{Values, value_of, windows_of}
+use Rattle.fill_text.specs.Rules.{Values, limits_of, windows_of}
 use Rattle.fill_text.specs.ValuesOfRules.{values_of}
-use Rattle.fill_text.specs.declared.keys.NumberKey.TheVariants.{Max, Min}
 use Rattle.fill_job.specs.Plans.{plan_of}
 use Rattle.fill_core.specs.Accounts.{state_of}
 use Rattle.fill_report.specs.BookReport.{boxes_of}
@@ -17,11 +15,9 @@ returns g c =
     let s = state_of a in
     let grid = windows_of a.rules in
     let w : c.windows-windows.result ≡ grid = c.windows-windows.ensures ∙ ap windows_of c.rules-rules.ensures in
-    let least : FitsSigned w64 c.min.result = search rules in
-    let most : FitsSigned w64 c.max.result = search rules in
     let count : c.len.result ≡ grid.across.count * grid.up.count = c.len.ensures.count ∙ ap (λ (q : Grid). q.across.count * q.up.count) w in
-    let text = λ (q : Grid) (n : ℕ) (values : Values). IfOk c.book_lines.result (λ v. v.items ≡ lines_from q (value_of values Min) (value_of values Max) (measures_of s.layers.metal (boxes_of (plan_of a.rules) s.fill) q) 0 n) in
+    let text = λ (q : Grid) (n : ℕ) (values : Values). IfOk c.book_lines.result (λ v. v.items ≡ lines_from q (limits_of values) (measures_of s.layers.metal (boxes_of (plan_of a.rules) s.fill) q) 0 n) in
     subst (λ (values : Values). text grid (grid.across.count * grid.up.count) values) c.rules-rules.ensures
     (subst (λ (n : ℕ). text grid n (values_of c.rules-rules.result.now)) count
     (subst (λ (q : Grid). text q c.len.result (values_of c.rules-rules.result.now)) w
-    (rw (read_is _ least, read_is _ most, c.min.ensures.value, c.max.ensures.value) at c.book_lines.ensures)))
+    (rw c.limits.ensures.value at c.book_lines.ensures)))

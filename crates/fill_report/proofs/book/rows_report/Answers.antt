@@ -1,10 +1,8 @@
-use Rattle.std.proofs.Common.{◌≡◌, ap, subst, ◌∙◌, ℕ, ◌*◌, ◌-◌, ◌+◌, ◌≤◌, rules, FitsSigned, w64, sym}
+use Rattle.std.proofs.Common.{◌≡◌, ap, subst, ◌∙◌, ℕ, ◌*◌, ◌-◌, ◌+◌, ◌≤◌, sym}
 use Rattle.std.specs.Prelude.{IfOk}
 use Rattle.fill_area.specs.Grid.{Grid}
-use Rattle.fill_base.proofs.Signed.{read_is}
-use Rattle.fill_text.specs.Rules.{Values, value_of, windows_of}
+use Rattle.fill_text.specs.Rules.{Values, limits_of, windows_of}
 use Rattle.fill_text.specs.ValuesOfRules.{values_of}
-use Rattle.fill_text.specs.declared.keys.NumberKey.TheVariants.{Max, Min}
 use Rattle.fill_job.specs.Plans.{plan_of}
 use Rattle.fill_core.specs.Accounts.{state_of}
 use Rattle.fill_report.specs.BookReport.{boxes_of}
@@ -26,11 +24,9 @@ returns g c =
     let grid = windows_of a.rules in
     let w : c.windows-windows.result ≡ grid = c.windows-windows.ensures ∙ ap windows_of c.rules-rules.ensures in
     let columns : c.columns-columns.result ≡ grid.across.count = c.columns-columns.ensures ∙ ap (λ (q : Grid). q.across.count) w in
-    let least : FitsSigned w64 c.min.result = search rules in
-    let most : FitsSigned w64 c.max.result = search rules in
     let low = c.args.rows.start in let rows = c.args.rows.end - c.args.rows.start in
-    let text = λ (q : Grid) (n : ℕ) (values : Values). IfOk c.book_lines.result (λ v. v.items ≡ lines_from q (value_of values Min) (value_of values Max) (measures_of s.layers.metal (boxes_of (plan_of a.rules) s.fill) q) (low * n) (rows * n)) in
+    let text = λ (q : Grid) (n : ℕ) (values : Values). IfOk c.book_lines.result (λ v. v.items ≡ lines_from q (limits_of values) (measures_of s.layers.metal (boxes_of (plan_of a.rules) s.fill) q) (low * n) (rows * n)) in
     subst (λ (values : Values). text grid grid.across.count values) c.rules-rules.ensures
     (subst (λ (n : ℕ). text grid n (values_of c.rules-rules.result.now)) columns
     (subst (λ (q : Grid). text q c.columns-columns.result (values_of c.rules-rules.result.now)) w
-    (rw (read_is _ least, read_is _ most, c.min.ensures.value, c.max.ensures.value) at c.book_lines.ensures)))
+    (rw c.limits.ensures.value at c.book_lines.ensures)))

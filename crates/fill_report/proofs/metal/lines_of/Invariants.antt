@@ -7,5 +7,5 @@ use Rattle.fill_report.proofs.metal.lines_of.Given as goal
 abbrev pub invariant-loop-i : goal.invariant-loop-i
 invariant-loop-i l = record {
   ready : IsReady l.writer;
-  text : (measures : ℕ → ℕ → Measures) → AreDrawn l.windows l.from l.areas measures → written l.writer ≡ Some (lines_from l.windows l.least l.most measures l.from l.i);
+  text : (measures : ℕ → ℕ → Measures) → AreDrawn l.windows l.from l.areas measures → written l.writer ≡ Some (lines_from l.windows l.limits measures l.from l.i);
 }

@@ -1,19 +1,17 @@
-use Rattle.std.proofs.Common.{◌≡◌, ap, subst, sym, ◌∙◌, ℕ, ◌+◌, ◌*◌, ◌-◌, ◌≤◌, rules, FitsSigned, w64}
+use Rattle.std.proofs.Common.{◌≡◌, ap, subst, sym, ◌∙◌, ℕ, ◌+◌, ◌*◌, ◌-◌, ◌≤◌}
 use Rattle.std.specs.List.{flat_map}
 use Rattle.std.specs.Vec.{vec_items}
 use Rattle.std.proofs.lemmas.Result.{IfOk-weaker}
 use Rattle.fill_area.specs.Grid.{Grid}
-use Rattle.fill_base.proofs.Signed.{read_is}
 use Rattle.fill_region.specs.Squares.{covered}
-use Rattle.fill_text.specs.Rules.{value_of, windows_of}
+use Rattle.fill_text.specs.Rules.{limits_of, windows_of}
 use Rattle.fill_text.specs.ValuesOfRules.{values_of}
-use Rattle.fill_text.specs.declared.keys.NumberKey.TheVariants.{Max, Min}
 use Rattle.fill_report.specs.Report.{lines_from, measures_of, nothing}
 use Rattle.fill_report.proofs.RowEnds.{rows_end}
 use Rattle.fill_report.proofs.rows.rows_report_of_rects.Goals as goal
 
-pub part_by_sums-requires-clause-within : goal.part_by_sums-requires-clause-within
-part_by_sums-requires-clause-within g c =
+pub section_by_sums-requires-clause-within : goal.section_by_sums-requires-clause-within
+section_by_sums-requires-clause-within g c =
     let grid = windows_of (values_of c.args.rules.now) in
     let w = c.in_ok-sums.ensures.windows ∙ c.windows-windows.ensures in
     let columns : c.columns-columns.result ≡ grid.across.count = c.columns-columns.ensures ∙ ap (λ (v : Grid). v.across.count) c.windows-windows.ensures in
@@ -26,10 +24,8 @@ returns g c =
     let p = covered (flat_map vec_items c.args.lists.items) in
     let w : c.in_ok-sums.sums.windows ≡ grid = c.in_ok-sums.ensures.windows ∙ c.windows-windows.ensures in
     let columns : c.columns-columns.result ≡ grid.across.count = c.columns-columns.ensures ∙ ap (λ (q : Grid). q.across.count) c.windows-windows.ensures in
-    let least : FitsSigned w64 c.min.result = search rules in
-    let most : FitsSigned w64 c.max.result = search rules in
     let low = c.args.rows.start in let rows = c.args.rows.end - c.args.rows.start in
-    IfOk-weaker c.part_by_sums.result _ _ (λ text is.
-    subst (λ (n : ℕ). text.items ≡ lines_from grid (value_of v Min) (value_of v Max) (measures_of p nothing grid) (low * n) (rows * n)) columns
-    (subst (λ (q : Grid). text.items ≡ lines_from q (value_of v Min) (value_of v Max) (measures_of p nothing q) (low * c.columns-columns.result) (rows * c.columns-columns.result)) w (is p (rw c.deref.ensures.value at c.in_ok-sums.ensures.sums))))
-    (rw (read_is _ least, read_is _ most, c.min.ensures.value, c.max.ensures.value) at c.part_by_sums.ensures)
+    IfOk-weaker c.section_by_sums.result _ _ (λ text is.
+    subst (λ (n : ℕ). text.items ≡ lines_from grid (limits_of v) (measures_of p nothing grid) (low * n) (rows * n)) columns
+    (subst (λ (q : Grid). text.items ≡ lines_from q (limits_of v) (measures_of p nothing q) (low * c.columns-columns.result) (rows * c.columns-columns.result)) w (is p (rw c.deref.ensures.value at c.in_ok-sums.ensures.sums))))
+    (rw c.limits.ensures.value at c.section_by_sums.ensures)

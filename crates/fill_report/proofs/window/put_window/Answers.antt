@@ -17,8 +17,8 @@ returns-clause-text c front so_far =
     let counted = counted_size g (c.args.k % g.across.count) (c.args.k / g.across.count) in
     let size : read c.counted_size-size.result ≡ counted = read_at _ _ (search rules) (c.counted_size-size.ensures.size ∙ (ap (λ i. counted_size g i c.column_and_row-a.result.1) a ∙ ap (counted_size g (c.args.k % g.across.count)) b)) in
     let share_read : share_of (read m.total) (read c.counted_size-size.result) ≡ share_of m.total counted = rw (read_is m.total total, size) refl in
-    let density_read : density_of (read m.total) (read c.args.least) (read c.args.most) (read c.counted_size-size.result) ≡ density_of m.total c.args.least c.args.most counted =
-    rw (read_is m.total total, size, read_is c.args.least c.ranges.least, read_is c.args.most c.ranges.most) refl in
+    let density_read : density_of (read m.total) c.args.limits (read c.counted_size-size.result) ≡ density_of m.total c.args.limits counted =
+    rw (read_is m.total total, size) refl in
     let share : read c.share.result ≡ share_of m.total counted = read_at _ _ (search rules) (c.share.ensures ∙ share_read) in
     let density = c.density.ensures ∙ density_read in
     rw (

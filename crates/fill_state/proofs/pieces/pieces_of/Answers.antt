@@ -1,4 +1,4 @@
-use Rattle.std.proofs.Common.{◌≡◌, ◌<◌, ◌-◌, ◌∙◌, ap, sym, subst, arith, ℤ}
+use Rattle.std.proofs.Common.{◌≡◌, ◌<◌, ◌-◌, ◌∙◌, ap, sym, subst, arith, ℤ, List, false}
 use Rattle.std.specs.List.{range_with_len}
 use Rattle.std.specs.Vec.{vec_items}
 use Rattle.std.proofs.Crossing.{crosses, frees}
@@ -8,7 +8,7 @@ use Rattle.rayon.proofs.ToStd.{nat_range-All}
 use Rattle.fill_base.specs.Limits.{IsSpacing}
 use Rattle.fill_base.proofs.Signed.{read}
 use Rattle.fill_size.proofs.Ranges.{spacing_read}
-use Rattle.fill_region.specs.Bands.{holds}
+use Rattle.fill_region.specs.Bands.{Band, holds}
 use Rattle.fill_raster.specs.Lattice.{tiles}
 use Rattle.fill_state.proofs.TilePieces.{all_made}
 use Rattle.fill_state.proofs.pieces.pieces_of.Goals as goal
@@ -19,8 +19,9 @@ collect-requires g c κs =
     let ends = c.into_par_iter.ensures in
     let n = tiles c.args.raster.now in
     let spacing : IsSpacing (read c.args.distance) = subst (λ (d : ℤ). IsSpacing d) (sym (spacing_read c.args.distance c.requires)) c.requires in
+    let none : (x y : ℤ) → holds c.in_ok-none.field-0 x y ≡ false = λ x y. ap (λ (b : List Band). holds b x y) c.in_ok-none.ensures ∙ c.empty.ensures.squares x y in
     let inside = nat_range-All (λ t. t < n) 0 n (λ t low high. high) in
-    (search (sendable, crosses) depth 40 fits 100000, (search (sendable, crosses) depth 40 fits 100000, (search (sendable, crosses) depth 40 fits 100000, (search (sendable, crosses) depth 40 fits 100000, (search (sendable, crosses) depth 40 fits 100000, (frees, rw (c.map.ensures.base, c.map.ensures.f, c.with_min_len.ensures.base, ends.0, ends.1, c.tiles.ensures) (λ k d lt. ((inside k d lt, spacing), λ y p. tt))))))))
+    (search (sendable, crosses) depth 40 fits 100000, (search (sendable, crosses) depth 40 fits 100000, (search (sendable, crosses) depth 40 fits 100000, (search (sendable, crosses) depth 40 fits 100000, (search (sendable, crosses) depth 40 fits 100000, (frees, rw (c.map.ensures.base, c.map.ensures.f, c.with_min_len.ensures.base, ends.0, ends.1, c.tiles.ensures) (λ k d lt. ((inside k d lt, (spacing, none)), λ y p. tt))))))))
 
 pub returns : goal.returns
 returns g c =

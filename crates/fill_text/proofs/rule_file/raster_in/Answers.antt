@@ -2,7 +2,7 @@ use Rattle.std.proofs.Common.{◌≡◌, ◌∙◌, Err, ap, refl, rules}
 use Rattle.fill_base.proofs.Signed.{read, read_is}
 use Rattle.fill_text.specs.Rules.{number_in}
 use Rattle.fill_text.specs.declared.keys.NumberKey.TheVariants.{BoxW, BoxH, StepX, StepY, OriginX, OriginY, FillSpacing, TileNx, TileNy}
-use Rattle.fill_text.proofs.RasterTests.{coordinate_in, is_group, kept_as, lattices_same, length_in, pitch_as, places_as, spacing_in}
+use Rattle.fill_text.proofs.RasterTests.{coordinate_in, is_band, kept_as, lattices_same, length_in, pitch_as, places_as, spacing_in}
 use Rattle.fill_text.proofs.rule_file.raster_in.Goals as goal
 
 pub new-requires-clause-width : goal.new-requires-clause-width
@@ -27,10 +27,10 @@ pub new-requires-clause-fill_spacing : goal.new-requires-clause-fill_spacing
 new-requires-clause-fill_spacing c = spacing_in c.value-fill_spacing.result (number_in c.args.numbers.now.values FillSpacing) c.value-fill_spacing.ensures (c.args.numbers.now.low FillSpacing) (c.args.numbers.now.high FillSpacing)
 
 pub new-requires-clause-columns : goal.new-requires-clause-columns
-new-requires-clause-columns c = rw c.tile_columns.ensures (is_group (number_in c.args.numbers.now.values TileNx) (c.args.numbers.now.low TileNx) (c.args.numbers.now.high TileNx))
+new-requires-clause-columns c = rw c.tile_columns.ensures (is_band (number_in c.args.numbers.now.values TileNx) (c.args.numbers.now.low TileNx) (c.args.numbers.now.high TileNx))
 
 pub new-requires-clause-rows : goal.new-requires-clause-rows
-new-requires-clause-rows c = rw c.tile_rows.ensures (is_group (number_in c.args.numbers.now.values TileNy) (c.args.numbers.now.low TileNy) (c.args.numbers.now.high TileNy))
+new-requires-clause-rows c = rw c.tile_rows.ensures (is_band (number_in c.args.numbers.now.values TileNy) (c.args.numbers.now.low TileNy) (c.args.numbers.now.high TileNy))
 
 pub returns-in-Ok : goal.returns-in-Ok
 returns-in-Ok c =

@@ -4,5 +4,5 @@ use Rattle.std.specs.Vec.{vec_items}
 use Rattle.gds_cells.specs.steps.Counting.{IsCapped}
 use Rattle.gds_cells.proofs.counts.count_own.Given as goal
 
-abbrev pub invariant-runs : goal.invariant-runs
-invariant-runs l = IsCapped (length (flat_map vec_items (take l.run-index l.runs))) l.total
+abbrev pub invariant-chunks : goal.invariant-chunks
+invariant-chunks l = IsCapped (length (flat_map vec_items (take l.chunk-index l.chunks))) l.total

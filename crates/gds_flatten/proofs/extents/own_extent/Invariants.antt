@@ -6,8 +6,8 @@ use Rattle.gds_cells.specs.steps.Built.{own_of}
 use Rattle.gds_flatten.specs.steps.Framing.{IsFineIf, IsRight}
 use Rattle.gds_flatten.proofs.extents.own_extent.Given as goal
 
-abbrev pub invariant-runs : goal.invariant-runs
-invariant-runs l = record {
+abbrev pub invariant-chunks : goal.invariant-chunks
+invariant-chunks l = record {
   fine : IsFineIf l.extent;
-  right : IsRight (map own_copy (own_of (flat_map vec_items (take l.run-index l.runs)))) l.extent;
+  right : IsRight (map own_copy (own_of (flat_map vec_items (take l.chunk-index l.chunks)))) l.extent;
 }

@@ -3,32 +3,32 @@ use Rattle.std.specs.List.{flat_map}
 use Rattle.std.proofs.lemmas.Result.{err_from_is_err_and}
 use Rattle.gds_flatten.specs.steps.Framing.{IsFound, IsRefusalOn}
 use Rattle.gds_cells.specs.steps.Walks.{shape_copies}
-use Rattle.gds_flatten.proofs.Sharing.{run_copies, of_runs}
+use Rattle.gds_flatten.proofs.Sharing.{chunk_copies, of_chunks}
 use Rattle.gds_flatten.proofs.Missed.{found_none, found_next, found_all, many_next}
 use Rattle.gds_flatten.proofs.framed.carry_own_on.Goals as goal
 
-pub runs-init : goal.runs-init
-runs-init c = found_none c.args.frame.now c.args.found.now
+pub chunks-init : goal.chunks-init
+chunks-init c = found_none c.args.frame.now c.args.found.now
 
 pub returns-in_err-carry_shapes_on-clause-refused : goal.returns-in_err-carry_shapes_on-clause-refused
 returns-in_err-carry_shapes_on-clause-refused c =
     let p = err_from_is_err_and c.from_residual.result c.from_residual.ensures.1 in
     let at = c.args.at.now in
     let e = c.in_err-carry_shapes_on.field-0.0 in
-    let one = subst (λ ss. IsRefusalOn c.args.frame.now (flat_map (shape_copies at) ss) c.runs.found e) c.deref.ensures.value c.in_err-carry_shapes_on.ensures.refused in
-    rw (p.1, p.2) (subst (λ cs. IsRefusalOn c.args.frame.now cs c.args.found.now e) (of_runs at c.args.runs.now)
-    (many_next c.args.frame.now (run_copies at) c.args.runs.now c.runs.run-index c.run-item.result c.args.found.now c.runs.found e c.runs-test.true c.runs.invariant
-    (subst (λ r. IsRefusalOn c.args.frame.now (run_copies at r) c.runs.found e) c.run-item.is one)))
+    let one = subst (λ ss. IsRefusalOn c.args.frame.now (flat_map (shape_copies at) ss) c.chunks.found e) c.deref.ensures.value c.in_err-carry_shapes_on.ensures.refused in
+    rw (p.1, p.2) (subst (λ cs. IsRefusalOn c.args.frame.now cs c.args.found.now e) (of_chunks at c.args.chunks.now)
+    (many_next c.args.frame.now (chunk_copies at) c.args.chunks.now c.chunks.chunk-index c.chunk-item.result c.args.found.now c.chunks.found e c.chunks-test.true c.chunks.invariant
+    (subst (λ r. IsRefusalOn c.args.frame.now (chunk_copies at r) c.chunks.found e) c.chunk-item.is one)))
 
-pub runs-preserved : goal.runs-preserved
-runs-preserved c =
+pub chunks-preserved : goal.chunks-preserved
+chunks-preserved c =
     let at = c.args.at.now in
-    let found = subst (λ ss. IsFound c.args.frame.now (flat_map (shape_copies at) ss) c.runs.found c.carry_shapes_on.new.found) c.deref.ensures.value c.in_ok-carry_shapes_on.ensures.found in
-    found_next c.args.frame.now (run_copies at) c.args.runs.now c.runs.run-index c.run-item.result c.args.found.now c.runs.found
-    c.carry_shapes_on.new.found c.runs-test.true c.runs.invariant
-    (subst (λ r. IsFound c.args.frame.now (run_copies at r) c.runs.found c.carry_shapes_on.new.found) c.run-item.is found)
+    let found = subst (λ ss. IsFound c.args.frame.now (flat_map (shape_copies at) ss) c.chunks.found c.carry_shapes_on.new.found) c.deref.ensures.value c.in_ok-carry_shapes_on.ensures.found in
+    found_next c.args.frame.now (chunk_copies at) c.args.chunks.now c.chunks.chunk-index c.chunk-item.result c.args.found.now c.chunks.found
+    c.carry_shapes_on.new.found c.chunks-test.true c.chunks.invariant
+    (subst (λ r. IsFound c.args.frame.now (chunk_copies at r) c.chunks.found c.carry_shapes_on.new.found) c.chunk-item.is found)
 
 pub returns-clause-found : goal.returns-clause-found
 returns-clause-found c =
-    subst (λ cs. IsFound c.args.frame.now cs c.args.found.now c.runs.found) (of_runs c.args.at.now c.args.runs.now)
-    (found_all c.args.frame.now (run_copies c.args.at.now) c.args.runs.now c.runs.run-index c.args.found.now c.runs.found (omega (arith, c.runs-test.false)) c.runs.invariant)
+    subst (λ cs. IsFound c.args.frame.now cs c.args.found.now c.chunks.found) (of_chunks c.args.at.now c.args.chunks.now)
+    (found_all c.args.frame.now (chunk_copies c.args.at.now) c.args.chunks.now c.chunks.chunk-index c.args.found.now c.chunks.found (omega (arith, c.chunks-test.false)) c.chunks.invariant)

@@ -1,4 +1,4 @@
-use Rattle.std.proofs.Common.{subst, sym, ap, arith, refl, ◌-◌, ◌*◌, ◌<◌, ◌≤◌, ◌≡◌, ◌∙◌, length, get_or, map}
+use Rattle.std.proofs.Common.{subst, sym, ap, arith, refl, ℕ, ◌-◌, ◌*◌, ◌<◌, ◌≤◌, ◌≡◌, ◌∙◌, length, get_or, map}
 use Rattle.std.specs.List.{flat_map}
 use Rattle.std.specs.Vec.{vec_items}
 use Rattle.std.proofs.lemmas.Result.{err_from_is_err_and}
@@ -7,7 +7,9 @@ use Rattle.gds_cells.specs.Copies.{carry_copy, copies, AllStayInRange}
 use Rattle.gds_cells.specs.steps.Counting.{IsCapped}
 use Rattle.gds_cells.specs.steps.Ranges.{IsWithin}
 use Rattle.gds_cells.specs.steps.Walks.{hierarchy, shape_copies, single_copies, link_copies, part, IsDrawn, IsRefusal}
+use Rattle.gds_cells.specs.Links.{single}
 use Rattle.gds_cells.proofs.Capping.{count_of, counts_below}
+use Rattle.gds_flatten.proofs.Chained.{chain_carries, chain_near, chain_within, within_more}
 use Rattle.gds_flatten.proofs.Drawing.{link_of_cell_leaves, turn_leaves, refused_more, deeper}
 use Rattle.gds_flatten.proofs.Sharing.{none_shared, next_shared, rest_shared, all_shared, cell_shared, own_leave, link_before, link_passed, turns_begun, turn_shared, turns_done}
 use Rattle.gds_flatten.proofs.walk.+carry.Goals as goal
@@ -31,10 +33,10 @@ carry_cell-returns-then-rest-eq0-clause-drawn t c =
     let some = c.in-Some.ensures.some in
     let told = c.in_ok-rest.ensures in
     let shapes = ap (λ rs. flat_map vec_items rs) c.as_slice.ensures.value in
-    cell_shared c.args.cells.now c.args.depth c.args.index c.in-Some.cell.now c.args.at.now c.args.share.from c.args.share.to c.in_ok-rest.rest.from c.in_ok-rest.rest.to
+    cell_shared c.args.cells.now c.args.depth c.args.index c.in-Some.cell.now c.args.at.now c.args.stretch.from c.args.stretch.to c.in_ok-rest.rest.from c.in_ok-rest.rest.to
     c.args.out.now.items c.carry_own.new.out.items c.links.out.items some.0 some.1
-    (subst (λ ss. IsDrawn (part c.args.share.from c.args.share.to (flat_map (shape_copies c.args.at.now) ss)) c.args.out.now.items c.carry_own.new.out.items) shapes told.drawn)
-    (told.from ∙ ap (λ ss. c.args.share.from - length ss) shapes) (told.to ∙ ap (λ ss. c.args.share.to - length ss) shapes)
+    (subst (λ ss. IsDrawn (part c.args.stretch.from c.args.stretch.to (flat_map (shape_copies c.args.at.now) ss)) c.args.out.now.items c.carry_own.new.out.items) shapes told.drawn)
+    (told.from ∙ ap (λ ss. c.args.stretch.from - length ss) shapes) (told.to ∙ ap (λ ss. c.args.stretch.to - length ss) shapes)
     (rest_shared (link_copies c.args.at.now (copies (hierarchy c.args.cells.now) (c.args.depth - 1))) c.as_slice-links.result.now c.in-Some.cell.now.links.items c.links.link-index
     c.in_ok-rest.rest.from c.in_ok-rest.rest.to c.links.rest.from c.links.rest.to c.carry_own.new.out.items c.links.out.items
     c.as_slice-links.ensures.value c.if-rest-eq0.true c.links.invariant)
@@ -102,10 +104,10 @@ carry_cell-returns-clause-drawn t c =
     let some = c.in-Some.ensures.some in
     let told = c.in_ok-rest.ensures in
     let shapes = ap (λ rs. flat_map vec_items rs) c.as_slice.ensures.value in
-    cell_shared c.args.cells.now c.args.depth c.args.index c.in-Some.cell.now c.args.at.now c.args.share.from c.args.share.to c.in_ok-rest.rest.from c.in_ok-rest.rest.to
+    cell_shared c.args.cells.now c.args.depth c.args.index c.in-Some.cell.now c.args.at.now c.args.stretch.from c.args.stretch.to c.in_ok-rest.rest.from c.in_ok-rest.rest.to
     c.args.out.now.items c.carry_own.new.out.items c.links.out.items some.0 some.1
-    (subst (λ ss. IsDrawn (part c.args.share.from c.args.share.to (flat_map (shape_copies c.args.at.now) ss)) c.args.out.now.items c.carry_own.new.out.items) shapes told.drawn)
-    (told.from ∙ ap (λ ss. c.args.share.from - length ss) shapes) (told.to ∙ ap (λ ss. c.args.share.to - length ss) shapes)
+    (subst (λ ss. IsDrawn (part c.args.stretch.from c.args.stretch.to (flat_map (shape_copies c.args.at.now) ss)) c.args.out.now.items c.carry_own.new.out.items) shapes told.drawn)
+    (told.from ∙ ap (λ ss. c.args.stretch.from - length ss) shapes) (told.to ∙ ap (λ ss. c.args.stretch.to - length ss) shapes)
     (all_shared (link_copies c.args.at.now (copies (hierarchy c.args.cells.now) (c.args.depth - 1))) c.as_slice-links.result.now c.in-Some.cell.now.links.items c.links.link-index
     c.in_ok-rest.rest.from c.in_ok-rest.rest.to c.links.rest.from c.links.rest.to c.carry_own.new.out.items c.links.out.items
     c.as_slice-links.ensures.value (omega (arith, c.links-test.false)) c.links.invariant)
@@ -114,39 +116,54 @@ pub carry_link-count_link-requires : goal.carry_link-count_link-requires
 carry_link-count_link-requires t c =
     rw c.number_at-each.ensures (count_of c.args.cells.now c.args.counts.now c.args.depth c.args.link.now.cell c.requires.counted).most
 
-pub carry_link-returns-then-count_link-share-clause-drawn :
-    goal.carry_link-returns-then-count_link-share-clause-drawn
-carry_link-returns-then-count_link-share-clause-drawn t c =
+pub carry_link-returns-then-count_link-stretch-clause-drawn :
+    goal.carry_link-returns-then-count_link-stretch-clause-drawn
+carry_link-returns-then-count_link-stretch-clause-drawn t c =
     let right = subst (λ n. IsCapped (length (copies (hierarchy c.args.cells.now) c.args.depth c.args.link.now.cell)) n) (sym c.number_at-each.ensures)
     (count_of c.args.cells.now c.args.counts.now c.args.depth c.args.link.now.cell c.requires.counted) in
-    let share = c.args.share in
-    let first_few : share.from ≤ 4000000 = omega (arith, share.ordered, share.few) in
-    link_before c.args.at.now (copies (hierarchy c.args.cells.now) c.args.depth) c.args.link.now c.number_at-each.result right share.from share.to first_few share.few
-    c.args.out.now.items (let told = c.count_link.ensures.value in omega (arith, told, c.if-count_link-share.true))
+    let stretch = c.args.stretch in
+    let first_few : stretch.from ≤ 4000000 = omega (arith, stretch.ordered, stretch.few) in
+    link_before c.args.at.now (copies (hierarchy c.args.cells.now) c.args.depth) c.args.link.now c.number_at-each.result right stretch.from stretch.to first_few stretch.few
+    c.args.out.now.items (let told = c.count_link.ensures.value in omega (arith, told, c.if-count_link-stretch.true))
 
 pub carry_link-turns-init : goal.carry_link-turns-init
 carry_link-turns-init t c =
     let right = subst (λ n. IsCapped (length (copies (hierarchy c.args.cells.now) c.args.depth c.args.link.now.cell)) n) (sym c.number_at-each.ensures)
     (count_of c.args.cells.now c.args.counts.now c.args.depth c.args.link.now.cell c.requires.counted) in
-    let share = c.args.share in
-    let first_few : share.from ≤ 4000000 = omega (arith, share.ordered, share.few) in
+    let stretch = c.args.stretch in
+    let first_few : stretch.from ≤ 4000000 = omega (arith, stretch.ordered, stretch.few) in
     record {
       within = c.first_turn-first.ensures.few;
-      drawn = turns_begun c.args.at.now (copies (hierarchy c.args.cells.now) c.args.depth) c.args.link.now c.number_at-each.result right share.from share.to first_few share.few
+      drawn = turns_begun c.args.at.now (copies (hierarchy c.args.cells.now) c.args.depth) c.args.link.now c.number_at-each.result right stretch.from stretch.to first_few stretch.few
           c.first_turn-first.result c.first_turn-first.ensures.before c.args.out.now.items;
     }
 
+pub carry_link-after-inner-requires-clause-outer : goal.carry_link-after-inner-requires-clause-outer
+carry_link-after-inner-requires-clause-outer t c =
+    within_more (257 - c.args.depth) 257 c.after-single.result (less c.args.depth)
+    (deeper c.args.depth c.args.at.now c.single.result c.after-single.result c.requires.deep c.requires.within c.single.ensures.near c.after-single.ensures)
+  where
+    less : (n : ℕ) → 257 - n ≤ 257
+    less n = omega arith
+
+pub carry_link-after-inner-requires-clause-inner : goal.carry_link-after-inner-requires-clause-inner
+carry_link-after-inner-requires-clause-inner t c =
+    chain_near _ _ _ _ _ _ _ c.chain_from-chain.ensures.leads c.requires.deep
+
 pub carry_link-carry_cell-requires : goal.carry_link-carry_cell-requires
-carry_link-carry_cell-requires t c = (
-  omega (arith, c.decreases),
-  (
-    omega (arith, c.requires.deep),
-    (
-      deeper c.args.depth c.args.at.now c.single.result c.after-inner.result c.requires.deep c.requires.within c.single.ensures.near c.after-inner.ensures,
-      c.requires.counted,
-    ),
-  ),
-)
+carry_link-carry_cell-requires t c =
+    let leads = c.chain_from-chain.ensures.leads in
+    let shorter = leads.shorter in (
+      omega (arith, c.decreases, shorter),
+      (
+        omega (arith, c.requires.deep, shorter),
+        (
+          chain_within _ _ _ _ _ _ _ leads c.after-single.result c.after-inner.result c.requires.deep
+              (deeper c.args.depth c.args.at.now c.single.result c.after-single.result c.requires.deep c.requires.within c.single.ensures.near c.after-single.ensures) c.after-inner.ensures,
+          leads.counted,
+        ),
+      ),
+    )
 
 pub carry_link-returns-in_err-carry_cell-clause-refused :
     goal.carry_link-returns-in_err-carry_cell-clause-refused
@@ -155,9 +172,11 @@ carry_link-returns-in_err-carry_cell-clause-refused t c =
     let below = copies (hierarchy c.args.cells.now) c.args.depth in
     let l = c.args.link.now in
     let few = c.end_turn-end.ensures.few in
+    let leads = c.chain_from-chain.ensures.leads in
+    let inner_is = c.after-inner.ensures ∙ ap (λ s. composed s c.chain_from-chain.result.placement) (c.after-single.ensures ∙ ap (composed c.args.at.now) c.single.ensures.is) in
     rw (p.1, p.2) (refused_more c.in_err-carry_cell.field-0.0
     (λ leaves. turn_leaves (single_copies c.args.at.now below l) (l.columns * l.rows) c.turns.turn (omega (arith, few, c.turns-test.true))
-    (λ stays. leaves (subst (λ p. AllStayInRange (map (carry_copy p) (below l.cell))) (sym (c.after-inner.ensures ∙ ap (composed c.args.at.now) c.single.ensures.is)) stays)))
+    (λ stays. leaves (subst AllStayInRange (sym (chain_carries _ _ _ _ _ _ _ leads (composed c.args.at.now (single l c.turns.turn)) c.after-inner.result inner_is)) stays)))
     c.in_err-carry_cell.ensures.refused)
 
 pub carry_link-turns-preserved : goal.carry_link-turns-preserved
@@ -166,15 +185,16 @@ carry_link-turns-preserved t c =
     let l = c.args.link.now in
     let right = subst (λ n. IsCapped (length (below l.cell)) n) (sym c.number_at-each.ensures)
     (count_of c.args.cells.now c.args.counts.now c.args.depth l.cell c.requires.counted) in
-    let share = c.args.share in
-    let first_few : share.from ≤ 4000000 = omega (arith, share.ordered, share.few) in
+    let stretch = c.args.stretch in
+    let first_few : stretch.from ≤ 4000000 = omega (arith, stretch.ordered, stretch.few) in
     let few = c.end_turn-end.ensures.few in
+    let inner_is = c.after-inner.ensures ∙ ap (λ s. composed s c.chain_from-chain.result.placement) (c.after-single.ensures ∙ ap (composed c.args.at.now) c.single.ensures.is) in
     record {
       within = omega (arith, few, c.turns-test.true);
-      drawn = turn_shared c.args.at.now below l c.number_at-each.result right share.from share.to first_few share.few c.turns.turn c.behind-rest.result.from c.behind-rest.result.to
+      drawn = turn_shared c.args.at.now below l c.number_at-each.result right stretch.from stretch.to first_few stretch.few c.turns.turn c.behind-rest.result.from c.behind-rest.result.to
           c.args.out.now.items c.turns.out.items c.carry_cell.new.out.items c.behind-rest.ensures.from c.behind-rest.ensures.to c.turns.invariant.drawn
-          (subst (λ p. IsDrawn (part c.behind-rest.result.from c.behind-rest.result.to (map (carry_copy p) (below l.cell))) c.turns.out.items c.carry_cell.new.out.items)
-          (c.after-inner.ensures ∙ ap (composed c.args.at.now) c.single.ensures.is) c.in_ok-carry_cell.ensures.drawn);
+          (subst (λ cs. IsDrawn (part c.behind-rest.result.from c.behind-rest.result.to cs) c.turns.out.items c.carry_cell.new.out.items)
+          (chain_carries _ _ _ _ _ _ _ c.chain_from-chain.ensures.leads (composed c.args.at.now (single l c.turns.turn)) c.after-inner.result inner_is) c.in_ok-carry_cell.ensures.drawn);
     }
 
 pub carry_link-returns-clause-drawn : goal.carry_link-returns-clause-drawn
@@ -183,7 +203,7 @@ carry_link-returns-clause-drawn t c =
     let l = c.args.link.now in
     let right = subst (λ n. IsCapped (length (below l.cell)) n) (sym c.number_at-each.ensures)
     (count_of c.args.cells.now c.args.counts.now c.args.depth l.cell c.requires.counted) in
-    let share = c.args.share in
-    let first_few : share.from ≤ 4000000 = omega (arith, share.ordered, share.few) in
-    turns_done c.args.at.now below l c.number_at-each.result right share.from share.to first_few share.few c.turns.turn c.end_turn-end.result (l.columns * l.rows)
+    let stretch = c.args.stretch in
+    let first_few : stretch.from ≤ 4000000 = omega (arith, stretch.ordered, stretch.few) in
+    turns_done c.args.at.now below l c.number_at-each.result right stretch.from stretch.to first_few stretch.few c.turns.turn c.end_turn-end.result (l.columns * l.rows)
     c.args.out.now.items c.turns.out.items c.turns.invariant.within (omega (arith, c.turns-test.false)) c.end_turn-end.ensures.behind refl c.turns.invariant.drawn

@@ -19,5 +19,5 @@ invariant-carry_cell-links l =
 abbrev pub invariant-carry_link-turns : goal.invariant-carry_link-turns
 invariant-carry_link-turns l = record {
   within : l.turn ≤ l.link.columns * l.link.rows;
-  drawn : IsDrawn (part l.share.from l.share.to (flat_map (single_copies l.at (copies (hierarchy l.cells) l.depth) l.link) (range_with_len 0 l.turn))) l.initial.out.items l.out.items;
+  drawn : IsDrawn (part l.stretch.from l.stretch.to (flat_map (single_copies l.at (copies (hierarchy l.cells) l.depth) l.link) (range_with_len 0 l.turn))) l.initial.out.items l.out.items;
 }

@@ -9,7 +9,7 @@ use Rattle.gds_grammar.proofs.library.read.Goals as goal
 pub cells-init : goal.cells-init
 cells-init c = record {
   contents = record { dates = c.in_ok-dates.field-0-0.dates; units = c.in_ok-dates.field-0-0.units; cells = [] };
-  kept_are = ap (λ cells. record { dates = c.in_ok-dates.field-0-0.dates; units = c.in_ok-dates.field-0-0.units; cells = cells }) (sym (ap (map cell_of) c.new.ensures.empty));
+  kept_are = ap (λ cells. record { dates = c.in_ok-dates.field-0-0.dates; units = c.in_ok-dates.field-0-0.units; cells = cells }) (sym (ap (map cell_of) c.with_hasher.ensures.empty));
   reached = c.in_ok-dates.ensures.found;
 }
 

@@ -1,5 +1,6 @@
 use Rattle.std.proofs.Common.{◌≡◌, ℕ, Bool, true, false, List, [], map, sym, ap, ◌∙◌, arith}
 use Rattle.std.proofs.lemmas.Result.{err_from_is_err_and}
+use Rattle.fill_base.specs.declared.layer.Layer.{Layer}
 use Rattle.gds_record.specs.Numbers.{trimmed}
 use Rattle.gds_grammar.specs.Values.{Cell, Contents, cell_of, shape_of, contents_of}
 use Rattle.gds_grammar.specs.Layers.{kept_cell, kept}
@@ -11,7 +12,7 @@ use Rattle.gds_grammar.proofs.Paths.{and_then, fails_after, open_opened, only_st
 use Rattle.gds_grammar.proofs.library.read_cell.Goals as goal
 
 -- the name is looked up among the cells that are kept
-looked_up : (keep : ℕ → ℕ → Bool) (l m : Contents) (n name : List ℕ) (b found : Bool) → kept keep l ≡ m → n ≡ name → found ≡ has_name m.cells n → found ≡ b → has_name l.cells name ≡ b
+looked_up : (keep : Layer → Bool) (l m : Contents) (n name : List ℕ) (b found : Bool) → kept keep l ≡ m → n ≡ name → found ≡ has_name m.cells n → found ≡ b → has_name l.cells name ≡ b
 looked_up keep l m n name b found same named is e =
     sym (name_kept keep l.cells name) ∙ ap (λ x. has_name x.cells name) same ∙ ap (has_name m.cells) (sym named) ∙ sym is ∙ e
 

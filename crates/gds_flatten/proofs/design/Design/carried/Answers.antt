@@ -20,6 +20,6 @@ returns-in_err-carry_cell-clause-refused c =
 
 pub returns-clause-drawn : goal.returns-clause-drawn
 returns-clause-drawn c =
-    subst (λ old. IsDrawn (part c.args.share.from c.args.share.to (copies (hierarchy c.args.self.now.cells.items) 256 c.args.self.now.top)) old c.carry_cell.new.out.items) c.in_ok-rects.ensures.items
-    (walked (λ cs. IsDrawn (part c.args.share.from c.args.share.to cs) c.in_ok-rects.rects.items c.carry_cell.new.out.items)
+    subst (λ old. IsDrawn (part c.args.stretch.from c.args.stretch.to (copies (hierarchy c.args.self.now.cells.items) 256 c.args.self.now.top)) old c.carry_cell.new.out.items) c.in_ok-rects.ensures.items
+    (walked (λ cs. IsDrawn (part c.args.stretch.from c.args.stretch.to cs) c.in_ok-rects.rects.items c.carry_cell.new.out.items)
     c.args.self.now.cells.items c.deref.result.now c.shift.result c.args.self.now.top c.deref.ensures.value c.shift.ensures c.in_ok-carry_cell.ensures.drawn)

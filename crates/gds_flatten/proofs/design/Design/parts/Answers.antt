@@ -17,7 +17,7 @@ use Rattle.gds_cells.specs.steps.Walks.{hierarchy, part, top_copies, IsDrawn, Is
 use Rattle.gds_flatten.proofs.Sharing.{parts_joined}
 use Rattle.gds_flatten.proofs.design.Design.parts.Goals as goal
 
--- what came of the share at an index, where the closure holds the design and the size of a share
+-- what came of the stretch at an index, where the closure holds the design and the size of a stretch
 abbrev Came : Bor Design × Global × ℕ → ℕ → Result (Vec Rect) FlattenError → Type 0
 Came f k came =
     let cs = top_copies f.0.now.cells.items f.0.now.top in

@@ -1,5 +1,0 @@
-use Rattle.fill_measure.proofs.Ends.{stepped_fits}
-use Rattle.fill_measure.proofs.lines.stepped.Goals as goal
-
-pub returns : goal.returns
-returns c = stepped_fits c.args.line c.args.step c.args.last c.min.result c.requires.line c.requires.last c.requires.least c.requires.most c.min.ensures.value

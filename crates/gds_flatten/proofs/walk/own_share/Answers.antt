@@ -1,5 +1,0 @@
-use Rattle.gds_flatten.proofs.Sharing.{part_taken}
-use Rattle.gds_flatten.proofs.walk.own_share.Goals as goal
-
-pub returns : goal.returns
-returns c = part_taken c.args.share.from c.args.share.to c.min-start.result c.min-end.result c.args.shapes.now c.min-end.ensures c.min-start.ensures

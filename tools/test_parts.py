@@ -1,0 +1,166 @@
+#!/usr/bin/env python3
+"""Runs the built program on a chip in parts, of every number of them that gives other rows, and compares what they give with one run of
+one worker: reports one after another, and libraries joined, byte for byte.
+
+usage: test_parts.py [PROGRAM]     (by default bin/densfill, else what the gate left in crates/densfill/out; needs python3)
+"""
+import random
+import subprocess
+import sys
+import tempfile
+import unittest
+from dataclasses import dataclass, field
+from pathlib import Path
+
+sys.path.insert(0, str(Path(__file__).resolve().parent))
+import storm  # noqa: E402
+from stream import boundary, library, path, structure  # noqa: E402
+
+ROOT = Path(__file__).resolve().parent.parent
+BUILT = (ROOT / "bin/densfill", ROOT / "crates/densfill/out/densfill")
+METAL, KEEP = storm.METAL, 40
+
+# A frame of 100 by 300: boxes of 6 by 6 at steps of 10, tiles of 3 by 4 places, and windows of 50 by 40 at half steps over the left part.
+RULES: dict[str, int | str] = {
+    "frame_x1": 0, "frame_y1": 0, "frame_x2": 100, "frame_y2": 300, "box_w": 6, "box_h": 6, "step_x": 10, "step_y": 10, "origin_x": 2,
+    "origin_y": 2, "spacing": 3, "fill_spacing": 4, "tile_nx": 3, "tile_ny": 4, "win_w": 50, "win_h": 40, "win_step_x": 25,
+    "win_step_y": 20, "win_x": 0, "win_y": 10, "win_nx": 3, "win_ny": 13, "min": 300000, "max": 800000, "layer": METAL, "datatype": 0,
+    "fill_layer": 131, "fill_datatype": 0, "top": "TOP", "fill_lib": "FILL", "fill_cell": "BOX", "fill_top": "ALL"}
+KEPT = {"keep_layer": KEEP, "keep_datatype": 0}
+WIRE = library("WIRE", structure("TOP", path(METAL, 8, 20, 5, 20, 150, 80, 150)))
+BLOCKS = library("BLOCKS", structure("TOP", boundary(METAL, 0, 90, 60, 140), boundary(METAL, 70, 200, 90, 290), boundary(KEEP, 10, 40, 50, 75)))
+# A rectangle over the middle cut, one beside the frame, one within a halo of a cut, and a keep-out across all rows.
+SCRIPT = "add,0,140,100,160\ncut,20,60,40,240\nadd,500,500,600,600\nadd,30,149,33,152\nkeep,60,0,66,300\ncut,0,145,100,150\n"
+
+
+@dataclass(frozen=True)
+class Chip:
+    """Three inputs and the numbers of parts that are tried."""
+    name: str
+    rules: dict[str, int | str]
+    design: bytes
+    script: str = ""
+    counts: tuple[int, ...] = field(default=tuple(range(1, 17)))
+
+
+CHIPS = (
+    Chip("one wire", RULES, WIRE),
+    Chip("one wire, edited", RULES, WIRE, SCRIPT),
+    Chip("keep-outs", RULES | KEPT, BLOCKS, SCRIPT),
+    Chip("keep-outs, padding ignored", RULES | KEPT | {"padding": "ignore", "win_y": -25, "win_ny": 16}, BLOCKS, SCRIPT),
+    Chip("padding of zero", RULES | {"padding": "zero", "win_y": -25, "win_ny": 16}, BLOCKS, SCRIPT),
+    Chip("nothing drawn", RULES, library("EMPTY", structure("TOP"))),
+    Chip("windows over the lower rows alone", RULES | {"win_ny": 2}, WIRE, SCRIPT),
+    Chip("one window", RULES | {"win_nx": 1, "win_ny": 1, "win_h": 290}, BLOCKS, SCRIPT),
+    Chip("one tile", RULES | {"tile_nx": 99, "tile_ny": 99}, BLOCKS, SCRIPT, (1, 2, 5, 4096)),
+    Chip("a place a tile", RULES | {"tile_nx": 1, "tile_ny": 1}, BLOCKS, SCRIPT, (1, 2, 7, 31, 60)),
+    Chip("no place", RULES | {"box_w": 200, "step_x": 300}, WIRE, SCRIPT, (1, 2, 9)),
+)
+
+
+def drawn(seed: int) -> Chip:
+    """A random design under random rules, half of them with keep-outs, and a script."""
+    draw = random.Random(seed)
+    rules = storm.rules_of(draw) | draw.choice(({}, {"padding": "ignore"}, {"keep_layer": storm.OTHER, "keep_datatype": 0}))
+    return Chip(f"drawn {seed}", rules, storm.design_of(draw, rules), storm.script_of(draw, rules), (1, 2, 3, 5, 11, 64))
+
+
+class Case(unittest.TestCase):
+    """A folder for the inputs of a chip."""
+    program: Path
+
+    def setUp(self) -> None:
+        folder = tempfile.TemporaryDirectory()
+        self.addCleanup(folder.cleanup)
+        self.folder = Path(folder.name)
+
+    def run_words(self, *words: str) -> subprocess.CompletedProcess[bytes]:
+        return subprocess.run([self.program, *words], cwd=self.folder, capture_output=True, stdin=subprocess.DEVNULL, check=False)
+
+    def fill(self, out: str, *options: str) -> subprocess.CompletedProcess[bytes]:
+        return self.run_words("fill", "rules.csv", "design.gds", "script.csv", out, *options)
+
+    def write(self, chip: Chip) -> None:
+        (self.folder / "rules.csv").write_text("".join(f"{key},{value}\n" for key, value in chip.rules.items()))
+        (self.folder / "design.gds").write_bytes(chip.design)
+        (self.folder / "script.csv").write_text(chip.script)
+
+    def parts(self, count: int) -> tuple[bytes, bytes]:
+        """The report and the library that so many parts give."""
+        names = [f"{number}-of-{count}.gds" for number in range(1, count + 1)]
+        report = b""
+        for number, name in enumerate(names, 1):
+            done = self.fill(name, "--part", f"{number}/{count}")
+            self.assertEqual((done.returncode, done.stderr), (0, b""))
+            report += done.stdout
+        done = self.run_words("join", "rules.csv", "joined.gds", *names)
+        self.assertEqual((done.returncode, done.stdout, done.stderr), (0, b"", b""))
+        return report, (self.folder / "joined.gds").read_bytes()
+
+    def assert_one_run(self, chip: Chip) -> None:
+        self.write(chip)
+        whole = self.fill("whole.gds")
+        self.assertEqual((whole.returncode, whole.stderr), (0, b""))
+        for count in chip.counts:
+            with self.subTest(chip=chip.name, count=count):
+                report, joined = self.parts(count)
+                self.assertEqual(report, whole.stdout)
+                self.assertEqual(joined, (self.folder / "whole.gds").read_bytes())
+
+
+class OneRun(Case):
+    """Parts, joined, are one run."""
+
+    def test_small_chips(self) -> None:
+        for chip in CHIPS:
+            self.assert_one_run(chip)
+
+    def test_drawn_chips(self) -> None:
+        for seed in range(12):
+            self.assert_one_run(drawn(seed))
+
+    def test_the_example(self) -> None:
+        rules = dict(line.split(",") for line in (ROOT / "examples/block_rules.csv").read_text().split())
+        edits = "add,1200,12000,46800,12300\ncut,20000,1200,21000,34800\nkeep,30000,16000,31000,20000\n"
+        self.assert_one_run(Chip("block", rules, (ROOT / "examples/block.gds").read_bytes(), edits, (1, 2, 4, 7)))
+
+
+class Lines(Case):
+    """What the command line says of a part."""
+
+    def assert_usage(self, *options: str) -> None:
+        done = self.fill("out.gds", *options)
+        self.assertEqual((done.returncode, done.stdout), (1, b""))
+        self.assertTrue(done.stderr.startswith(b"error: "))
+        self.assertFalse((self.folder / "out.gds").exists())
+
+    def test_what_is_no_part(self) -> None:
+        self.write(CHIPS[0])
+        for word in ("0/4", "5/4", "1/4097", "1", "a/b", "1/", "/4", "+1/4", "1/2/3", ""):
+            with self.subTest(word=word):
+                self.assert_usage("--part", word)
+
+    def test_a_part_takes_no_crew_and_no_limit(self) -> None:
+        self.write(CHIPS[0])
+        for options in (("--workers", "1"), ("--workers", "2"), ("--limit", "9"), ("--workers", "2", "--limit", "9")):
+            with self.subTest(options=options):
+                self.assert_usage("--part", "1/4", *options)
+
+    def test_a_refused_input_is_told_as_of_one_run(self) -> None:
+        for rules, design, script in (({"min": -1}, WIRE, ""), ({}, WIRE[:-3], ""), ({}, WIRE, "add,1,1,1,1\n"), ({"top": "NONE"}, WIRE, "")):
+            self.write(Chip("refused", RULES | rules, design, script))
+            whole, part = self.fill("out.gds"), self.fill("out.gds", "--part", "2/3")
+            self.assertEqual((part.returncode, part.stdout, part.stderr), (whole.returncode, b"", whole.stderr))
+            self.assertFalse((self.folder / "out.gds").exists())
+
+
+def main() -> None:
+    given = sys.argv[1:2] or [str(built) for built in BUILT if built.exists()][:1]
+    if not given:
+        sys.exit("no program is built: make build")
+    Case.program = Path(given[0]).resolve()
+    unittest.main(argv=[sys.argv[0], *sys.argv[2:]])
+
+
+if __name__ == "__main__":
+    main()
