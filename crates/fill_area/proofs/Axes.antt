@@ -122,21 +122,6 @@ axis_read axis = record { first = read axis.first; length = read axis.length; st
 pub axis_read_is : (axis : Axis) → FitsSigned w64 axis.first → FitsSigned w64 axis.length → FitsSigned w64 axis.step → axis_read axis ≡ axis
 axis_read_is axis first length step = rw (read_is axis.first first, read_is axis.length length, read_is axis.step step) refl
 
--- a window's size is a product of two lengths
-pub size_fits : (w h : ℤ) → IsLength w → IsLength h → FitsSigned w64 (w *ℤ h)
-size_fits (pos w) (pos h) iw ih =
-    let a : w ≤ 1048576 = let most : pos w ≤ℤ pos 1048576 = iw.most in omega (arith, ints, clamps) in
-    let b : h ≤ 1048576 = let most : pos h ≤ℤ pos 1048576 = ih.most in omega (arith, ints, clamps) in
-    fits (w * h) (mul-le-mul a b)
-  where
-    fits : (m : ℕ) → m ≤ 1048576 * 1048576 → FitsSigned w64 (pos m)
-    fits m most = omega (arith, ints, clamps)
-size_fits (pos w) (negsuc h) iw ih = absurd (let least : pos 1 ≤ℤ negsuc h = ih.least in omega (arith, ints, clamps))
-size_fits (negsuc w) h iw ih = absurd (let least : pos 1 ≤ℤ negsuc w = iw.least in omega (arith, ints, clamps))
-
-pub size_is : (w h : ℤ) → IsLength w → IsLength h → (read w *ℤ read h ≡ w *ℤ h) × FitsSigned w64 (read w *ℤ read h)
-size_is w h iw ih = let e : read w *ℤ read h ≡ w *ℤ h = rw (read_is w (length_fits w iw), read_is h (length_fits h ih)) refl in (e, rw e (size_fits w h iw ih))
-
 -- an extent that the code has found, read back
 extent_read : (axis : Axis) (a : ℕ) (lo hi : ℤ) → IsExtent axis a lo hi → (read lo ≡ lo) × (read hi ≡ hi)
 extent_read axis a lo hi is =
@@ -159,17 +144,6 @@ size_area (pos w) (pos h) iw ih =
     area m most = record { least = omega (arith, ints, clamps); most = omega (arith, ints, clamps) }
 size_area (pos w) (negsuc h) iw ih = absurd (let least : pos 1 ≤ℤ negsuc h = ih.least in omega (arith, ints, clamps))
 size_area (negsuc w) h iw ih = absurd (let least : pos 1 ≤ℤ negsuc w = iw.least in omega (arith, ints, clamps))
-
-pub size_some : (w h : ℤ) → IsLength w → IsLength h → pos 1 ≤ℤ (w *ℤ h)
-size_some (pos w) (pos h) iw ih =
-    let a : 1 ≤ w = let least : pos 1 ≤ℤ pos w = iw.least in omega (arith, ints, clamps) in
-    let b : 1 ≤ h = let least : pos 1 ≤ℤ pos h = ih.least in omega (arith, ints, clamps) in
-    let product : 1 * 1 ≤ w * h = mul-le-mul a b in some (w * h) product
-  where
-    some : (m : ℕ) → 1 ≤ m → pos 1 ≤ℤ pos m
-    some m le = omega (arith, ints, clamps)
-size_some (pos w) (negsuc h) iw ih = absurd (let least : pos 1 ≤ℤ negsuc h = ih.least in omega (arith, ints, clamps))
-size_some (negsuc w) h iw ih = absurd (let least : pos 1 ≤ℤ negsuc w = iw.least in omega (arith, ints, clamps))
 
 -- each column ends within the coordinates, as the code reads its numbers
 pub columns_end : (first length step : ℤ) (count a : ℕ) → IsAxis (axis_of first length step count) → a < count → ((read first +ℤ (pos a *ℤ read step)) +ℤ read length) ≤ℤ highest

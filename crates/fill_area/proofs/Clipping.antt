@@ -22,7 +22,7 @@ use Rattle.std.proofs.Math.Path.{fun_ext}
 use Rattle.std.proofs.Math.Nat.{mul_comm}
 use Rattle.std.proofs.lemmas.Nat.{div_below, mod_below}
 use Rattle.fill_area.specs.Sharing.{in_clip, part_squares}
-use Rattle.fill_area.specs.steps.Whole.{AreWhole, whole_area, whole_at}
+use Rattle.fill_area.specs.steps.Whole.{AreWhole, whole_area}
 use Rattle.fill_area.specs.declared.axis.Axis.{Axis}
 use Rattle.fill_area.proofs.Axes as axes
 use Rattle.fill_area.proofs.Measuring.{area_at, bounded, measured}

@@ -221,15 +221,6 @@ impl Windows {
         Some(Rect::from_edges(clip.left, clip.bottom, clip.right, clip.top))
     }
 
-    /// How many squares a window holds.
-    pub fn window_size(&self) -> i64
-        ensures size { result ≡ self.now.across.length *ℤ self.now.up.length }
-        ensures area { IsArea result }
-        ensures some { pos 1 ≤ℤ result }
-    {
-        self.across.length * self.up.length
-    }
-
     /// The window in column `a` and row `b`.
     pub fn rect(&self, a: u32, b: u32) -> Rect
         requires column { a < self.now.across.count }

@@ -1,5 +1,5 @@
 -- One bit of a list of words, and one mark, taken off.
-use Rattle.std.proofs.Common.{◌≡◌, ℕ, ◌+◌, ◌-◌, ◌*◌, ◌/◌, ◌%◌, ◌^◌, ◌≤◌, ◌<◌, ℤ, arith, ap, ◌∙◌, sym, refl, inl, inr, Bool, true, false, not, ◌&&◌, ◌||◌, ◌==◌, List, length, get_or, set, bit_and, w64}
+use Rattle.std.proofs.Common.{◌≡◌, ℕ, ◌+◌, ◌-◌, ◌*◌, ◌/◌, ◌%◌, ◌^◌, ◌≤◌, ◌<◌, ℤ, arith, ◌∙◌, sym, refl, inl, inr, Bool, true, false, not, ◌&&◌, ◌||◌, ◌==◌, List, length, get_or, set, bit_and, w64}
 use Rattle.std.specs.Ordering.{int_eq}
 use Rattle.std.proofs.lemmas.Bool.{cases_Bool, cases_eq, eq-eqb, ne_eqb, eqb-true}
 use Rattle.std.proofs.lemmas.List.{get_or-set_same, get_or-set_other}
@@ -9,7 +9,7 @@ use Rattle.fill_raster.specs.Bits.{has_bit}
 use Rattle.fill_raster.specs.Marks.{in_block, is_marked, count_marked, index_in, AreMarks}
 use Rattle.fill_raster.specs.declared.block.Block.{Block}
 use Rattle.fill_raster.proofs.Marking.{InBlock, place_in, int_both, marked_more}
-use Rattle.fill_raster.proofs.Points.{area_more, and_no, or_no, int_eq_yes}
+use Rattle.fill_raster.proofs.Points.{area_more, and_no, or_no}
 
 and_yes : (b : Bool) → b && true ≡ b
 and_yes true = refl

@@ -1,7 +1,6 @@
 pub mod Floors
 pub mod Ranges
 pub mod Bands
-pub mod Reaching
 pub mod Reading
 pub mod Tiling
 pub mod Halos

@@ -1,6 +1,6 @@
 -- The places whose boxes are near a range.
-use Rattle.std.proofs.Common.{◌≡◌, refl, sym, ◌∙◌, ℤ, pos, negsuc, ◌+ℤ◌, ◌-ℤ◌, ◌*ℤ◌, ◌≤ℤ◌, ◌<ℤ◌, arith, Bool, true, false, ◌&&◌, FitsSigned, w64}
-use Rattle.std.specs.Prelude.{int_le, int_lt}
+use Rattle.std.proofs.Common.{◌≡◌, refl, sym, ◌∙◌, ℤ, pos, negsuc, ◌+ℤ◌, ◌-ℤ◌, ◌*ℤ◌, ◌≤ℤ◌, ◌<ℤ◌, arith, true, ◌&&◌, FitsSigned, w64}
+use Rattle.std.specs.Prelude.{int_lt}
 use Rattle.std.specs.Int.{int_max, int_min, int_div_euclid}
 use Rattle.std.proofs.lemmas.Bool.{and_from, and_parts}
 use Rattle.std.proofs.lemmas.Int.{ints, clamps, by_lt_z}
@@ -12,7 +12,7 @@ use Rattle.fill_base.proofs.Signed.{read, read_is, is_lt}
 use Rattle.fill_base.specs.declared.rect.Rect.{Rect}
 use Rattle.fill_base.proofs.Areas.{read_x1, read_x2, read_y1, read_y2}
 use Rattle.fill_raster.specs.Lattice.{Lattice, is_near}
-use Rattle.fill_raster.specs.Axes.{box_begin, box_end, is_on, is_on_within, first, past, IsAxis}
+use Rattle.fill_raster.specs.Axes.{box_begin, is_on_within, first, past, IsAxis}
 use Rattle.fill_raster.specs.declared.axis.Axis.{Axis}
 use Rattle.fill_raster.proofs.Floors.{floor_within, within_floor, floor_bounds}
 use Rattle.fill_raster.proofs.Ranges.{on_range, both, first_past}

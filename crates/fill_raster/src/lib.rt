@@ -10,7 +10,6 @@ pub mod laws;
 mod marks;
 mod near;
 mod raster;
-mod reach;
 
 pub use axis::Axis;
 pub use block::Block;

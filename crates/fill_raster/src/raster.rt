@@ -200,6 +200,20 @@ impl Raster {
         self.up.bands() * self.across.bands()
     }
 
+    /// How many columns of tiles there are.
+    pub fn tile_columns(&self) -> u32
+        ensures { result ≡ bands self.now.across }
+    {
+        self.across.bands()
+    }
+
+    /// How many rows of tiles there are.
+    pub fn tile_rows(&self) -> u32
+        ensures { result ≡ bands self.now.up }
+    {
+        self.up.bands()
+    }
+
     /// The tile of a place.
     pub fn tile_of(&self, place: Place) -> u32
         requires { in_raster self.now place.i place.j ≡ true }

@@ -1,4 +1,4 @@
-use Rattle.std.proofs.Common.{◌⊎◌, inl, inr, ◌≤ℤ◌, rules, w64, FitsSigned}
+use Rattle.std.proofs.Common.{inl, inr, rules, w64, FitsSigned}
 use Rattle.fill_area.specs.Grid.{parts_across, parts_up}
 use Rattle.fill_area.specs.Parts.{IsPart}
 use Rattle.fill_area.proofs.Clipping.{nothing_counts, nothing_has_area, not_less}

@@ -1,4 +1,4 @@
-use Rattle.std.proofs.Common.{◌≡◌, ◌≤◌, ◌<◌, ◌-◌, ap, ◌∙◌, sym, length, not, ◌&&◌, ◌==◌, ℕ, true}
+use Rattle.std.proofs.Common.{◌≡◌, ap, ◌∙◌, sym, length, not, ◌&&◌, ◌==◌, ℕ, true}
 use Rattle.fill_raster.specs.Bits.{has_bit}
 use Rattle.fill_raster.proofs.Clearing.{marks_less, marked_less, marked_still}
 use Rattle.fill_raster.proofs.Marking.{given_back}
