@@ -18,13 +18,13 @@ HERE = Path(__file__).resolve().parent
 ROOT = HERE.parent
 sys.path[:0] = [str(HERE), str(ROOT / "tools")]
 
+from built import FolderCase, rule_file, run_tests  # noqa: E402
 from densfill_array.folder import Part  # noqa: E402
 from densfill_array.main import size  # noqa: E402
 from densfill_array.part import ranges  # noqa: E402
 from densfill_array.rules import Chip, NoParts, Work, parts_for, read_work  # noqa: E402
 from stream import array, boundary, library, path, reference, structure  # noqa: E402
 
-BUILT = (ROOT / "bin/densfill", ROOT / "crates/densfill/out/densfill")
 TOOL = HERE / "densfill-array"
 
 # A frame of 400 by 400 with ten rows of windows that overlap by half, and rows of places each way, three to a tile.
@@ -125,15 +125,11 @@ class Picking(unittest.TestCase):
         self.assertEqual(ranges([1, 2, 3, 7, 9, 10]), "1-3,7,9-10")
 
 
-class Case(unittest.TestCase):
-    """A folder with a chip, and what one run of the program makes of it. `most` is the most that the program does of a part."""
-    program: Path
-    most = "fill"
+class Case(FolderCase):
+    """A folder with a chip, and what one run of the program makes of it."""
 
     def setUp(self) -> None:
-        folder = tempfile.TemporaryDirectory()
-        self.addCleanup(folder.cleanup)
-        self.folder = Path(folder.name).resolve()
+        super().setUp()
         self.out = self.folder / "out"
         self.write(RULES)
         (self.folder / "design.gds").write_bytes(library("DESIGN", structure("TOP", *WIRES)))
@@ -141,7 +137,7 @@ class Case(unittest.TestCase):
         self.tool = [sys.executable, "-IS", str(TOOL)]
 
     def write(self, rules: dict[str, object]) -> None:
-        (self.folder / "rules.csv").write_text("".join(f"{key},{value}\n" for key, value in rules.items()))
+        (self.folder / "rules.csv").write_text(rule_file(rules))
 
     def words(self, does: str, *more: object, program: Path | None = None) -> list[str]:
         inputs = ["rules.csv", "design.gds", *["script.csv"] * (does == "fill")]
@@ -187,14 +183,14 @@ class Runs(Case):
     """Arrays by processes on this machine."""
 
     def test_the_bytes_are_those_of_one_run(self) -> None:
-        for does in dict.fromkeys(("check", self.most)):
+        for does in ("check", "fill"):
             for parts in 1, 2, 5, 17:
                 self.assert_whole(does, self.array(does, "--parts", parts))
                 self.assertEqual(len(list((self.out / "parts").glob(f"*-of-{parts}.report.csv"))), parts)
         self.assertFalse(list(self.out.rglob("*.aside*")))
 
     def test_the_table(self) -> None:
-        ended = self.array(self.most, "--parts", 3)
+        ended = self.array("fill", "--parts", 3)
         lines = (self.out / "summary.txt").read_text().splitlines()
         self.assertEqual(ended.stdout.splitlines()[:-1], lines)
         self.assertEqual([line.split()[0] for line in lines], ["part", "1", "2", "3", "all"])
@@ -207,32 +203,31 @@ class Runs(Case):
         self.assertIn("a greater --memory", self.array("check", "--memory", "1M").stderr)
 
     def test_resume_runs_what_is_not_whole(self) -> None:
-        self.array(self.most, "--parts", 6)
-        Part(self.out, 2, 6).outputs(self.most)[-1].unlink()
+        self.array("fill", "--parts", 6)
+        Part(self.out, 2, 6).outputs("fill")[-1].unlink()
         (self.out / "parts/3-of-6.report.csv").write_text("")
         (self.out / "parts/5-of-6.json").write_text("{")
-        ended = self.array(self.most, "--resume")
-        self.assert_whole(self.most, ended)
+        ended = self.array("fill", "--resume")
+        self.assert_whole("fill", ended)
         self.assertTrue(ended.stdout.startswith("3 of 6 parts are kept\n"), ended.stdout)
         self.assertEqual([self.tries(number, 6) for number in range(1, 7)], [1, 1, 1, 1, 1, 1])
         before = {path: path.stat().st_mtime_ns for path in (self.out / "parts").iterdir()}
-        self.assert_whole(self.most, self.array(self.most, "--resume", "--parts", 6))
+        self.assert_whole("fill", self.array("fill", "--resume", "--parts", 6))
         self.assertEqual(before, {path: path.stat().st_mtime_ns for path in (self.out / "parts").iterdir()})
 
     def test_resume_keeps_nothing_of_other_inputs(self) -> None:
         rules = (self.folder / "rules.csv").read_text().replace("min,300000", "min,450000")
-        for name, text in (("rules.csv", rules), ("script.csv", SCRIPT + "cut,0,0,90,90\n"))[:1 + (self.most == "fill")]:
-            self.array(self.most, "--parts", 4)
+        for name, text in (("rules.csv", rules), ("script.csv", SCRIPT + "cut,0,0,90,90\n")):
+            self.array("fill", "--parts", 4)
             (self.folder / name).write_text(text)
-            ended = self.array(self.most, "--parts", 4, "--resume")
+            ended = self.array("fill", "--parts", 4, "--resume")
             self.assertNotIn("kept", ended.stdout)
-            self.assert_whole(self.most, ended)
-        if self.most != "check":
-            self.assertNotIn("kept", self.array("check", "--parts", 4, "--resume").stdout)
+            self.assert_whole("fill", ended)
+        self.assertNotIn("kept", self.array("check", "--parts", 4, "--resume").stdout)
 
     def test_a_part_that_is_refused_ends_no_other(self) -> None:
         program = self.wrapped('if [ "${*: -1}" = 2/4 ]; then echo "densfill: design: 18 TooManyShapes in part 2 of 4" >&2; exit 2; fi')
-        ended = self.array(self.most, "--parts", 4, program=program)
+        ended = self.array("fill", "--parts", 4, program=program)
         self.assert_not_joined(ended, "2")
         self.assertEqual(self.tries(2, 4), 1)
         self.assertRegex((self.out / "summary.txt").read_text(), r"\n +2 +missing +1  densfill: design: 18 TooManyShapes in part 2 of 4\n")
@@ -243,7 +238,7 @@ class Runs(Case):
             (self.folder / "seen").unlink(missing_ok=True)
             program = self.wrapped(f'if [ "${{*: -1}}" = 3/4 ] && ! [ -e $seen ]; then touch $seen; echo half; '
                                    f'echo "densfill: run: 31 Memory" >&2; {way}; fi')
-            self.assert_whole(self.most, self.array(self.most, "--parts", 4, program=program))
+            self.assert_whole("fill", self.array("fill", "--parts", 4, program=program))
             self.assertEqual(self.tries(3, 4), 2)
             self.assertIn(words, (self.out / "summary.txt").read_text())
 
@@ -286,26 +281,26 @@ class Runs(Case):
 
     def test_interruption_leaves_whole_parts(self) -> None:
         program = self.slow()
-        child = subprocess.Popen(self.words(self.most, "--parts", 3, "--jobs", 1, program=program), cwd=self.folder,
+        child = subprocess.Popen(self.words("fill", "--parts", 3, "--jobs", 1, program=program), cwd=self.folder,
                                  stdout=subprocess.DEVNULL, stderr=subprocess.DEVNULL)
         self.wait_for(self.out / "parts/2-of-3.tries")
         child.send_signal(signal.SIGINT)
         self.assertEqual(child.wait(20), 130)
         self.assertEqual([path.name for path in (self.out / "parts").glob("*.json")], ["1-of-3.json"])
         self.assertFalse(list(self.out.rglob("*.aside*")) or (self.out / "report.csv").exists())
-        ended = self.array(self.most, "--resume", program=program)
+        ended = self.array("fill", "--resume", program=program)
         self.assertTrue(ended.stdout.startswith("1 of 3 parts are kept\n"))
-        self.assert_whole(self.most, ended)
+        self.assert_whole("fill", ended)
 
     def test_a_whole_part_run_again_changes_nothing(self) -> None:
-        self.array(self.most, "--parts", 4)
+        self.array("fill", "--parts", 4)
         left = {path: (path.stat().st_mtime_ns, path.read_bytes()) for path in (self.out / "parts").iterdir()}
         self.assertEqual(self.job("part", "out", 2).returncode, 0)
         self.assertEqual(left, {path: (path.stat().st_mtime_ns, path.read_bytes()) for path in (self.out / "parts").iterdir()})
 
     def test_parts_are_counted_before_they_are_joined(self) -> None:
-        self.array(self.most, "--parts", 4)
-        for path, first in zip(Part(self.out, 3, 4).outputs(self.most), Part(self.out, 1, 4).outputs(self.most)):
+        self.array("fill", "--parts", 4)
+        for path, first in zip(Part(self.out, 3, 4).outputs("fill"), Part(self.out, 1, 4).outputs("fill")):
             kept = path.read_bytes()
             for other in (kept[:-1], kept + b"\n", first.read_bytes(), None):
                 for joined in ("report.csv", "fill.gds"):
@@ -314,7 +309,7 @@ class Runs(Case):
                 self.assert_not_joined(self.job("join", "out"), "3")
             path.write_bytes(kept)
         ended = self.job("join", "out")
-        self.assert_whole(self.most, ended)
+        self.assert_whole("fill", ended)
 
     def test_an_input_that_changed_since(self) -> None:
         self.array("check", "--parts", 2)
@@ -380,7 +375,7 @@ class Batch(Case):
             (system / "scontrol").write_text("#!/bin/sh\ntrue\n")
             (system / "scontrol").chmod(0o755)
         env = os.environ | {"PATH": f"{system}:{os.environ['PATH']}"}
-        return self.array(self.most, "--engine", engine, *more, env=env, **how)
+        return self.array("fill", "--engine", engine, *more, env=env, **how)
 
     def submitted(self) -> list[str]:
         return (self.folder / "system/submitted").read_text().replace(str(self.out), "OUT").splitlines()
@@ -390,7 +385,7 @@ class Batch(Case):
             program = self.wrapped('if [ "${*: -1}" = 3/5 ] && ! [ -e $seen ]; then touch $seen; exit 4; fi')
             (self.folder / "seen").unlink(missing_ok=True)
             ended = self.batch(engine, "--parts", 5, "--wait", program=program)
-            self.assert_whole(self.most, ended)
+            self.assert_whole("fill", ended)
             self.assertIn("submitted: parts 1-5 of 5 as job 77, and the joining job behind it\n", ended.stdout)
             self.assertEqual(self.tries(3, 5), 2)
         self.assertEqual(self.submitted(), [
@@ -400,8 +395,8 @@ class Batch(Case):
     def test_without_waiting(self) -> None:
         ended = self.batch("slurm", "--parts", 3)
         self.assertEqual((ended.returncode, ended.stdout.splitlines()[-1]),
-                         (0, f"once the joining job has ended: {self.out}/report.csv{', fill.gds' * (self.most == 'fill')}, summary.txt"))
-        self.assertEqual(self.joined(self.most), self.one_run(self.most))
+                         (0, f"once the joining job has ended: {self.out}/report.csv, fill.gds, summary.txt"))
+        self.assertEqual(self.joined("fill"), self.one_run("fill"))
         self.assertIn("3 of 3 parts are whole", self.job("table", "out").stdout)
 
     def test_what_is_lost_is_submitted_anew(self) -> None:
@@ -409,7 +404,7 @@ class Batch(Case):
             (self.folder / "seen").unlink(missing_ok=True)
             program = self.wrapped('case "${*: -1}" in 2/5|4/5) [ "$(wc -l < $seen)" -ge 2 ] || { echo >> $seen; kill -KILL $PPID; };; esac')
             (self.folder / "seen").touch()
-            self.assert_whole(self.most, self.batch(engine, "--parts", 5, "--wait", program=program))
+            self.assert_whole("fill", self.batch(engine, "--parts", 5, "--wait", program=program))
             self.assertIn(numbers, (self.out / "array.sh").read_text())
 
     def test_what_is_refused_is_not(self) -> None:
@@ -421,10 +416,10 @@ class Batch(Case):
     def test_resume_submits_what_is_missing(self) -> None:
         self.batch("slurm", "--parts", 5, "--wait")
         (self.out / "parts/4-of-5.json").unlink()
-        self.assert_whole(self.most, self.batch("slurm", "--resume", "--wait"))
+        self.assert_whole("fill", self.batch("slurm", "--resume", "--wait"))
         self.assertIn("--array=4\n", (self.out / "array.sh").read_text())
         (self.out / "report.csv").unlink()
-        self.assert_whole(self.most, self.batch("slurm", "--resume"))
+        self.assert_whole("fill", self.batch("slurm", "--resume"))
         self.assertEqual(len(self.submitted()), 4)
 
     def test_no_batch_system(self) -> None:
@@ -439,12 +434,4 @@ class Batch(Case):
 
 
 if __name__ == "__main__":
-    given = sys.argv[1:2] or [str(path) for path in BUILT if path.exists()][:1]
-    if not given:
-        sys.exit("no program is built: make build")
-    Case.program = Path(given[0]).resolve()
-    probe = [Case.program, "fill", "rules", "design", "script", "out", "--part", "1/1"]
-    if subprocess.run(probe, capture_output=True, check=False).returncode == 1:
-        print("this program takes no part of a fill: arrays of checks alone are tested", file=sys.stderr)
-        Case.most = "check"
-    unittest.main(argv=sys.argv[:1])
+    run_tests()

@@ -11,7 +11,6 @@ import signal
 import struct
 import subprocess
 import sys
-import tempfile
 import time
 import unittest
 import xml.etree.ElementTree as ET
@@ -23,6 +22,7 @@ DECK = Path(__file__).resolve().parent
 ROOT = DECK.parent
 sys.path[:0] = [str(DECK), str(ROOT / "tools")]
 
+from built import FolderCase, run_tests  # noqa: E402
 from densfill_deck.deck import Refused, read_deck  # noqa: E402
 from densfill_deck.gds import boxes, database_unit, real  # noqa: E402
 from densfill_deck.lengths import Unfit, in_millionths, in_units, metres  # noqa: E402
@@ -30,7 +30,6 @@ from densfill_deck.pictures import density_map  # noqa: E402
 from densfill_deck.reports import Limits, Window, figures, histogram, worst  # noqa: E402
 from stream import boundary, library, structure  # noqa: E402
 
-BUILT = (ROOT / "bin/densfill", ROOT / "crates/densfill/out/densfill")
 NM = Fraction(1, 10**9)
 LAYERS = range(1, 9)
 GOOD = """[deck]
@@ -54,13 +53,8 @@ def layer(k: int, more: str = "") -> str:
     return f'\n[[layer]]\nname = "M{k}"\nlayer = "{k}/0"\nfill_layer = "{k}/1"\n{more}'
 
 
-class Folder(unittest.TestCase):
-    """A folder for each test."""
-
-    def setUp(self) -> None:
-        folder = tempfile.TemporaryDirectory()
-        self.addCleanup(folder.cleanup)
-        self.folder = Path(folder.name)
+class Folder(FolderCase):
+    """A folder for a deck."""
 
     def deck(self, text: str) -> Path:
         path = self.folder / "deck.toml"
@@ -191,7 +185,6 @@ class Reports(unittest.TestCase):
 
 class Runs(Folder):
     """Whole runs of eight layers on a generated design."""
-    program: Path
 
     def setUp(self) -> None:
         super().setUp()
@@ -317,8 +310,4 @@ class Runs(Folder):
 
 
 if __name__ == "__main__":
-    given = sys.argv[1:2] or [str(path) for path in BUILT if path.exists()][:1]
-    if not given:
-        sys.exit("no program is built: make build")
-    Runs.program = Path(given[0]).resolve()
-    unittest.main(argv=sys.argv[:1])
+    run_tests()

@@ -8,15 +8,14 @@ import os
 import shutil
 import subprocess
 import sys
-import tempfile
-import unittest
 import xml.etree.ElementTree as ET
 from pathlib import Path
 
 DECK = Path(__file__).resolve().parent
-ROOT = DECK.parent
+sys.path.insert(0, str(DECK.parent / "tools"))
+from built import ROOT, FolderCase, run_tests  # noqa: E402
+
 EXAMPLES = ROOT / "examples"
-BUILT = (ROOT / "bin/densfill", ROOT / "crates/densfill/out/densfill")
 MACRO = DECK / "klayout/densfill.lym"
 
 # Runs a check by rules and a fill by a deck with the macro's own functions, and shows both in a view without a window.
@@ -42,15 +41,12 @@ json.dump(left, open(folder + "/left.json", "w"))
 """
 
 
-class Klayout(unittest.TestCase):
+class Klayout(FolderCase):
     """The example block, in a folder for each test."""
-    program: Path
     deck: Path
 
     def setUp(self) -> None:
-        folder = tempfile.TemporaryDirectory()
-        self.addCleanup(folder.cleanup)
-        self.folder = Path(folder.name)
+        super().setUp()
         self.deck = self.linked()
         self.env = os.environ | {"QT_QPA_PLATFORM": "offscreen", "DENSFILL": str(self.program), "DENSFILL_DECK": str(self.deck)}
 
@@ -116,8 +112,4 @@ class Klayout(unittest.TestCase):
 
 
 if __name__ == "__main__":
-    given = sys.argv[1:2] or [str(path) for path in BUILT if path.exists()][:1]
-    if not given or not shutil.which("klayout"):
-        sys.exit("no program is built: make build" if not given else "klayout is not on the path")
-    Klayout.program = Path(given[0]).resolve()
-    unittest.main(argv=sys.argv[:1])
+    run_tests(None if shutil.which("klayout") else "klayout is not on the path")

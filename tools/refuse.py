@@ -18,8 +18,9 @@ from dataclasses import dataclass
 from itertools import count
 from pathlib import Path
 
-ROOT = Path(__file__).resolve().parent.parent
-BUILT = (ROOT / "bin/densfill", ROOT / "crates/densfill/out/densfill")
+sys.path.insert(0, str(Path(__file__).resolve().parent))
+from built import ROOT, built  # noqa: E402
+
 EXAMPLES = ROOT / "examples"
 TESTS = ROOT / "crates/book_tests/out/book_tests_tests"
 # The tests of refused calls, and the most growths that the calls of one of them may meet: one for each of four commits of two books.
@@ -191,7 +192,7 @@ def attempts(program: Path, tests: Path | None, shim: Path, folder: Path) -> dic
 
 def main() -> int:
     parser = argparse.ArgumentParser(description=__doc__, formatter_class=argparse.RawDescriptionHelpFormatter)
-    parser.add_argument("program", nargs="?", type=Path, default=next((path for path in BUILT if path.exists()), None))
+    parser.add_argument("program", nargs="?", type=Path, default=built())
     parser.add_argument("--tests", type=Path, default=TESTS if TESTS.exists() else None, help="the built tests of books")
     parser.add_argument("--most", type=int, default=1_000_000, help="refuse no growth past this one")
     given = parser.parse_args()

@@ -16,10 +16,9 @@ import tempfile
 from pathlib import Path
 
 sys.path.insert(0, str(Path(__file__).resolve().parent))
+from built import ROOT, built, rule_file  # noqa: E402
 from stream import array, boundary, library, path, reference, structure  # noqa: E402
 
-ROOT = Path(__file__).resolve().parent.parent
-BUILT = (ROOT / "bin/densfill", ROOT / "crates/densfill/out/densfill")
 METAL, OTHER = 31, 32
 
 
@@ -82,7 +81,7 @@ def script_of(draw: random.Random, rules: dict[str, int | str]) -> str:
 def judged(draw: random.Random, program: Path, verify: Path, folder: Path) -> str | None:
     """One run; what is wrong with it, if anything is."""
     rules = rules_of(draw)
-    (folder / "rules.csv").write_text("".join(f"{key},{value}\n" for key, value in rules.items()))
+    (folder / "rules.csv").write_text(rule_file(rules))
     (folder / "design.gds").write_bytes(design_of(draw, rules))
     (folder / "script.csv").write_text(script_of(draw, rules))
     words = ["fill", "rules.csv", "design.gds", "script.csv", "out.gds", "--workers", str(draw.choice((1, 2, 3, 8, 64)))]
@@ -112,7 +111,7 @@ def parted(draw: random.Random, program: Path, folder: Path) -> str | None:
 
 def main() -> int:
     parser = argparse.ArgumentParser(description=__doc__, formatter_class=argparse.RawDescriptionHelpFormatter)
-    parser.add_argument("program", nargs="?", type=Path, default=next((built for built in BUILT if built.exists()), None))
+    parser.add_argument("program", nargs="?", type=Path, default=built())
     parser.add_argument("--runs", type=int, default=50)
     parser.add_argument("--seed", type=int, default=1)
     args = parser.parse_args()

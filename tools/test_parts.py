@@ -7,17 +7,14 @@ usage: test_parts.py [PROGRAM]     (by default bin/densfill, else what the gate 
 import random
 import subprocess
 import sys
-import tempfile
-import unittest
 from dataclasses import dataclass, field
 from pathlib import Path
 
 sys.path.insert(0, str(Path(__file__).resolve().parent))
 import storm  # noqa: E402
+from built import ROOT, FolderCase, rule_file, run_tests  # noqa: E402
 from stream import boundary, library, path, structure  # noqa: E402
 
-ROOT = Path(__file__).resolve().parent.parent
-BUILT = (ROOT / "bin/densfill", ROOT / "crates/densfill/out/densfill")
 METAL, KEEP = storm.METAL, 40
 
 # A frame of 100 by 300: boxes of 6 by 6 at steps of 10, tiles of 3 by 4 places, and windows of 50 by 40 at half steps over the left part.
@@ -65,14 +62,8 @@ def drawn(seed: int) -> Chip:
     return Chip(f"drawn {seed}", rules, storm.design_of(draw, rules), storm.script_of(draw, rules), (1, 2, 3, 5, 11, 64))
 
 
-class Case(unittest.TestCase):
+class Case(FolderCase):
     """A folder for the inputs of a chip."""
-    program: Path
-
-    def setUp(self) -> None:
-        folder = tempfile.TemporaryDirectory()
-        self.addCleanup(folder.cleanup)
-        self.folder = Path(folder.name)
 
     def run_words(self, *words: str) -> subprocess.CompletedProcess[bytes]:
         return subprocess.run([self.program, *words], cwd=self.folder, capture_output=True, stdin=subprocess.DEVNULL, check=False)
@@ -81,7 +72,7 @@ class Case(unittest.TestCase):
         return self.run_words("fill", "rules.csv", "design.gds", "script.csv", out, *options)
 
     def write(self, chip: Chip) -> None:
-        (self.folder / "rules.csv").write_text("".join(f"{key},{value}\n" for key, value in chip.rules.items()))
+        (self.folder / "rules.csv").write_text(rule_file(chip.rules))
         (self.folder / "design.gds").write_bytes(chip.design)
         (self.folder / "script.csv").write_text(chip.script)
 
@@ -154,13 +145,5 @@ class Lines(Case):
             self.assertFalse((self.folder / "out.gds").exists())
 
 
-def main() -> None:
-    given = sys.argv[1:2] or [str(built) for built in BUILT if built.exists()][:1]
-    if not given:
-        sys.exit("no program is built: make build")
-    Case.program = Path(given[0]).resolve()
-    unittest.main(argv=[sys.argv[0], *sys.argv[2:]])
-
-
 if __name__ == "__main__":
-    main()
+    run_tests()

@@ -10,16 +10,13 @@ import shutil
 import signal
 import subprocess
 import sys
-import tempfile
-import unittest
 from dataclasses import dataclass
 from pathlib import Path
 
 sys.path.insert(0, str(Path(__file__).resolve().parent))
+from built import FolderCase, rule_file, run_tests  # noqa: E402
 from stream import END, boundary, library, points, record, structure, text, words  # noqa: E402
 
-ROOT = Path(__file__).resolve().parent.parent
-BUILT = (ROOT / "bin/densfill", ROOT / "crates/densfill/out/densfill")
 NOBODY = 65534
 
 # A frame of 20 by 20 with one window over it, and four places for boxes of 4 by 4, at 2 and 10 each way; a square of metal in the
@@ -52,17 +49,14 @@ def file_size(most: int) -> None:
     resource.setrlimit(resource.RLIMIT_FSIZE, (most, most))
 
 
-class Case(unittest.TestCase):
+class Case(FolderCase):
     """A folder with good inputs, and a copy of the program that anyone may run."""
-    program: Path
 
     def setUp(self) -> None:
-        folder = tempfile.TemporaryDirectory()
-        self.addCleanup(folder.cleanup)
-        self.folder = Path(folder.name)
+        super().setUp()
         self.folder.chmod(0o777)
         shutil.copy(self.program, self.folder / "densfill")
-        (self.folder / "rules.csv").write_text("".join(f"{key},{value}\n" for key, value in RULES.items()))
+        (self.folder / "rules.csv").write_text(rule_file(RULES))
         (self.folder / "design.gds").write_bytes(DESIGN)
         (self.folder / "script.csv").touch()
 
@@ -187,7 +181,7 @@ class Files(Case):
             for name in names:
                 (self.folder / name).unlink(missing_ok=True)
             self.assert_fault(self.fill(), 4, f"{part}: 30 Device")
-            (self.folder / "rules.csv").write_text("".join(f"{key},{value}\n" for key, value in RULES.items()))
+            (self.folder / "rules.csv").write_text(rule_file(RULES))
 
     def test_out_cannot_be_created(self) -> None:
         for out in "none/out.gds", ".":
@@ -378,8 +372,4 @@ class Parts(Case):
 
 
 if __name__ == "__main__":
-    given = sys.argv[1:2] or [str(path) for path in BUILT if path.exists()][:1]
-    if not given:
-        sys.exit("no program is built: make build")
-    Case.program = Path(given[0]).resolve()
-    unittest.main(argv=sys.argv[:1])
+    run_tests()

@@ -14,15 +14,13 @@ import subprocess
 import sys
 import tempfile
 import time
-import unittest
 from pathlib import Path
 
 HERE = Path(__file__).resolve().parent
-ROOT = HERE.parent.parent
-sys.path.insert(0, str(HERE))
+sys.path[:0] = [str(HERE), str(HERE.parent.parent / "tools")]
+from built import ROOT, ProgramCase, rule_file, run_tests  # noqa: E402
 from slurm import NODES, Slurm, lacking  # noqa: E402
 
-BUILT = (ROOT / "bin/densfill", ROOT / "crates/densfill/out/densfill")
 ALL, WITHIN = 16_000_000, 3_900_000   # copies of shapes: four times the limit of one run, and just below it
 PARTS = 8
 SAMPLE = 100
@@ -38,17 +36,15 @@ def draw(folder: Path, copies: int) -> None:
     for axis, size in (("x", "w"), ("y", "h")):
         step = int(rules[f"frame_{axis}2"]) // 201 // 2 * 2
         rules |= {f"win_{size}": str(2 * step), f"win_step_{axis}": str(step), f"win_n{axis}": "200"}
-    path.write_text("".join(f"{key},{value}\n" for key, value in rules.items()))
+    path.write_text(rule_file(rules))
     width, height = int(rules["frame_x2"]), int(rules["frame_y2"])
     edges = [(0, height * k // 9 - 3000, width * 2 // 3, height * k // 9 + 3000) for k in range(1, 9)]
     (folder / "script.csv").write_text("".join(f"{kind},{x1},{y1},{x2},{y2}\n" for kind, (x1, y1, x2, y2) in
                                                zip(("cut", "add", "keep", "cut") * 2, edges)))
 
 
-class Cluster(unittest.TestCase):
-    """Arrays over two nodes. `most` is the most that the program does of a part."""
-    program: Path
-    most = "fill"
+class Cluster(ProgramCase):
+    """Arrays over two nodes, all tests in one folder."""
 
     @classmethod
     def setUpClass(cls) -> None:
@@ -107,19 +103,19 @@ class Cluster(unittest.TestCase):
             self.assert_same("check-slurm", f"check-{parts}")
         self.killed_and_queued_again()
         for parts in 7, 16:
-            self.array(self.most, "all", f"most-{parts}", "--parts", parts)
+            self.array("fill", "all", f"most-{parts}", "--parts", parts)
             self.assert_same("most-slurm", f"most-{parts}")
-        if shutil.which("klayout") and self.most == "fill":
+        if shutil.which("klayout"):
             self.klayout_tells_the_same(folder)
 
     def killed_and_queued_again(self) -> None:
-        words = self.words(self.most, "all", "most-slurm", "--engine", "slurm", "--wait", "--parts", PARTS)
+        words = self.words("fill", "all", "most-slurm", "--engine", "slurm", "--wait", "--parts", PARTS)
         child = subprocess.Popen(words, stdout=subprocess.PIPE, stderr=subprocess.PIPE, text=True, env=self.slurm.env)
         self.kill(self.noted("most-slurm", 2), False)
         self.kill(self.noted("most-slurm", 5), True)
         out, err = child.communicate()
         self.assertEqual((child.returncode, err), (0, ""), out)
-        print(f"\n{self.most} of all, {PARTS} parts by slurm, two killed:\n{out}", flush=True)
+        print(f"\n{"fill"} of all, {PARTS} parts by slurm, two killed:\n{out}", flush=True)
         rows = [line.split() for line in (self.folder / "most-slurm/summary.txt").read_text().splitlines()[1:-1]]
         self.assertEqual([int(row[4]) for row in rows], [number in (2, 5) for number in range(1, PARTS + 1)])
         self.assertEqual({row[5].rstrip(",") for row in rows}, set(NODES))
@@ -144,22 +140,14 @@ class Cluster(unittest.TestCase):
 
     def test_what_one_run_takes(self) -> None:
         folder = self.folder / "within"
-        files = [folder / file for file in ("fill.csv", "design.gds", *["script.csv", "fill.gds"] * (self.most == "fill"))]
-        (folder / "report.csv").write_bytes(subprocess.run([self.program, self.most, *files], capture_output=True, check=True).stdout)
-        self.array(self.most, "within", "within-slurm", "--engine", "slurm", "--wait", "--parts", PARTS)
+        files = [folder / file for file in ("fill.csv", "design.gds", "script.csv", "fill.gds")]
+        (folder / "report.csv").write_bytes(subprocess.run([self.program, "fill", *files], capture_output=True, check=True).stdout)
+        self.array("fill", "within", "within-slurm", "--engine", "slurm", "--wait", "--parts", PARTS)
         self.assert_same("within", "within-slurm")
         for parts in 1, 2, 16:
-            self.array(self.most, "within", f"within-{parts}", "--parts", parts)
+            self.array("fill", "within", f"within-{parts}", "--parts", parts)
             self.assert_same("within", f"within-{parts}")
 
 
 if __name__ == "__main__":
-    given = sys.argv[1:2] or [str(path) for path in BUILT if path.exists()][:1]
-    if not given or lacking():
-        sys.exit(lacking() or "no program is built: make build")
-    Cluster.program = Path(given[0]).resolve()
-    probe = [Cluster.program, "fill", "rules", "design", "script", "out", "--part", "1/1"]
-    if subprocess.run(probe, capture_output=True, check=False).returncode == 1:
-        print("this program takes no part of a fill: arrays of checks alone are tested", file=sys.stderr)
-        Cluster.most = "check"
-    unittest.main(argv=sys.argv[:1])
+    run_tests(lacking())
