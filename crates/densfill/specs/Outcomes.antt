@@ -13,7 +13,7 @@ use Rattle.densfill_engine.specs.PartFills.{IsPartFilled, IsPartFillReason}
 use Rattle.densfill_engine.specs.Fills.{IsFilled, IsFillReason}
 use Rattle.densfill_engine.specs.Rects.{report_answer, IsReason}
 use Rattle.densfill_engine.specs.Refusals.{refusal_status, refusal_text}
-use Rattle.densfill_engine.specs.declared.refusal.InputFault.TheVariants.{Unread, Refused}
+use Rattle.densfill_engine.specs.declared.refusal.InputFault.TheVariants.{Unread}
 use Rattle.densfill_engine.specs.declared.refusal.RunFault.TheVariants as run
 use Rattle.densfill_engine.specs.declared.refusal.Refusal.{Refusal}
 use Rattle.densfill_engine.specs.declared.refusal.Refusal.TheVariants.{Rules, Design, Script, Part, Run, Out, Report}

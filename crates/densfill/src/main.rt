@@ -9,7 +9,6 @@ ghost use Rattle.std.specs.Prelude.{◌≡◌, ◌⊎◌, ◌↔◌, ◌<◌, �
 ghost use Rattle.std.specs.IoError.{error_kind};
 ghost use Rattle.std.specs.Process.{exit_status};
 ghost use Rattle.densfill_io.specs.Taps.{has_failed, under};
-ghost use Rattle.densfill_engine.specs.Fills.{IsFilled, IsFillReason};
 ghost use Rattle.densfill_engine.specs.PartFills.{IsPartFilled, IsPartFillReason};
 ghost use Rattle.densfill_engine.specs.Refusals.{refusal_status};
 ghost use Rattle.densfill_args.specs.Lines.{text_of, IsBounded};
@@ -19,19 +18,19 @@ ghost use Rattle.densfill.specs.Outcomes.{GaveUp, IsCause, IsReport, IsTold, IsT
 
 use densfill_args::{Line, LineError, read_line};
 use densfill_engine::{
-    Filled, Refusal, RunFault, check, check_part, deliver, prepare, prepare_part, rects,
+    Crew, Filled, Inputs, Refusal, RunFault, check, check_part, deliver, prepare, prepare_part,
+    rects,
 };
 use densfill_io::{Tap, write_text};
 use fill_parts::Part;
 use join::join;
-use open::{created, opened_design, opened_rules, opened_script};
+use open::{Paths, created, opened_design, opened_inputs, opened_rules, opened_script};
 use std::alloc::Global;
 use std::convert::AsStr;
 use std::io::{ErrorKind, Write};
 use std::process::ExitCode;
 use std::rt::Files;
 use std::sync::Wait;
-use std::sync::ledger::Blank;
 use std::thread::Threads;
 use std::{env, io};
 
@@ -41,70 +40,25 @@ const USAGE: u8 = 1;
 /// Memory ran out outside the inputs and outputs.
 pub(crate) const OUT_OF_MEMORY: Refusal = Refusal::Run(RunFault::Memory);
 
-/// The texts of a fill of three opened inputs.
-fn prepared<R: Files + Threads + Wait + Sync>(
-    rt: &R,
-    alloc: Global,
-    rules: &mut Tap<R::File>,
-    design: &mut Tap<R::File>,
-    script: &mut Tap<R::File>,
-    workers: u32,
-    limit: Option<u32>,
-) -> Result<Filled, Refusal>
-    requires rules { has_failed rules.old ≡ false }
-    requires design { has_failed design.old ≡ false }
-    requires script { has_failed script.old ≡ false }
-    requires workers { (0 < workers) × (workers ≤ 64) }
-    ensures filled { IfOk result (λ f. IfSome (R.File.remaining (under rules.old)) (λ r. IfSome (R.File.remaining (under design.old)) (λ d.
-        IfSome (R.File.remaining (under script.old)) (λ s. IsFilled r d s workers limit f.library.items f.report.items)))) }
-    ensures refused { IfErr result (λ e. IfSome (R.File.remaining (under rules.old)) (λ r. IfSome (R.File.remaining (under design.old)) (λ d.
-        IfSome (R.File.remaining (under script.old)) (λ s. IsFillReason r d s workers limit e)))) }
-{
-    prepare(
-        rt,
-        alloc,
-        Blank::new(1024),
-        Blank::new(1024),
-        Blank::new(1024),
-        rules,
-        design,
-        script,
-        workers,
-        limit,
-    )
-}
-
 /// The texts of one part of a fill of three opened inputs.
 fn prepared_part<R: Files + Threads + Wait + Sync>(
     rt: &R,
     alloc: Global,
-    rules: &mut Tap<R::File>,
-    design: &mut Tap<R::File>,
-    script: &mut Tap<R::File>,
+    inputs: &mut Inputs<R::File, R::File, R::File>,
     number: u32,
     count: u32,
 ) -> Result<Filled, Refusal>
-    requires rules { has_failed rules.old ≡ false }
-    requires design { has_failed design.old ≡ false }
-    requires script { has_failed script.old ≡ false }
+    requires rules { has_failed inputs.old.rules ≡ false }
+    requires design { has_failed inputs.old.design ≡ false }
+    requires script { has_failed inputs.old.script ≡ false }
     requires part { (1 ≤ number) × (number ≤ count) × (count ≤ 4096) }
-    ensures filled { IfOk result (λ f. IfSome (R.File.remaining (under rules.old)) (λ r. IfSome (R.File.remaining (under design.old)) (λ d.
-        IfSome (R.File.remaining (under script.old)) (λ s. IsPartFilled r d s (part_named number count) f.library.items f.report.items)))) }
-    ensures refused { IfErr result (λ e. IfSome (R.File.remaining (under rules.old)) (λ r. IfSome (R.File.remaining (under design.old)) (λ d.
-        IfSome (R.File.remaining (under script.old)) (λ s. IsPartFillReason r d s (part_named number count) e)))) }
+    ensures filled { IfOk result (λ f. IfSome (R.File.remaining (under inputs.old.rules)) (λ r. IfSome (R.File.remaining (under inputs.old.design)) (λ d.
+        IfSome (R.File.remaining (under inputs.old.script)) (λ s. IsPartFilled r d s (part_named number count) f.library.items f.report.items)))) }
+    ensures refused { IfErr result (λ e. IfSome (R.File.remaining (under inputs.old.rules)) (λ r. IfSome (R.File.remaining (under inputs.old.design)) (λ d.
+        IfSome (R.File.remaining (under inputs.old.script)) (λ s. IsPartFillReason r d s (part_named number count) e)))) }
 {
     let part = Part::new(number, count).unwrap();
-    prepare_part(
-        rt,
-        alloc,
-        Blank::new(1024),
-        Blank::new(1024),
-        Blank::new(1024),
-        rules,
-        design,
-        script,
-        part,
-    )
+    prepare_part(rt, alloc, inputs, part)
 }
 
 /// Does what a line of `fill` asks for: the fill of the files that its first three paths name, all opened before one is read. The
@@ -112,34 +66,19 @@ fn prepared_part<R: Files + Threads + Wait + Sync>(
 fn fill<R: Alloc<A = Global> + Files + Threads + Wait + Sync, W: Write + Drop>(
     rt: &R,
     alloc: Global,
-    rules: &str,
-    design: &str,
-    script: &str,
-    library: &str,
-    workers: u32,
-    limit: Option<u32>,
+    paths: &Paths<'_>,
+    crew: Crew,
     out: &mut Tap<W>,
 ) -> Result<(), Refusal>
     requires out { has_failed out.old ≡ false }
-    requires workers { (0 < workers) × (workers ≤ 64) }
-    ensures written { OnOk result (IsReport R.File.remaining R.File.contents (Some (said.fill rules.now design.now script.now library.now workers limit)) (W.contents (under out.old)) (W.contents (under out.new))) }
-    ensures refused { IfErr result (IsCause R.File.remaining (Some (said.fill rules.now design.now script.now library.now workers limit))) }
+    requires workers { (0 < crew.workers) × (crew.workers ≤ 64) }
+    ensures written { OnOk result (IsReport R.File.remaining R.File.contents (Some (said.fill paths.now.rules.now paths.now.design.now paths.now.script.now paths.now.library.now crew.workers crew.limit)) (W.contents (under out.old)) (W.contents (under out.new))) }
+    ensures refused { IfErr result (IsCause R.File.remaining (Some (said.fill paths.now.rules.now paths.now.design.now paths.now.script.now paths.now.library.now crew.workers crew.limit))) }
     ensures silent { OnErr result ((has_failed out.new ≡ true) ⊎ (out.new ≡ out.old)) }
 {
-    let inputs = [rules, design, script];
-    let mut rules = opened_rules(rt, rules)?;
-    let mut design = opened_design(rt, design)?;
-    let mut script = opened_script(rt, script)?;
-    let filled = prepared(
-        rt,
-        alloc,
-        &mut rules,
-        &mut design,
-        &mut script,
-        workers,
-        limit,
-    )?;
-    let mut library = created(rt, library, &inputs)?;
+    let mut inputs = opened_inputs(rt, paths)?;
+    let filled = prepare(rt, alloc, &mut inputs, crew)?;
+    let mut library = created(rt, paths.library, &paths.inputs())?;
     deliver(&filled, &mut library, out)
 }
 
@@ -147,34 +86,20 @@ fn fill<R: Alloc<A = Global> + Files + Threads + Wait + Sync, W: Write + Drop>(
 fn fill_one<R: Alloc<A = Global> + Files + Threads + Wait + Sync, W: Write + Drop>(
     rt: &R,
     alloc: Global,
-    rules: &str,
-    design: &str,
-    script: &str,
-    library: &str,
+    paths: &Paths<'_>,
     number: u32,
     count: u32,
     out: &mut Tap<W>,
 ) -> Result<(), Refusal>
     requires out { has_failed out.old ≡ false }
     requires part { (1 ≤ number) × (number ≤ count) × (count ≤ 4096) }
-    ensures written { OnOk result (IsReport R.File.remaining R.File.contents (Some (said.fill_part rules.now design.now script.now library.now number count)) (W.contents (under out.old)) (W.contents (under out.new))) }
-    ensures refused { IfErr result (IsCause R.File.remaining (Some (said.fill_part rules.now design.now script.now library.now number count))) }
+    ensures written { OnOk result (IsReport R.File.remaining R.File.contents (Some (said.fill_part paths.now.rules.now paths.now.design.now paths.now.script.now paths.now.library.now number count)) (W.contents (under out.old)) (W.contents (under out.new))) }
+    ensures refused { IfErr result (IsCause R.File.remaining (Some (said.fill_part paths.now.rules.now paths.now.design.now paths.now.script.now paths.now.library.now number count))) }
     ensures silent { OnErr result ((has_failed out.new ≡ true) ⊎ (out.new ≡ out.old)) }
 {
-    let inputs = [rules, design, script];
-    let mut rules = opened_rules(rt, rules)?;
-    let mut design = opened_design(rt, design)?;
-    let mut script = opened_script(rt, script)?;
-    let filled = prepared_part(
-        rt,
-        alloc,
-        &mut rules,
-        &mut design,
-        &mut script,
-        number,
-        count,
-    )?;
-    let mut library = created(rt, library, &inputs)?;
+    let mut inputs = opened_inputs(rt, paths)?;
+    let filled = prepared_part(rt, alloc, &mut inputs, number, count)?;
+    let mut library = created(rt, paths.library, &paths.inputs())?;
     deliver(&filled, &mut library, out)
 }
 
@@ -242,9 +167,19 @@ fn run<R: Alloc<A = Global> + Files + Threads + Wait + Sync, W: Write + Drop>(
             out: library,
             workers,
             limit,
-        } => fill(
-            rt, alloc, rules, design, script, library, *workers, *limit, out,
-        ),
+        } => {
+            let paths = Paths {
+                rules,
+                design,
+                script,
+                library,
+            };
+            let crew = Crew {
+                workers: *workers,
+                limit: *limit,
+            };
+            fill(rt, alloc, &paths, crew, out)
+        }
         Line::FillPart {
             rules,
             design,
@@ -252,9 +187,15 @@ fn run<R: Alloc<A = Global> + Files + Threads + Wait + Sync, W: Write + Drop>(
             out: library,
             number,
             count,
-        } => fill_one(
-            rt, alloc, rules, design, script, library, *number, *count, out,
-        ),
+        } => {
+            let paths = Paths {
+                rules,
+                design,
+                script,
+                library,
+            };
+            fill_one(rt, alloc, &paths, *number, *count, out)
+        }
     }
 }
 

@@ -6,7 +6,7 @@ ghost use Rattle.densfill.specs.Outcomes.{IsUnopened, IsUnopenedPart, of_design,
 
 use crate::OUT_OF_MEMORY;
 use crate::target::Target;
-use densfill_engine::{InputFault, Refusal, RunFault};
+use densfill_engine::{InputFault, Inputs, Refusal, RunFault};
 use densfill_io::{InputError, Tap};
 use std::alloc::Global;
 use std::fs::File;
@@ -67,6 +67,46 @@ pub(crate) fn opened_design<R: Files>(rt: &R, path: &str) -> Result<Tap<R::File>
         Ok(tap) => Ok(tap),
         Err(error) => Err(Refusal::Design(InputFault::Unread(error))),
     }
+}
+
+/// The paths of a line of `fill`.
+#[derive(Clone, Copy)]
+pub(crate) struct Paths<'a> {
+    /// That of the rule file.
+    pub(crate) rules: &'a str,
+    /// That of the design.
+    pub(crate) design: &'a str,
+    /// That of the script.
+    pub(crate) script: &'a str,
+    /// That of the fill library.
+    pub(crate) library: &'a str,
+}
+
+impl<'a> Paths<'a> {
+    /// Those of the three inputs.
+    pub(crate) fn inputs(&self) -> [&'a str; 3] {
+        [self.rules, self.design, self.script]
+    }
+}
+
+/// The inputs of a fill, opened in their order.
+pub(crate) fn opened_inputs<R: Files>(
+    rt: &R,
+    paths: &Paths<'_>,
+) -> Result<Inputs<R::File, R::File, R::File>, Refusal>
+    ensures rules { IfOk result (λ i. has_failed i.rules ≡ false) }
+    ensures design { IfOk result (λ i. has_failed i.design ≡ false) }
+    ensures script { IfOk result (λ i. has_failed i.script ≡ false) }
+    ensures unopened { IfErr result (λ e. IsUnopened of_rules e ⊎ IsUnopened of_design e ⊎ IsUnopened of_script e) }
+{
+    let rules = opened_rules(rt, paths.rules)?;
+    let design = opened_design(rt, paths.design)?;
+    let script = opened_script(rt, paths.script)?;
+    Ok(Inputs {
+        rules,
+        design,
+        script,
+    })
 }
 
 /// The library of a part, opened.

@@ -1,22 +1,17 @@
 -- A book that is opened, edited and filled gives the texts of a fill, or was given too few turns or too little history.
-use Rattle.std.proofs.Common.{◌≡◌, ap, ap₂, sym, subst, ◌∙◌, ℕ, ◌+◌, ◌*◌, ◌^◌, ◌≤◌, ◌<◌, arith, inl, inr, List, [], ◌++◌, append_assoc, length, map, Option, Result, Ok, Err, IfOk}
-use Rattle.std.proofs.lemmas.Grind.{flat_map-append}
-use Rattle.std.proofs.lemmas.List.{append-nil, length-map}
+use Rattle.std.proofs.Common.{◌≡◌, refl, ap, ap₂, sym, subst, ◌∙◌, ℕ, ◌+◌, ◌*◌, ◌^◌, ◌≤◌, ◌<◌, arith, inl, inr, List, [], length, map, Option, Result, Ok, Err, IfOk}
+use Rattle.std.proofs.lemmas.List.{length-map}
 use Rattle.fill_region.specs.Bands.{Band}
 use Rattle.fill_text.specs.Rules.{Values}
 use Rattle.fill_text.specs.Script.{change_of}
 use Rattle.fill_text.specs.declared.script.Edit.{Edit}
 use Rattle.fill_job.specs.Plans.{IsPlan, Layers, PointSet, plan_of}
 use Rattle.fill_core.specs.Accounts.{Account, state_of, terms_of}
-use Rattle.fill_core.specs.Boxes.{low_fill}
-use Rattle.fill_core.specs.Histories.{edits_by, edits_in, events_in}
+use Rattle.fill_core.specs.Histories.{edits_in, events_in}
 use Rattle.fill_core.specs.Machine.{IsComplete, State, opening as start, replay, replay_from}
 use Rattle.fill_core.specs.Shares.{Held}
 use Rattle.fill_core.specs.Terms.{Terms, layers_at}
 use Rattle.fill_core.specs.declared.event.Entry.{Entry}
-use Rattle.fill_core.specs.declared.event.Event.{Event}
-use Rattle.fill_core.specs.declared.event.Event.TheVariants as event
-use Rattle.fill_parts.specs.Laws.{EditsAreChanges, FillAfterEdits}
 use Rattle.fill_parts.specs.PartFill.{layers_by}
 use Rattle.fill_report.specs.BookReport.{fill_report}
 use Rattle.gds_out.specs.FillText.{fill_text}
@@ -25,7 +20,7 @@ use Rattle.fill_shared.specs.Runs.{IsFinished, changes_in}
 use Rattle.fill_shared.proofs.Edited.{layers_stay, no_change}
 use Rattle.densfill_engine.specs.Fills.{IsFillOf, IsOnlyFillOf}
 use Rattle.densfill_engine.specs.Runs.{IsFresh, IsRun, IsTooShort, most_commits, most_turns, tile_count}
-use Rattle.densfill_engine.proofs.TileTurns.{run_brief, run_edited}
+use Rattle.densfill_engine.proofs.TileTurns.{run_brief, run_unedited}
 
 -- what a fill opens its book with
 abbrev pub fill_terms : Values → List Band → List Band → Terms
@@ -39,22 +34,17 @@ pub blank_fresh : (t : Terms) (a : Account) → a ≡ blank t → IsFresh (state
 unfolding replay_from
 blank_fresh t a is tile = ap (λ (x : Account). (state_of x).tiles_in tile) is
 
--- where the edits come first and then every tile, there is one fill only
-only_after : (values : Values) (layers : Layers) (edits : List Edit) (events commits : List Event) (units dates library report : List ℕ) → FillAfterEdits → EditsAreChanges → IsPlan (plan_of values)
-    → events ≡ map event.Edit edits ++ commits → edits_in commits ≡ [] → IsComplete (plan_of values) (replay (plan_of values) layers events)
-    → library ≡ fill_text units dates values (replay (plan_of values) layers events).fill
-    → report ≡ fill_report values (replay (plan_of values) layers events).layers.metal (replay (plan_of values) layers events).fill
-    → IsOnlyFillOf values (layers_by (map change_of edits) layers) units dates library report
-only_after values layers edits events commits units dates library report law changes plan first none complete library_is report_is =
-    let after = map event.Edit edits ++ commits in
-    let run : replay (plan_of values) layers events ≡ replay (plan_of values) layers after = ap (replay (plan_of values) layers) first in
-    let is = law (plan_of values) layers edits commits plan none (subst (λ (s : State). IsComplete (plan_of values) s) run complete) in
-    let layers_are : (replay (plan_of values) layers events).layers ≡ layers_by (map change_of edits) layers = ap (λ (s : State). s.layers) run ∙ (is.layers_is ∙ changes edits layers) in
-    let fill_is : (replay (plan_of values) layers events).fill ≡ low_fill (plan_of values) (layers_by (map change_of edits) layers) =
-    ap (λ (s : State). s.fill) run ∙ (is.fill_is ∙ ap (low_fill (plan_of values)) (changes edits layers)) in
+-- without an edit there is one fill only
+only_fill : (t : Terms) (b : Account) (units dates library report : List ℕ) → IsPlan (plan_of t.rules) → edits_in (events_in b.history) ≡ []
+    → library ≡ fill_text units dates t.rules (replay (plan_of t.rules) (layers_at t) (events_in b.history)).fill
+    → report ≡ fill_report t.rules (replay (plan_of t.rules) (layers_at t) (events_in b.history)).layers.metal (replay (plan_of t.rules) (layers_at t) (events_in b.history)).fill
+    → IsComplete (plan_of t.rules) (replay (plan_of t.rules) (layers_at t) (events_in b.history)) → IsOnlyFillOf t.rules (layers_at t) units dates library report
+only_fill t b units dates library report plan unedited l r complete =
+    let fill_is = complete_unedited (plan_of t.rules) (layers_at t) (events_in b.history) plan unedited complete in
+    let layers_are = layers_stay (plan_of t.rules) (start (plan_of t.rules) (layers_at t)) (events_in b.history) unedited in
     record {
-      library_is = library_is ∙ ap (fill_text units dates values) fill_is;
-      report_is = report_is ∙ ap₂ (λ (l : Layers) (f : PointSet). fill_report values l.metal f) layers_are fill_is;
+      library_is = l ∙ ap (fill_text units dates t.rules) fill_is;
+      report_is = r ∙ ap₂ (λ (l : Layers) (f : PointSet). fill_report t.rules l.metal f) layers_are fill_is;
     }
 
 -- the texts of a book in which every tile is in, whose edits are these
@@ -80,19 +70,9 @@ fill_by t b edits workers limit units dates library report plan under made brief
       complete = complete_then;
       library_is = library_then;
       report_is = report_then;
-      unedited = λ none. only library_then report_then (no_change (edits_in events) (made ∙ none)) complete_then;
+      unedited = λ none. only_fill t b units dates library report plan (no_change (edits_in events) (made ∙ none)) library_then report_then complete_then;
       alone = λ one. alone one complete_then library_then report_then;
     }
-  where
-    only : let s = replay (plan_of t.rules) (layers_at t) (events_in b.history) in library ≡ fill_text units dates t.rules s.fill → report ≡ fill_report t.rules s.layers.metal s.fill → edits_in (events_in b.history) ≡ []
-        → IsComplete (plan_of t.rules) s → IsOnlyFillOf t.rules (layers_at t) units dates library report
-    only l r unedited complete =
-        let fill_is = complete_unedited (plan_of t.rules) (layers_at t) (events_in b.history) plan unedited complete in
-        let layers_are = layers_stay (plan_of t.rules) (start (plan_of t.rules) (layers_at t)) (events_in b.history) unedited in
-        record {
-          library_is = l ∙ ap (fill_text units dates t.rules) fill_is;
-          report_is = r ∙ ap₂ (λ (l : Layers) (f : PointSet). fill_report t.rules l.metal f) layers_are fill_is;
-        }
 
 -- the texts of a book that many workers filled
 pub texts_of_run : (t : Terms) (a b : Account) (calls : ℕ) (edits : List Edit) (workers : ℕ) (limit : Option ℕ) (units dates library report : List ℕ) → IsPlan (plan_of t.rules)
@@ -109,75 +89,49 @@ texts_of_run t a b calls edits workers limit units dates library report plan man
     few : (n m c e f o u : ℕ) → n ≡ m → m ≤ c + (e + o) → c ≡ 0 → f ≡ e → o ≡ u → n ≤ f + u
     few n m c e f o u same le zero lengths turns = omega (arith, same, le, zero, lengths, turns)
 
-module _ (t : Terms) (a b : Account) (edits : List Edit) (limit : Option ℕ) (is : a ≡ blank t) (edited : IsRun a b edits 0) where
-  rules_are : b.rules ≡ t.rules
-  rules_are = edited.rules ∙ ap (λ (x : Account). x.rules) is
+unmade : (layers : Layers) → layers ≡ layers_by [] layers
+unfolding layers_by
+unmade layers = refl
 
-  brief : length b.history ≤ length (map change_of edits)
-  brief = no_more (length b.history) (length a.history) (length edits) _ (run_brief a b edits 0 edited) (ap (λ (x : Account). length x.history) is) (length-map edits change_of)
-    where
-      no_more : (n h k m : ℕ) → n ≤ h + (k + 0) → h ≡ 0 → m ≡ k → n ≤ m
-      no_more n h k m le e same = omega (arith, le, e, same)
-
+module _ (t : Terms) (a : Account) (limit : Option ℕ) (is : a ≡ blank t) where
   -- the texts of a book that one worker filled
-  pub texts_are : (c : Account) (units dates library report : List ℕ) (workers : ℕ) → FillAfterEdits → EditsAreChanges → IsPlan (plan_of t.rules) → workers ≡ 1 → IsRun b c [] (2 * most_turns b.rules limit) → IsComplete (plan_of c.rules) (state_of c)
+  pub texts_alone : (c : Account) (units dates library report : List ℕ) → IsPlan (plan_of t.rules) → IsRun a c (2 * most_turns a.rules limit) → IsComplete (plan_of c.rules) (state_of c)
       → library ≡ fill_text units dates c.rules (state_of c).fill → report ≡ fill_report c.rules (state_of c).layers.metal (state_of c).fill
-      → IsFillOf t.rules (layers_at t) units dates (map change_of edits) workers limit library report
-  texts_are c units dates library report workers law changes plan alone filled complete library_is report_is =
-      fill_by t c edits workers limit units dates library report plan under (ap (map change_of) made)
-      (all (length c.history) (length b.history) (length (map change_of edits)) _ _ (run_brief b c [] _ filled) brief turns) complete library_is report_is
-      (λ one complete l r. only_after t.rules (layers_at t) edits (events_in c.history) (edited.commits ++ filled.commits) units dates library report law changes plan first none complete l r)
+      → IsFillOf t.rules (layers_at t) units dates [] 1 limit library report
+  texts_alone c units dates library report plan filled complete library_is report_is =
+      fill_by t c [] 1 limit units dates library report plan under (ap (map change_of) unedited)
+      (all (length c.history) (length a.history) _ _ (run_brief a c _ filled) (ap (λ (x : Account). length x.history) is) turns) complete library_is report_is
+      (λ one whole l r. subst (λ (p : Layers). IsOnlyFillOf t.rules p units dates library report) (unmade (layers_at t)) (only_fill t c units dates library report plan unedited l r whole))
     where
       same : terms_of c ≡ terms_of a
-      same = λ k. record {
-        rules = (filled.rules ∙ edited.rules) k;
-        opening = (filled.opening ∙ edited.opening) k;
-        keep = (filled.keep ∙ edited.keep) k;
-        most = (filled.most ∙ edited.most) k;
-      }
+      same = λ k. record { rules = filled.rules k; opening = filled.opening k; keep = filled.keep k; most = filled.most k }
 
       under : terms_of c ≡ t
       under = same ∙ ap terms_of is
 
-      made : edits_in (events_in c.history) ≡ edits
-      made = run_edited b c [] _ filled ∙ (append-nil (edits_in (events_in b.history)) ∙ (run_edited a b edits 0 edited ∙ ap (λ (x : Account). edits_in (events_in x.history) ++ edits) is))
+      unedited : edits_in (events_in c.history) ≡ []
+      unedited = run_unedited a c _ filled ∙ ap (λ (x : Account). edits_in (events_in x.history)) is
 
-      first : events_in c.history ≡ map event.Edit edits ++ (edited.commits ++ filled.commits)
-      first = filled.events ∙ (ap (λ l. l ++ filled.commits) (edited.events ∙ ap (λ (x : Account). events_in x.history ++ (map event.Edit edits ++ edited.commits)) is)
-          ∙ append_assoc (map event.Edit edits) edited.commits filled.commits)
-
-      none : edits_in (edited.commits ++ filled.commits) ≡ []
-      none = flat_map-append edits_by edited.commits filled.commits ∙ (ap (λ l. l ++ edits_in filled.commits) edited.unedited ∙ filled.unedited)
-
-      turns : 2 * most_turns b.rules limit ≡ most_commits t.rules workers limit
-      turns = ap (λ (v : Values). 2 * most_turns v limit) rules_are ∙ once (most_turns t.rules limit) workers alone
+      turns : 2 * most_turns a.rules limit ≡ most_commits t.rules 1 limit
+      turns = ap (λ (x : Account). 2 * most_turns x.rules limit) is ∙ once (most_turns t.rules limit)
         where
-          once : (m n : ℕ) → n ≡ 1 → 2 * m ≡ 2 * (n * m)
-          once m n is = rw is (omega arith)
+          once : (m : ℕ) → 2 * m ≡ 2 * (1 * m)
+          once m = omega arith
 
-      all : (m h k o u : ℕ) → m ≤ h + (0 + o) → h ≤ k → o ≡ u → m ≤ k + u
-      all m h k o u le short same = omega (arith, le, short, same)
+      all : (m h o u : ℕ) → m ≤ h + o → h ≡ 0 → o ≡ u → m ≤ 0 + u
+      all m h o u le none same = omega (arith, le, none, same)
 
-  -- tiles are left, or the history is full, after the edits
-  pub tiles_short : IsTooShort b.rules limit (length b.history) b.most → IsTooShort t.rules limit (length (map change_of edits)) t.most
-  tiles_short short =
-      subst (λ (v : Values). IsTooShort v limit (length (map change_of edits)) t.most) rules_are (less b.rules limit _ _ _ _ short brief (edited.most ∙ ap (λ (x : Account). x.most) is))
-    where
-      less : (v : Values) (l : Option ℕ) (n m h k : ℕ) → IsTooShort v l n h → n ≤ m → h ≡ k → IsTooShort v l m k
-      less v l n m h k (inl few) le e = inl few
-      less v l n m h k (inr full) le e = inr (more n m h k (tile_count v) full le e)
-        where
-          more : (n m h k u : ℕ) → h < n + u → n ≤ m → h ≡ k → k < m + u
-          more n m h k u full le e = omega (arith, full, le, e)
+  -- tiles are left, or there is no room for them
+  pub tiles_short : IsTooShort a.rules limit (length a.history) a.most → IsTooShort t.rules limit 0 t.most
+  tiles_short short = subst (λ (x : Account). IsTooShort x.rules limit (length x.history) x.most) is short
 
--- the history is full before all edits are made
-pub edits_short : (t : Terms) (a : Account) (edits : List Edit) (limit : Option ℕ) → a ≡ blank t
-    → a.most < length a.history + length edits → IsTooShort t.rules limit (length (map change_of edits)) t.most
-edits_short t a edits limit is full =
-    inr (more a.most (length a.history) (length edits) _ t.most (tile_count t.rules) full (ap (λ (x : Account). x.most) is) (ap (λ (x : Account). length x.history) is) (length-map edits change_of))
+-- edits take room as well
+pub edits_short : (values : Values) (limit : Option ℕ) (edits most : ℕ) → IsTooShort values limit 0 most → IsTooShort values limit edits most
+edits_short values limit edits most (inl few) = inl few
+edits_short values limit edits most (inr full) = inr (more most edits (tile_count values) full)
   where
-    more : (h n k m f u : ℕ) → h < n + k → h ≡ f → n ≡ 0 → m ≡ k → f < m + u
-    more h n k m f u full e z same = omega (arith, full, e, z, same)
+    more : (m n t : ℕ) → m < 0 + t → m < n + t
+    more m n t full = omega (arith, full)
 
 -- not above one, and not none
 pub only_one : (workers : ℕ) → 0 < workers → workers ≤ 1 → workers ≡ 1
@@ -187,3 +141,7 @@ only_one workers some few = omega (arith, some, few)
 pub both_ok : {A E : Type 0} (result : Result A E) {P Q R : A → Type 0} → ((x : A) → P x → Q x → R x) → IfOk result P → IfOk result Q → IfOk result R
 both_ok (Ok x) f p q = f x p q
 both_ok (Err e) f p q = p
+
+pub still_ok : {A E : Type 0} (result : Result A E) {P Q : A → Type 0} → ((x : A) → P x → Q x) → IfOk result P → IfOk result Q
+still_ok (Ok x) f p = f x p
+still_ok (Err e) f p = p

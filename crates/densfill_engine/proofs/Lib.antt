@@ -1,11 +1,13 @@
 mod FaultLines
 mod Patches
 mod Replayed
+mod EditedLayers
 mod Reasons
 pub mod Checking
 mod TileTurns
 mod Marked
 mod Filling
+mod Later
 mod Preparing
 pub mod PartChecking
 mod PartDesigns

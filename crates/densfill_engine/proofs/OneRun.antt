@@ -1,5 +1,5 @@
 -- The parts of a chip, joined, are one run.
-use Rattle.std.proofs.Common.{◌≡◌, refl, ap, sym, subst, ◌∙◌, ℕ, zero, suc, ◌+◌, ◌<◌, ◌≤◌, ◌==◌, ◌&&◌, arith, Bool, true, false, List, [], ◌∷◌, ◌++◌, length, map, get_or, Option, Some, None, Result, Ok, Err}
+use Rattle.std.proofs.Common.{◌≡◌, refl, ap, sym, subst, ◌∙◌, ℕ, ◌<◌, ◌==◌, ◌&&◌, arith, Bool, true, false, List, [], ◌∷◌, ◌++◌, length, get_or, Option, Some, None, Result, Ok, Err}
 use Rattle.std.specs.Prelude.{slice_get}
 use Rattle.std.specs.List.{AllByRecursion, concat, flat_map, range_with_len}
 use Rattle.std.proofs.Math.Path.{fun_ext}
@@ -15,15 +15,14 @@ use Rattle.fill_text.specs.ValuesOfRules.{values_of}
 use Rattle.fill_job.specs.Plans.{IsPlan, Layers, PointSet, plan_of}
 use Rattle.fill_core.specs.Boxes.{low_fill}
 use Rattle.fill_report.specs.BookReport.{fill_report}
-use Rattle.fill_parts.specs.Cuts.{Part}
-use Rattle.fill_parts.specs.Laws.{PartsMakeTheReport, part}
+use Rattle.fill_parts.specs.Laws.{part}
 use Rattle.fill_parts.specs.PartFill.{layers_by, part_fill}
 use Rattle.fill_parts.specs.PartReport.{part_report}
 use Rattle.fill_parts.proofs.Reporting.{parts_report}
 use Rattle.gds_record.specs.Records.{Rec}
 use Rattle.gds_record.specs.declared.kind.TheConstants as kinds
 use Rattle.gds_grammar.specs.Forms.{IsWell, has_form, has_name_if_asked, has_size}
-use Rattle.gds_grammar.specs.Grammar.{LibraryPart, library_records}
+use Rattle.gds_grammar.specs.Grammar.{library_records}
 use Rattle.gds_grammar.specs.Outcomes.{Spells}
 use Rattle.gds_grammar.specs.Values.{Cell, Contents}
 use Rattle.gds_grammar.proofs.Unique.{spelled_once}
@@ -32,11 +31,10 @@ use Rattle.gds_flatten.specs.Flattening.{copies_of}
 use Rattle.gds_out.specs.FillText.{fill_text}
 use Rattle.gds_join.proofs.Libraries.{parts_library}
 use Rattle.densfill_engine.specs.Designs.{IsDesign, IsKeptOut}
-use Rattle.densfill_engine.specs.Fills.{Inputs, IsFilled, IsOnlyFillOf}
+use Rattle.densfill_engine.specs.Fills.{Inputs, IsFilled}
 use Rattle.densfill_engine.specs.Inputs.{rules_answer, script_answer}
 use Rattle.densfill_engine.specs.Joiners.{IsJoinOf}
-use Rattle.densfill_engine.specs.OneRun.{AreOneRun, AreParts, PartsAreOneRun}
-use Rattle.densfill_engine.specs.PartChecks.{IsWholeDrawn}
+use Rattle.densfill_engine.specs.OneRun.{AreParts, PartsAreOneRun}
 use Rattle.densfill_engine.specs.PartFills.{IsPartFilled, IsWholeDesign, IsWholeKeptOut, WholeInputs}
 
 -- ---- a design has units of 16 bytes and dates of 24

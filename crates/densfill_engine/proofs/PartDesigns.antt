@@ -1,5 +1,5 @@
 -- What a design draws within a rectangle, on the checked layer and on that of the keep-outs.
-use Rattle.std.proofs.Common.{◌≡◌, refl, ◌≤◌, ◌^◌, ℕ, ℤ, Bool, true, false, ◌&&◌, length, List, Option, Some, None, ap, sym, subst, ◌∙◌}
+use Rattle.std.proofs.Common.{◌≡◌, refl, ◌≤◌, ◌^◌, ℕ, ℤ, true, false, ◌&&◌, length, List, Option, Some, None, ap, sym, subst, ◌∙◌}
 use Rattle.std.proofs.Math.Path.{fun_ext}
 use Rattle.fill_base.specs.Coordinates.{IsInRange}
 use Rattle.fill_base.specs.Squares.{squares}

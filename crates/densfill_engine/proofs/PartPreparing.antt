@@ -1,43 +1,36 @@
 -- What a rule file, a design and a script say together of one part, once it is known what each says.
-use Rattle.std.proofs.Common.{◌≡◌, ◌≢◌, refl, ap, sym, subst, ◌∙◌, ℕ, ◌+◌, ◌≤◌, ◌<◌, ◌^◌, arith, ℤ, ◌≤ℤ◌, ◌<ℤ◌, Bool, true, false, ◌&&◌, nat_lt, suc, if◌then◌else◌, inl, inr, List, [], ◌∷◌, ◌++◌, length, map, Option, Some, None, Result, Ok, Err, IfSome}
+use Rattle.std.proofs.Common.{◌≡◌, refl, ap, sym, subst, ◌∙◌, ℕ, ◌≤◌, ◌<◌, arith, ℤ, ◌≤ℤ◌, ◌<ℤ◌, true, false, ◌&&◌, inl, inr, List, map, Option, Some, None, Ok, IfSome}
 use Rattle.std.specs.Prelude.{int_lt}
 use Rattle.std.specs.List.{filter}
 use Rattle.std.proofs.Math.Path.{fun_ext}
 use Rattle.std.proofs.lemmas.Bool.{and_from, and_parts, cases_Bool}
-use Rattle.std.proofs.lemmas.Bool.Decides.{nat_tests}
 use Rattle.std.proofs.lemmas.Int.{ints}
-use Rattle.std.proofs.lemmas.List.{length-map, length_push}
 use Rattle.fill_base.specs.Counts.{is_between}
 use Rattle.fill_base.specs.Sides.{Sides}
 use Rattle.fill_base.specs.Squares.{squares}
 use Rattle.fill_base.specs.declared.rect.Rect.{Rect}
 use Rattle.fill_base.proofs.Between.{is_between_bounds}
 use Rattle.fill_raster.proofs.Tiling.{tiles_few}
-use Rattle.fill_text.specs.Refusals.{each_fault, first_some}
-use Rattle.fill_text.specs.Rows.{rows_of}
 use Rattle.fill_text.specs.Rules.{Values}
-use Rattle.fill_text.specs.Script.{Change, change_fault, change_in, change_of, edits_of}
+use Rattle.fill_text.specs.Script.{change_of}
 use Rattle.fill_text.specs.declared.rule_error.RuleError.{RuleError}
 use Rattle.fill_text.specs.declared.rule_error.RuleError.TheVariants as rule
 use Rattle.fill_text.specs.declared.script.Edit.{Edit}
 use Rattle.fill_text.specs.declared.script.ScriptError.{ScriptError}
 use Rattle.fill_text.specs.declared.script.ScriptError.TheVariants as script
-use Rattle.fill_text.proofs.FirstFaults.{first_none, not_refused}
 use Rattle.fill_job.specs.Plans.{IsPlan, Layers, plan_of}
-use Rattle.fill_core.specs.Machine.{replay}
 use Rattle.fill_parts.specs.Cuts.{IsPart, Part}
 use Rattle.fill_parts.specs.Needs.{in_coordinates, is_inside, layers_met}
 use Rattle.fill_parts.specs.PartFill.{layers_by, rect_of}
 use Rattle.fill_parts.specs.Laws.{ClippedAgrees, PartRunIsThePart}
 use Rattle.fill_state.proofs.HaloMetal.{rect_in_range}
 use Rattle.gds_out.specs.FillText.{fill_text}
-use Rattle.densfill_engine.specs.Inputs.{IsFaultOf, rules_answer, script_answer, told_by}
+use Rattle.densfill_engine.specs.Inputs.{IsFaultOf, rules_answer, script_answer}
 use Rattle.densfill_engine.specs.PartChecks.{told_in}
-use Rattle.densfill_engine.specs.PartFills.{AreWholeDrawn, HoldsNeeds, IsDesignFaultWithin, IsDesignWithin, IsNearFillOf, IsPartFilled, IsPartFillOf, IsPartFillReason, WholeInputs, is_near, layers_within}
+use Rattle.densfill_engine.specs.PartFills.{AreWholeDrawn, HoldsNeeds, IsDesignFaultWithin, IsDesignWithin, IsNearFillOf, IsPartFilled, IsPartFillOf, IsPartFillReason, WholeInputs, is_near}
 use Rattle.densfill_engine.specs.Runs.{tile_count}
 use Rattle.densfill_engine.specs.declared.refusal.DesignError.{DesignError}
 use Rattle.densfill_engine.specs.declared.refusal.InputFault.{InputFault}
-use Rattle.densfill_engine.specs.declared.refusal.InputFault.TheVariants.{Refused}
 use Rattle.densfill_engine.specs.declared.refusal.RunFault.{RunFault}
 use Rattle.densfill_engine.specs.declared.refusal.RunFault.TheVariants as run
 use Rattle.densfill_engine.specs.declared.refusal.Refusal.TheVariants.{Rules, Design, Script, Run}
@@ -72,59 +65,6 @@ far_edit s frame edit law same far x y inside = elim (cases_Bool (squares (rect_
       )
   | inr free ↦ free
 ]
-
--- a script has at most 100,000 changes
-few_rows : (before rest : List (List (List ℕ))) → first_some (each_fault change_fault before rest) ≡ None → length before ≤ 100000 → length before + length rest ≤ 100000
-few_rows before [] sound le = omega (arith, le)
-few_rows before (r ∷ rest) sound le =
-    let (this, later) = first_none (change_fault before r) (each_fault change_fault (before ++ r ∷ []) rest) sound in
-    let pushed = length_push before r in
-    all (length before) (length (before ++ r ∷ [])) (length rest) pushed (few_rows (before ++ r ∷ []) rest later (next (length before) (length (before ++ r ∷ [])) pushed (room before r this)))
-  where
-    less : (n : ℕ) → nat_lt n 100000 ≡ true → n < 100000
-    less n h = grind (arith, nat_tests)
-
-    room : (before : List (List (List ℕ))) (r : List (List ℕ)) → change_fault before r ≡ None → length before < 100000
-    room before r none = elim (cases_Bool (nat_lt (length before) 100000)) [
-      | inl fits ↦ less (length before) fits
-      | inr full ↦ absurd (let clash : Some script.TooManyLines ≡ None = rw full at none in cc)
-    ]
-
-    next : (n m : ℕ) → m ≡ n + 1 → n < 100000 → m ≤ 100000
-    next n m e lt = omega (arith, e, lt)
-
-    all : (n m k : ℕ) → m ≡ n + 1 → m + k ≤ 100000 → n + suc k ≤ 100000
-    all n m k e le = omega (arith, e, le)
-
-few_changes : (text : List ℕ) (changes : List Change) → script_answer text ≡ Ok changes → length changes ≤ 100000
-unfolding edits_of
-few_changes text changes said = elim (cases_Bool (nat_lt (2 ^ 31) (length text))) [
-  | inl long ↦ absurd (let clash : Err _ ≡ Ok changes = rw long at said in cc)
-  | inr short ↦
-      let told : told_by Refused (edits_of text) ≡ Ok changes = rw short at said in
-      let (sound, same) = not_refused (first_some (each_fault change_fault [] (rows_of text))) (map change_in (rows_of text)) changes (told_ok (edits_of text) changes told) in
-      counted (length (rows_of text)) (length (map change_in (rows_of text))) (length changes) (length-map (rows_of text) change_in) (ap length same) (few_rows [] (rows_of text) sound (omega arith))
-]
-  where
-    told_ok : (r : Result (List Change) ScriptError) (x : List Change) → told_by Refused r ≡ Ok x → r ≡ Ok x
-    told_ok (Ok y) x e = ap (λ (q : Result (List Change) (InputFault ScriptError)). back q) e
-      where
-        back : Result (List Change) (InputFault ScriptError) → Result (List Change) ScriptError
-        back (Ok z) = Ok z
-        back (Err f) = Ok []
-    told_ok (Err f) x e = absurd (let clash : Err (Refused f) ≡ Ok x = e in cc)
-
-    counted : (n m k : ℕ) → m ≡ n → m ≡ k → 0 + n ≤ 100000 → k ≤ 100000
-    counted n m k e f le = omega (arith, e, f, le)
-
--- and no more of them are near
-shorter : (p : Edit → Bool) (es : List Edit) → length (filter p es) ≤ length es
-shorter p [] = omega arith
-shorter p (e ∷ es) = by (p e) (shorter p es)
-  where
-    by : (b : Bool) → length (filter p es) ≤ length es → length (if b then e ∷ filter p es else filter p es) ≤ suc (length es)
-    by true le = omega (arith, le)
-    by false le = omega (arith, le)
 
 -- ---- what the three inputs say of a part
 
@@ -193,13 +133,11 @@ module _ (rules design edits : Option (List ℕ)) (k : Part) where
           fill = is_of_part d plan part holds clip law (of _ design d at_d drawn) library report near_fill;
         })
 
-        pub part_run_refused : (f : RunFault) → IsPlan (plan_of values) → (f ≡ run.Unfinished → 4294967296 < length (filter (is_near frame) made) + tile_count values) → (f ≡ run.Mixed → ⊥)
+        pub part_run_refused : (f : RunFault) → IsPlan (plan_of values) → (f ≡ run.Unfinished → 4294967296 < tile_count values) → (f ≡ run.Mixed → ⊥)
             → IfSome rules (λ r. IfSome design (λ d. IfSome edits (λ s. IsPartFillReason r d s k (Run f))))
         part_run_refused run.Memory plan why own = if_all rules design edits (λ r d s at_r at_d at_s. inputs r d s at_r at_d at_s)
-        part_run_refused run.Unfinished plan why own = if_all rules design edits (λ r d s at_r at_d at_s.
-            room (length (filter (is_near frame) made)) (length made) (length (map change_of made)) (tile_count values) (shorter (is_near frame) made) (length-map made change_of)
-            (few_changes s (map change_of made) (of _ edits s at_s changed)) (tiles_few (plan_of values).raster plan.raster) (why refl))
+        part_run_refused run.Unfinished plan why own = if_all rules design edits (λ r d s at_r at_d at_s. room (tile_count values) (tiles_few (plan_of values).raster plan.raster) (why refl))
           where
-            room : (f n m t : ℕ) → f ≤ n → m ≡ n → m ≤ 100000 → t ≤ 16777216 → 4294967296 < f + t → ⊥
-            room f n m t le same few tiles full = omega (arith, le, same, few, tiles, full)
+            room : (t : ℕ) → t ≤ 16777216 → 4294967296 < t → ⊥
+            room t tiles full = omega (arith, tiles, full)
         part_run_refused run.Mixed plan why own = if_all rules design edits (λ r d s at_r at_d at_s. own refl)

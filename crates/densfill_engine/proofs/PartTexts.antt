@@ -1,17 +1,14 @@
 -- The texts of a part of a book, and of a book in which just the tiles are in that a part needs.
-use Rattle.std.proofs.Common.{◌≡◌, refl, ap, sym, ◌∙◌, ℕ, ◌+◌, ◌≤◌, ◌<◌, arith, inl, inr, ℤ, Bool, true, false, ◌&&◌, ◌||◌, ◌==◌, nat_lt, List, [], length}
+use Rattle.std.proofs.Common.{◌≡◌, refl, ap, sym, ◌∙◌, ℕ, ◌+◌, ◌<◌, arith, inl, inr, ℤ, Bool, true, false, ◌&&◌, ◌||◌, ◌==◌, nat_lt, List, [], length, subst}
 use Rattle.std.proofs.Math.Path.{fun_ext}
 use Rattle.std.proofs.lemmas.Bool.{cases_Bool, cases_eq}
 use Rattle.std.proofs.lemmas.Bool.Decides.{nat_tests}
 use Rattle.fill_raster.specs.Lattice.{IsLattice, Lattice, in_raster, in_tile, tile_of, tiles}
 use Rattle.fill_raster.proofs.RasterLaws.{place_has_a_tile}
-use Rattle.fill_text.specs.Rules.{Values}
-use Rattle.fill_text.specs.declared.script.Edit.{Edit}
-use Rattle.fill_job.specs.Plans.{PointSet, plan_of}
-use Rattle.fill_core.specs.Accounts.{Account, opening_of, state_of, terms_of}
-use Rattle.fill_core.specs.Boxes.{no_places}
+use Rattle.fill_job.specs.Plans.{Layers, PointSet, plan_of}
+use Rattle.fill_core.specs.Accounts.{Account, state_of, terms_of}
 use Rattle.fill_core.specs.Histories.{events_in}
-use Rattle.fill_core.specs.Machine.{State, opened, replay}
+use Rattle.fill_core.specs.Machine.{State, opening, replay, replay_from}
 use Rattle.fill_core.specs.Terms.{Terms, layers_at}
 use Rattle.fill_parts.specs.Cuts.{Part}
 use Rattle.fill_parts.specs.Needs.{has_tile, needs_tile}
@@ -19,9 +16,8 @@ use Rattle.fill_parts.specs.PartFill.{layers_with}
 use Rattle.fill_parts.specs.PartReport.{part_report}
 use Rattle.gds_out.specs.FillText.{fill_text}
 use Rattle.densfill_engine.specs.PartFills.{IsNearFillOf}
-use Rattle.densfill_engine.specs.Runs.{HasBrought, IsRun, tile_count}
+use Rattle.densfill_engine.specs.Runs.{HasBrought, tile_count}
 use Rattle.densfill_engine.proofs.Filling.{blank}
-use Rattle.densfill_engine.proofs.TileTurns.{run_brief}
 
 -- ---- the places of a part's tiles
 
@@ -76,24 +72,30 @@ module _ (r : Lattice) (fill : PointSet) (owns : ℕ → Bool) (inside : (i j : 
       none true = refl
       none false = refl
 
--- ---- a book that was edited, and into which the needed tiles came
+-- ---- a book into which the needed tiles came
 
-module _ (t : Terms) (a b : Account) (edits : List Edit) (is : a ≡ blank t) (edited : IsRun a b edits 0) where
-  rules_are : b.rules ≡ t.rules
-  rules_are = edited.rules ∙ ap (λ (x : Account). x.rules) is
+-- a book opens without a box on its layers, and no tile is in
+opens : (t : Terms) (a : Account) → a ≡ blank t → state_of a ≡ opening (plan_of t.rules) (layers_at t)
+unfolding replay_from
+opens t a is = ap state_of is
 
-  pub near_texts : (c : Account) (k : Part) (units dates library report : List ℕ) → state_of b ≡ opened (plan_of a.rules) (layers_with edits (opening_of a)) no_places (length edits)
-      → HasBrought b c (λ n. nat_lt n (tile_count b.rules) && needs_tile (plan_of b.rules) k n) (tile_count b.rules)
+unedited : (layers : Layers) → layers ≡ layers_with [] layers
+unfolding layers_with
+unedited layers = refl
+
+module _ (t : Terms) (a : Account) (is : a ≡ blank t) where
+  pub near_texts : (c : Account) (k : Part) (units dates library report : List ℕ)
+      → HasBrought a c (λ n. nat_lt n (tile_count a.rules) && needs_tile (plan_of a.rules) k n) (tile_count a.rules)
       → library ≡ fill_text units dates c.rules (λ i j. (state_of c).fill i j && has_tile (plan_of c.rules) k (tile_of (plan_of c.rules).raster i j))
-      → report ≡ part_report c.rules (state_of c).layers.metal (state_of c).fill k → IsNearFillOf t.rules (layers_at t) units dates edits k library report
-  near_texts c k units dates library report anew came library_is report_is = record {
+      → report ≡ part_report c.rules (state_of c).layers.metal (state_of c).fill k → IsNearFillOf t.rules (layers_at t) units dates [] k library report
+  near_texts c k units dates library report came library_is report_is = record {
     events = events_in c.history;
-    opening_is = ap (λ (s : State). s.base) (sym state) ∙ (came.base ∙ ap (λ (s : State). s.base) anew);
-    layers_are = ap (λ (s : State). s.layers) (sym state) ∙ (came.layers ∙ (ap (λ (s : State). s.layers) anew ∙ ap (λ (x : Account). layers_with edits (opening_of x)) is));
+    opening_is = ap (λ (s : State). s.base) (sym state) ∙ (came.base ∙ ap (λ (s : State). s.base) (opens t a is));
+    layers_are = ap (λ (s : State). s.layers) (sym state) ∙ (came.layers ∙ (ap (λ (s : State). s.layers) (opens t a is) ∙ unedited (layers_at t)));
     tiles_are = λ tile lt. ap (λ (s : State). s.tiles_in tile) (sym state)
         ∙ (came.tiles_are tile
-        ∙ (ap (λ (s : State). s.tiles_in tile || (nat_lt tile (tile_count b.rules) && needs_tile (plan_of b.rules) k tile)) anew
-        ∙ (ap (λ (v : Values). nat_lt tile (tile_count v) && needs_tile (plan_of v) k tile) rules_are ∙ rw (below tile (tile_count t.rules) lt) refl)));
+        ∙ (ap (λ (s : State). s.tiles_in tile || (nat_lt tile (tile_count a.rules) && needs_tile (plan_of a.rules) k tile)) (opens t a is)
+        ∙ (ap (λ (x : Account). nat_lt tile (tile_count x.rules) && needs_tile (plan_of x.rules) k tile) is ∙ rw (below tile (tile_count t.rules) lt) refl)));
     library_is = library_is
         ∙ (λ u. fill_text units dates (under u).rules (λ i j. (replay (plan_of (under u).rules) (layers_at (under u)) (events_in c.history)).fill i j && has_tile (plan_of (under u).rules) k (tile_of (plan_of (under u).rules).raster i j)));
     report_is = report_is
@@ -101,12 +103,7 @@ module _ (t : Terms) (a b : Account) (edits : List Edit) (is : a ≡ blank t) (e
   }
     where
       same : terms_of c ≡ terms_of a
-      same = λ u. record {
-        rules = (came.run.rules ∙ edited.rules) u;
-        opening = (came.run.opening ∙ edited.opening) u;
-        keep = (came.run.keep ∙ edited.keep) u;
-        most = (came.run.most ∙ edited.most) u;
-      }
+      same = λ u. record { rules = came.run.rules u; opening = came.run.opening u; keep = came.run.keep u; most = came.run.most u }
 
       under : terms_of c ≡ t
       under = same ∙ ap terms_of is
@@ -117,18 +114,9 @@ module _ (t : Terms) (a b : Account) (edits : List Edit) (is : a ≡ blank t) (e
       below : (n m : ℕ) → n < m → nat_lt n m ≡ true
       below n m lt = grind (arith, nat_tests)
 
-  -- the history has no room for the tiles behind the edits
-  pub near_full : b.most < length b.history + tile_count b.rules → t.most < length edits + tile_count t.rules
-  near_full full =
-      more b.most t.most (length b.history) (length a.history) (length edits) (tile_count b.rules) (tile_count t.rules) full (edited.most ∙ ap (λ (x : Account). x.most) is) (run_brief a b edits 0 edited)
-      (ap (λ (x : Account). length x.history) is) (ap tile_count rules_are)
+  -- the history has no room for the tiles
+  pub near_full : a.most < length a.history + tile_count a.rules → t.most < tile_count t.rules
+  near_full full = all t.most (tile_count t.rules) (subst (λ (x : Account). x.most < length x.history + tile_count x.rules) is full)
     where
-      more : (m n h g e c d : ℕ) → m < h + c → m ≡ n → h ≤ g + (e + 0) → g ≡ 0 → c ≡ d → n < e + d
-      more m n h g e c d full same le none count = omega (arith, full, same, le, none, count)
-
--- nor for the edits
-pub edits_full : (t : Terms) (a : Account) (edits : List Edit) → a ≡ blank t → a.most < length a.history + length edits → t.most < length edits + tile_count t.rules
-edits_full t a edits is full = more a.most t.most (length a.history) (length edits) (tile_count t.rules) full (ap (λ (x : Account). x.most) is) (ap (λ (x : Account). length x.history) is)
-  where
-    more : (m n h e c : ℕ) → m < h + e → m ≡ n → h ≡ 0 → n < e + c
-    more m n h e c full same none = omega (arith, full, same, none)
+      all : (m n : ℕ) → m < 0 + n → m < n
+      all m n lt = omega (arith, lt)

@@ -11,11 +11,11 @@ use Rattle.densfill_engine.specs.Laws.{MetalIsReplayed, no_layers}
 use Rattle.densfill_engine.specs.Metal.{is_added, is_within, last_change, later, makes_metal}
 
 -- what a square is that was metal or not before the last change, if there is one
-abbrev settled : Option Bool → Bool → Bool
+abbrev pub settled : Option Bool → Bool → Bool
 settled None before = before
 settled (Some metal) before = metal
 
-settled_later : (a b : Option Bool) (before : Bool) → settled (later a b) before ≡ settled a (settled b before)
+pub settled_later : (a b : Option Bool) (before : Bool) → settled (later a b) before ≡ settled a (settled b before)
 settled_later None b before = refl
 settled_later (Some k) b before = refl
 
@@ -35,7 +35,7 @@ kept : (s before : Bool) → settled (if s then None else None) before ≡ befor
 kept true before = refl
 kept false before = refl
 
-one_edit : (e : Edit) (metal : ℤ → ℤ → Bool) (x y : ℤ)
+pub one_edit : (e : Edit) (metal : ℤ → ℤ → Bool) (x y : ℤ)
     → settled (if is_within (change_of e).rect x y then makes_metal (change_of e).kind else None) (metal x y) ≡ metal_after e metal x y
 one_edit (edit.Add r) metal x y = added (squares r x y) (metal x y)
 one_edit (edit.Cut r) metal x y = cut (squares r x y) (metal x y)

@@ -1,90 +1,48 @@
 -- What edits and commits do with the account of a book, and how many tiles they leave.
-use Rattle.std.proofs.Common.{◌≡◌, refl, ap, sym, subst, ◌∙◌, ℕ, zero, suc, ◌+◌, ◌*◌, ◌≤◌, ◌<◌, arith, inl, inr, Bool, true, false, not, get_or, ◌&&◌, ◌||◌, ◌==◌, List, [], ◌∷◌, ◌++◌, length, map, take, append_assoc, if◌then◌else◌, nat_lt}
+use Rattle.std.proofs.Common.{◌≡◌, refl, ap, sym, subst, ◌∙◌, ℕ, zero, suc, ◌+◌, ◌*◌, ◌≤◌, ◌<◌, arith, inl, inr, Bool, true, false, not, ◌&&◌, ◌||◌, ◌==◌, [], ◌∷◌, ◌++◌, length, append_assoc, if◌then◌else◌, nat_lt}
 use Rattle.std.specs.Prelude.{Option, Some, Result, Ok, Err, OnOk}
 use Rattle.std.proofs.lemmas.Bool.{cases_eq}
 use Rattle.std.proofs.lemmas.Bool.Decides.{nat_tests}
 use Rattle.std.proofs.lemmas.Grind.{flat_map-append}
-use Rattle.std.proofs.lemmas.List.{append-nil, length-append, length-map, map-append, take_more}
+use Rattle.std.proofs.lemmas.List.{append-nil, length-append, length-map, map-append}
 use Rattle.fill_text.specs.Rules.{Values}
-use Rattle.fill_text.specs.declared.script.Edit.{Edit}
-use Rattle.fill_job.specs.Basis.{layers_in}
 use Rattle.fill_job.specs.Plans.{Plan, plan_of}
 use Rattle.fill_job.specs.ReadSets.{ReadSet, read_set}
-use Rattle.fill_core.specs.Accounts.{Account, IsCommitted, opening_of, state_of, with_entry}
-use Rattle.fill_core.specs.Boxes.{no_places}
+use Rattle.fill_core.specs.Accounts.{Account, IsCommitted, state_of}
 use Rattle.fill_core.specs.Histories.{edits_by, edits_in, events_in}
-use Rattle.fill_core.specs.Machine.{State, opened, replay, step, with_tile}
+use Rattle.fill_core.specs.Machine.{State, step, with_tile}
 use Rattle.fill_core.specs.Shares.{Held}
 use Rattle.fill_core.specs.declared.book.BookError.{BookError}
 use Rattle.fill_core.specs.declared.book.BookError.TheVariants as book
 use Rattle.fill_core.specs.declared.event.Entry.{Entry}
-use Rattle.fill_core.specs.declared.event.Event.{Event}
 use Rattle.fill_core.specs.declared.event.Event.TheVariants as event
 use Rattle.fill_core.specs.declared.event.Reply.{Reply}
 use Rattle.fill_core.specs.Tiles.{IsNext, next_tile}
 use Rattle.fill_core.proofs.Searched.{next_first}
 use Rattle.fill_core.proofs.Written.{state_with}
-use Rattle.fill_parts.specs.Laws.{EditsOpenAnew}
-use Rattle.fill_parts.specs.PartFill.{layers_with}
 use Rattle.densfill_engine.specs.Faults.{book_fault}
 use Rattle.densfill_engine.specs.Runs.{HasBrought, IsFresh, IsRun, IsTooShort, most_turns, tile_count}
 use Rattle.densfill_engine.specs.declared.refusal.RunFault.TheVariants as run
 
 -- ---- the history
 
--- so many edits are these edits, and commits are none
-edits_of_edits : (edits : List Edit) → edits_in (map event.Edit edits) ≡ edits
-edits_of_edits [] = refl
-edits_of_edits (e ∷ es) = ap (λ l. e ∷ l) (edits_of_edits es)
-
-pub run_edited : (a b : Account) (edits : List Edit) (turns : ℕ) → IsRun a b edits turns → edits_in (events_in b.history) ≡ edits_in (events_in a.history) ++ edits
-run_edited a b edits turns run =
-    let before = edits_in (events_in a.history) in
+pub run_unedited : (a b : Account) (turns : ℕ) → IsRun a b turns → edits_in (events_in b.history) ≡ edits_in (events_in a.history)
+run_unedited a b turns run =
     ap edits_in run.events
-    ∙ (flat_map-append edits_by (events_in a.history) (map event.Edit edits ++ run.commits)
-    ∙ ap (λ l. before ++ l) (flat_map-append edits_by (map event.Edit edits) run.commits
-    ∙ (ap (λ l. edits_in (map event.Edit edits) ++ l) run.unedited ∙ (append-nil (edits_in (map event.Edit edits)) ∙ edits_of_edits edits))))
+    ∙ (flat_map-append edits_by (events_in a.history) run.commits ∙ (ap (λ l. edits_in (events_in a.history) ++ l) run.unedited ∙ append-nil (edits_in (events_in a.history))))
 
-pub run_brief : (a b : Account) (edits : List Edit) (turns : ℕ) → IsRun a b edits turns → length b.history ≤ length a.history + (length edits + turns)
-run_brief a b edits turns run =
-    few _ _ _ _ _ _ turns (length-map b.history (λ (x : Entry). x.event)) (ap length run.events ∙ length-append (events_in a.history) (map event.Edit edits ++ run.commits))
-    (length-map a.history (λ (x : Entry). x.event)) (length-append (map event.Edit edits) run.commits) (length-map edits event.Edit) run.brief
+pub run_brief : (a b : Account) (turns : ℕ) → IsRun a b turns → length b.history ≤ length a.history + turns
+run_brief a b turns run =
+    few _ _ _ _ _ turns (length-map b.history (λ (x : Entry). x.event)) (ap length run.events ∙ length-append (events_in a.history) run.commits)
+    (length-map a.history (λ (x : Entry). x.event)) run.brief
   where
-    few : (eb hb ea ha m k t : ℕ) {c n : ℕ} → eb ≡ hb → eb ≡ ea + m → ea ≡ ha → m ≡ k + c → k ≡ n → c ≤ t → hb ≤ ha + (n + t)
-    few eb hb ea ha m k t e f g h i le = omega (arith, e, f, g, h, i, le)
+    few : (eb hb ea ha c t : ℕ) → eb ≡ hb → eb ≡ ea + c → ea ≡ ha → c ≤ t → hb ≤ ha + t
+    few eb hb ea ha c t e f g le = omega (arith, e, f, g, le)
 
-pub no_run : (a : Account) → IsRun a a [] 0
+pub no_run : (a : Account) → IsRun a a 0
 no_run a = record { rules = refl; opening = refl; keep = refl; most = refl; commits = []; events = sym (append-nil (events_in a.history)); unedited = refl; brief = omega arith }
 
-no_more : (xs : List Event) → length xs ≤ 0 → xs ≡ []
-no_more [] le = refl
-no_more (x ∷ xs) le = absurd (omega (arith, le))
-
--- the events of a run without a commit
-pub run_events : (a b : Account) (edits : List Edit) → IsRun a b edits 0 → events_in b.history ≡ events_in a.history ++ map event.Edit edits
-run_events a b edits run = run.events ∙ ap (λ l. events_in a.history ++ l) (ap (λ l. map event.Edit edits ++ l) (no_more run.commits run.brief) ∙ append-nil (map event.Edit edits))
-
-pub one_edit : (a b c : Account) (edits : List Edit) (k : ℕ) (e : Edit) (reply : Reply) → IsRun a b (take k edits) 0 → c ≡ with_entry b (event.Edit e) reply
-    → k < length edits → e ≡ get_or edits k e → IsRun a c (take (k + 1) edits) 0
-one_edit a b c edits k e reply run is lt item =
-    let taken : take (k + 1) edits ≡ take k edits ++ e ∷ [] = take_more edits k e lt ∙ ap (λ x. take k edits ++ x ∷ []) (sym item) in
-    let before = events_in a.history in
-    let made = map event.Edit (take k edits) in
-    let all : map event.Edit (take (k + 1) edits) ≡ made ++ event.Edit e ∷ [] = ap (map event.Edit) taken ∙ map-append event.Edit (take k edits) (e ∷ []) in
-    subst (λ (x : Account). IsRun a x (take (k + 1) edits) 0) (sym is) record {
-      rules = run.rules;
-      opening = run.opening;
-      keep = run.keep;
-      most = run.most;
-      commits = [];
-      events = map-append (λ (x : Entry). x.event) b.history (record { event = event.Edit e; reply = reply } ∷ [])
-          ∙ (ap (λ l. l ++ event.Edit e ∷ []) (run_events a b (take k edits) run)
-          ∙ (append_assoc before made (event.Edit e ∷ []) ∙ ap (λ l. before ++ l) (sym all ∙ sym (append-nil (map event.Edit (take (k + 1) edits))))));
-      unedited = refl;
-      brief = omega arith;
-    }
-
-pub one_more : (a b c : Account) (k : ℕ) → IsRun a b [] k → IsRun b c [] 1 → IsRun a c [] (k + 1)
+pub one_more : (a b c : Account) (k : ℕ) → IsRun a b k → IsRun b c 1 → IsRun a c (k + 1)
 one_more a b c k first next = record {
   rules = next.rules ∙ first.rules;
   opening = next.opening ∙ first.opening;
@@ -99,9 +57,9 @@ one_more a b c k first next = record {
   longer n m h k e p q = omega (arith, e, p, q)
 
 -- a commit is a run of one turn
-pub one_commit : (a c : Account) (held after : Held) (version tile : ℕ) (read : ReadSet) (reply : Reply) → IsCommitted a c held after version tile read reply → IsRun a c [] 1
+pub one_commit : (a c : Account) (held after : Held) (version tile : ℕ) (read : ReadSet) (reply : Reply) → IsCommitted a c held after version tile read reply → IsRun a c 1
 one_commit a c held after version tile read reply done =
-    subst (λ (x : Account). IsRun a x [] 1) (sym done.writes.written) record {
+    subst (λ (x : Account). IsRun a x 1) (sym done.writes.written) record {
       rules = refl;
       opening = refl;
       keep = refl;
@@ -112,18 +70,7 @@ one_commit a c held after version tile read reply done =
       brief = omega arith;
     }
 
--- the state after edits of a book without a history
-pub opened_anew : (a b : Account) (edits : List Edit) → EditsOpenAnew → IsRun a b edits 0 → a.history ≡ []
-    → state_of b ≡ opened (plan_of a.rules) (layers_with edits (opening_of a)) no_places (length edits)
-opened_anew a b edits law run blank =
-    let events : events_in b.history ≡ map event.Edit edits = run_events a b edits run ∙ ap (λ (h : List Entry). events_in h ++ map event.Edit edits) blank in
-    (λ k. replay (plan_of (run.rules k)) (layers_in (run.opening k) (run.keep k)) (events k)) ∙ law (plan_of a.rules) (opening_of a) edits
-
 -- ---- the state
-
--- no tile is in after an edit
-pub edit_opens : (b c : Account) (e : Edit) (reply : Reply) → c ≡ with_entry b (event.Edit e) reply → IsFresh (state_of c)
-edit_opens b c e reply is tile = ap (λ (x : Account). (state_of x).tiles_in tile) is ∙ ap (λ (s : State). s.tiles_in tile) (state_with b (event.Edit e) reply)
 
 -- a commit of the version, of a tile that isn't in, is accepted where what was read is the same
 accepted : (version at : ℕ) (taken : Bool) → version ≡ at → taken ≡ false → ((version == at) && (not taken && true)) ≡ true
@@ -261,10 +208,10 @@ one_brought plan s t tile n k is lt out before =
     further m l n k e before = omega (arith, e, before)
 
 -- a history that is full while a tile is left has no room for the tiles
-pub full_short : (a b : Account) (k tile : ℕ) (limit : Option ℕ) → IsRun a b [] k → left (state_of b).tiles_in (tile_count a.rules) + k ≡ tile_count a.rules
+pub full_short : (a b : Account) (k tile : ℕ) (limit : Option ℕ) → IsRun a b k → left (state_of b).tiles_in (tile_count a.rules) + k ≡ tile_count a.rules
     → tile < tile_count a.rules → (state_of b).tiles_in tile ≡ false → length b.history ≡ b.most → IsTooShort a.rules limit (length a.history) a.most
 full_short a b k tile limit run before lt out full =
-    inr (more a.most b.most (length a.history) (length b.history) (tile_count a.rules) k (run_brief a b [] k run) run.most full (fewer (left (state_of b).tiles_in (tile_count a.rules)) _ k before some))
+    inr (more a.most b.most (length a.history) (length b.history) (tile_count a.rules) k (run_brief a b k run) run.most full (fewer (left (state_of b).tiles_in (tile_count a.rules)) _ k before some))
   where
     some : left (state_of b).tiles_in (tile_count a.rules) ≡ 0 → ⊥
     some none = absurd (let e : true ≡ false = sym (none_left (state_of b).tiles_in (tile_count a.rules) none tile lt) ∙ out in cc)
@@ -273,7 +220,7 @@ full_short a b k tile limit run before lt out full =
     fewer zero n k e other = absurd (other refl)
     fewer (suc m) n k e other = omega (arith, e)
 
-    more : (x y h m n k : ℕ) → m ≤ h + (0 + k) → y ≡ x → m ≡ y → k < n → x < h + n
+    more : (x y h m n k : ℕ) → m ≤ h + k → y ≡ x → m ≡ y → k < n → x < h + n
     more x y h m n k le most full lt = omega (arith, le, most, full, lt)
 
 -- and where a tile is left after all turns, there are fewer turns than tiles
@@ -285,7 +232,7 @@ limit_short values limit turns k f history most are over before some = inl (fewe
     fewer t k n m le lt e = omega (arith, le, lt, e)
 
 -- the next tile of a book that was run so far
-pub next_at : (a b : Account) (k from tile : ℕ) (next : Option ℕ) → IsRun a b [] k → next ≡ next_tile (tile_count b.rules) (state_of b).tiles_in from → next ≡ Some tile
+pub next_at : (a b : Account) (k from tile : ℕ) (next : Option ℕ) → IsRun a b k → next ≡ next_tile (tile_count b.rules) (state_of b).tiles_in from → next ≡ Some tile
     → IsNext (tile_count a.rules) (state_of b).tiles_in from tile
 next_at a b k from tile next run first is =
     subst (λ (v : Values). IsNext (tile_count v) (state_of b).tiles_in from tile) run.rules (next_first (tile_count b.rules) (state_of b).tiles_in from tile (sym first ∙ is))
@@ -328,7 +275,7 @@ or_false true b h = refl
 or_false false b h = sym h
 
 -- a needed tile came in
-pub needed_came : (a b : Account) (tile : ℕ) (needs : ℕ → Bool) → IsRun a b [] 1 → state_of b ≡ with_tile (plan_of a.rules) (state_of a) tile → needs tile ≡ true
+pub needed_came : (a b : Account) (tile : ℕ) (needs : ℕ → Bool) → IsRun a b 1 → state_of b ≡ with_tile (plan_of a.rules) (state_of a) tile → needs tile ≡ true
     → HasBrought a b (λ t. (t == tile) && needs t) 1
 needed_came a b tile needs run is needed = record {
   run = run;
@@ -384,10 +331,10 @@ still_out a b needs n fresh came = came.tiles_are n ∙ rw (fresh n, not_below n
     not_below n = grind (arith, nat_tests)
 
 -- where the history is full before all tiles, there is no room for them
-pub no_room : (a b : Account) (n count : ℕ) → IsRun a b [] n → n < count → length b.history ≡ b.most → a.most < length a.history + count
-no_room a b n count run lt full = less (length b.history) (length a.history) b.most a.most n count (run_brief a b [] n run) run.most full lt
+pub no_room : (a b : Account) (n count : ℕ) → IsRun a b n → n < count → length b.history ≡ b.most → a.most < length a.history + count
+no_room a b n count run lt full = less (length b.history) (length a.history) b.most a.most n count (run_brief a b n run) run.most full lt
   where
-    less : (l h m k n c : ℕ) → l ≤ h + (0 + n) → m ≡ k → l ≡ m → n < c → k < h + c
+    less : (l h m k n c : ℕ) → l ≤ h + n → m ≡ k → l ≡ m → n < c → k < h + c
     less l h m k n c le same full lt = omega (arith, le, same, full, lt)
 
 -- the first tiles are all tiles

@@ -1,14 +1,12 @@
 -- What a run does with a book, and when it can't end.
-use Rattle.std.specs.Prelude.{◌≡◌, ◌⊎◌, ℕ, ◌+◌, ◌*◌, ◌<◌, ◌≤◌, Bool, ◌||◌, false, List, [], length, map, ◌++◌, Option, Some, None}
+use Rattle.std.specs.Prelude.{◌≡◌, ◌⊎◌, ℕ, ◌+◌, ◌*◌, ◌<◌, ◌≤◌, Bool, ◌||◌, false, List, [], ◌++◌, length, Option, Some, None}
 use Rattle.fill_raster.specs.Lattice.{tiles}
 use Rattle.fill_text.specs.Rules.{Values}
-use Rattle.fill_text.specs.declared.script.Edit.{Edit}
 use Rattle.fill_job.specs.Plans.{plan_of}
 use Rattle.fill_core.specs.Accounts.{Account, state_of}
 use Rattle.fill_core.specs.Histories.{edits_in, events_in}
 use Rattle.fill_core.specs.Machine.{State}
 use Rattle.fill_core.specs.declared.event.Event.{Event}
-use Rattle.fill_core.specs.declared.event.Event.TheVariants as event
 
 -- how many tiles the rules' raster has
 abbrev pub tile_count : Values → ℕ
@@ -27,20 +25,20 @@ most_commits values workers limit = 2 * (workers * most_turns values limit)
 abbrev pub IsFresh : State → Type 0
 IsFresh s = (tile : ℕ) → s.tiles_in tile ≡ false
 
--- the same book, with these edits made in their order, and then at most so many commits
-pub record IsRun (old new : Account) (edits : List Edit) (turns : ℕ) : Type 0 where
+-- the same book, after at most so many commits
+pub record IsRun (old new : Account) (turns : ℕ) : Type 0 where
   pub rules : new.rules ≡ old.rules
   pub opening : new.opening ≡ old.opening
   pub keep : new.keep ≡ old.keep
   pub most : new.most ≡ old.most
   pub commits : List Event
-  pub events : events_in new.history ≡ events_in old.history ++ (map event.Edit edits ++ commits)
+  pub events : events_in new.history ≡ events_in old.history ++ commits
   pub unedited : edits_in commits ≡ []
   pub brief : length commits ≤ turns
 
 -- the same version of a book, into which the tiles that pass the test came, by at most so many commits
 pub record HasBrought (old new : Account) (came : ℕ → Bool) (turns : ℕ) : Type 0 where
-  pub run : IsRun old new [] turns
+  pub run : IsRun old new turns
   pub layers : (state_of new).layers ≡ (state_of old).layers
   pub base : (state_of new).base ≡ (state_of old).base
   pub tiles_are : (tile : ℕ) → (state_of new).tiles_in tile ≡ (state_of old).tiles_in tile || came tile

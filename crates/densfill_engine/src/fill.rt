@@ -1,5 +1,5 @@
 //! The fill of a design: from the bytes of three inputs to its texts, and these to two outputs.
-ghost use Rattle.std.specs.Prelude.{◌≡◌, ◌↔◌, ◌⊎◌, ◌+◌, ◌^◌, ◌<◌, ◌≤◌, ℕ, true, false, length, map, take, Ok, IfErr, IfOk, IfSome, IsOk, OnOk};
+ghost use Rattle.std.specs.Prelude.{◌≡◌, ◌↔◌, ◌⊎◌, ◌+◌, ◌^◌, ◌<◌, ◌≤◌, ℕ, [], true, false, length, map, take, Ok, IfErr, IfOk, IfSome, IsOk, OnOk};
 ghost use Rattle.std.specs.Io.KnownBytes.{Appends};
 ghost use Rattle.densfill_io.specs.Taps.{has_failed, under};
 ghost use Rattle.fill_text.specs.Rules.{Values};
@@ -13,49 +13,92 @@ ghost use Rattle.densfill_engine.specs.Inputs.{is_before_script, is_of_rules, ru
 ghost use Rattle.densfill_engine.specs.Fills.{IsFilled, IsFillOf, IsFillReason};
 ghost use Rattle.densfill_engine.specs.Runs.{IsTooShort};
 
-use crate::inputs::{Design, take_design, take_edits, take_rules};
+use crate::crew::{Crew, Ledgers};
+use crate::edited::edited;
+use crate::inputs::{Design, Inputs, Task, take_design, take_edits, take_rules};
 use crate::refusal::{InputFault, Refusal, RunFault};
 use crate::texts::{Filled, texts_of};
 use crate::together::fill_together;
-use crate::turns::{edit_all, fill_tiles};
+use crate::turns::fill_tiles;
 use densfill_io::{InputError, Tap, write_settled, write_text};
 use fill_book::Book;
 use fill_core::Opened;
 use fill_job::laws::rules_make_a_plan;
-use fill_parts::laws::{edits_are_changes, fill_after_edits};
-use fill_text::{Edit, Rules};
+use fill_parts::laws::{edits_are_changes, edits_open_anew};
+use fill_text::Rules;
 use std::alloc::Global;
 use std::io::{Read, Write};
 use std::marker::Brand;
 use std::sync::Wait;
-use std::sync::ledger::{Blank, Ledger};
+use std::sync::ledger::Ledger;
 use std::thread::Threads;
 
 /// How many events the history of a run may have.
 pub(crate) const MOST_EVENTS: u64 = 4_294_967_296;
 
-/// The texts of a fill of the design: one worker makes the edits first and then brings the tiles, and more of them bring tiles while
-/// the edits are made.
-fn fill_design<C: Opened + Send + Sync, P: Ledger + Send + Sync, W: Ledger + Send + Sync>(
+/// The texts of a fill by many workers, who bring tiles while the edits are made.
+fn fill_by_many<C: Opened + Send + Sync, P: Ledger + Send + Sync, W: Ledger + Send + Sync>(
     rt: &(impl Threads + Wait + Sync),
     alloc: Global,
-    calls: Blank,
-    placed: Blank,
-    withdrawn: Blank,
+    ledgers: Ledgers,
+    task: Task,
+    crew: Crew,
+) -> Result<Filled, RunFault>
+    requires names { (ledgers.calls.name ≡ C.name) × (ledgers.placed.name ≡ P.name) × (ledgers.withdrawn.name ≡ W.name) }
+    requires parts { (ledgers.calls.parts ≡ C.parts) × (ledgers.placed.parts ≡ P.parts) × (ledgers.withdrawn.parts ≡ W.parts) }
+    requires all { AllParts C.parts P.parts W.parts }
+    requires terms { record { rules = values_of task.rules; opening = task.design.metal; keep = task.design.keep; most = 2 ^ 32 } ≡ C.terms }
+    requires workers { (1 < crew.workers) × (crew.workers ≤ 64) }
+    ensures { IfOk result (λ f. IsFillOf (values_of task.rules) (layers_in task.design.metal task.design.keep) task.design.units task.design.dates (map change_of task.edits.items) crew.workers crew.limit f.library.items f.report.items) }
+{
+    let Task {
+        rules,
+        design,
+        edits,
+    } = task;
+    rules_make_a_plan(&rules);
+    let Design {
+        metal,
+        keep,
+        units,
+        dates,
+    } = design;
+    let Ledgers {
+        calls,
+        placed,
+        withdrawn,
+    } = ledgers;
+    let (book, pass) = Book::<C, P, W>::open(
+        rt,
+        alloc,
+        calls,
+        placed,
+        withdrawn,
+        metal,
+        keep,
+        rules,
+        MOST_EVENTS,
+    )?;
+    let book = fill_together(rt, alloc, book, pass, &edits, crew)?;
+    texts_of(alloc, &book, &units, &dates)
+}
+
+/// The texts of a fill by one worker, who brings tile after tile in the turns of two rounds.
+fn fill_alone<C: Opened + Send + Sync, P: Ledger + Send + Sync, W: Ledger + Send + Sync>(
+    rt: &(impl Threads + Wait + Sync),
+    alloc: Global,
+    ledgers: Ledgers,
     rules: Rules,
     design: Design,
-    edits: &[Edit],
-    workers: u32,
     limit: Option<u32>,
 ) -> Result<Filled, RunFault>
-    requires names { (calls.name ≡ C.name) × (placed.name ≡ P.name) × (withdrawn.name ≡ W.name) }
-    requires parts { (calls.parts ≡ C.parts) × (placed.parts ≡ P.parts) × (withdrawn.parts ≡ W.parts) }
+    requires names { (ledgers.calls.name ≡ C.name) × (ledgers.placed.name ≡ P.name) × (ledgers.withdrawn.name ≡ W.name) }
+    requires parts { (ledgers.calls.parts ≡ C.parts) × (ledgers.placed.parts ≡ P.parts) × (ledgers.withdrawn.parts ≡ W.parts) }
     requires all { AllParts C.parts P.parts W.parts }
     requires terms { record { rules = values_of rules; opening = design.metal; keep = design.keep; most = 2 ^ 32 } ≡ C.terms }
-    requires workers { (0 < workers) × (workers ≤ 64) }
-    ensures filled { IfOk result (λ f. IsFillOf (values_of rules) (layers_in design.metal design.keep) design.units design.dates (map change_of edits.now) workers limit f.library.items f.report.items) }
-    ensures unfinished { result ≡ Err RunFault.Unfinished → workers ≡ 1 → IsTooShort (values_of rules) limit (length (map change_of edits.now)) (2 ^ 32) }
-    ensures mixed { result ≡ Err RunFault.Mixed → workers ≡ 1 → ⊥ }
+    ensures filled { IfOk result (λ f. IsFillOf (values_of rules) (layers_in design.metal design.keep) design.units design.dates [] 1 limit f.library.items f.report.items) }
+    ensures unfinished { result ≡ Err RunFault.Unfinished → IsTooShort (values_of rules) limit 0 (2 ^ 32) }
+    ensures mixed { result ≡ Err RunFault.Mixed → ⊥ }
 {
     rules_make_a_plan(&rules);
     let Design {
@@ -64,6 +107,11 @@ fn fill_design<C: Opened + Send + Sync, P: Ledger + Send + Sync, W: Ledger + Sen
         units,
         dates,
     } = design;
+    let Ledgers {
+        calls,
+        placed,
+        withdrawn,
+    } = ledgers;
     let (mut book, mut pass) = Book::<C, P, W>::open(
         rt,
         alloc,
@@ -75,22 +123,42 @@ fn fill_design<C: Opened + Send + Sync, P: Ledger + Send + Sync, W: Ledger + Sen
         rules,
         MOST_EVENTS,
     )?;
-    if workers > 1 {
-        let book = fill_together(rt, alloc, book, pass, edits, workers, limit)?;
-        return texts_of(alloc, &book, &units, &dates);
-    }
-    fill_after_edits();
-    edits_are_changes();
-    edit_all(alloc, &mut book, &mut pass, edits)?;
     fill_tiles(alloc, &mut book, &mut pass, limit)?;
     texts_of(alloc, &book, &units, &dates)
 }
 
-/// Fills a design: opens a book on the metal and the keep-outs that it draws on the rules' layers, and makes the script's edits in their order. One
-/// worker brings tile after tile once they are made. Two to 64 workers bring tiles while they are made, and begin once more where a
-/// tile is left then. In each of these two rounds a worker takes at most `limit` turns, without a limit one for each tile and one
+/// The texts of a fill of what the inputs say. Many workers bring tiles while the edits are made; one fills the design as all edits
+/// leave it.
+fn fill_design(
+    rt: &(impl Threads + Wait + Sync),
+    alloc: Global,
+    task: Task,
+    crew: Crew,
+) -> Result<Filled, RunFault>
+    requires workers { (0 < crew.workers) × (crew.workers ≤ 64) }
+    ensures filled { IfOk result (λ f. IsFillOf (values_of task.rules) (layers_in task.design.metal task.design.keep) task.design.units task.design.dates (map change_of task.edits.items) crew.workers crew.limit f.library.items f.report.items) }
+    ensures unfinished { result ≡ Err RunFault.Unfinished → crew.workers ≡ 1 → IsTooShort (values_of task.rules) crew.limit (length (map change_of task.edits.items)) (2 ^ 32) }
+    ensures mixed { result ≡ Err RunFault.Mixed → crew.workers ≡ 1 → ⊥ }
+{
+    if crew.workers > 1 {
+        return fill_by_many::<Brand, Brand, Brand>(rt, alloc, Ledgers::blank(), task, crew);
+    }
+    edits_open_anew();
+    edits_are_changes();
+    let Task {
+        rules,
+        design,
+        edits,
+    } = task;
+    let design = edited(alloc, design, &edits)?;
+    fill_alone::<Brand, Brand, Brand>(rt, alloc, Ledgers::blank(), rules, design, crew.limit)
+}
+
+/// Fills a design: opens a book on the metal and the keep-outs that it draws on the rules' layers, and makes the script's edits in their
+/// order. One worker makes them all at once, before the book opens, and then brings tile after tile. Two to 64 workers bring tiles while they
+/// are made, and begin once more where a tile is left then. In each of these two rounds a worker takes at most `limit` turns, without a limit one for each tile and one
 /// more; so one worker has both at once. Each input is read to its end and interpreted before the next one is touched, and the design is flattened
-/// before the script is touched. The three blank ledgers are those that the book counts its calls with.
+/// before the script is touched.
 ///
 /// # Errors
 /// The first fault, with its part: `rules`, `design` and `script` for the inputs, and `run` once they are interpreted:
@@ -99,45 +167,41 @@ fn fill_design<C: Opened + Send + Sync, P: Ledger + Send + Sync, W: Ledger + Sen
 pub fn prepare<R: Read, D: Read, S: Read>(
     rt: &(impl Threads + Wait + Sync),
     alloc: Global,
-    calls: Blank,
-    placed: Blank,
-    withdrawn: Blank,
-    rules: &mut Tap<R>,
-    design: &mut Tap<D>,
-    script: &mut Tap<S>,
-    workers: u32,
-    limit: Option<u32>,
+    inputs: &mut Inputs<R, D, S>,
+    crew: Crew,
 ) -> Result<Filled, Refusal>
-    requires parts { AllParts calls.parts placed.parts withdrawn.parts }
-    requires workers { (0 < workers) × (workers ≤ 64) }
-    requires rules { has_failed rules.old ≡ false }
-    requires design { has_failed design.old ≡ false }
-    requires script { has_failed script.old ≡ false }
+    requires workers { (0 < crew.workers) × (crew.workers ≤ 64) }
+    requires rules { has_failed inputs.old.rules ≡ false }
+    requires design { has_failed inputs.old.design ≡ false }
+    requires script { has_failed inputs.old.script ≡ false }
 
     // A device fault is answered exactly where its tap has failed.
-    ensures rules_device { (result ≡ Err (Refusal.Rules (InputFault.Unread InputError.Device))) ↔ (has_failed rules.new ≡ true) }
-    ensures design_device { (result ≡ Err (Refusal.Design (InputFault.Unread InputError.Device))) ↔ (has_failed design.new ≡ true) }
-    ensures script_device { (result ≡ Err (Refusal.Script (InputFault.Unread InputError.Device))) ↔ (has_failed script.new ≡ true) }
+    ensures rules_device { (result ≡ Err (Refusal.Rules (InputFault.Unread InputError.Device))) ↔ (has_failed inputs.new.rules ≡ true) }
+    ensures design_device { (result ≡ Err (Refusal.Design (InputFault.Unread InputError.Device))) ↔ (has_failed inputs.new.design ≡ true) }
+    ensures script_device { (result ≡ Err (Refusal.Script (InputFault.Unread InputError.Device))) ↔ (has_failed inputs.new.script ≡ true) }
 
     // What is answered is what the bytes of the three inputs say.
-    ensures filled { IfOk result (λ f. IfSome (R.remaining (under rules.old)) (λ r. IfSome (D.remaining (under design.old)) (λ d.
-        IfSome (S.remaining (under script.old)) (λ s. IsFilled r d s workers limit f.library.items f.report.items)))) }
-    ensures refused { IfErr result (λ e. IfSome (R.remaining (under rules.old)) (λ r. IfSome (D.remaining (under design.old)) (λ d.
-        IfSome (S.remaining (under script.old)) (λ s. IsFillReason r d s workers limit e)))) }
+    ensures filled { IfOk result (λ f. IfSome (R.remaining (under inputs.old.rules)) (λ r. IfSome (D.remaining (under inputs.old.design)) (λ d.
+        IfSome (S.remaining (under inputs.old.script)) (λ s. IsFilled r d s crew.workers crew.limit f.library.items f.report.items)))) }
+    ensures refused { IfErr result (λ e. IfSome (R.remaining (under inputs.old.rules)) (λ r. IfSome (D.remaining (under inputs.old.design)) (λ d.
+        IfSome (S.remaining (under inputs.old.script)) (λ s. IsFillReason r d s crew.workers crew.limit e)))) }
 
     // No input is touched before those before it are interpreted and accepted.
-    ensures in_turn { IfErr result (λ e. is_of_rules e ≡ false → IfSome (R.remaining (under rules.old)) (λ r. IsOk (rules_answer r))) }
-    ensures unread { IfErr result (λ e. is_of_rules e ≡ true → design.new ≡ design.old) }
-    ensures script_in_turn { IfErr result (λ e. is_before_script e ≡ false → IfSome (R.remaining (under rules.old)) (λ r. IfSome (D.remaining (under design.old)) (λ d.
+    ensures in_turn { IfErr result (λ e. is_of_rules e ≡ false → IfSome (R.remaining (under inputs.old.rules)) (λ r. IsOk (rules_answer r))) }
+    ensures unread { IfErr result (λ e. is_of_rules e ≡ true → inputs.new.design ≡ inputs.old.design) }
+    ensures script_in_turn { IfErr result (λ e. is_before_script e ≡ false → IfSome (R.remaining (under inputs.old.rules)) (λ r. IfSome (D.remaining (under inputs.old.design)) (λ d.
         (values : Values) × (rules_answer r ≡ Ok values) × ((layers : Layers) × AreDrawn d values layers)))) }
-    ensures script_unread { IfErr result (λ e. is_before_script e ≡ true → script.new ≡ script.old) }
+    ensures script_unread { IfErr result (λ e. is_before_script e ≡ true → inputs.new.script ≡ inputs.old.script) }
 {
-    let values = take_rules(alloc, rules)?;
-    let drawn = take_design(rt, alloc, design, &values)?;
-    let edits = take_edits(alloc, script)?;
-    let filled = fill_design::<Brand, Brand, Brand>(
-        rt, alloc, calls, placed, withdrawn, values, drawn, &edits, workers, limit,
-    )?;
+    let rules = take_rules(alloc, &mut inputs.rules)?;
+    let design = take_design(rt, alloc, &mut inputs.design, &rules)?;
+    let edits = take_edits(alloc, &mut inputs.script)?;
+    let task = Task {
+        rules,
+        design,
+        edits,
+    };
+    let filled = fill_design(rt, alloc, task, crew)?;
     Ok(filled)
 }
 

@@ -26,6 +26,17 @@ use std::alloc::{AllocError, Global};
 use std::io::Read;
 use std::thread::Threads;
 
+/// The three inputs of a fill, each behind a tap, in the order in which they are read.
+#[derive(Drop)]
+pub struct Inputs<R, D, S> {
+    /// The rule file.
+    pub rules: Tap<R>,
+    /// The design, a GDSII Stream library.
+    pub design: Tap<D>,
+    /// The script of late changes.
+    pub script: Tap<S>,
+}
+
 /// How many bytes an input may have.
 pub(crate) const MOST_BYTES: usize = 2_147_483_648;
 
@@ -162,6 +173,17 @@ pub struct Design {
     pub units: [u8; 16],
     /// The data of its BGNLIB: the dates of its last change and access.
     pub dates: [u8; 24],
+}
+
+/// What the three inputs of a fill say.
+#[derive(Drop)]
+pub struct Task {
+    /// The rules.
+    pub rules: Rules,
+    /// What the design gives.
+    pub design: Design,
+    /// The script's edits, in their order.
+    pub edits: Vec<Edit>,
 }
 
 /// What the design of these bytes draws on the checked layer and on that of the keep-outs, with its units and dates. It is read

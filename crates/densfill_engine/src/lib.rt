@@ -1,6 +1,8 @@
 //! What the program does, over readers and writers that are handed in, and the line that it prints of a fault.
 #![tactic(auto)]
 
+mod crew;
+mod edited;
 mod fault;
 mod fill;
 mod inputs;
@@ -17,7 +19,9 @@ mod together;
 mod turns;
 mod within;
 
+pub use crew::Crew;
 pub use fill::{deliver, prepare};
+pub use inputs::Inputs;
 pub use joining::{Joiner, join_part, settle};
 pub use metal::metal_left;
 pub use part::check_part;

@@ -16,13 +16,13 @@ use std::alloc::{AllocError, Global};
 
 /// What a run of edits leaves of the squares that it touches: metal, or none.
 #[derive(Drop)]
-struct Patch {
-    metal: Region,
-    cut: Region,
+pub(crate) struct Patch {
+    pub(crate) metal: Region,
+    pub(crate) cut: Region,
 }
 
 /// The squares of `under` but for those of `hole`, and then those of `over`.
-fn covered_over(
+pub(crate) fn covered_over(
     alloc: Global,
     under: &Region,
     hole: &Region,
@@ -77,7 +77,7 @@ fn rects_added(alloc: Global, edits: &[Edit]) -> Result<Option<Vec<Rect>>, Alloc
 
 /// The patch of a run of edits: of one that only adds, the region of its rectangles, and else put together from those
 /// of its halves, so that each edit is touched but a few times.
-fn patch_of(alloc: Global, edits: &[Edit]) -> Result<Patch, AllocError>
+pub(crate) fn patch_of(alloc: Global, edits: &[Edit]) -> Result<Patch, AllocError>
     ensures metal { IfOk result (λ p. (x y : ℤ) → holds p.metal x y ≡ is_added (last_change (map change_of edits.now) x y)) }
     ensures cut { IfOk result (λ p. (x y : ℤ) → holds p.cut x y ≡ is_cut (last_change (map change_of edits.now) x y)) }
 {

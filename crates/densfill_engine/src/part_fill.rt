@@ -1,5 +1,5 @@
 //! The fill of a part of a chip: from the bytes of three inputs to its texts.
-ghost use Rattle.std.specs.Prelude.{◌≡◌, ◌↔◌, ◌+◌, ◌^◌, ◌<◌, true, false, length, Ok, IfErr, IfOk, IfSome, IsOk};
+ghost use Rattle.std.specs.Prelude.{◌≡◌, ◌↔◌, ◌^◌, ◌<◌, [], true, false, Ok, IfErr, IfOk, IfSome, IsOk};
 ghost use Rattle.std.specs.List.{filter};
 ghost use Rattle.densfill_io.specs.Taps.{has_failed, under};
 ghost use Rattle.fill_text.specs.Rules.{Values};
@@ -12,27 +12,29 @@ ghost use Rattle.densfill_engine.specs.Inputs.{is_before_script, is_of_rules, ru
 ghost use Rattle.densfill_engine.specs.PartFills.{AreWholeDrawn, IsNearFillOf, IsPartFilled, IsPartFillReason, is_near};
 ghost use Rattle.densfill_engine.specs.Runs.{tile_count};
 
+use crate::crew::Ledgers;
+use crate::edited::edited;
 use crate::fill::MOST_EVENTS;
-use crate::inputs::{Design, take_edits, take_rules};
+use crate::inputs::{Design, Inputs, take_edits, take_rules};
 use crate::part::told_in;
 use crate::part_texts::part_texts_of;
 use crate::refusal::{InputFault, Refusal, RunFault};
 use crate::texts::Filled;
-use crate::turns::{edit_all, fill_needed};
+use crate::turns::fill_needed;
 use crate::within::take_design_within;
-use densfill_io::{InputError, Tap};
+use densfill_io::InputError;
 use fill_base::Rect;
 use fill_book::Book;
 use fill_core::Opened;
 use fill_job::laws::rules_make_a_plan;
 use fill_parts::Part;
-use fill_parts::laws::{clipped_agrees, part_run_is_the_part};
+use fill_parts::laws::{clipped_agrees, edits_open_anew, part_run_is_the_part};
 use fill_text::{Edit, Rules};
 use std::alloc::Global;
 use std::io::Read;
 use std::marker::Brand;
 use std::sync::Wait;
-use std::sync::ledger::{Blank, Ledger};
+use std::sync::ledger::Ledger;
 use std::thread::Threads;
 
 /// The rectangle of an edit.
@@ -63,24 +65,21 @@ fn keep_near(edits: &mut Vec<Edit>, frame: &Rect)
     edits.retain(|edit| is_near(frame, edit));
 }
 
-/// The texts of a part, of a design within a rectangle that holds all that the part needs and of the edits that share a square with it.
+/// The texts of a part, of a design within a rectangle that holds all that the part needs.
 fn fill_near<C: Opened + Send + Sync, P: Ledger + Send + Sync, W: Ledger + Send + Sync>(
     rt: &(impl Threads + Wait + Sync),
     alloc: Global,
-    calls: Blank,
-    placed: Blank,
-    withdrawn: Blank,
+    ledgers: Ledgers,
     rules: Rules,
     design: Design,
-    edits: &[Edit],
     part: Part,
 ) -> Result<Filled, RunFault>
-    requires names { (calls.name ≡ C.name) × (placed.name ≡ P.name) × (withdrawn.name ≡ W.name) }
-    requires parts { (calls.parts ≡ C.parts) × (placed.parts ≡ P.parts) × (withdrawn.parts ≡ W.parts) }
+    requires names { (ledgers.calls.name ≡ C.name) × (ledgers.placed.name ≡ P.name) × (ledgers.withdrawn.name ≡ W.name) }
+    requires parts { (ledgers.calls.parts ≡ C.parts) × (ledgers.placed.parts ≡ P.parts) × (ledgers.withdrawn.parts ≡ W.parts) }
     requires all { AllParts C.parts P.parts W.parts }
     requires terms { record { rules = values_of rules; opening = design.metal; keep = design.keep; most = 2 ^ 32 } ≡ C.terms }
-    ensures filled { IfOk result (λ f. IsNearFillOf (values_of rules) (layers_in design.metal design.keep) design.units design.dates edits.now part f.library.items f.report.items) }
-    ensures unfinished { result ≡ Err RunFault.Unfinished → 2 ^ 32 < length edits.now + tile_count (values_of rules) }
+    ensures filled { IfOk result (λ f. IsNearFillOf (values_of rules) (layers_in design.metal design.keep) design.units design.dates [] part f.library.items f.report.items) }
+    ensures unfinished { result ≡ Err RunFault.Unfinished → 2 ^ 32 < tile_count (values_of rules) }
     ensures mixed { result ≡ Err RunFault.Mixed → ⊥ }
 {
     rules_make_a_plan(&rules);
@@ -90,6 +89,11 @@ fn fill_near<C: Opened + Send + Sync, P: Ledger + Send + Sync, W: Ledger + Send 
         units,
         dates,
     } = design;
+    let Ledgers {
+        calls,
+        placed,
+        withdrawn,
+    } = ledgers;
     let (mut book, mut pass) = Book::<C, P, W>::open(
         rt,
         alloc,
@@ -101,15 +105,14 @@ fn fill_near<C: Opened + Send + Sync, P: Ledger + Send + Sync, W: Ledger + Send 
         rules,
         MOST_EVENTS,
     )?;
-    edit_all(alloc, &mut book, &mut pass, edits)?;
     fill_needed(alloc, &mut book, &mut pass, part)?;
     part_texts_of(alloc, &book, part, &units, &dates)
 }
 
-/// Fills a part of a design, as one worker would fill the whole of it: the script's edits are made in their order, and then the tiles
-/// are brought that the part or its windows need. What the part gives depends on nothing farther away, so only that is looked at, however large
+/// Fills a part of a design, as one worker would fill the whole of it: the script's edits are made, and then the tiles are brought that the
+/// part or its windows need. What the part gives depends on nothing farther away, so only that is looked at, however large
 /// the design is. Each input is read to its end and interpreted before the next one is touched, and the design is flattened before the
-/// script is touched. The three blank ledgers are those that the book counts its calls with.
+/// script is touched.
 ///
 /// # Errors
 /// The first fault, with its part: `rules`, `design` and `script` for the inputs, and `run` with `Memory` once they are interpreted. Of
@@ -118,51 +121,52 @@ fn fill_near<C: Opened + Send + Sync, P: Ledger + Send + Sync, W: Ledger + Send 
 pub fn prepare_part<R: Read, D: Read, S: Read>(
     rt: &(impl Threads + Wait + Sync),
     alloc: Global,
-    calls: Blank,
-    placed: Blank,
-    withdrawn: Blank,
-    rules: &mut Tap<R>,
-    design: &mut Tap<D>,
-    script: &mut Tap<S>,
+    inputs: &mut Inputs<R, D, S>,
     part: Part,
 ) -> Result<Filled, Refusal>
-    requires parts { AllParts calls.parts placed.parts withdrawn.parts }
-    requires rules { has_failed rules.old ≡ false }
-    requires design { has_failed design.old ≡ false }
-    requires script { has_failed script.old ≡ false }
+    requires rules { has_failed inputs.old.rules ≡ false }
+    requires design { has_failed inputs.old.design ≡ false }
+    requires script { has_failed inputs.old.script ≡ false }
 
     // A device fault is answered exactly where its tap has failed.
-    ensures rules_device { (result ≡ Err (Refusal.Rules (InputFault.Unread InputError.Device))) ↔ (has_failed rules.new ≡ true) }
-    ensures design_device { (result ≡ Err (Refusal.Design (InputFault.Unread InputError.Device))) ↔ (has_failed design.new ≡ true) }
-    ensures script_device { (result ≡ Err (Refusal.Script (InputFault.Unread InputError.Device))) ↔ (has_failed script.new ≡ true) }
+    ensures rules_device { (result ≡ Err (Refusal.Rules (InputFault.Unread InputError.Device))) ↔ (has_failed inputs.new.rules ≡ true) }
+    ensures design_device { (result ≡ Err (Refusal.Design (InputFault.Unread InputError.Device))) ↔ (has_failed inputs.new.design ≡ true) }
+    ensures script_device { (result ≡ Err (Refusal.Script (InputFault.Unread InputError.Device))) ↔ (has_failed inputs.new.script ≡ true) }
 
     // What is answered is what the bytes of the three inputs say.
-    ensures filled { IfOk result (λ f. IfSome (R.remaining (under rules.old)) (λ r. IfSome (D.remaining (under design.old)) (λ d.
-        IfSome (S.remaining (under script.old)) (λ s. IsPartFilled r d s part f.library.items f.report.items)))) }
-    ensures refused { IfErr result (λ e. IfSome (R.remaining (under rules.old)) (λ r. IfSome (D.remaining (under design.old)) (λ d.
-        IfSome (S.remaining (under script.old)) (λ s. IsPartFillReason r d s part e)))) }
+    ensures filled { IfOk result (λ f. IfSome (R.remaining (under inputs.old.rules)) (λ r. IfSome (D.remaining (under inputs.old.design)) (λ d.
+        IfSome (S.remaining (under inputs.old.script)) (λ s. IsPartFilled r d s part f.library.items f.report.items)))) }
+    ensures refused { IfErr result (λ e. IfSome (R.remaining (under inputs.old.rules)) (λ r. IfSome (D.remaining (under inputs.old.design)) (λ d.
+        IfSome (S.remaining (under inputs.old.script)) (λ s. IsPartFillReason r d s part e)))) }
 
     // No input is touched before those before it are interpreted and accepted.
-    ensures in_turn { IfErr result (λ e. is_of_rules e ≡ false → IfSome (R.remaining (under rules.old)) (λ r. IsOk (rules_answer r))) }
-    ensures unread { IfErr result (λ e. is_of_rules e ≡ true → design.new ≡ design.old) }
-    ensures script_in_turn { IfErr result (λ e. is_before_script e ≡ false → IfSome (R.remaining (under rules.old)) (λ r. IfSome (D.remaining (under design.old)) (λ d.
+    ensures in_turn { IfErr result (λ e. is_of_rules e ≡ false → IfSome (R.remaining (under inputs.old.rules)) (λ r. IsOk (rules_answer r))) }
+    ensures unread { IfErr result (λ e. is_of_rules e ≡ true → inputs.new.design ≡ inputs.old.design) }
+    ensures script_in_turn { IfErr result (λ e. is_before_script e ≡ false → IfSome (R.remaining (under inputs.old.rules)) (λ r. IfSome (D.remaining (under inputs.old.design)) (λ d.
         (values : Values) × (rules_answer r ≡ Ok values) × ((layers : Layers) × AreWholeDrawn d values layers)))) }
-    ensures script_unread { IfErr result (λ e. is_before_script e ≡ true → script.new ≡ script.old) }
+    ensures script_unread { IfErr result (λ e. is_before_script e ≡ true → inputs.new.script ≡ inputs.old.script) }
 {
     clipped_agrees();
+    edits_open_anew();
     part_run_is_the_part();
     part.keeps_few();
-    let values = take_rules(alloc, rules)?;
-    rules_make_a_plan(&values);
-    let frame = part.needed_rect(&values);
-    let drawn = match take_design_within(rt, alloc, design, &values, &frame) {
+    let rules = take_rules(alloc, &mut inputs.rules)?;
+    rules_make_a_plan(&rules);
+    let frame = part.needed_rect(&rules);
+    let drawn = match take_design_within(rt, alloc, &mut inputs.design, &rules, &frame) {
         Ok(drawn) => drawn,
         Err(fault) => return Err(Refusal::Design(told_in(part, fault))),
     };
-    let mut edits = take_edits(alloc, script)?;
+    let mut edits = take_edits(alloc, &mut inputs.script)?;
     keep_near(&mut edits, &frame);
+    let design = edited(alloc, drawn, &edits)?;
     let filled = fill_near::<Brand, Brand, Brand>(
-        rt, alloc, calls, placed, withdrawn, values, drawn, &edits, part,
+        rt,
+        alloc,
+        Ledgers::blank(),
+        rules,
+        design,
+        part,
     )?;
     Ok(filled)
 }

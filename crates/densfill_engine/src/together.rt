@@ -5,6 +5,7 @@ ghost use Rattle.fill_core.specs.Shares.{AllParts, Held};
 ghost use Rattle.fill_shared.specs.Runs.{IsFinished};
 ghost use Rattle.densfill_engine.specs.Runs as spec;
 
+use crate::crew::Crew;
 use crate::refusal::RunFault;
 use crate::turns::most_turns;
 use fill_core::FillBook;
@@ -26,16 +27,15 @@ pub fn fill_together<B: FillBook + Send, R: Threads + Wait + Sync>(
     book: B,
     pass: PassOf<B>,
     edits: &[Edit],
-    workers: u32,
-    limit: Option<u32>,
+    crew: Crew,
 ) -> Result<B, RunFault>
     requires ledgers { AllParts B.Calls.parts B.Placed.parts B.Withdrawn.parts }
     requires pass { pass.parts ≡ 1024 }
-    requires workers { (0 < workers) × (workers ≤ 64) }
+    requires workers { (0 < crew.workers) × (crew.workers ≤ 64) }
     ensures finished { let a = B.account book in IfOk result (λ b. (after : Held) × IsFinished (terms_of a) edits.now (B.account b) after
-        × (after.calls ≤ pass.calls + (length edits.now + 2 * (workers * spec.most_turns a.rules limit)))) }
+        × (after.calls ≤ pass.calls + (length edits.now + 2 * (crew.workers * spec.most_turns a.rules crew.limit)))) }
 {
-    let turns = most_turns(&book, limit);
-    let (book, _) = run(rt, alloc, book, pass, edits, workers, &OpenGate, turns)?;
+    let turns = most_turns(&book, crew.limit);
+    let (book, _) = run(rt, alloc, book, pass, edits, crew.workers, &OpenGate, turns)?;
     Ok(book)
 }

@@ -1,43 +1,17 @@
-//! What a run does with a book: it makes the script's edits, and then brings tile after tile.
-ghost use Rattle.std.specs.Prelude.{◌≡◌, ◌<◌, ◌≤◌, ◌+◌, ◌*◌, ◌^◌, ◌&&◌, ◌==◌, false, [], length, nat_lt, OnOk};
+//! What one worker does with a book: it brings tile after tile.
+ghost use Rattle.std.specs.Prelude.{◌≡◌, ◌<◌, ◌≤◌, ◌+◌, ◌*◌, ◌^◌, ◌&&◌, ◌==◌, false, length, nat_lt, OnOk};
 ghost use Rattle.fill_raster.specs.Lattice.{tiles};
 ghost use Rattle.fill_job.specs.Plans.{plan_of};
-ghost use Rattle.fill_core.specs.Accounts.{opening_of, state_of};
-ghost use Rattle.fill_core.specs.Boxes.{no_places};
-ghost use Rattle.fill_core.specs.Machine.{IsComplete, opened, with_tile};
+ghost use Rattle.fill_core.specs.Accounts.{state_of};
+ghost use Rattle.fill_core.specs.Machine.{IsComplete, with_tile};
 ghost use Rattle.fill_parts.specs.Needs.{needs_tile};
-ghost use Rattle.fill_parts.specs.PartFill.{layers_with};
 ghost use Rattle.densfill_engine.specs.Runs.{HasBrought, IsFresh, IsRun, IsTooShort, tile_count};
 ghost use Rattle.densfill_engine.specs.Runs as spec;
 
 use crate::refusal::RunFault;
 use fill_core::{FillBook, Pass};
 use fill_parts::Part;
-use fill_parts::laws::edits_open_anew;
-use fill_text::Edit;
 use std::alloc::Global;
-
-/// Makes the edits, in their order.
-pub fn edit_all<B: FillBook>(
-    alloc: Global,
-    book: &mut B,
-    pass: &mut Pass<B::Calls, B::Placed, B::Withdrawn>,
-    edits: &[Edit],
-) -> Result<(), RunFault>
-    requires fresh { IsFresh (state_of (B.account book.old)) }
-    ensures edited { OnOk result (IsRun (B.account book.old) (B.account book.new) edits.now 0) }
-    ensures opened { let a = B.account book.old in a.history ≡ []
-        → OnOk result (state_of (B.account book.new) ≡ opened (plan_of a.rules) (layers_with edits.now (opening_of a)) no_places (length edits.now)) }
-    ensures fresh { OnOk result (IsFresh (state_of (B.account book.new))) }
-    ensures full { result ≡ Err RunFault.Unfinished → (B.account book.old).most < length (B.account book.old).history + length edits.now }
-    ensures own { result ≡ Err RunFault.Mixed → ⊥ }
-{
-    edits_open_anew();
-    for edit in edits {
-        book.edit(alloc, pass, *edit)?;
-    }
-    Ok(())
-}
 
 /// Brings a tile that isn't in.
 fn bring<B: FillBook>(
@@ -48,7 +22,7 @@ fn bring<B: FillBook>(
 ) -> Result<(), RunFault>
     requires tile { tile < tiles (plan_of (B.account book.old).rules).raster }
     requires out { (state_of (B.account book.old)).tiles_in tile ≡ false }
-    ensures run { OnOk result (IsRun (B.account book.old) (B.account book.new) [] 1) }
+    ensures run { OnOk result (IsRun (B.account book.old) (B.account book.new) 1) }
     ensures brought { let a = B.account book.old in OnOk result (state_of (B.account book.new) ≡ with_tile (plan_of a.rules) (state_of a) tile) }
     ensures full { let a = B.account book.old in result ≡ Err RunFault.Unfinished → length a.history ≡ a.most }
     ensures own { result ≡ Err RunFault.Mixed → ⊥ }
@@ -126,7 +100,7 @@ pub fn fill_tiles<B: FillBook>(
     limit: Option<u32>,
 ) -> Result<(), RunFault>
     requires fresh { IsFresh (state_of (B.account book.old)) }
-    ensures run { let a = B.account book.old in OnOk result (IsRun a (B.account book.new) [] (2 * spec.most_turns a.rules limit)) }
+    ensures run { let a = B.account book.old in OnOk result (IsRun a (B.account book.new) (2 * spec.most_turns a.rules limit)) }
     ensures complete { OnOk result (IsComplete (plan_of (B.account book.new).rules) (state_of (B.account book.new))) }
     ensures unfinished { let a = B.account book.old in result ≡ Err RunFault.Unfinished → IsTooShort a.rules limit (length a.history) a.most }
     ensures own { result ≡ Err RunFault.Mixed → ⊥ }

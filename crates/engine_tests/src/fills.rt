@@ -5,13 +5,12 @@ use crate::inputs::{
     Broken, CYCLE_APART, EMPTY, OTHER_LINES, OTHERS, RULES, SOLID, SOLID_REPORT, Short, WIRE,
     of_script,
 };
-use densfill_engine::{Filled, InputFault, Refusal, RunFault, deliver, prepare};
+use densfill_engine::{Crew, Filled, InputFault, Inputs, Refusal, RunFault, deliver, prepare};
 use densfill_io::{InputError, Tap};
 use fill_text::ScriptError;
 use std::alloc::Global;
 use std::io::Read;
 use std::sync::Wait;
-use std::sync::ledger::Blank;
 use std::test::Fail;
 use std::thread::Threads;
 
@@ -91,18 +90,12 @@ pub(crate) fn fill_of<R: Read + Drop, D: Read + Drop, S: Read + Drop>(
 ) -> Result<Filled, Refusal>
     requires { (0 < workers) × (workers ≤ 64) }
 {
-    prepare(
-        rt,
-        alloc,
-        Blank::new(1024),
-        Blank::new(1024),
-        Blank::new(1024),
-        &mut Tap::new(rules),
-        &mut Tap::new(design),
-        &mut Tap::new(script),
-        workers,
-        limit,
-    )
+    let mut inputs = Inputs {
+        rules: Tap::new(rules),
+        design: Tap::new(design),
+        script: Tap::new(script),
+    };
+    prepare(rt, alloc, &mut inputs, Crew { workers, limit })
 }
 
 /// Whether a design and a script are filled by so many workers, with a library of so many bytes and this report.

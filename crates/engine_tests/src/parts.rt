@@ -3,14 +3,13 @@
 use crate::fills::{NO_BOX, fill_of};
 use crate::inputs::{EMPTY, RULES};
 use crate::keepouts::{SQUARE, checked, design_with};
-use densfill_engine::{Filled, InputFault, Refusal, check_part, join_part, prepare_part};
+use densfill_engine::{Filled, InputFault, Inputs, Refusal, check_part, join_part, prepare_part};
 use densfill_io::Tap;
 use fill_parts::Part;
 use fill_text::read_rules;
 use gds_join::{PartError, fill_text, no_places};
 use std::alloc::Global;
 use std::sync::Wait;
-use std::sync::ledger::Blank;
 use std::test::Fail;
 use std::thread::Threads;
 
@@ -78,17 +77,12 @@ fn part_fill(
     script: &[u8],
     part: Part,
 ) -> Result<Filled, Refusal> {
-    prepare_part(
-        rt,
-        alloc,
-        Blank::new(1024),
-        Blank::new(1024),
-        Blank::new(1024),
-        &mut Tap::new(RULES),
-        &mut Tap::new(design),
-        &mut Tap::new(script),
-        part,
-    )
+    let mut inputs = Inputs {
+        rules: Tap::new(RULES),
+        design: Tap::new(design),
+        script: Tap::new(script),
+    };
+    prepare_part(rt, alloc, &mut inputs, part)
 }
 
 /// A square that the script moves, over the cut: one run of one worker, and its two parts.

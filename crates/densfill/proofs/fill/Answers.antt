@@ -8,30 +8,30 @@ pub returns-in_err-filled-clause-refused : goal.returns-in_err-filled-clause-ref
 returns-in_err-filled-clause-refused g c =
     let p = err_from_is_err_and c.from_residual-in_err-filled.result c.from_residual-in_err-filled.ensures.1 in
     rw (p.1, p.2) (inr (
-      c.in_ok-rules.rules.inner,
-      c.in_ok-design.design.inner,
-      c.in_ok-script.script.inner,
-      if_three (g.R.File.Read.remaining c.in_ok-rules.rules.inner) (g.R.File.Read.remaining c.in_ok-design.design.inner) (g.R.File.Read.remaining c.in_ok-script.script.inner) (λ r d s why. inl why) c.in_err-filled.ensures.refused,
+      c.in_ok-inputs.inputs.rules.inner,
+      c.in_ok-inputs.inputs.design.inner,
+      c.in_ok-inputs.inputs.script.inner,
+      if_three (g.R.File.Read.remaining c.in_ok-inputs.inputs.rules.inner) (g.R.File.Read.remaining c.in_ok-inputs.inputs.design.inner) (g.R.File.Read.remaining c.in_ok-inputs.inputs.script.inner) (λ r d s why. inl why) c.in_err-filled.ensures.refused,
     ))
 
 pub returns-in_err-library-clause-refused : goal.returns-in_err-library-clause-refused
 returns-in_err-library-clause-refused g c =
     let p = err_from_is_err_and c.from_residual-in_err-library.result c.from_residual-in_err-library.ensures.1 in
     rw (p.1, p.2) (inr (
-      c.in_ok-rules.rules.inner,
-      c.in_ok-design.design.inner,
-      c.in_ok-script.script.inner,
-      if_three (g.R.File.Read.remaining c.in_ok-rules.rules.inner) (g.R.File.Read.remaining c.in_ok-design.design.inner) (g.R.File.Read.remaining c.in_ok-script.script.inner)
+      c.in_ok-inputs.inputs.rules.inner,
+      c.in_ok-inputs.inputs.design.inner,
+      c.in_ok-inputs.inputs.script.inner,
+      if_three (g.R.File.Read.remaining c.in_ok-inputs.inputs.rules.inner) (g.R.File.Read.remaining c.in_ok-inputs.inputs.design.inner) (g.R.File.Read.remaining c.in_ok-inputs.inputs.script.inner)
           (λ r d s is. inr ((c.in_ok-filled.filled.library.items, c.in_ok-filled.filled.report.items, is), uncreated c.in_err-library.field-0.0 c.in_err-library.ensures.fault)) c.in_ok-filled.ensures.filled,
     ))
 
 pub returns-clause-written : goal.returns-clause-written
 returns-clause-written g c =
     still c.deliver.result (λ p. (
-      c.in_ok-rules.rules.inner,
-      c.in_ok-design.design.inner,
-      c.in_ok-script.script.inner,
-      if_three (g.R.File.Read.remaining c.in_ok-rules.rules.inner) (g.R.File.Read.remaining c.in_ok-design.design.inner) (g.R.File.Read.remaining c.in_ok-script.script.inner)
+      c.in_ok-inputs.inputs.rules.inner,
+      c.in_ok-inputs.inputs.design.inner,
+      c.in_ok-inputs.inputs.script.inner,
+      if_three (g.R.File.Read.remaining c.in_ok-inputs.inputs.rules.inner) (g.R.File.Read.remaining c.in_ok-inputs.inputs.design.inner) (g.R.File.Read.remaining c.in_ok-inputs.inputs.script.inner)
           (λ r d s is. (c.in_ok-filled.filled.library.items, c.in_ok-filled.filled.report.items, is, (c.in_ok-library.library.inner.file, c.deliver.new.out.inner.file, p.0), p.1)) c.in_ok-filled.ensures.filled,
     ))
     (whole _ _ c.deliver.result (has_failed c.deliver.new.out) c.deliver.ensures.out_device c.deliver.ensures.library c.deliver.ensures.report)
@@ -39,9 +39,9 @@ returns-clause-written g c =
 pub returns-clause-refused : goal.returns-clause-refused
 returns-clause-refused g c =
     still_refused c.deliver.result (λ e p. inr (
-      c.in_ok-rules.rules.inner,
-      c.in_ok-design.design.inner,
-      c.in_ok-script.script.inner,
-      if_three (g.R.File.Read.remaining c.in_ok-rules.rules.inner) (g.R.File.Read.remaining c.in_ok-design.design.inner) (g.R.File.Read.remaining c.in_ok-script.script.inner)
+      c.in_ok-inputs.inputs.rules.inner,
+      c.in_ok-inputs.inputs.design.inner,
+      c.in_ok-inputs.inputs.script.inner,
+      if_three (g.R.File.Read.remaining c.in_ok-inputs.inputs.rules.inner) (g.R.File.Read.remaining c.in_ok-inputs.inputs.design.inner) (g.R.File.Read.remaining c.in_ok-inputs.inputs.script.inner)
           (λ r d s is. inr ((c.in_ok-filled.filled.library.items, c.in_ok-filled.filled.report.items, is), inr p)) c.in_ok-filled.ensures.filled,
     )) c.deliver.ensures.refused

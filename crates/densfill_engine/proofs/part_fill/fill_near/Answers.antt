@@ -1,30 +1,22 @@
 use Rattle.std.proofs.Common.{ap, Err}
 use Rattle.std.proofs.lemmas.Result.{err_from_is_err_and}
 use Rattle.fill_text.specs.ValuesOfRules.{values_of}
-use Rattle.fill_core.specs.Accounts.{Account}
 use Rattle.densfill_engine.specs.declared.refusal.RunFault.TheVariants.{Unfinished}
 use Rattle.densfill_engine.proofs.Checking.{as_error}
 use Rattle.densfill_engine.proofs.Filling.{blank_fresh, both_ok, fill_terms}
-use Rattle.densfill_engine.proofs.PartTexts.{edits_full, near_full, near_texts}
+use Rattle.densfill_engine.proofs.PartTexts.{near_full, near_texts}
 use Rattle.densfill_engine.proofs.part_fill.fill_near.Goals as goal
 
-pub edit_all-requires-clause-fresh : goal.edit_all-requires-clause-fresh
-edit_all-requires-clause-fresh g c κs within = blank_fresh (fill_terms (values_of c.args.rules) c.args.design.metal c.args.design.keep) c.in_ok-book.book c.in_ok-book.ensures.book
-
-pub returns-in_err-edit_all-clause-unfinished : goal.returns-in_err-edit_all-clause-unfinished
-returns-in_err-edit_all-clause-unfinished g c =
-    let p = err_from_is_err_and c.from_residual-in_err-edit_all.result c.from_residual-in_err-edit_all.ensures.1 in
-    λ is. edits_full (fill_terms (values_of c.args.rules) c.args.design.metal c.args.design.keep) c.in_ok-book.book c.args.edits.now c.in_ok-book.ensures.book
-    (c.in_err-edit_all.ensures.full (ap Err (as_error c.from_residual-in_err-edit_all.result p.0 c.in_err-edit_all.field-0.0 Unfinished p.1 p.2 is)))
+pub fill_needed-requires-clause-fresh : goal.fill_needed-requires-clause-fresh
+fill_needed-requires-clause-fresh g c κs within = blank_fresh (fill_terms (values_of c.args.rules) c.args.design.metal c.args.design.keep) c.in_ok-book.book c.in_ok-book.ensures.book
 
 pub returns-in_err-fill_needed-clause-unfinished : goal.returns-in_err-fill_needed-clause-unfinished
 returns-in_err-fill_needed-clause-unfinished g c =
     let p = err_from_is_err_and c.from_residual-in_err-fill_needed.result c.from_residual-in_err-fill_needed.ensures.1 in
-    λ is. near_full (fill_terms (values_of c.args.rules) c.args.design.metal c.args.design.keep) c.in_ok-book.book c.edit_all.new.book c.args.edits.now c.in_ok-book.ensures.book c.in_ok-edit_all.ensures.edited
+    λ is. near_full (fill_terms (values_of c.args.rules) c.args.design.metal c.args.design.keep) c.in_ok-book.book c.in_ok-book.ensures.book
     (c.in_err-fill_needed.ensures.unfinished (ap Err (as_error c.from_residual-in_err-fill_needed.result p.0 c.in_err-fill_needed.field-0.0 Unfinished p.1 p.2 is)))
 
 pub returns-clause-filled : goal.returns-clause-filled
 returns-clause-filled g c =
-    both_ok c.part_texts_of.result (λ f library report. near_texts (fill_terms (values_of c.args.rules) c.args.design.metal c.args.design.keep) c.in_ok-book.book c.edit_all.new.book c.args.edits.now
-    c.in_ok-book.ensures.book c.in_ok-edit_all.ensures.edited c.fill_needed.new.book c.args.part c.args.design.units c.args.design.dates f.library.items f.report.items
-    (c.in_ok-edit_all.ensures.opened (ap (λ (x : Account). x.history) c.in_ok-book.ensures.book)) c.in_ok-fill_needed.ensures.brought library report) c.part_texts_of.ensures.library c.part_texts_of.ensures.report
+    both_ok c.part_texts_of.result (λ f library report. near_texts (fill_terms (values_of c.args.rules) c.args.design.metal c.args.design.keep) c.in_ok-book.book c.in_ok-book.ensures.book
+    c.fill_needed.new.book c.args.part c.args.design.units c.args.design.dates f.library.items f.report.items c.in_ok-fill_needed.ensures.brought library report) c.part_texts_of.ensures.library c.part_texts_of.ensures.report

@@ -4,13 +4,13 @@ use Rattle.fill_text.specs.ValuesOfRules.{values_of}
 use Rattle.densfill_engine.proofs.part_fill.prepare_part.Given as goal
 
 abbrev pub ghosts-fill_near-C-Ledger : goal.ghosts-fill_near-C-Ledger
-ghosts-fill_near-C-Ledger g a = record { name = a.calls.name; parts = a.calls.parts }
+ghosts-fill_near-C-Ledger g a = record { name = a.ledgers.calls.name; parts = a.ledgers.calls.parts }
 
 abbrev pub ghosts-fill_near-C-Opened : goal.ghosts-fill_near-C-Opened
 ghosts-fill_near-C-Opened g a = record { terms = record { rules = values_of a.rules; opening = a.design.metal; keep = a.design.keep; most = 2 ^ 32 } }
 
 abbrev pub ghosts-fill_near-P-Ledger : goal.ghosts-fill_near-P-Ledger
-ghosts-fill_near-P-Ledger g a = record { name = a.placed.name; parts = a.placed.parts }
+ghosts-fill_near-P-Ledger g a = record { name = a.ledgers.placed.name; parts = a.ledgers.placed.parts }
 
 abbrev pub ghosts-fill_near-W-Ledger : goal.ghosts-fill_near-W-Ledger
-ghosts-fill_near-W-Ledger g a = record { name = a.withdrawn.name; parts = a.withdrawn.parts }
+ghosts-fill_near-W-Ledger g a = record { name = a.ledgers.withdrawn.name; parts = a.ledgers.withdrawn.parts }

@@ -1,6 +1,6 @@
 use Rattle.std.proofs.Common.{◌≡◌, ◌∙◌, ◌*◌, ◌-◌, ◌&&◌, ℕ, List, ap}
-use Rattle.fill_raster.specs.Lattice.{Lattice, tile_of}
-use Rattle.fill_text.specs.Rules.{Values, limits_of, raster_of, windows_of}
+use Rattle.fill_raster.specs.Lattice.{tile_of}
+use Rattle.fill_text.specs.Rules.{limits_of, windows_of}
 use Rattle.fill_text.specs.ValuesOfRules.{values_of}
 use Rattle.fill_job.specs.Plans.{plan_of}
 use Rattle.fill_core.specs.Accounts.{state_of}
