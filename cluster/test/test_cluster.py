@@ -115,7 +115,7 @@ class Cluster(ProgramCase):
         self.kill(self.noted("most-slurm", 5), True)
         out, err = child.communicate()
         self.assertEqual((child.returncode, err), (0, ""), out)
-        print(f"\n{"fill"} of all, {PARTS} parts by slurm, two killed:\n{out}", flush=True)
+        print(f"\nfill of all, {PARTS} parts by slurm, two killed:\n{out}", flush=True)
         rows = [line.split() for line in (self.folder / "most-slurm/summary.txt").read_text().splitlines()[1:-1]]
         self.assertEqual([int(row[4]) for row in rows], [number in (2, 5) for number in range(1, PARTS + 1)])
         self.assertEqual({row[5].rstrip(",") for row in rows}, set(NODES))
