@@ -137,6 +137,7 @@ LINES = (
     Line(("rects", "rules.csv", "script.csv")),
     Line(("join", "block_rules.csv", "{out}", "{part}")),
     Line(("fill", "block_rules.csv", "block.gds", "/dev/null", "{out}")),
+    Line(("fill", "block_rules.csv", "block.gds", "{script}", "{out}")),
     Line(("fill", "block_rules.csv", "block.gds", "/dev/null", "{out}", "--workers", "2")),
     Line(("fill", "block_rules.csv", "block.gds", "{script}", "{out}", "--workers", "2"), varies=True),
 )
