@@ -8,7 +8,8 @@
 # make test-klayout       what the deck does in KLayout, without a window
 # make test-cluster       a chip of 16 million shapes in parts on a Slurm of two nodes that is set up for it (as root)
 # make bench              times the program on generated input and prints tables
-.PHONY: demo build install check test test-klayout test-cluster bench
+
+.PHONY: demo demo-check demo-fill demo-rects build install check test test-klayout test-cluster bench
 
 EXAMPLES := $(CURDIR)/examples
 OUT := $(EXAMPLES)/out
@@ -19,12 +20,19 @@ RUN := $(if $(wildcard bin/densfill),$(CURDIR)/bin/densfill,cd crates/densfill &
 demo:
 	@mkdir -p $(OUT)
 	@[ -x bin/densfill ] || echo "bin/densfill is not built: these runs are unproved (make build proves and builds it)" >&2
-	@$(RUN) check $(EXAMPLES)/block_rules.csv $(EXAMPLES)/block.gds > $(OUT)/check.csv
-	@$(RUN) fill $(EXAMPLES)/block_rules.csv $(EXAMPLES)/block.gds /dev/null $(OUT)/fill.gds > $(OUT)/fill.csv
-	@$(RUN) rects $(EXAMPLES)/rules.csv $(EXAMPLES)/script.csv > $(OUT)/rects.csv
+	@$(MAKE) --no-print-directory -j3 demo-check demo-fill demo-rects
 	@for report in check fill rects; do echo "$$report, windows by state:"; \
 	grep -h -E -o '(LOW|OK|HIGH)$$' $(OUT)/$$report.csv | sort | uniq -c; done
 	@echo "reports and the fill library are in examples/out/"
+
+demo-check:
+	@$(RUN) check $(EXAMPLES)/block_rules.csv $(EXAMPLES)/block.gds > $(OUT)/check.csv
+
+demo-fill:
+	@$(RUN) fill $(EXAMPLES)/block_rules.csv $(EXAMPLES)/block.gds /dev/null $(OUT)/fill.gds > $(OUT)/fill.csv
+
+demo-rects:
+	@$(RUN) rects $(EXAMPLES)/rules.csv $(EXAMPLES)/script.csv > $(OUT)/rects.csv
 
 build:
 	mkdir -p bin
