@@ -49,7 +49,7 @@ fn metal_with(alloc: Global, metal: &Region, edits: &[Edit]) -> Result<Region, A
     covered_over(alloc, metal, &patch.cut, &patch.metal)
 }
 
-/// What a design gives once the edits are made, in their order: as one after another would leave it, at the cost of one.
+/// What a design gives once the edits are made, as one after another, in their order, would leave it.
 pub(crate) fn edited(alloc: Global, design: Design, edits: &[Edit]) -> Result<Design, RunFault>
     ensures layers { IfOk result (λ d. layers_in d.metal d.keep ≡ layers_with edits.now (layers_in design.metal design.keep)) }
     ensures units { IfOk result (λ d. d.units ≡ design.units) }

@@ -155,10 +155,10 @@ fn fill_design(
 }
 
 /// Fills a design: opens a book on the metal and the keep-outs that it draws on the rules' layers, and makes the script's edits in their
-/// order. One worker makes them all at once, before the book opens, and then brings tile after tile. Two to 64 workers bring tiles while they
-/// are made, and begin once more where a tile is left then. In each of these two rounds a worker takes at most `limit` turns, without a limit one for each tile and one
-/// more; so one worker has both at once. Each input is read to its end and interpreted before the next one is touched, and the design is flattened
-/// before the script is touched.
+/// order. One worker makes them all at once, before the book opens, and then brings tile after tile. Two to 64 workers bring tiles
+/// while they are made, and begin once more where a tile is left then. In each of these two rounds a worker takes at most `limit`
+/// turns, without a limit one for each tile and one more; so one worker has both at once. Each input is read to its end and
+/// interpreted before the next one is touched, and the design is flattened before the script is touched.
 ///
 /// # Errors
 /// The first fault, with its part: `rules`, `design` and `script` for the inputs, and `run` once they are interpreted:
