@@ -1,5 +1,5 @@
-# make demo               runs check, fill and rects on examples/ and tells how many windows are low or high (by bin/densfill
-#                         where it stands, else unproved, by rt try)
+# make demo               runs check, fill and rects on examples/ and tells how many windows are low and high (by the built
+#                         program, or where there is none unproved, by rt try)
 # make build              proves the program and leaves it, optimized, at bin/densfill
 # make install PREFIX=..  installs the built program, its deck, its arrays and its manual page below PREFIX (by default /usr/local)
 # make check CRATE=name   proves one crate over what earlier runs kept: for work on it
@@ -9,30 +9,14 @@
 # make test-cluster       a chip of 16 million shapes in parts on a Slurm of two nodes that is set up for it (as root)
 # make bench              times the program on generated input and prints tables
 
-.PHONY: demo demo-check demo-fill demo-rects build install check test test-klayout test-cluster bench
+.PHONY: demo build install check test test-klayout test-cluster bench
 
 EXAMPLES := $(CURDIR)/examples
-OUT := $(EXAMPLES)/out
 PREFIX ?= /usr/local
 BUILT := crates/densfill/out/densfill
-RUN := $(if $(wildcard bin/densfill),$(CURDIR)/bin/densfill,cd crates/densfill && rt try --)
 
 demo:
-	@mkdir -p $(OUT)
-	@[ -x bin/densfill ] || echo "bin/densfill is not built: these runs are unproved (make build proves and builds it)" >&2
-	@$(MAKE) --no-print-directory -j3 demo-check demo-fill demo-rects
-	@for report in check fill rects; do echo "$$report, windows by state:"; \
-	grep -h -E -o '(LOW|OK|HIGH)$$' $(OUT)/$$report.csv | sort | uniq -c; done
-	@echo "reports and the fill library are in examples/out/"
-
-demo-check:
-	@$(RUN) check $(EXAMPLES)/block_rules.csv $(EXAMPLES)/block.gds > $(OUT)/check.csv
-
-demo-fill:
-	@$(RUN) fill $(EXAMPLES)/block_rules.csv $(EXAMPLES)/block.gds /dev/null $(OUT)/fill.gds > $(OUT)/fill.csv
-
-demo-rects:
-	@$(RUN) rects $(EXAMPLES)/rules.csv $(EXAMPLES)/script.csv > $(OUT)/rects.csv
+	@tools/demo.py
 
 build:
 	mkdir -p bin
@@ -53,6 +37,7 @@ check:
 
 test:
 	rt ci
+	tools/demo.py
 	tools/test_program.py $(BUILT)
 	tools/refuse.py $(BUILT)
 	tools/test_parts.py $(BUILT)
