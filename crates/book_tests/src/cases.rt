@@ -7,10 +7,11 @@ use fill_core::{BookError, Edit, FillBook, Pass, Reply};
 use fill_region::Region;
 use fill_shared::{Gate, OpenGate, PassMissing, PassOf, RunError, Shared, WorkEnd, run, work};
 use fill_text::{Rules, read_rules};
+use once_cell::race::OnceBool;
 use std::alloc::Global;
+use std::array;
 use std::process::Abort;
 use std::sync::Wait;
-use std::sync::atomic::{AtomicBool, AtomicU64, Ordering};
 use std::test::Fail;
 use std::thread::Threads;
 
@@ -93,40 +94,48 @@ pub(crate) fn hundred_places(alloc: Global) -> Opening {
 /// How often a flag is looked at before a test gives up.
 const LOOKS: u32 = 1 << 30;
 
-/// A number that threads raise, and that others wait for.
+/// A number that threads raise, sixteen at most, and that others wait for: so many of its flags are set.
 #[derive(Drop)]
 pub(crate) struct Count {
-    value: AtomicU64,
-    late: AtomicBool,
+    flags: [OnceBool; 16],
+    late: OnceBool,
 }
 
 impl Count {
     /// It begins at 0.
     pub(crate) fn new() -> Count {
         Count {
-            value: AtomicU64::new(0),
-            late: AtomicBool::new(false),
+            flags: array::from_fn(|_| OnceBool::new()),
+            late: OnceBool::new(),
         }
     }
 
     /// Raises it by one, and tells what it was.
     pub(crate) fn raise(&self) -> u64 {
-        self.value.fetch_add(1, Ordering::SeqCst)
+        for k in 0..self.flags.len() {
+            if self.flags[k].set(true).is_ok() {
+                return k as u64;
+            }
+        }
+        self.flags.len() as u64
     }
 
     /// Looks at it until it is so high, or often enough.
     pub(crate) fn wait_for(&self, least: u64) {
+        let Some(flag) = self.flags.iter().take(least as usize).last() else {
+            return;
+        };
         for _ in 0..LOOKS {
-            if self.value.load(Ordering::SeqCst) >= least {
+            if flag.get().is_some() {
                 return;
             }
         }
-        self.late.store(true, Ordering::SeqCst);
+        let _ = self.late.set(true);
     }
 
     /// Whether it did not come to be so high.
     pub(crate) fn is_late(&self) -> bool {
-        self.late.load(Ordering::SeqCst)
+        self.late.get().is_some()
     }
 }
 

@@ -14,13 +14,13 @@ pub boxes_go : (s : Stored) (e : Edited) → IsFilling s.filled → IsEdited s e
 boxes_go s e filling is = places_go s.filled e.out (holds s.metal) filling is.columns is.rows is.clear
 
 -- the metal alone
-pub metal_parts : (s : Stored) (e : Edited) → IsEdited s e → PartsBy e.edit (holds s.metal) (holds e.metal) (holds e.part.metal)
-metal_parts s e is = drawn_parts e.edit (holds s.metal) (holds e.metal) (holds e.part.metal) is.metal is.part
+pub metal_parts : (s : Stored) (e : Edited) → IsEdited s e → PartsBy e.edit (holds s.metal) (holds e.metal) (holds e.difference.metal)
+metal_parts s e is = drawn_parts e.edit (holds s.metal) (holds e.metal) (holds e.difference.metal) is.metal is.difference
 
 -- the metal beside the boxes that are left
 pub all_parts : (s : Stored) (e : Edited) → IsFilling s.filled → IsEdited s e
-    → PartsBy e.edit (λ x y. holds s.metal x y || boxes_of s.filled.raster (left_by s.filled e.out) x y) (λ x y. holds e.metal x y || boxes_of s.filled.raster (left_by s.filled e.out) x y) (holds e.part.metal)
+    → PartsBy e.edit (λ x y. holds s.metal x y || boxes_of s.filled.raster (left_by s.filled e.out) x y) (λ x y. holds e.metal x y || boxes_of s.filled.raster (left_by s.filled e.out) x y) (holds e.difference.metal)
 all_parts s e filling is =
     let go = boxes_go s e filling is in
-    total_parts e.edit (holds s.metal) (holds e.metal) (holds e.part.metal) (boxes_of s.filled.raster (left_by s.filled e.out)) is.metal is.part
+    total_parts e.edit (holds s.metal) (holds e.metal) (holds e.difference.metal) (boxes_of s.filled.raster (left_by s.filled e.out)) is.metal is.difference
     (fewer_clear s.filled.raster (is_filled s.filled) (left_by s.filled e.out) _ (holds s.metal) go.on go.two is.clear) is.clear_left

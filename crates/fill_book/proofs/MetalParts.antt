@@ -10,15 +10,15 @@ use Rattle.fill_sums.proofs.Following.{AreParts, down_measured, down_stays, up_m
 use Rattle.fill_text.specs.declared.script.Edit.{Edit}
 use Rattle.fill_text.specs.declared.script.Edit.TheVariants.{Add, Cut, Keep}
 use Rattle.fill_core.specs.Machine.{metal_after}
-use Rattle.fill_book.specs.steps.Following.{opposite_of, part_by, way_of}
+use Rattle.fill_book.specs.steps.Following.{opposite_of, difference_by, way_of}
 use Rattle.fill_job.specs.Plans.{PointSet}
 
 -- what is added and was no metal
-pub added_parts : (metal after rect new boxes : PointSet) → ((x y : ℤ) → after x y ≡ metal x y || rect x y) → ((x y : ℤ) → new x y ≡ rect x y && not (metal x y && rect x y)) → ((x y : ℤ) → after x y ≡ true → boxes x y ≡ true → ⊥)
+pub added_parts : (metal after rect new boxes : PointSet) → ((x y : ℤ) → after x y ≡ metal x y || rect x y) → ((x y : ℤ) → new x y ≡ rect x y && not (metal x y)) → ((x y : ℤ) → after x y ≡ true → boxes x y ≡ true → ⊥)
     → AreParts (λ x y. after x y || boxes x y) (λ x y. metal x y || boxes x y) new
 added_parts metal after rect new boxes is part clear = record { each = λ x y. rw (is x y, part x y) (one (metal x y) (rect x y) (boxes x y) (λ m b. clear x y (is x y ∙ m) b)) }
   where
-    one : (m r b : Bool) → (m || r ≡ true → b ≡ true → ⊥) → cond ((m || r) || b) 1 0 ≡ cond (m || b) 1 0 + cond (r && not (m && r)) 1 0
+    one : (m r b : Bool) → (m || r ≡ true → b ≡ true → ⊥) → cond ((m || r) || b) 1 0 ≡ cond (m || b) 1 0 + cond (r && not m) 1 0
     one true true b h = refl
     one true false b h = refl
     one false true true h = absurd (h refl refl)
@@ -43,10 +43,10 @@ cut_parts metal after rect gone boxes is part clear = record { each = λ x y. rw
         plus n = omega arith
 
 -- the metal alone
-pub added_alone : (metal after rect new : PointSet) → ((x y : ℤ) → after x y ≡ metal x y || rect x y) → ((x y : ℤ) → new x y ≡ rect x y && not (metal x y && rect x y)) → AreParts after metal new
+pub added_alone : (metal after rect new : PointSet) → ((x y : ℤ) → after x y ≡ metal x y || rect x y) → ((x y : ℤ) → new x y ≡ rect x y && not (metal x y)) → AreParts after metal new
 added_alone metal after rect new is part = record { each = λ x y. rw (is x y, part x y) (one (metal x y) (rect x y)) }
   where
-    one : (m r : Bool) → cond (m || r) 1 0 ≡ cond m 1 0 + cond (r && not (m && r)) 1 0
+    one : (m r : Bool) → cond (m || r) 1 0 ≡ cond m 1 0 + cond (r && not m) 1 0
     one true true = refl
     one true false = refl
     one false true = refl
@@ -82,13 +82,13 @@ PartsBy (Add rect) was is part = AreParts is was part
 PartsBy (Cut rect) was is part = AreParts was is part
 PartsBy (Keep rect) was is part = AreParts is was part
 
-pub total_parts : (edit : Edit) (metal after part boxes : PointSet) → ((x y : ℤ) → after x y ≡ metal_after edit metal x y) → ((x y : ℤ) → part x y ≡ part_by edit metal x y) → ((x y : ℤ) → metal x y ≡ true → boxes x y ≡ true → ⊥)
+pub total_parts : (edit : Edit) (metal after part boxes : PointSet) → ((x y : ℤ) → after x y ≡ metal_after edit metal x y) → ((x y : ℤ) → part x y ≡ difference_by edit metal x y) → ((x y : ℤ) → metal x y ≡ true → boxes x y ≡ true → ⊥)
     → ((x y : ℤ) → after x y ≡ true → boxes x y ≡ true → ⊥) → PartsBy edit (λ x y. metal x y || boxes x y) (λ x y. after x y || boxes x y) part
 total_parts (Add rect) metal after part boxes is part_is now then = added_parts metal after (squares rect) part boxes is part_is then
 total_parts (Cut rect) metal after part boxes is part_is now then = cut_parts metal after (squares rect) part boxes is part_is now
 total_parts (Keep rect) metal after part boxes is part_is now then = kept_parts metal after part boxes is part_is
 
-pub drawn_parts : (edit : Edit) (metal after part : PointSet) → ((x y : ℤ) → after x y ≡ metal_after edit metal x y) → ((x y : ℤ) → part x y ≡ part_by edit metal x y) → PartsBy edit metal after part
+pub drawn_parts : (edit : Edit) (metal after part : PointSet) → ((x y : ℤ) → after x y ≡ metal_after edit metal x y) → ((x y : ℤ) → part x y ≡ difference_by edit metal x y) → PartsBy edit metal after part
 drawn_parts (Add rect) metal after part is part_is = added_alone metal after (squares rect) part is part_is
 drawn_parts (Cut rect) metal after part is part_is = cut_alone metal after (squares rect) part is part_is
 drawn_parts (Keep rect) metal after part is part_is = kept_alone metal after part is part_is

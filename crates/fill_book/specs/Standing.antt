@@ -9,7 +9,7 @@ use Rattle.fill_raster.specs.Lattice.{in_raster}
 use Rattle.fill_job.specs.Plans.{PointSet}
 use Rattle.fill_core.specs.Machine.{metal_after}
 use Rattle.fill_state.specs.Filling.{KeepsClear, in_places, is_filled, left_by, metal_or_box}
-use Rattle.fill_book.specs.steps.Following.{opposite_of, part_by, way_of}
+use Rattle.fill_book.specs.steps.Following.{opposite_of, difference_by, way_of}
 use Rattle.fill_book.specs.declared.edited.Edited.{Edited}
 use Rattle.fill_book.specs.declared.stored.Stored.{Stored}
 
@@ -24,10 +24,10 @@ squares_left s e = metal_or_box s.filled.raster (left_by s.filled e.out) (holds 
 -- what the edit makes of the metal that is stored, what of it comes or goes, and that no metal then lies in a box that is left
 pub record IsEdited (s : Stored) (e : Edited) : Type 0 where
   pub metal : (x y : ℤ) → holds e.metal x y ≡ metal_after e.edit (holds s.metal) x y
-  pub part : (x y : ℤ) → holds e.part.metal x y ≡ part_by e.edit (holds s.metal) x y
-  pub within : (x y : ℤ) → holds e.part.metal x y ≡ true → squares e.part.within x y ≡ true
-  pub way : e.part.way ≡ way_of e.edit
-  pub back : e.part.back ≡ opposite_of e.edit
+  pub difference : (x y : ℤ) → holds e.difference.metal x y ≡ difference_by e.edit (holds s.metal) x y
+  pub within : (x y : ℤ) → holds e.difference.metal x y ≡ true → squares e.difference.within x y ≡ true
+  pub way : e.difference.way ≡ way_of e.edit
+  pub back : e.difference.back ≡ opposite_of e.edit
   pub on : (i j : ℤ) → in_places e.out i j ≡ true → in_raster s.filled.raster i j ≡ true
   pub columns : e.out.columns.start ≤ℤ e.out.columns.end
   pub rows : e.out.rows.start ≤ℤ e.out.rows.end

@@ -3,12 +3,12 @@ ghost use Rattle.std.specs.Prelude.{◌≡◌, ℤ, true, IfOk};
 ghost use Rattle.fill_base.specs.Squares.{squares};
 ghost use Rattle.fill_region.specs.Bands.{holds};
 ghost use Rattle.fill_core.specs.Machine.{metal_after};
-ghost use Rattle.fill_book.specs.steps.Following.{opposite_of, part_by, way_of};
+ghost use Rattle.fill_book.specs.steps.Following.{difference_by, opposite_of, way_of};
 
 use fill_base::Rect;
 use fill_region::Region;
 use fill_state::Places;
-use fill_sums::Way;
+use fill_sums::Difference;
 use fill_text::Edit;
 use std::alloc::{AllocError, Global};
 
@@ -17,17 +17,8 @@ use std::alloc::{AllocError, Global};
 pub struct Edited {
     pub(crate) edit: Edit,
     pub(crate) metal: Region,
-    pub(crate) part: Part,
+    pub(crate) difference: Difference,
     pub(crate) out: Places,
-}
-
-/// Metal that comes or goes, within a rectangle, and the other way.
-#[derive(Drop)]
-pub struct Part {
-    pub(crate) way: Way,
-    pub(crate) back: Way,
-    pub(crate) metal: Region,
-    pub(crate) within: Rect,
 }
 
 /// The metal after an edit.
@@ -41,34 +32,23 @@ pub(crate) fn metal_edited(alloc: Global, metal: &Region, edit: Edit) -> Result<
     }
 }
 
-/// The part of an edit's rectangle that was no metal and is added, or that was metal and is cut: nothing of a keep-out.
+/// What of an edit's rectangle was no metal and is added, or was metal and is cut: nothing of a keep-out.
 ///
 /// # Errors
 /// `AllocError` where memory is refused.
-pub(crate) fn part_of(alloc: Global, metal: &Region, edit: Edit) -> Result<Part, AllocError>
-    ensures way { IfOk result (λ p. p.way ≡ way_of edit) }
-    ensures back { IfOk result (λ p. p.back ≡ opposite_of edit) }
-    ensures metal { IfOk result (λ p. (x y : ℤ) → holds p.metal x y ≡ part_by edit (holds metal.now) x y) }
-    ensures within { IfOk result (λ p. (x y : ℤ) → holds p.metal x y ≡ true → squares p.within x y ≡ true) }
+pub(crate) fn difference_of(
+    alloc: Global,
+    metal: &Region,
+    edit: Edit,
+) -> Result<Difference, AllocError>
+    ensures way { IfOk result (λ d. d.way ≡ way_of edit) }
+    ensures back { IfOk result (λ d. d.back ≡ opposite_of edit) }
+    ensures metal { IfOk result (λ d. (x y : ℤ) → holds d.metal x y ≡ difference_by edit (holds metal.now) x y) }
+    ensures within { IfOk result (λ d. (x y : ℤ) → holds d.metal x y ≡ true → squares d.within x y ≡ true) }
 {
     match edit {
-        Edit::Add(rect) => Ok(Part {
-            way: Way::Up,
-            back: Way::Down,
-            metal: Region::one(alloc, &rect)?.minus(alloc, &metal.clip(alloc, &rect)?)?,
-            within: rect,
-        }),
-        Edit::Cut(rect) => Ok(Part {
-            way: Way::Down,
-            back: Way::Up,
-            metal: metal.clip(alloc, &rect)?,
-            within: rect,
-        }),
-        Edit::Keep(rect) => Ok(Part {
-            way: Way::Up,
-            back: Way::Down,
-            metal: Region::empty(alloc),
-            within: rect,
-        }),
+        Edit::Add(rect) => Difference::added(alloc, metal, rect),
+        Edit::Cut(rect) => Difference::cut(alloc, metal, rect),
+        Edit::Keep(rect) => Ok(Difference::none(alloc, rect)),
     }
 }

@@ -166,14 +166,14 @@ impl Totals for Sums {
     fn follow(&mut self, stored: &Stored, windows: &Windows, edited: &Edited) {
         take_out(self, stored, windows, edited);
         stored.filled.keeps_apart();
-        let part = &edited.part;
-        self.move_metal(part.way, &part.metal, &part.within);
+        let difference = &edited.difference;
+        self.move_metal(difference.way, &difference.metal, &difference.within);
     }
 
     fn turn_back(&mut self, stored: &Stored, windows: &Windows, edited: &Edited) {
         stored.filled.keeps_apart();
-        let part = &edited.part;
-        self.move_metal(part.back, &part.metal, &part.within);
+        let difference = &edited.difference;
+        self.move_metal(difference.back, &difference.metal, &difference.within);
         put_back(self, stored, windows, edited);
     }
 

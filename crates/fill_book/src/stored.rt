@@ -17,7 +17,7 @@ ghost use Rattle.fill_book.specs.Standing.{IsEdited, squares_in, squares_left};
 ghost use Rattle.fill_state.specs.Tiles.{is_in};
 
 use crate::areas::Totals;
-use crate::edited::{Edited, metal_edited, part_of};
+use crate::edited::{Edited, difference_of, metal_edited};
 use fill_area::Windows;
 use fill_core::Reply;
 use fill_job::{Piece, Proposal, SharedRules};
@@ -211,7 +211,7 @@ impl Stored {
         Ok(Edited {
             edit,
             metal: metal_edited(alloc, &self.metal, edit)?,
-            part: part_of(alloc, &self.metal, edit)?,
+            difference: difference_of(alloc, &self.metal, edit)?,
             out: too_near(rules, edit),
         })
     }

@@ -5,4 +5,5 @@ pub mod Changing
 pub mod Counted
 pub mod Following
 pub mod Held
+pub mod Ranges
 pub mod Enclosing

@@ -3,10 +3,12 @@
 #![tactic(auto)]
 
 mod bounds;
+mod difference;
 pub mod laws;
 mod moving;
 mod shape;
 mod sums;
 
+pub use difference::Difference;
 pub use moving::Way;
 pub use sums::Sums;

@@ -1,11 +1,11 @@
 //! Numbers, one for each window, that rise or fall by the area of a set.
-ghost use Rattle.std.specs.Prelude.{◌≡◌, ◌<◌, ◌≤◌, ◌*◌, ◌==◌, ◌&&◌, ℕ, ℤ, pos, true, length};
+ghost use Rattle.std.specs.Prelude.{◌≡◌, ◌<◌, ◌≤◌, ◌*◌, ◌==◌, ◌&&◌, ℕ, ℤ, pos, true, length, get_or};
 ghost use Rattle.fill_base.specs.Squares.{squares};
 ghost use Rattle.fill_area.specs.Density.{IsArea, window_area};
 ghost use Rattle.fill_area.specs.Grid.{IsGrid};
 ghost use Rattle.fill_area.specs.Sharing.{IsWindow};
 ghost use Rattle.fill_sums.specs.Numbers.{AreNumbers, IsMoved, StaysWithin, in_range, moved};
-ghost use Rattle.fill_sums.specs.steps.Moving.{AreAlike, CanMove, IsMovedAt};
+ghost use Rattle.fill_sums.specs.steps.Moving.{AreAlike, CanMove, IsMovedAt, IsRangeMoved};
 ghost use Rattle.fill_sums.specs.steps.Shapes.{squares_of};
 
 use crate::shape::{Alike, Shape};
@@ -78,12 +78,25 @@ fn move_each(
     }
 }
 
+/// Moves neighbouring numbers, each by the same area.
+fn move_range(numbers: &mut [i64], way: Way, area: i64, from: usize, to: usize)
+    requires ordered { from ≤ to }
+    requires there { to ≤ length numbers.old }
+    requires numbers { (k : ℕ) → in_range from to k ≡ true → IsArea (get_or numbers.old k (pos 0)) }
+    requires area { IsArea area }
+    ensures { (n : ℕ) → area ≡ pos n → IsRangeMoved from to way n numbers.old numbers.new }
+{
+    for k in from..to {
+        numbers[k] = moved_by(way, numbers[k], area);
+    }
+}
+
 /// The same of windows in which the set has one area: nothing is measured.
 fn move_alike(
     windows: &Windows,
     numbers: &mut [i64],
     way: Way,
-    shape: Shape<'_>,
+    _shape: Shape<'_>,
     alike: Alike,
     b: u32,
 )
@@ -92,12 +105,14 @@ fn move_alike(
     requires columns { alike.to ≤ windows.now.across.count }
     requires row { b < windows.now.up.count }
     requires count { length numbers.old ≡ windows.now.across.count * windows.now.up.count }
-    requires moves { (a : ℕ) → in_range alike.from alike.to a ≡ true → CanMove way (squares_of shape) windows.now numbers.old a b }
-    requires alike { AreAlike (squares_of shape) windows.now alike.from alike.to b alike.area }
-    ensures { IsMovedAt (λ c d. in_range alike.from alike.to c && (d == b)) way (squares_of shape.entry) windows.now numbers.old numbers.new }
+    requires moves { (a : ℕ) → in_range alike.from alike.to a ≡ true → CanMove way (squares_of _shape) windows.now numbers.old a b }
+    requires alike { AreAlike (squares_of _shape) windows.now alike.from alike.to b alike.area }
+    ensures { IsMovedAt (λ c d. in_range alike.from alike.to c && (d == b)) way (squares_of _shape.entry) windows.now numbers.old numbers.new }
 {
-    for a in alike.from..alike.to {
-        move_number(windows, numbers, way, shape, alike.area, a, b);
+    if alike.from < alike.to {
+        let row = b as usize * windows.columns() as usize;
+        let (from, to) = (row + alike.from as usize, row + alike.to as usize);
+        move_range(numbers, way, alike.area, from, to);
     }
 }
 

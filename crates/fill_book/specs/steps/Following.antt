@@ -47,7 +47,8 @@ opposite_of (Add r) = Down
 opposite_of (Cut r) = Up
 opposite_of (Keep r) = Down
 
-abbrev pub part_by : Edit → PointSet → PointSet
-part_by (Add r) metal x y = squares r x y && not (metal x y && squares r x y)
-part_by (Cut r) metal x y = metal x y && squares r x y
-part_by (Keep r) metal x y = false
+-- what of an edit's rectangle was no metal and comes, or was metal and goes
+abbrev pub difference_by : Edit → PointSet → PointSet
+difference_by (Add r) metal x y = squares r x y && not (metal x y)
+difference_by (Cut r) metal x y = metal x y && squares r x y
+difference_by (Keep r) metal x y = false

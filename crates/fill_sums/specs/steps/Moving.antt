@@ -1,5 +1,5 @@
 -- Numbers of which some have moved.
-use Rattle.std.specs.Prelude.{◌≡◌, ℕ, ℤ, pos, ◌≤ℤ◌, Bool, true, cond, List, length}
+use Rattle.std.specs.Prelude.{◌≡◌, ℕ, ℤ, pos, ◌≤ℤ◌, Bool, true, cond, List, length, get_or}
 use Rattle.fill_area.specs.Density.{window_area}
 use Rattle.fill_area.specs.Grid.{Grid}
 use Rattle.fill_area.specs.Sharing.{IsWindow}
@@ -17,6 +17,11 @@ pub record CanMove (way : Way) (p : ℤ → ℤ → Bool) (g : Grid) (numbers : 
 pub record IsMovedAt (done : ℕ → ℕ → Bool) (way : Way) (p : ℤ → ℤ → Bool) (g : Grid) (old new : List ℤ) : Type 0 where
   pub count : length new ≡ length old
   pub each : (a b : ℕ) → IsWindow g a b → number_at g new a b ≡ cond (done a b) (moved way (number_at g old a b) (window_area p g a b)) (number_at g old a b)
+
+-- neighbouring numbers have moved by so many squares, the others are as they were
+pub record IsRangeMoved (from to : ℕ) (way : Way) (area : ℕ) (old new : List ℤ) : Type 0 where
+  pub count : length new ≡ length old
+  pub each : (k : ℕ) → get_or new k (pos 0) ≡ cond (in_range from to k) (moved way (get_or old k (pos 0)) area) (get_or old k (pos 0))
 
 -- the set has this area in each window of row `b` from one column on and before another
 abbrev pub AreAlike : (ℤ → ℤ → Bool) → Grid → ℕ → ℕ → ℕ → ℤ → Type 0

@@ -1,51 +1,32 @@
-use Rattle.std.proofs.Common.{ℕ, ◌≤◌, ◌<◌, ◌&&◌, ◌==◌, ◌+◌, ◌∙◌, arith}
+use Rattle.std.proofs.Common.{◌≡◌, ◌∙◌, ℕ, ◌≤◌, ◌<◌, true, arith}
+use Rattle.fill_area.specs.Density.{window_area}
 use Rattle.fill_base.proofs.Signed.{read_is}
-use Rattle.fill_sums.specs.steps.Shapes.{squares_of}
 use Rattle.fill_sums.specs.Numbers.{in_range}
-use Rattle.fill_sums.proofs.Windowed.{area_fits, can_area, moved_none, moved_same, moved_then, none_first, one_is_next, range_ends, range_is, row_more, row_out, still_moves}
+use Rattle.fill_sums.specs.steps.Shapes.{squares_of}
+use Rattle.fill_sums.proofs.Ranges.{areas_in_row, moved_in_row, one_area}
+use Rattle.fill_sums.proofs.Windowed.{area_fits, can_area, range_is, read_area}
 use Rattle.fill_sums.proofs.moving.move_alike.Goals as goal
 
-pub loop-a-init : goal.loop-a-init
-loop-a-init c = (le_same c.args.alike.from, c.requires.ordered, moved_none (λ d e. in_range c.args.alike.from c.args.alike.from d && (e == c.args.b)) _ _ _ _ (λ d e. none_first c.args.alike.from d (e == c.args.b)))
+pub move_range-requires-clause-numbers : goal.move_range-requires-clause-numbers
+move_range-requires-clause-numbers c = rw c.columns.ensures (λ k h. areas_in_row c.args.way (squares_of c.args._shape) c.args.windows.now c.args.numbers.now c.args.alike.from c.args.alike.to c.args.b k c.requires.grid c.requires.moves h)
+
+first_in : (from to : ℕ) → from < to → in_range from to from ≡ true
+first_in from to h = range_is from to from (same from) h
   where
-    le_same : (n : ℕ) → n ≤ n
-    le_same n = omega arith
+    same : (n : ℕ) → n ≤ n
+    same n = omega arith
 
-pub move_number-requires-clause-moves : goal.move_number-requires-clause-moves
-move_number-requires-clause-moves c =
-    let inv = c.loop-a.invariant in
-    still_moves _ _ _ _ _ _ _ _ (in_columns c.loop-a.a c.args.alike.to c.args.windows.now.across.count c.loop-a-test.true c.requires.columns, c.requires.row) inv.2 (row_out c.args.alike.from c.loop-a.a c.args.b c.args.b)
-    (c.requires.moves c.loop-a.a (range_is c.args.alike.from c.args.alike.to c.loop-a.a inv.0 c.loop-a-test.true))
-  where
-    in_columns : (a r n : ℕ) → a < r → r ≤ n → a < n
-    in_columns a r n h k = omega arith
+pub move_range-requires-clause-area : goal.move_range-requires-clause-area
+move_range-requires-clause-area c =
+    let from = c.args.alike.from in
+    let inside = first_in from c.args.alike.to c.if-alike.true in
+    read_area c.args.alike.area (rw (c.requires.alike from inside) (can_area c.args.way (squares_of c.args._shape) c.args.windows.now c.args.numbers.now from c.args.b c.requires.grid (c.requires.moves from inside)))
 
-pub loop-a-preserved : goal.loop-a-preserved
-loop-a-preserved c =
-    let inv = c.loop-a.invariant in
-    let a = c.loop-a.a in let left = c.args.alike.from in let b = c.args.b in (
-      up left a inv.0,
-      next a c.args.alike.to c.loop-a-test.true,
-      moved_then (λ d e. in_range left a d && (e == b)) (λ d e. (d == a) && (e == b)) (λ d e. in_range left (a + 1) d && (e == b)) _ _ _ _ _ _ inv.2 c.move_number.ensures
-          (λ d e. row_more left 0 a d e b inv.0) (λ d e h. one_is_next left a b d e h),
-    )
-  where
-    next : (a r : ℕ) → a < r → a + 1 ≤ r
-    next a r h = omega arith
-
-    up : (l a : ℕ) → l ≤ a → l ≤ a + 1
-    up l a h = omega arith
-
-pub returns : goal.returns
-returns c =
-    let inv = c.loop-a.invariant in
-    moved_same (λ d e. in_range c.args.alike.from c.loop-a.a d && (e == c.args.b)) (λ d e. in_range c.args.alike.from c.args.alike.to d && (e == c.args.b)) _ _ _ _ _
-    (λ d e. range_ends c.args.alike.from c.loop-a.a c.args.alike.to d (e == c.args.b) inv.1 c.loop-a-test.false) inv.2
-
-pub move_number-requires-clause-area : goal.move_number-requires-clause-area
-move_number-requires-clause-area c =
-    let inv = c.loop-a.invariant in
-    let inside = range_is c.args.alike.from c.args.alike.to c.loop-a.a inv.0 c.loop-a-test.true in
-    let held = c.requires.alike c.loop-a.a inside in
-    let small = can_area c.args.way (squares_of c.args.shape) c.args.windows.now c.args.numbers.now c.loop-a.a c.args.b c.requires.grid (c.requires.moves c.loop-a.a inside) in
-    read_is c.args.alike.area (rw held (area_fits _ small)) ∙ held
+pub returns-then-alike : goal.returns-then-alike
+returns-then-alike c =
+    let p = squares_of c.args._shape in let g = c.args.windows.now in let from = c.args.alike.from in let b = c.args.b in
+    let inside = first_in from c.args.alike.to c.if-alike.true in
+    let held = c.requires.alike from inside in
+    let small = can_area c.args.way p g c.args.numbers.now from b c.requires.grid (c.requires.moves from inside) in
+    moved_in_row c.args.way p g c.args.numbers.now _ from c.args.alike.to b (window_area p g from b) c.requires.columns (λ a h. one_area _ _ c.args.alike.area (c.requires.alike a h) held)
+    (rw c.columns.ensures at c.move_range.ensures (window_area p g from b) (read_is c.args.alike.area (rw held (area_fits _ small)) ∙ held))

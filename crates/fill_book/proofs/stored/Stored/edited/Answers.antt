@@ -11,10 +11,10 @@ returns-clause-edited c =
     let left = left_after plan f out c.args.edit c.requires.raster c.too_near.ensures.near in
     record {
       metal = c.in_ok-metal_edited.ensures;
-      part = c.in_ok-part_of.ensures.metal;
-      within = c.in_ok-part_of.ensures.within;
-      way = c.in_ok-part_of.ensures.way;
-      back = c.in_ok-part_of.ensures.back;
+      difference = c.in_ok-difference_of.ensures.metal;
+      within = c.in_ok-difference_of.ensures.within;
+      way = c.in_ok-difference_of.ensures.way;
+      back = c.in_ok-difference_of.ensures.back;
       on = rw c.requires.raster c.too_near.ensures.on;
       columns = c.too_near.ensures.ordered.0;
       rows = c.too_near.ensures.ordered.1;

@@ -1,6 +1,5 @@
-use Rattle.std.proofs.Common.{◌≡◌, ℕ, ◌<◌, ◌≤◌, ◌∙◌, ap, sym, arith, pos}
+use Rattle.std.proofs.Common.{◌∙◌, ap, sym, pos}
 use Rattle.fill_base.proofs.Signed.{read_is}
-use Rattle.fill_area.specs.Axes.{IsContaining}
 use Rattle.fill_sums.proofs.Held.{column_in, held_area, none_of}
 use Rattle.fill_sums.proofs.Windowed.{range_in}
 use Rattle.fill_sums.proofs.shape.Shape.alike_in.Goals as goal
