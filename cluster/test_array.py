@@ -18,7 +18,7 @@ HERE = Path(__file__).resolve().parent
 ROOT = HERE.parent
 sys.path[:0] = [str(HERE), str(ROOT / "tools")]
 
-from built import FolderCase, rule_file, run_tests  # noqa: E402
+from built import FolderCase, interruptible, rule_file, run_tests  # noqa: E402
 from densfill_array.folder import Part  # noqa: E402
 from densfill_array.main import size  # noqa: E402
 from densfill_array.part import ranges  # noqa: E402
@@ -282,7 +282,7 @@ class Runs(Case):
     def test_interruption_leaves_whole_parts(self) -> None:
         program = self.slow()
         child = subprocess.Popen(self.words("fill", "--parts", 3, "--jobs", 1, program=program), cwd=self.folder,
-                                 stdout=subprocess.DEVNULL, stderr=subprocess.DEVNULL)
+                                 stdout=subprocess.DEVNULL, stderr=subprocess.DEVNULL, preexec_fn=interruptible)
         self.wait_for(self.out / "parts/2-of-3.tries")
         child.send_signal(signal.SIGINT)
         self.assertEqual(child.wait(20), 130)

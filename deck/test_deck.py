@@ -22,7 +22,7 @@ DECK = Path(__file__).resolve().parent
 ROOT = DECK.parent
 sys.path[:0] = [str(DECK), str(ROOT / "tools")]
 
-from built import FolderCase, run_tests  # noqa: E402
+from built import FolderCase, interruptible, run_tests  # noqa: E402
 from densfill_deck.deck import Refused, read_deck  # noqa: E402
 from densfill_deck.gds import boxes, database_unit, real  # noqa: E402
 from densfill_deck.lengths import Unfit, in_millionths, in_units, metres  # noqa: E402
@@ -266,7 +266,7 @@ class Runs(Folder):
         slow.write_text(f"#!/bin/sh\ncase $2 in *M1.*) exec {self.program} \"$@\";; esac\necho begun; exec sleep 60\n")
         slow.chmod(0o755)
         line = [sys.executable, str(DECK / "densfill-deck"), "run", str(self.path), str(self.design), "--program", str(slow), "--jobs", "2"]
-        child = subprocess.Popen(line, stdout=subprocess.DEVNULL, stderr=subprocess.DEVNULL)
+        child = subprocess.Popen(line, stdout=subprocess.DEVNULL, stderr=subprocess.DEVNULL, preexec_fn=interruptible)
         record = self.out / "M1.run.json"
         for _ in range(200):
             if record.exists() and (self.out / "M2.report.csv.part").exists():

@@ -1,4 +1,5 @@
 """The built program, and a folder with inputs for it, which the tests and tools of this repository begin with."""
+import signal
 import sys
 import tempfile
 import unittest
@@ -16,6 +17,11 @@ def built() -> Path | None:
 def rule_file(rules: Mapping[str, object]) -> str:
     """The text of a rule file with these values."""
     return "".join(f"{key},{value}\n" for key, value in rules.items())
+
+
+def interruptible() -> None:
+    """Has a process that is about to begin take SIGINT, also where the tests are a job in a shell's background, which ignores it."""
+    signal.signal(signal.SIGINT, signal.SIG_DFL)
 
 
 class ProgramCase(unittest.TestCase):
