@@ -21,7 +21,7 @@ use Rattle.fill_spans.specs.Spans.{ceiling}
 use Rattle.fill_spans.specs.Columns.{IsRisingBy}
 use Rattle.fill_region.specs.Squares.{covered}
 use Rattle.fill_region.specs.steps.Lines.{Crosses, IsNextLine, IsCrossed}
-use Rattle.fill_region.proofs.Within.{ends_within, kept_squares, kept_rising}
+use Rattle.fill_region.proofs.Within.{ends_within, kept_squares, kept_rising, passing_rising}
 
 -- the first of the rectangles by their lower edges
 pub first_line : (rects : List Rect) (r : Rect) (y1 : ℤ) → y1 ≡ r.y1 → Some r ≡ slice_get rects 0 → IsRisingBy (λ q. q.y1) rects → IsNextLine rects [] (read y1)
@@ -74,27 +74,44 @@ nearer_line later crossing k q line y2 line' more item is fits least n =
         let e : get_or (take (k + 1) crossing) k q ≡ q = get_or-take (k + 1) crossing k q (omega arith) ∙ sym item in
         rw e at (all k q (rw (length-take-le (k + 1) crossing (omega arith)) (omega arith)))
 
+-- those that end at the line or below have no squares from there on
+past : (line : ℤ) (r : Rect) (x y : ℤ) → line ≤ℤ y → squares r x y ≡ true → int_lt line r.y2 ≡ true
+past line r x y le h = above line y r.y1 r.y2 (is_between r.x1 r.x2 x) le h
+  where
+    above : (line y a b : ℤ) (c : Bool) → line ≤ℤ y → (c && is_between a b y) ≡ true → int_lt line b ≡ true
+    above line y a b true le h = grind (arith, ints)
+    above line y a b false le h = cc
+
+stay : (line : ℤ) (rects : List Rect) → All (λ r. r.y1 ≤ℤ line) rects → All (Crosses line) (filter (λ r. int_lt line r.y2) rects)
+stay line rects low = λ k d lt. (All-filter (λ r. int_lt line r.y2) (λ r. r.y1 ≤ℤ line) rects low k d lt, is_lt line (get_or (filter (λ r. int_lt line r.y2) rects) k d).y2 (filter_passes (λ r. int_lt line r.y2) rects k d lt))
+
+kept_covered : (line : ℤ) (old : List Rect) (x y : ℤ) → line ≤ℤ y → covered (filter (λ r. int_lt line r.y2) old) x y ≡ covered old x y
+kept_covered line old x y le = any-filter_same (λ r. squares r x y) (λ r. int_lt line r.y2) true (λ r h. past line r x y le h) old
+
+-- where none begins, those that go on are left as they lie
+pub none_begun : (line : ℤ) (old begun new : List Rect) → length begun ≡ 0 → new ≡ filter (λ r. int_lt line r.y2) old → IsCrossed line old begun new
+none_begun line old [] new none is = rw is (record {
+  sorted = λ rising. passing_rising (λ r. int_lt line r.y2) old rising;
+  squares = λ low first x y le. kept_covered line old x y le ∙ sym (or_false (covered old x y));
+  cross = λ low first. stay line old low;
+})
+  where
+    or_false : (b : Bool) → (b || false) ≡ b
+    or_false true = refl
+    or_false false = refl
+none_begun line old (r ∷ begun) new none is = cc
+
 -- what the sort and the edits around it leave
 pub crossed : (line : ℤ) (old kept both begun sorted new : List Rect) → kept ≡ filter (λ r. int_lt line r.y2) old → both ≡ kept ++ begun → IsPermutation both sorted
     → IsRisingBy (λ r. r.x1) sorted → new ≡ dedup ends_within sorted → IsCrossed line old begun new
 crossed line old kept both begun sorted new is joined moved rising left = record {
-  sorted = rw left (kept_rising sorted rising);
+  sorted = λ old_rising. rw left (kept_rising sorted rising);
   squares = λ low first x y le.
       let same : covered sorted x y ≡ covered both x y = sym (list_any-IsPermutation (λ r. squares r x y) both sorted moved) in
       rw left (kept_squares sorted line x y le (λ k d lt. (crossing low first k d lt).0) rising) ∙ (same ∙ (rw joined (list_any-append (λ r. squares r x y) kept begun)
-      ∙ ap (λ b. b || covered begun x y) {x = covered kept x y} (rw is (any-filter_same (λ r. squares r x y) (λ r. int_lt line r.y2) true (λ r h. past line r x y le h) old))));
+      ∙ ap (λ b. b || covered begun x y) {x = covered kept x y} (rw is (kept_covered line old x y le))));
   cross = λ low first. rw left (All-dedup ends_within (Crosses line) sorted (crossing low first));
 }
   where
-    past : (line : ℤ) (r : Rect) (x y : ℤ) → line ≤ℤ y → squares r x y ≡ true → int_lt line r.y2 ≡ true
-    past line r x y le h = above line y r.y1 r.y2 (is_between r.x1 r.x2 x) le h
-      where
-        above : (line y a b : ℤ) (c : Bool) → line ≤ℤ y → (c && is_between a b y) ≡ true → int_lt line b ≡ true
-        above line y a b true le h = grind (arith, ints)
-        above line y a b false le h = cc
-
-    stay : (rects : List Rect) → All (λ r. r.y1 ≤ℤ line) rects → All (Crosses line) (filter (λ r. int_lt line r.y2) rects)
-    stay rects low = λ k d lt. (All-filter (λ r. int_lt line r.y2) (λ r. r.y1 ≤ℤ line) rects low k d lt, is_lt line (get_or (filter (λ r. int_lt line r.y2) rects) k d).y2 (filter_passes (λ r. int_lt line r.y2) rects k d lt))
-
     crossing : All (λ r. r.y1 ≤ℤ line) old → All (Crosses line) begun → All (Crosses line) sorted
-    crossing low first = All-permutation (Crosses line) both sorted moved (rw joined (All-append (Crosses line) kept begun (rw is (stay old low)) first))
+    crossing low first = All-permutation (Crosses line) both sorted moved (rw joined (All-append (Crosses line) kept begun (rw is (stay line old low)) first))

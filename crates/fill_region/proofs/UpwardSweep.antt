@@ -27,6 +27,7 @@ pub record SweptTo (rects later crossing : List Rect) (bands : List Band) (line 
   pub sorted : IsRisingBy (λ r. r.y1) later
   pub begins : All (λ r. line ≤ℤ r.y1) later
   pub begun : All (λ r. r.y1 ≤ℤ line) crossing
+  pub lefts : IsRisingBy (λ r. r.x1) crossing
   pub high : line ≤ℤ ceiling
   pub ahead : (x y : ℤ) → line ≤ℤ y → covered rects x y ≡ (covered crossing x y || covered later x y)
   pub behind : (x y : ℤ) → y <ℤ line → holds bands x y ≡ covered rects x y
@@ -83,6 +84,7 @@ swept_start rects sorted line same rising next =
       sorted = rising;
       begins = next.begins;
       begun = λ k d lt. absurd (omega arith);
+      lefts = λ i j d le lt. absurd (omega arith);
       high = next.high;
       ahead = λ x y le. all x y;
       behind = λ x y lt. sym (all x y ∙ none_yet sorted x y (λ k d h. lt_le_lt y line (get_or sorted k d).y1 lt (next.begins k d h)));
@@ -142,6 +144,7 @@ swept_turn rects later begun rest crossing crossing' bands bands' row line line'
         sorted = rest_sorted later rest n s.sorted rest_is;
         begins = next.begins;
         begun = λ k d lt. lt_le (get_or crossing' k d).y1 line' (le_lt_lt (get_or crossing' k d).y1 line line' (cross k d lt).0 far);
+        lefts = crossed.sorted s.lefts;
         high = next.high;
         ahead = λ x y le. ahead x y (lt_le line y (lt_le_lt line line' y far le));
         behind = λ x y lt. by_lt_z y line

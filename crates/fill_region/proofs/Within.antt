@@ -1,11 +1,11 @@
 -- Rectangles that lie within another one from a line on.
 use Rattle.std.proofs.Common.{◌≡◌, zero, suc, ℤ, ◌≤ℤ◌, List, [], ◌∷◌, refl, arith, ap, ◌∙◌, Bool, true, false, cond, ◌||◌, ◌&&◌}
 use Rattle.std.specs.Prelude.{int_le, All}
-use Rattle.std.specs.List.{dedup}
+use Rattle.std.specs.List.{filter, dedup}
 use Rattle.std.specs.Cmp.{first_so, second_so}
 use Rattle.std.proofs.lemmas.Bool.{and_from}
 use Rattle.std.proofs.lemmas.Int.{ints}
-use Rattle.std.proofs.lemmas.List.Elements.{All-tail}
+use Rattle.std.proofs.lemmas.List.Elements.{All-tail, All-filter}
 use Rattle.std.proofs.lemmas.List.Filters.{All-dedup}
 use Rattle.fill_base.specs.declared.rect.Rect.{Rect}
 use Rattle.fill_base.specs.Counts.{is_between}
@@ -86,3 +86,15 @@ kept_squares (k ∷ rects) line x y le low rising =
 pub kept_rising : (rects : List Rect) → IsRisingBy (λ r. r.x1) rects → IsRisingBy (λ r. r.x1) (dedup ends_within rects)
 kept_rising [] rising = rising
 kept_rising (k ∷ rects) rising = from_rising k rects (firsts k rects rising) (others k rects rising)
+
+-- those of a rising list that pass a test rise
+pub passing_rising : (p : Rect → Bool) (rects : List Rect) → IsRisingBy (λ r. r.x1) rects → IsRisingBy (λ r. r.x1) (filter p rects)
+passing_rising p [] rising = rising
+passing_rising p (k ∷ rects) rising =
+    let rest = passing_rising p rects (others k rects rising) in
+    chosen (p k) rest (joined k (filter p rects) (All-filter p (λ r. k.x1 ≤ℤ r.x1) rects (firsts k rects rising)) rest)
+  where
+    chosen : (b : Bool) → IsRisingBy (λ r. r.x1) (filter p rects) → IsRisingBy (λ r. r.x1) (k ∷ filter p rects)
+        → IsRisingBy (λ r. r.x1) (cond b (k ∷ filter p rects) (filter p rects))
+    chosen true gone stays = stays
+    chosen false gone stays = gone

@@ -117,6 +117,9 @@ fn cross(crossing: &mut Vec<Rect>, begun: &[Rect], line: i64) -> Result<(), Allo
     ensures { OnOk result (IsCrossed line crossing.old.items begun.now crossing.new.items) }
 {
     crossing.retain(|rect| rect.y2() > line);
+    if begun.is_empty() {
+        return Ok(());
+    }
     crossing.extend_from_slice(begun)?;
     crossing.rotate_right(begun.len());
     crossing.sort_by_key(|rect| rect.x1())?;

@@ -18,6 +18,6 @@ pub record IsNextLine (later crossing : List Rect) (line : ℤ) : Type 0 where
 
 -- from the list `old` of those that cross the lines below, and those that begin at this one, to the list `new` that cross it
 pub record IsCrossed (line : ℤ) (old begun new : List Rect) : Type 0 where
-  pub sorted : IsRisingBy (λ r. r.x1) new
+  pub sorted : IsRisingBy (λ r. r.x1) old → IsRisingBy (λ r. r.x1) new
   pub squares : All (λ r. r.y1 ≤ℤ line) old → All (Crosses line) begun → (x y : ℤ) → line ≤ℤ y → covered new x y ≡ (covered old x y || covered begun x y)
   pub cross : All (λ r. r.y1 ≤ℤ line) old → All (Crosses line) begun → All (Crosses line) new

@@ -15,6 +15,9 @@ pub overflow_cast-line : goal.overflow_cast-line
 overflow_cast-line c = line_fits c.args.rects.now c.sweep.later.now c.sweep.crossing.items c.sweep.bands.items (to_z w64 c.sweep.line-bits) c.sweep.invariant
     (goes_on (to_z w64 c.sweep.line-bits) c.from.result c.from.ensures c.sweep-test.true)
 
+pub across-requires : goal.across-requires
+across-requires c = rw c.deref-in-sweep.ensures.value (c.in_ok-cross.ensures.sorted c.sweep.invariant.lefts)
+
 turned : (c : goal.After-next_line-line-in-sweep) → (to_z w64 c.sweep.line-bits <ℤ c.next_line-line-in-sweep.result) × SweptTo c.args.rects.now c.split_at.result.1.now c.cross.new.crossing.items c.put_row.new.out.items c.next_line-line-in-sweep.result
 turned c =
     let line = to_z w64 c.sweep.line-bits in
