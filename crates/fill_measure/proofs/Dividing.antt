@@ -11,17 +11,21 @@ use Rattle.fill_base.specs.Coordinates.{lowest, highest, IsCoordinate}
 use Rattle.fill_base.proofs.Signed.{read, read_is, coordinate_fits, lt_le, le_trans}
 use Rattle.fill_area.specs.Axes.{IsAxis, IsExtent, axis_begin, axis_end}
 use Rattle.fill_area.specs.Density.{AreMeasured}
-use Rattle.fill_area.specs.Grid.{Grid, all_coordinates}
+use Rattle.fill_area.specs.Grid.{Grid, IsGrid, all_coordinates, parts_across, parts_up}
+use Rattle.fill_area.specs.declared.parts.Clip.{Clip}
 use Rattle.fill_area.specs.declared.parts.Parts.{Parts}
 use Rattle.fill_area.proofs.Clipping.{counted_all, part_whole}
 use Rattle.fill_area.specs.declared.axis.Axis.{Axis}
 use Rattle.fill_cells.specs.Mesh.{AreCuts, gaps}
 use Rattle.fill_measure.specs.declared.mesh.Mesh.{Mesh}
 use Rattle.fill_measure.specs.steps.Bands.{AreCells, IsRow, cell_area}
-use Rattle.fill_measure.specs.steps.Meshes.{ArePrefixSumsOf, AreBandsOf, IsBandOf}
+use Rattle.fill_measure.specs.steps.Meshes.{AreAllPrefixSums, ArePrefixSumsOf, AreBandsOf, AreSums, IsBandOf}
 use Rattle.fill_measure.specs.steps.PrefixSums.{ArePrefixSums}
 use Rattle.fill_measure.specs.steps.Divided.{IsDivided, AreEven}
-use Rattle.fill_measure.specs.steps.Ends.{HoldEnds}
+use Rattle.fill_measure.specs.declared.prefix_sums.PrefixSums.{PrefixSums}
+use Rattle.fill_measure.specs.steps.Ends.{AreAmong, HoldEnds}
+use Rattle.fill_measure.specs.steps.Uniform.{turned}
+use Rattle.fill_measure.proofs.Edging.{held_among, held_uniform}
 use Rattle.fill_measure.specs.steps.Shapes.{squares_of}
 use Rattle.fill_measure.proofs.SumsAbove.{prefix_sum_in}
 
@@ -134,11 +138,11 @@ far first step a (suc n) =
     ap (λ k. (first +ℤ (pos a *ℤ step)) +ℤ (pos k *ℤ step)) one ∙ (sym (step_on (first +ℤ (pos a *ℤ step)) step n)
     ∙ (ap (λ z. z +ℤ step) (far first step a n) ∙ (step_on first step (a + n) ∙ ap (λ k. first +ℤ (pos k *ℤ step)) all)))
 
-abbrev pub parts_of : Axis → ℤ → ℤ → Parts
+abbrev parts_of : Axis → ℤ → ℤ → Parts
 parts_of axis low high = record { axis = axis; low = low; high = high }
 
 -- both ends of each span are among the cuts of the cut ones
-pub divided_ends : (parts : Parts) (divided : Axis) (cuts : List ℤ) → parts ≡ record { axis = parts.axis; low = lowest; high = highest } → IsAxis parts.axis → IsDivided parts.axis divided → AreEven divided cuts → HoldEnds cuts parts parts.axis.count
+divided_ends : (parts : Parts) (divided : Axis) (cuts : List ℤ) → parts ≡ record { axis = parts.axis; low = lowest; high = highest } → IsAxis parts.axis → IsDivided parts.axis divided → AreEven divided cuts → HoldEnds cuts parts parts.axis.count
 divided_ends parts divided cuts all is_axis is even = rw all (record {
   begins = λ a lt. let few = is.some in subst (λ z. Contains cuts z) (begin_of a ∙ sym (part_whole axis a is_axis lt).0) (held a (omega (arith, lt, few, is.count_is)));
   ends = λ a lt. let few = is.some in subst (λ z. Contains cuts z) ((begin_of (a + is.parts) ∙ (sym (far axis.first axis.step a is.parts) ∙ ap (λ n. axis_begin axis a +ℤ n) (sym is.whole))) ∙ sym (part_whole axis a is_axis lt).1) (held (a + is.parts) (omega (arith, lt, few, is.count_is)));
@@ -152,6 +156,33 @@ divided_ends parts divided cuts all is_axis is even = rw all (record {
 
     held : (a : ℕ) → a ≤ divided.count → Contains cuts (axis_begin divided a)
     held a le = subst (λ z. Contains cuts z) (even.each a (pos 0) le) (Contains-get_or cuts a (pos 0) (omega (arith, le, even.count)))
+
+whole_parts : (axis : Axis) (clip : Clip) → clip ≡ all_coordinates → parts_of axis clip.left clip.right ≡ record { axis = axis; low = lowest; high = highest }
+whole_parts axis clip whole = ap (λ (k : Clip). parts_of axis k.left k.right) whole
+
+whole_parts_up : (axis : Axis) (clip : Clip) → clip ≡ all_coordinates → parts_of axis clip.bottom clip.top ≡ record { axis = axis; low = lowest; high = highest }
+whole_parts_up axis clip whole = ap (λ (k : Clip). parts_of axis k.bottom k.top) whole
+
+-- the cells' cuts are cuts, and hold both ends of each span
+cuts_of_divided : (divided axis : Axis) (cuts : List ℤ) → IsDivided axis divided → IsAxis divided → AreEven divided cuts → AreCuts cuts
+cuts_of_divided divided axis cuts is divided_axis even = even_cuts divided cuts divided_axis (is.length_is ∙ sym is.step_is) even
+
+pub across_among : (windows : Grid) (divided : Axis) (cuts : List ℤ) → windows.clip ≡ all_coordinates → IsGrid windows → IsDivided windows.across divided → IsAxis divided → AreEven divided cuts → AreAmong cuts (parts_across windows)
+across_among windows divided cuts whole grid is divided_axis even =
+    held_among cuts (parts_across windows) (cuts_of_divided divided windows.across cuts is divided_axis even) (divided_ends (parts_across windows) divided cuts (whole_parts windows.across windows.clip whole) grid.across is even)
+
+pub up_among : (windows : Grid) (divided : Axis) (cuts : List ℤ) → windows.clip ≡ all_coordinates → IsGrid windows → IsDivided windows.up divided → IsAxis divided → AreEven divided cuts → AreAmong cuts (parts_up windows)
+up_among windows divided cuts whole grid is divided_axis even =
+    held_among cuts (parts_up windows) (cuts_of_divided divided windows.up cuts is divided_axis even) (divided_ends (parts_up windows) divided cuts (whole_parts_up windows.up windows.clip whole) grid.up is even)
+
+-- prefix sums on the cells' cuts tell the areas of the windows
+pub divided_sums : (p : ℤ → ℤ → Bool) (windows : Grid) (across_divided up_divided : Axis) (across up : List ℤ) (prefix_sums : PrefixSums) → windows.clip ≡ all_coordinates → IsGrid windows → IsDivided windows.across across_divided → IsDivided windows.up up_divided
+    → IsAxis across_divided → IsAxis up_divided → AreEven across_divided across → AreEven up_divided up → AreAllPrefixSums p across up prefix_sums → AreSums p windows across up prefix_sums
+divided_sums p windows across_divided up_divided across up prefix_sums whole grid across_is up_is across_axis up_axis across_even up_even are = record {
+  numbers = are;
+  columns = held_uniform p across (parts_across windows) (cuts_of_divided across_divided windows.across across across_is across_axis across_even) (divided_ends (parts_across windows) across_divided across (whole_parts windows.across windows.clip whole) grid.across across_is across_even);
+  rows = held_uniform (turned p) up (parts_up windows) (cuts_of_divided up_divided windows.up up up_is up_axis up_even) (divided_ends (parts_up windows) up_divided up (whole_parts_up windows.up windows.clip whole) grid.up up_is up_even);
+}
 
 pub abs_is : (z : ℤ) → pos 1 ≤ℤ z → z ≡ pos (unsigned_abs z)
 abs_is z one = omega (arith, ints)

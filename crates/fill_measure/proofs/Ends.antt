@@ -1,15 +1,12 @@
 -- The cuts at which the spans of an axis begin and end.
-use Rattle.std.proofs.Common.{◌≡◌, ℕ, ◌+◌, ◌^◌, ◌<◌, ℤ, pos, ◌+ℤ◌, ◌≤ℤ◌, ◌<ℤ◌, ◌↔◌, List, [], ◌∷◌, ◌++◌, true, false, length, get_or, refl, arith, ap, ◌∙◌, below_more, w64, FitsSigned}
+use Rattle.std.proofs.Common.{◌≡◌, ℕ, ◌+◌, ◌^◌, ℤ, pos, ◌+ℤ◌, ◌≤ℤ◌, ◌<ℤ◌, ◌↔◌, List, [], ◌∷◌, ◌++◌, true, refl, arith, ap, ◌∙◌, below_more, w64, FitsSigned}
 use Rattle.std.specs.Prelude.{int_lt}
 use Rattle.std.specs.Int.{int_min}
 use Rattle.std.specs.List.{All, Contains}
-use Rattle.std.specs.List.Sorted.{IsPartitionedBy, IsPartitionPoint}
 use Rattle.std.proofs.lemmas.Int.{ints, clamps}
-use Rattle.std.proofs.lemmas.List.{get_or_default}
 use Rattle.std.proofs.lemmas.List.Elements.{All-push, Contains-append_left, Contains-push}
 use Rattle.fill_base.specs.Coordinates.{lowest, highest, IsCoordinate}
-use Rattle.fill_base.proofs.Signed.{read, read_is, coordinate_fits, lt_le, le_trans, is_lt, not_lt}
-use Rattle.fill_area.proofs.Begun.{by_lt}
+use Rattle.fill_base.proofs.Signed.{read, read_is, coordinate_fits, lt_le, le_trans, is_lt}
 use Rattle.fill_area.specs.Parts.{AreParts, IsPart, part_begin, part_end}
 use Rattle.fill_area.specs.declared.parts.Parts.{Parts}
 use Rattle.fill_cells.specs.Mesh.{AreCuts}
@@ -68,34 +65,6 @@ coordinate_read z is = rw (read_is z (coordinate_fits z is.least is.most)) is
 pub between_more : (cut : ℤ) (begun old new : List ℤ) → IsCoordinate cut → All IsCoordinate old × ((z : ℤ) → Contains begun z → Contains old z) → new ≡ old ++ cut ∷ []
     → All IsCoordinate new × ((z : ℤ) → Contains begun z → Contains new z)
 between_more cut begun old new is before new_is = rw new_is (All-push IsCoordinate old cut before.0 is, λ z has. Contains-append_left old (cut ∷ []) z (before.1 z has))
-
-lt_is : (x y : ℤ) → x <ℤ y → int_lt x y ≡ true
-lt_is x y h = grind (arith, ints)
-
--- the cuts below one come before the others
-pub parted : (cuts : List ℤ) (cut : ℤ) → AreCuts cuts → IsPartitionedBy (λ z. int_lt z cut) cuts
-parted cuts cut are i j d le lt at = by_lt i j
-    (λ below. lt_is _ cut (lt_trans _ _ cut (are.rising i j d below lt) (is_lt _ cut at)))
-    (λ same. let e : i ≡ j = omega (arith, le, same) in ap (λ k. int_lt (get_or cuts k d) cut) e ∙ at)
-  where
-    lt_trans : (x y z : ℤ) → x <ℤ y → y <ℤ z → x <ℤ z
-    lt_trans x y z h k = omega (arith, ints)
-
--- so many cuts are below a cut as stand before it
-pub cut_at : (cuts : List ℤ) (cut : ℤ) (n : ℕ) → AreCuts cuts → Contains cuts cut → IsPartitionPoint (λ z. int_lt z cut ≡ true) (λ z. int_lt z cut ≡ false) cuts n
-    → (n < length cuts) × ((d : ℤ) → get_or cuts n d ≡ cut)
-cut_at cuts cut n are has point = (rw here has.1, λ d. ap (λ k. get_or cuts k d) here ∙ (get_or_default cuts has.0 d cut has.1 ∙ has.2))
-  where
-    over : (x y : ℤ) → x ≡ y → x <ℤ y → ⊥
-    over x y e lt = omega (arith, ints)
-
-    above : (x cut z : ℤ) → cut ≤ℤ x → x <ℤ z → z ≡ cut → ⊥
-    above x cut z le lt e = omega (arith, ints)
-
-    here : n ≡ has.0
-    here = by_lt n has.0
-        (λ early. absurd (above _ cut _ (not_lt _ cut (point.1 n cut (omega arith) (omega (arith, early, has.1)))) (are.rising n has.0 cut early has.1) has.2))
-        (λ le. by_lt has.0 n (λ late. absurd (over _ cut has.2 (is_lt _ cut (point.0 has.0 cut (omega arith) late)))) (λ ge. omega (arith, le, ge)))
 
 -- both ends of what counts, put to numbers
 pub record IsClipHeld (parts : Parts) (old new : List ℤ) : Type 0 where

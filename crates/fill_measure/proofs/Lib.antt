@@ -1,4 +1,6 @@
 pub mod SumsAbove
+pub mod Amid
+pub mod Edging
 pub mod Dividing
 pub mod Ends
 pub mod Listing

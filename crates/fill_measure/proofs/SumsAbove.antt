@@ -15,17 +15,17 @@ use Rattle.fill_measure.specs.steps.Bands.{IsRow}
 use Rattle.fill_measure.specs.steps.PrefixSums.{block_area, ArePrefixSums}
 
 -- an area splits at a number between its sides
-area_wider : (p : ℤ → ℤ → Bool) (left mid right bottom top : ℤ) → left ≤ℤ mid → mid ≤ℤ right
+pub area_wider : (p : ℤ → ℤ → Bool) (left mid right bottom top : ℤ) → left ≤ℤ mid → mid ≤ℤ right
     → area_between p left bottom right top ≡ area_between p left bottom mid top + area_between p mid bottom right top
 area_wider p left mid right bottom top low high =
     sum_between_add (λ y. count_between (λ x. p x y) left mid) (λ y. count_between (λ x. p x y) mid right) (λ y. count_between (λ x. p x y) left right) bottom top
     (λ y. sum_between_split (λ x. cond (p x y) 1 0) left mid right low high)
 
-area_taller : (p : ℤ → ℤ → Bool) (left right bottom mid top : ℤ) → bottom ≤ℤ mid → mid ≤ℤ top
+pub area_taller : (p : ℤ → ℤ → Bool) (left right bottom mid top : ℤ) → bottom ≤ℤ mid → mid ≤ℤ top
     → area_between p left bottom right top ≡ area_between p left bottom right mid + area_between p left mid right top
 area_taller p left right bottom mid top low high = sum_between_split (λ y. count_between (λ x. p x y) left right) bottom mid top low high
 
-area_le : (p : ℤ → ℤ → Bool) (left bottom right top : ℤ) → area_between p left bottom right top ≤ span_len bottom top * span_len left right
+pub area_le : (p : ℤ → ℤ → Bool) (left bottom right top : ℤ) → area_between p left bottom right top ≤ span_len bottom top * span_len left right
 area_le p left bottom right top = sum_between_le (λ y. count_between (λ x. p x y) left right) bottom top (span_len left right) (λ y. count_between_le (λ x. p x y) left right)
 
 -- nothing lies between a cut and itself
@@ -42,7 +42,7 @@ no_height p left right y = nothing _ (span_len y y) (span_len left right) (omega
     nothing m s n none le = let le' : m ≤ 0 * n = subst (λ z. m ≤ z * n) none le in omega (arith, le')
 
 -- cuts do not fall
-cut_le : (cuts : List ℤ) (i j : ℕ) (d : ℤ) → AreCuts cuts → i ≤ j → j < length cuts → get_or cuts i d ≤ℤ get_or cuts j d
+pub cut_le : (cuts : List ℤ) (i j : ℕ) (d : ℤ) → AreCuts cuts → i ≤ j → j < length cuts → get_or cuts i d ≤ℤ get_or cuts j d
 cut_le cuts i j d are le lt = by_lt i j
     (λ below. lt_le _ _ (are.rising i j d below lt))
     (λ same. let e : i ≡ j = omega (arith, le, same) in rw e (refl_le (get_or cuts j d)))
@@ -72,7 +72,7 @@ sum_of x y m n k x_is y_is is small =
     let whole : x +ℤ y ≡ pos k = ap (λ z. z +ℤ y) x_is ∙ (ap (λ z. pos m +ℤ z) y_is ∙ ap pos (sym is)) in
     (rw whole (pos_fits k (omega (arith, small))), count_read (x +ℤ y) k whole small)
 
-difference_of : (x y : ℤ) (m n k : ℕ) → x ≡ pos m → y ≡ pos n → m ≡ n + k → m ≤ 2 ^ 62 → FitsSigned w64 (x -ℤ y) × (read (x -ℤ y) ≡ pos k)
+pub difference_of : (x y : ℤ) (m n k : ℕ) → x ≡ pos m → y ≡ pos n → m ≡ n + k → m ≤ 2 ^ 62 → FitsSigned w64 (x -ℤ y) × (read (x -ℤ y) ≡ pos k)
 difference_of x y m n k x_is y_is is small =
     let whole : x -ℤ y ≡ pos k = ap (λ z. z -ℤ y) x_is ∙ (ap (λ z. pos m -ℤ z) y_is ∙ left m n k is) in
     (rw whole (pos_fits k (omega (arith, is, small))), count_read (x -ℤ y) k whole (omega (arith, is, small)))
@@ -86,22 +86,6 @@ prefix_sum_in w h i j i_in j_in = let le : (j + 1) * w ≤ h * w = mul-le-mul (o
   where
     same : (n : ℕ) → n ≤ n
     same n = omega arith
-
--- the squares between two cuts across, below the cut `j`: a difference of what lies left of each
-pub cuts_difference : (p : ℤ → ℤ → Bool) (across up : List ℤ) (left right j : ℕ) (x y : ℤ) (d : ℤ) → AreCuts across → AreCuts up → left ≤ right → right < length across → j < length up
-    → x ≡ pos (block_area p across up 0 0 right j d) → y ≡ pos (block_area p across up 0 0 left j d)
-    → FitsSigned w64 (x -ℤ y) × (read (x -ℤ y) ≡ pos (block_area p across up left 0 right j d))
-cuts_difference p across up left right j x y d x_are y_are le x_in y_in x_is y_is = difference_of _ _ _ _ _ x_is y_is
-    (area_wider p (get_or across 0 d) (get_or across left d) (get_or across right d) (get_or up 0 d) (get_or up j d) (cut_le across 0 left d x_are (omega arith) (omega (arith, le, x_in))) (cut_le across left right d x_are le x_in))
-    (block_small p across up 0 0 right j d x_are y_are (omega arith) x_in (omega arith) y_in)
-
--- the squares between two cuts upwards: a difference of such
-pub rows_difference : (p : ℤ → ℤ → Bool) (across up : List ℤ) (left bottom right top : ℕ) (x y : ℤ) (d : ℤ) → AreCuts across → AreCuts up → left ≤ right → right < length across → bottom ≤ top → top < length up
-    → x ≡ pos (block_area p across up left 0 right top d) → y ≡ pos (block_area p across up left 0 right bottom d)
-    → FitsSigned w64 (x -ℤ y) × (read (x -ℤ y) ≡ pos (block_area p across up left bottom right top d))
-rows_difference p across up left bottom right top x y d x_are y_are x_le x_in y_le y_in x_is y_is = difference_of _ _ _ _ _ x_is y_is
-    (area_taller p (get_or across left d) (get_or across right d) (get_or up 0 d) (get_or up bottom d) (get_or up top d) (cut_le up 0 bottom d y_are (omega arith) (omega (arith, y_le, y_in))) (cut_le up bottom top d y_are y_le y_in))
-    (block_small p across up left 0 right top d x_are y_are x_le x_in (omega arith) y_in)
 
 -- a corner as the code reads it
 pub prefix_sum_read : (p : ℤ → ℤ → Bool) (across up prefix_sums : List ℤ) (bottom step n i j : ℕ) → AreCuts across → AreCuts up → ArePrefixSums p across up bottom step n prefix_sums

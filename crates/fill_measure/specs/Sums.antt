@@ -4,11 +4,12 @@ use Rattle.std.specs.List.{range_with_len}
 use Rattle.fill_area.specs.Density.{window_area}
 use Rattle.fill_area.specs.Grid.{Grid}
 use Rattle.fill_measure.specs.declared.sums.WindowSums.{WindowSums}
-use Rattle.fill_measure.specs.steps.Meshes.{AreAllPrefixSums}
+use Rattle.fill_measure.specs.steps.Meshes.{AreSums}
 
--- the sums are those of the set of squares: what each tells of the squares below a cut and left of another is so of this set
+-- the sums are those of the set of squares: what each tells of the squares below a cut and left of another is so of this set, which is
+-- uniform from a cut to the next where a side stands amid them
 abbrev pub AreSumsOf : (ℤ → ℤ → Bool) → WindowSums → Type 0
-AreSumsOf p sums = AreAllPrefixSums p sums.across.items sums.up.items sums.prefix_sums
+AreSumsOf p sums = AreSums p sums.windows sums.across.items sums.up.items sums.prefix_sums
 
 -- the areas that the set has in `n` windows from the one at place `from` on, row by row
 abbrev pub areas_from : (ℤ → ℤ → Bool) → Grid → ℕ → ℕ → List ℤ

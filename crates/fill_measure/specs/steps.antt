@@ -6,4 +6,6 @@ pub mod Bands
 pub mod Meshes
 pub mod Chunks
 pub mod Shapes
+pub mod Edges
+pub mod Uniform
 pub mod Sides

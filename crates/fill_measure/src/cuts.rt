@@ -1,5 +1,5 @@
 //! The cuts at which the windows along an axis begin or end, and further ones between them.
-ghost use Rattle.std.specs.Prelude.{◌≡◌, ◌^◌, ℤ, pos, ◌≤ℤ◌, ◌<◌, IfOk, OnOk, All, length, get_or};
+ghost use Rattle.std.specs.Prelude.{◌≡◌, ◌^◌, ℤ, pos, ◌≤ℤ◌, IfOk, OnOk, All};
 ghost use Rattle.std.specs.List.{Contains};
 ghost use Rattle.fill_area.specs.Axes.{IsAxis};
 ghost use Rattle.fill_area.specs.Parts.{AreParts};
@@ -47,7 +47,7 @@ fn end_cuts(alloc: Global, parts: Parts) -> Result<Vec<i64>, AllocError>
 }
 
 /// The numbers, and those between which spans count.
-fn with_clip(mut numbers: Vec<i64>, parts: Parts) -> Result<Vec<i64>, AllocError>
+pub(crate) fn with_clip(mut numbers: Vec<i64>, parts: Parts) -> Result<Vec<i64>, AllocError>
     requires parts { AreParts parts }
     requires coordinates { All IsCoordinate numbers.items }
     ensures coordinates { IfOk result (λ v. All IsCoordinate v.items) }
@@ -158,14 +158,4 @@ pub(crate) fn side_by_side(alloc: Global, axis: Axis) -> Result<Vec<i64>, AllocE
     let (_, end) = axis.extent(axis.count - 1);
     cuts.push(end)?;
     Ok(cuts)
-}
-
-/// The index of a cut among the cuts.
-pub(crate) fn index_of(cuts: &[i64], cut: i64) -> usize
-    requires cuts { AreCuts cuts.now }
-    requires held { Contains cuts.now cut }
-    ensures within { result < length cuts.now }
-    ensures cut { (d : ℤ) → get_or cuts.now result d ≡ cut }
-{
-    cuts.partition_point(|below| *below < cut)
 }

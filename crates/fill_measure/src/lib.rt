@@ -5,6 +5,7 @@
 mod bands;
 mod cuts;
 mod divided;
+mod edges;
 mod lists;
 mod measure;
 mod mesh;

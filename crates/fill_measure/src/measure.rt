@@ -9,8 +9,9 @@ ghost use Rattle.fill_region.specs.Squares.{covered};
 ghost use Rattle.fill_measure.specs.Sums.{AreSumsOf};
 ghost use Rattle.fill_measure.specs.steps.Divided.{IsDivided};
 
-use crate::cuts::{cuts_of, side_by_side};
+use crate::cuts::side_by_side;
 use crate::divided::divided_windows;
+use crate::edges::{Direction, mesh_cuts};
 use crate::mesh::{Mesh, Shapes};
 use crate::pitch::pitch_of;
 use crate::sums::WindowSums;
@@ -21,8 +22,9 @@ use std::alloc::{AllocError, Global};
 use std::thread::Threads;
 
 /// The sums of which each window's area is a difference, however many windows overlap, in terms of the squares that some rectangle of
-/// some list holds. The cuts at which windows begin or end make a mesh, whose rows of cells are measured on all processors. The sums are
-/// the same for any number of them, and however the rectangles are shared out to the lists.
+/// some list holds. The cuts at which windows begin or end, or where these are far more the edges of the rectangles, make a mesh, whose
+/// rows of cells are measured on all processors. The sums are the same for any number of them, and however the rectangles are shared out
+/// to the lists.
 ///
 /// # Errors
 /// `AllocError` where memory is refused.
@@ -36,8 +38,14 @@ pub fn sum_rects(
     ensures sums { IfOk result (AreSumsOf (covered (flat_map vec_items lists.now))) }
 {
     let pitch = pitch_of(lists, windows);
-    let across = cuts_of(alloc, windows.parts_across(), pitch.across)?;
-    let up = cuts_of(alloc, windows.parts_up(), pitch.up)?;
+    let across = mesh_cuts(
+        alloc,
+        lists,
+        windows.parts_across(),
+        Direction::Across,
+        pitch.across,
+    )?;
+    let up = mesh_cuts(alloc, lists, windows.parts_up(), Direction::Up, pitch.up)?;
     let mesh = Mesh {
         shapes: Shapes::Rects(lists),
         across: &across,

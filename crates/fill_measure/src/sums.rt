@@ -2,7 +2,7 @@
 ghost use Rattle.std.specs.Prelude.{ℤ, Bool};
 ghost use Rattle.fill_area.specs.Grid.{parts_across, parts_up};
 ghost use Rattle.fill_cells.specs.Mesh.{AreCuts};
-ghost use Rattle.fill_measure.specs.steps.Meshes.{AreAllPrefixSums};
+ghost use Rattle.fill_measure.specs.steps.Meshes.{AreSums};
 ghost use Rattle.fill_measure.specs.steps.Sides.{AreSides};
 
 use crate::prefix_sums::PrefixSums;
@@ -29,5 +29,5 @@ pub struct WindowSums {
     ghost up_cuts: { AreCuts up.items },
     ghost columns_are: { AreSides (parts_across windows) across.items windows.across.count columns.items },
     ghost rows_are: { AreSides (parts_up windows) up.items windows.up.count rows.items },
-    ghost measured: { ∥ ((p : ℤ → ℤ → Bool) × AreAllPrefixSums p across.items up.items prefix_sums) ∥₁ },
+    ghost measured: { ∥ ((p : ℤ → ℤ → Bool) × AreSums p windows across.items up.items prefix_sums) ∥₁ },
 }

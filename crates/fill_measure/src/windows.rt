@@ -1,15 +1,18 @@
 //! The areas of windows whose sides are cuts, by sums: each is a difference of four.
-ghost use Rattle.std.specs.Prelude.{◌≡◌, ℤ, pos, Bool, ◌+◌, ◌*◌, ◌/◌, ◌%◌, ◌<◌, ◌≤◌, IfOk, All, length};
+ghost use Rattle.std.specs.Prelude.{◌≡◌, ℤ, pos, Bool, ◌+◌, ◌*◌, ◌/◌, ◌%◌, ◌<◌, ◌≤◌, IfOk, All, length, get_or};
 ghost use Rattle.fill_area.specs.Density.{AreMeasured, IsArea, window_area};
+ghost use Rattle.fill_base.specs.Squares.{area_between};
 ghost use Rattle.fill_area.specs.Grid.{IsGrid, parts_across, parts_up};
 ghost use Rattle.fill_cells.specs.Mesh.{AreCuts};
 ghost use Rattle.fill_measure.specs.Sums.{AreSumsOf, areas_from};
 ghost use Rattle.fill_measure.specs.steps.PrefixSums.{block_area};
-ghost use Rattle.fill_measure.specs.steps.Ends.{HoldEnds};
-ghost use Rattle.fill_measure.specs.steps.Meshes.{AreAllPrefixSums};
+ghost use Rattle.fill_measure.specs.steps.Ends.{AreAmong};
+ghost use Rattle.fill_measure.specs.steps.Meshes.{AreSums};
+ghost use Rattle.fill_measure.specs.steps.Sides.{IsSide, coordinate_of};
+ghost use Rattle.fill_measure.specs.steps.Uniform.{IsUniform, turned};
 
 use crate::prefix_sums::PrefixSums;
-use crate::sides::sides_of;
+use crate::sides::{Side, sides_of};
 use crate::sums::WindowSums;
 use fill_area::Windows;
 use rayon::prelude::*;
@@ -17,7 +20,7 @@ use std::alloc::{AllocError, Global};
 use std::thread::Threads;
 
 impl WindowSums {
-    /// The sums of these windows, each of whose sides is one of the cuts.
+    /// The sums of these windows, each of whose sides is one of the cuts or stands amid two, where the set is uniform.
     pub(crate) fn new(
         alloc: Global,
         windows: &Windows,
@@ -27,11 +30,11 @@ impl WindowSums {
     ) -> Result<WindowSums, AllocError>
         requires across_cuts { AreCuts across.items }
         requires up_cuts { AreCuts up.items }
-        requires across { HoldEnds across.items (parts_across windows.now) windows.now.across.count }
-        requires up { HoldEnds up.items (parts_up windows.now) windows.now.up.count }
-        requires measured { ∥ ((p : ℤ → ℤ → Bool) × AreAllPrefixSums p across.items up.items prefix_sums) ∥₁ }
+        requires across { AreAmong across.items (parts_across windows.now) }
+        requires up { AreAmong up.items (parts_up windows.now) }
+        requires measured { ∥ ((p : ℤ → ℤ → Bool) × AreSums p windows.now across.items up.items prefix_sums) ∥₁ }
         ensures windows { IfOk result (λ s. s.windows ≡ windows.now) }
-        ensures sums { IfOk result (λ s. (p : ℤ → ℤ → Bool) → AreAllPrefixSums p across.items up.items prefix_sums → AreSumsOf p s) }
+        ensures sums { IfOk result (λ s. (p : ℤ → ℤ → Bool) → AreSums p windows.now across.items up.items prefix_sums → AreSumsOf p s) }
     {
         let columns = sides_of(alloc, windows.parts_across(), &across)?;
         let rows = sides_of(alloc, windows.parts_up(), &up)?;
@@ -65,6 +68,41 @@ impl WindowSums {
         self.prefix_sums.below[k * width + i] + band[(j - k * height) * width + i]
     }
 
+    /// How many squares lie below the cut upwards at `j` and left of a side across.
+    fn left_of(&self, j: usize, column: Side) -> i64
+        requires cut { j < length self.now.up.items }
+        requires column { IsSide self.now.across.items column }
+        requires uniform { 0 < column.past → (p : ℤ → ℤ → Bool) → AreSumsOf p self.now → IsUniform p self.now.across.items column.cut }
+        ensures { (p : ℤ → ℤ → Bool) → AreSumsOf p self.now → (d : ℤ) → let across = self.now.across.items in let up = self.now.up.items in
+            result ≡ pos (area_between p (get_or across 0 d) (get_or up 0 d) (coordinate_of across column d) (get_or up j d)) }
+    {
+        let count = self.number(j, column.cut);
+        if column.past == 0 {
+            return count;
+        }
+        let next = self.number(j, column.cut + 1);
+        let gap = self.across[column.cut + 1].abs_diff(self.across[column.cut]);
+        column.grown(count, next, gap)
+    }
+
+    /// How many squares lie below a side upwards and left of a side across.
+    fn below(&self, row: Side, column: Side) -> i64
+        requires column { IsSide self.now.across.items column }
+        requires row { IsSide self.now.up.items row }
+        requires uniform_across { 0 < column.past → (p : ℤ → ℤ → Bool) → AreSumsOf p self.now → IsUniform p self.now.across.items column.cut }
+        requires uniform_up { 0 < row.past → (p : ℤ → ℤ → Bool) → AreSumsOf p self.now → IsUniform (turned p) self.now.up.items row.cut }
+        ensures { (p : ℤ → ℤ → Bool) → AreSumsOf p self.now → (d : ℤ) → let across = self.now.across.items in let up = self.now.up.items in
+            result ≡ pos (area_between p (get_or across 0 d) (get_or up 0 d) (coordinate_of across column d) (coordinate_of up row d)) }
+    {
+        let count = self.left_of(row.cut, column);
+        if row.past == 0 {
+            return count;
+        }
+        let next = self.left_of(row.cut + 1, column);
+        let gap = self.up[row.cut + 1].abs_diff(self.up[row.cut]);
+        row.grown(count, next, gap)
+    }
+
     /// The area of the window in column `a` and row `b`.
     pub fn area(&self, a: u32, b: u32) -> i64
         requires column { a < self.now.windows.across.count }
@@ -72,8 +110,8 @@ impl WindowSums {
         ensures is { (p : ℤ → ℤ → Bool) → AreSumsOf p self.now → result ≡ pos (window_area p self.now.windows a b) }
     {
         let (column, row) = (self.columns[a as usize], self.rows[b as usize]);
-        let above = self.number(row.end, column.end) - self.number(row.end, column.begin);
-        let below = self.number(row.begin, column.end) - self.number(row.begin, column.begin);
+        let above = self.below(row.end, column.end) - self.below(row.end, column.begin);
+        let below = self.below(row.begin, column.end) - self.below(row.begin, column.begin);
         above - below
     }
 

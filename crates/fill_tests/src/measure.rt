@@ -136,6 +136,53 @@ fn sums_outlive_the_rectangles(rt: HostRuntime) -> Result<(), Fail> {
 }
 
 #[test]
+fn sides_of_windows_amid_edges(rt: HostRuntime) -> Result<(), Fail> {
+    // 70,000 windows of 4 by 4 in a row, a unit apart, over 10 columns of 2 lines and over 2 columns of all lines, by hand. Then the same
+    // with columns for lines.
+    let alloc = rt.alloc();
+    let corner = Point { x: 0, y: 0 };
+    let row = Windows::new(corner, (4, 4), (1, 4), (70_000, 1))?;
+    let column = Windows::new(corner, (4, 4), (4, 1), (1, 70_000))?;
+    let wide = [Rect::new(10, 1, 20, 3)?, Rect::new(100, -5, 102, 50)?];
+    let tall = [Rect::new(1, 10, 3, 20)?, Rect::new(-5, 100, 50, 102)?];
+    for (windows, rects) in [(row, wide), (column, tall)] {
+        let lists = in_lists(alloc, &rects, 1)?;
+        let areas = areas_of(&rt, alloc, &lists, &windows)?;
+        assert!(rt; areas.get(6..11) == Some([0, 2, 4, 6, 8].as_slice()));
+        assert!(rt; areas.get(16..21) == Some([8, 6, 4, 2, 0].as_slice()));
+        assert!(rt; areas.get(96..103) == Some([0, 4, 8, 8, 8, 4, 0].as_slice()));
+    }
+    Ok(())
+}
+
+#[test]
+fn windows_amid_edges_are_as_few_of_them_alone(rt: HostRuntime) -> Result<(), Fail> {
+    // 70,000 windows in a row, and in a column, of which the first or the last thousand lie over the rectangles.
+    let alloc = rt.alloc();
+    let rects = mixed_rects(alloc, 300)?;
+    let lists = in_lists(alloc, &rects, 3)?;
+    let region = Region::from_rects(alloc, &rects)?;
+    let part = Rect::new(-30, -25, 40, 35)?;
+    for (first, from, to) in [(-500, 0, 1_000), (-69_500, 69_000, 70_000)] {
+        let row = Windows::new(Point { x: first, y: -40 }, (13, 90), (1, 1), (70_000, 1))?;
+        let columns = Windows::new(Point { x: -500, y: -40 }, (13, 90), (1, 1), (1_000, 1))?;
+        let column = Windows::new(Point { x: -40, y: first }, (90, 13), (1, 1), (1, 70_000))?;
+        let rows = Windows::new(Point { x: -40, y: -500 }, (90, 13), (1, 1), (1, 1_000))?;
+        for (all, few) in [
+            (row, columns),
+            (column, rows),
+            (row.clipped_to(&part), columns.clipped_to(&part)),
+            (column.clipped_to(&part), rows.clipped_to(&part)),
+        ] {
+            let areas = areas_of(&rt, alloc, &lists, &all)?;
+            let alone = measure_region(&rt, alloc, &region, &few)?;
+            assert!(rt; areas.get(from..to) == Some(alone.as_slice()), "{all:?}");
+        }
+    }
+    Ok(())
+}
+
+#[test]
 fn rectangles_across_all_rows_and_a_million_windows(rt: HostRuntime) -> Result<(), Fail> {
     let alloc = rt.alloc();
     let windows = Windows::new(Point { x: -500, y: -500 }, (1, 1), (1, 1), (1000, 1000))?;

@@ -1,12 +1,14 @@
 -- What numbers on cuts say of a set of squares, and those of a mesh of the squares that its shapes have.
 use Rattle.std.specs.Prelude.{ℕ, ◌+◌, ◌-◌, ◌*◌, ◌<◌, ◌≤◌, min, ℤ, Bool, List, length, get_or}
 use Rattle.std.specs.Global.{Vec}
+use Rattle.fill_area.specs.Grid.{Grid, parts_across, parts_up}
 use Rattle.fill_cells.specs.Mesh.{gaps}
 use Rattle.fill_measure.specs.declared.prefix_sums.PrefixSums.{PrefixSums}
 use Rattle.fill_measure.specs.declared.mesh.Mesh.{Mesh}
 use Rattle.fill_measure.specs.steps.PrefixSums.{ArePrefixSums}
 use Rattle.fill_measure.specs.steps.Bands.{AreCells, IsRow}
 use Rattle.fill_measure.specs.steps.Shapes.{squares_of}
+use Rattle.fill_measure.specs.steps.Uniform.{IsUniformAboutEnds, turned}
 
 -- the prefix sums of the band of `height` rows at index `k`, above its lowest cut, where the last band may have fewer rows
 abbrev pub IsBand : (ℤ → ℤ → Bool) → List ℤ → List ℤ → ℕ → ℕ → List ℤ → Type 0
@@ -22,6 +24,12 @@ pub record AreBands (p : ℤ → ℤ → Bool) (across up : List ℤ) (height : 
 pub record AreAllPrefixSums (p : ℤ → ℤ → Bool) (across up : List ℤ) (prefix_sums : PrefixSums) : Type 0 where
   pub bands : AreBands p across up prefix_sums.height prefix_sums.bands.items
   pub below : ArePrefixSums p across up 0 prefix_sums.height (length prefix_sums.bands.items * length across) prefix_sums.below.items
+
+-- what tells the areas of windows: the prefix sums, and that the set is uniform about each side that stands amid two cuts
+pub record AreSums (p : ℤ → ℤ → Bool) (windows : Grid) (across up : List ℤ) (prefix_sums : PrefixSums) : Type 0 where
+  pub numbers : AreAllPrefixSums p across up prefix_sums
+  pub columns : IsUniformAboutEnds p across (parts_across windows)
+  pub rows : IsUniformAboutEnds (turned p) up (parts_up windows)
 
 -- the areas of all cells of a mesh, row by row
 abbrev pub AreCellsOf : Mesh → List ℤ → Type 0

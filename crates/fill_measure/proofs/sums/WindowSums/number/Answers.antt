@@ -11,13 +11,13 @@ index-requires-2 c =
     let sums = c.args.self.now in
     let width : c.len-width.result ≡ length sums.across.items = grind (arith, common_steps) in
     let count : vec_len sums.prefix_sums.below ≡ length sums.prefix_sums.below.items = grind (arith, common_steps) in
-    rw (width, count) (∥∥₁_elim sums.measured (search props) (λ x. (placed x.0 sums.across.items sums.up.items sums.prefix_sums c.args.i c.args.j c.min-k.result c.len.result c.index.result.now c.as_slice-band.result.now x.1 sums.up_cuts c.requires.column c.requires.cut c.len.ensures c.min-k.ensures c.index.ensures c.as_slice-band.ensures.value).below))
+    rw (width, count) (∥∥₁_elim sums.measured (search props) (λ x. (placed x.0 sums.across.items sums.up.items sums.prefix_sums c.args.i c.args.j c.min-k.result c.len.result c.index.result.now c.as_slice-band.result.now x.1.numbers sums.up_cuts c.requires.column c.requires.cut c.len.ensures c.min-k.ensures c.index.ensures c.as_slice-band.ensures.value).below))
 
 pub bounds-band-j : goal.bounds-band-j
 bounds-band-j c =
     let sums = c.args.self.now in
     let width : c.len-width.result ≡ length sums.across.items = grind (arith, common_steps) in
-    rw width (∥∥₁_elim sums.measured (search props) (λ x. (placed x.0 sums.across.items sums.up.items sums.prefix_sums c.args.i c.args.j c.min-k.result c.len.result c.index.result.now c.as_slice-band.result.now x.1 sums.up_cuts c.requires.column c.requires.cut c.len.ensures c.min-k.ensures c.index.ensures c.as_slice-band.ensures.value).above))
+    rw width (∥∥₁_elim sums.measured (search props) (λ x. (placed x.0 sums.across.items sums.up.items sums.prefix_sums c.args.i c.args.j c.min-k.result c.len.result c.index.result.now c.as_slice-band.result.now x.1.numbers sums.up_cuts c.requires.column c.requires.cut c.len.ensures c.min-k.ensures c.index.ensures c.as_slice-band.ensures.value).above))
 
 pub overflow_mul-result-2 : goal.overflow_mul-result-2
 overflow_mul-result-2 c = let above = bounds-band-j c in omega (arith, above, c.as_slice-band.type_inv.0)
@@ -33,11 +33,11 @@ overflow_add-result-2 c =
     let sums = c.args.self.now in
     let width : c.len-width.result ≡ length sums.across.items = grind (arith, common_steps) in
     rw width (∥∥₁_elim sums.measured (SFits-prop _ _) (λ x. (placed_number x.0 sums.across.items sums.up.items sums.prefix_sums c.args.i c.args.j c.min-k.result c.len.result c.index.result.now c.as_slice-band.result.now c.index-2.result.now (pos 0)
-    x.1 sums.across_cuts sums.up_cuts c.requires.column c.requires.cut c.len.ensures c.min-k.ensures c.index.ensures c.as_slice-band.ensures.value (rw width at c.index-2.ensures)).0))
+    x.1.numbers sums.across_cuts sums.up_cuts c.requires.column c.requires.cut c.len.ensures c.min-k.ensures c.index.ensures c.as_slice-band.ensures.value (rw width at c.index-2.ensures)).0))
 
 pub returns : goal.returns
 returns c p are d =
     let sums = c.args.self.now in
     let width : c.len-width.result ≡ length sums.across.items = grind (arith, common_steps) in
     rw width ((placed_number p sums.across.items sums.up.items sums.prefix_sums c.args.i c.args.j c.min-k.result c.len.result c.index.result.now c.as_slice-band.result.now c.index-2.result.now (pos 0)
-    are sums.across_cuts sums.up_cuts c.requires.column c.requires.cut c.len.ensures c.min-k.ensures c.index.ensures c.as_slice-band.ensures.value (rw width at c.index-2.ensures)).1 d)
+    are.numbers sums.across_cuts sums.up_cuts c.requires.column c.requires.cut c.len.ensures c.min-k.ensures c.index.ensures c.as_slice-band.ensures.value (rw width at c.index-2.ensures)).1 d)
