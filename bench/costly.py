@@ -55,6 +55,13 @@ def windows(across: bool, squares: int) -> Case:
     return counts | {"win_step_x": 1, "win_step_y": 1}, top(*(drawn or bars(1000, lambda k: LONG, 1000))), "", "check"
 
 
+def strewn(squares: int) -> Case:
+    """2^20 windows in one row, each a unit beside the last one, over squares anywhere, whose edges are nearly all apart."""
+    draw = random.Random(1)
+    corners = [(draw.randrange(2 * LONG), draw.randrange(LONG)) for _ in range(squares)]
+    return {"win_nx": LONG, "win_step_x": 1}, top(*[stream.boundary(7, x, y, x + 900, y + 900) for x, y in corners]), "", "check"
+
+
 def collide(count: int) -> Case:
     """Cell names of which a table with this hash and its fixed seed tells none from another."""
     def folded(a: int, b: int) -> int:
@@ -98,6 +105,8 @@ CASES: dict[str, Callable[[], Case]] = {
     "2^20 windows in one row, 1,000 bars": lambda: windows(True, 0),
     "2^20 windows in one column, 1,000 bars": lambda: windows(False, 0),
     "2^20 windows in one row, 262,144 squares": lambda: windows(True, 262144),
+    "2^20 windows in one column, 262,144 squares": lambda: windows(False, 262144),
+    "2^20 windows in one row, 262,144 strewn squares": lambda: strewn(262144),
     "262,144 cell names that collide": lambda: collide(262144),
     "100 by 100 wide windows, 262,144 places, 100,000 shapes": lambda: wide(100, 100000),
     "1,024 by 1,024 wide windows, 262,144 places": lambda: wide(1024, 1),
