@@ -1,20 +1,8 @@
--- What follows where there is a value, where there is an error, and where the bytes of three files are known.
-use Rattle.std.proofs.Common.{◌≡◌, ◌⊎◌, ◌↔◌, ℕ, List, Bool, true, false, Option, Some, None, Result, Ok, Err, IfErr, IfOk, IfSome, OnOk, inl, inr, refl, arith}
+-- What follows where the bytes of three files are known, and from how a text was written.
+use Rattle.std.proofs.Common.{◌≡◌, ◌⊎◌, ◌↔◌, ℕ, List, Bool, true, false, Option, Some, None, Result, Ok, Err, IfSome, OnOk, inl, inr, refl, arith}
 use Rattle.densfill_engine.specs.declared.refusal.RunFault.TheVariants as run
 use Rattle.densfill_engine.specs.declared.refusal.Refusal.{Refusal}
 use Rattle.densfill_engine.specs.declared.refusal.Refusal.TheVariants.{Run, Out, Report}
-
-pub still : {A E : Type 0} (result : Result A E) {P Q : Type 0} → (P → Q) → OnOk result P → OnOk result Q
-still (Ok x) f p = f p
-still (Err e) f p = p
-
-pub still_refused : {A E : Type 0} (result : Result A E) {P Q : E → Type 0} → ((e : E) → P e → Q e) → IfErr result P → IfErr result Q
-still_refused (Ok x) f p = p
-still_refused (Err e) f p = f e p
-
-pub still_ok : {A E : Type 0} (result : Result A E) {P Q : A → Type 0} → ((x : A) → P x → Q x) → IfOk result P → IfOk result Q
-still_ok (Ok x) f p = f x p
-still_ok (Err e) f p = p
 
 pub if_three : {P Q : (r d s : List ℕ) → Type 0} (rules design edits : Option (List ℕ)) → ((r d s : List ℕ) → P r d s → Q r d s)
     → IfSome rules (λ r. IfSome design (λ d. IfSome edits (λ s. P r d s))) → IfSome rules (λ r. IfSome design (λ d. IfSome edits (λ s. Q r d s)))

@@ -1,40 +1,15 @@
 -- What a text says of a part, once it is known what it holds.
-use Rattle.std.proofs.Common.{◌≡◌, ◌∙◌, ◌<◌, ◌≤◌, ◌&&◌, ℕ, Bool, Option, Some, None, true, false, refl, sym, arith, length, map, List}
+use Rattle.std.proofs.Common.{◌≡◌, ◌∙◌, ◌≤◌, ◌&&◌, ℕ, Bool, Option, Some, None, true, false, refl, sym, arith, length, map, List}
 use Rattle.std.specs.Prelude.{nat_le}
 use Rattle.std.proofs.lemmas.List.{length-map}
-use Rattle.std.specs.List.{after_first, before_first, position_or_len}
 use Rattle.clap.specs.Words.{Text}
-use Rattle.densfill_args.specs.Grammar.{has_slash, is_signed, is_slash, join, joined, number_of, part_by, part_of, plain_number}
+use Rattle.densfill_args.specs.Grammar.{is_signed, join, joined, number_of, plain_number}
 
 pub plain_is : (t : Text) (o : Option ℕ) → is_signed t ≡ false → number_of t ≡ o → o ≡ plain_number t
 plain_is t o plain is = sym is ∙ same
   where
     same : number_of t ≡ plain_number t
     same = rw plain refl
-
-pub plain_is_none : (t : Text) → is_signed t ≡ true → None ≡ plain_number t
-plain_is_none t signed = rw signed refl
-
-pub no_slash : (t : Text) → position_or_len is_slash t ≡ length t → None ≡ part_by t
-no_slash t none =
-    let test : has_slash t ≡ false = rw none (grind (arith, none)) in
-    rw test refl
-
--- what the two texts round the slash say
-pub no_number : (t : Text) → position_or_len is_slash t < length t → None ≡ plain_number (before_first is_slash t) → None ≡ part_by t
-no_number t slash none =
-    let test : has_slash t ≡ true = grind (arith, slash) in
-    rw (test, ← none) refl
-
-pub no_count : (t : Text) (k : ℕ) → position_or_len is_slash t < length t → Some k ≡ plain_number (before_first is_slash t) → None ≡ plain_number (after_first is_slash t) → None ≡ part_by t
-no_count t k slash number none =
-    let test : has_slash t ≡ true = grind (arith, slash) in
-    rw (test, ← number, ← none) refl
-
-pub both_numbers : (t : Text) (k n : ℕ) → position_or_len is_slash t < length t → Some k ≡ plain_number (before_first is_slash t) → Some n ≡ plain_number (after_first is_slash t) → part_of k n ≡ part_by t
-both_numbers t k n slash number count =
-    let test : has_slash t ≡ true = grind (arith, slash) in
-    rw (test, ← number, ← count) refl
 
 -- as many parts as there may be, or not
 pub few_joined : {X : Type 0} (a b : Text) (text : X → Text) (xs : List X) → 1 ≤ length xs → length xs ≤ 4096 → Some (join a b (map text xs)) ≡ joined a b (map text xs)

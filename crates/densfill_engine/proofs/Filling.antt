@@ -1,5 +1,5 @@
 -- A book that is opened, edited and filled gives the texts of a fill, or was given too few turns or too little history.
-use Rattle.std.proofs.Common.{◌≡◌, refl, ap, ap₂, sym, subst, ◌∙◌, ℕ, ◌+◌, ◌*◌, ◌^◌, ◌≤◌, ◌<◌, arith, inl, inr, List, [], length, map, Option, Result, Ok, Err, IfOk}
+use Rattle.std.proofs.Common.{◌≡◌, refl, ap, ap₂, sym, subst, ◌∙◌, ℕ, ◌+◌, ◌*◌, ◌^◌, ◌≤◌, ◌<◌, arith, inl, inr, List, [], length, map, Option}
 use Rattle.std.proofs.lemmas.List.{length-map}
 use Rattle.fill_region.specs.Bands.{Band}
 use Rattle.fill_text.specs.Rules.{Values}
@@ -15,6 +15,7 @@ use Rattle.fill_core.specs.declared.event.Entry.{Entry}
 use Rattle.fill_parts.specs.PartFill.{layers_by}
 use Rattle.fill_report.specs.BookReport.{fill_report}
 use Rattle.gds_out.specs.FillText.{fill_text}
+use Rattle.gds_out.specs.Places.{PlaceSet}
 use Rattle.fill_core.proofs.Unedited.{complete_unedited}
 use Rattle.fill_shared.specs.Runs.{IsFinished, changes_in}
 use Rattle.fill_shared.proofs.Edited.{layers_stay, no_change}
@@ -137,11 +138,7 @@ edits_short values limit edits most (inr full) = inr (more most edits (tile_coun
 pub only_one : (workers : ℕ) → 0 < workers → workers ≤ 1 → workers ≡ 1
 only_one workers some few = omega (arith, some, few)
 
--- what two clauses say of a value together
-pub both_ok : {A E : Type 0} (result : Result A E) {P Q R : A → Type 0} → ((x : A) → P x → Q x → R x) → IfOk result P → IfOk result Q → IfOk result R
-both_ok (Ok x) f p q = f x p q
-both_ok (Err e) f p q = p
-
-pub still_ok : {A E : Type 0} (result : Result A E) {P Q : A → Type 0} → ((x : A) → P x → Q x) → IfOk result P → IfOk result Q
-still_ok (Ok x) f p = f x p
-still_ok (Err e) f p = p
+-- the text is that of these rules and these places
+pub text_is : (text units dates : List ℕ) (v w : Values) (p q : PlaceSet) → text ≡ fill_text units dates v p → v ≡ w → p ≡ q → text ≡ fill_text units dates w q
+text_is text units dates v w p q is rules places =
+    is ∙ (ap (λ (x : Values). fill_text units dates x p) rules ∙ ap (λ (x : PlaceSet). fill_text units dates w x) places)

@@ -13,6 +13,7 @@ use Rattle.fill_core.specs.Histories.{edits_by, edits_in}
 use Rattle.fill_core.specs.Machine.{State, fill_after, is_accepted, layers_after, opened, opening, replay, replay_from, step, with_tile}
 use Rattle.fill_core.specs.declared.event.Event.{Event}
 use Rattle.fill_core.specs.declared.event.Event.TheVariants as event
+use Rattle.fill_core.proofs.Calling.{replay_from_append}
 use Rattle.fill_parts.specs.Cuts.{Part}
 use Rattle.fill_parts.specs.Laws.{EditsAreChanges, EditsOpenAnew}
 use Rattle.fill_parts.specs.Needs.{has_tile}
@@ -62,11 +63,6 @@ edits_later n (event.Edit edit ∷ es) = ap (λ l. edit ∷ l) (edits_later n es
 
 -- ---- edits first
 
-replay_behind : (plan : Plan) (s : State) (first rest : List Event) → replay_from plan s (first ++ rest) ≡ replay_from plan (replay_from plan s first) rest
-unfolding replay_from
-replay_behind plan s [] rest = refl
-replay_behind plan s (e ∷ es) rest = replay_behind plan (step plan s e) es rest
-
 abbrev behind : List Edit → List Event → List Event
 behind edits events = map event.Edit edits ++ map (later (length edits)) events
 
@@ -74,7 +70,7 @@ behind edits events = map event.Edit edits ++ map (later (length edits)) events
 behind_edits : (plan : Plan) (layers : Layers) (edits : List Edit) (events : List Event) → EditsOpenAnew
     → replay plan layers (behind edits events) ≡ raised (length edits) (replay plan (layers_with edits layers) events)
 behind_edits plan layers edits events law =
-    replay_behind plan (opening plan layers) (map event.Edit edits) (map (later (length edits)) events)
+    replay_from_append plan (opening plan layers) (map event.Edit edits) (map (later (length edits)) events)
     ∙ (ap (λ (s : State). replay_from plan s (map (later (length edits)) events)) (law plan layers edits ∙ ap (opened plan (layers_with edits layers) no_places) (from_none (length edits)))
     ∙ replay_raised plan (length edits) (opening plan (layers_with edits layers)) events)
   where

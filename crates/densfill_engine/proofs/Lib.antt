@@ -5,7 +5,6 @@ mod EditedLayers
 mod Reasons
 pub mod Checking
 mod TileTurns
-mod Marked
 mod Filling
 mod Later
 mod Preparing

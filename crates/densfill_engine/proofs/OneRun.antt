@@ -1,5 +1,5 @@
 -- The parts of a chip, joined, are one run.
-use Rattle.std.proofs.Common.{◌≡◌, refl, ap, sym, subst, ◌∙◌, ℕ, ◌<◌, ◌==◌, ◌&&◌, arith, Bool, true, false, List, [], ◌∷◌, ◌++◌, length, get_or, Option, Some, None, Result, Ok, Err}
+use Rattle.std.proofs.Common.{◌≡◌, refl, ap, sym, subst, ◌∙◌, ℕ, ◌<◌, ◌==◌, arith, true, false, List, [], ◌∷◌, ◌++◌, length, get_or, Option, Some, None, Result, Ok, Err}
 use Rattle.std.specs.Prelude.{slice_get}
 use Rattle.std.specs.List.{AllByRecursion, concat, flat_map, range_with_len}
 use Rattle.std.proofs.Math.Path.{fun_ext}
@@ -21,11 +21,12 @@ use Rattle.fill_parts.specs.PartReport.{part_report}
 use Rattle.fill_parts.proofs.Reporting.{parts_report}
 use Rattle.gds_record.specs.Records.{Rec}
 use Rattle.gds_record.specs.declared.kind.TheConstants as kinds
-use Rattle.gds_grammar.specs.Forms.{IsWell, has_form, has_name_if_asked, has_size}
+use Rattle.gds_grammar.specs.Forms.{IsWell, has_size}
 use Rattle.gds_grammar.specs.Grammar.{library_records}
 use Rattle.gds_grammar.specs.Outcomes.{Spells}
 use Rattle.gds_grammar.specs.Values.{Cell, Contents}
 use Rattle.gds_grammar.proofs.Unique.{spelled_once}
+use Rattle.gds_grammar.proofs.Paths.{well_size}
 use Rattle.gds_cells.specs.Copies.{drawn}
 use Rattle.gds_flatten.specs.Flattening.{copies_of}
 use Rattle.gds_out.specs.FillText.{fill_text}
@@ -58,25 +59,14 @@ dates_of_24 : (r : Rec) → r.kind ≡ kinds.BGNLIB → has_size r.kind (length 
 unfolding has_size
 dates_of_24 r is sized = same_size (length r.body) 24 (subst (λ k. has_size k (length r.body) ≡ true) is sized)
 
-sized : (r : Rec) → IsWell r → has_size r.kind (length r.body) ≡ true
-sized r well = middle (has_form r.kind r.form) (has_size r.kind (length r.body)) (has_name_if_asked r.kind r.body) well
-  where
-    middle : (a b c : Bool) → (a && b && c) ≡ true → b ≡ true
-    middle true true c h = refl
-    middle true false true h = h
-    middle true false false h = h
-    middle false true c h = refl
-    middle false false true h = h
-    middle false false false h = h
-
 has_sizes : (bytes : List ℕ) (value : Contents) → Spells bytes value → HasSizes value
 has_sizes bytes value spelled =
     let l = spelled.library.part in
     let all : AllByRecursion IsWell (library_records l) = subst (λ rs. AllByRecursion IsWell rs) spelled.library.spelled spelled.library.well.well in
     let rest = behind IsWell l.after _ (behind IsWell l.before _ all.1.1).1 in
     record {
-      units = ap (λ (c : Contents). length c.units) spelled.library.says ∙ units_of_16 l.units spelled.library.is_library.units (sized l.units rest.0);
-      dates = ap (λ (c : Contents). length c.dates) spelled.library.says ∙ dates_of_24 l.start spelled.library.is_library.start (sized l.start all.1.0);
+      units = ap (λ (c : Contents). length c.units) spelled.library.says ∙ units_of_16 l.units spelled.library.is_library.units (well_size l.units rest.0);
+      dates = ap (λ (c : Contents). length c.dates) spelled.library.says ∙ dates_of_24 l.start spelled.library.is_library.start (well_size l.start all.1.0);
     }
 
 -- ---- inputs say one thing

@@ -3,7 +3,6 @@ use Rattle.std.proofs.Common.{◌≡◌, ◌⊎◌, inl, inr, ◌≤◌, ◌^◌
 use Rattle.std.proofs.lemmas.Bool.Decides.{nat_tests}
 use Rattle.fill_text.specs.Rules.{Values, rules_of}
 use Rattle.fill_text.specs.Script.{Change}
-use Rattle.fill_text.specs.declared.rule_error.RuleError.{RuleError}
 use Rattle.fill_text.specs.declared.rule_error.RuleError.TheVariants as rule
 use Rattle.fill_text.specs.declared.script.ScriptError.{ScriptError}
 use Rattle.fill_text.specs.declared.script.ScriptError.TheVariants as script
@@ -14,7 +13,7 @@ use Rattle.densfill_engine.specs.Rects.{IsReason, report_answer}
 use Rattle.densfill_engine.specs.declared.refusal.InputFault.{InputFault}
 use Rattle.densfill_engine.specs.declared.refusal.RunFault.TheVariants as run
 use Rattle.densfill_engine.specs.declared.refusal.Refusal.{Refusal}
-use Rattle.densfill_engine.specs.declared.refusal.Refusal.TheVariants.{Rules, Script, Run, Report}
+use Rattle.densfill_engine.specs.declared.refusal.Refusal.TheVariants.{Script, Run, Report}
 
 both_read : (rules edits : List ℕ) (values : Values) (changes : List Change) → rules_answer rules ≡ Ok values → script_answer edits ≡ Ok changes
     → report_answer rules edits ≡ Ok (metal_report (is_metal changes) values)
@@ -24,12 +23,6 @@ both_read rules edits values changes read edited = rw (read, edited) refl
 -- an answer with a value is none of a refusal
 pub is_ok_of : {A E : Type 0} (r : Result A E) (x : A) → r ≡ Ok x → IsOk r
 is_ok_of r x e = rw e refl
-
--- the rule file gave no rules
-pub rules_reason : (rules edits : Option (List ℕ)) (f : InputFault RuleError) → IfSome rules (λ text. IsFaultOf rule.Memory (rules_answer text) f) → IfSome rules (λ r. IfSome edits (λ s. IsReason r s (Rules f)))
-rules_reason None edits f why = tt
-rules_reason (Some r) None f why = tt
-rules_reason (Some r) (Some s) f why = why
 
 -- the script gave no edits
 pub script_reason : (rules edits : Option (List ℕ)) (values : Values) (f : InputFault ScriptError) → IfSome rules (λ text. rules_answer text ≡ Ok values)

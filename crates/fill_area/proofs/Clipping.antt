@@ -38,10 +38,6 @@ le_self z = omega (arith, ints, clamps)
 order : (x y : ℤ) → (x ≤ℤ y) ⊎ (y <ℤ x)
 order x y = grind (arith, ints)
 
--- numbers that pass in the cut part are those that pass in the range and lie within the other
-between_kept : (low high b e x : ℤ) → low <ℤ high → b ≤ℤ e → is_between (kept_within low high b) (kept_within low high e) x ≡ is_between b e x && is_between low high x
-between_kept low high b e x some le = grind (arith, ints, clamps)
-
 within : (low high x : ℤ) → low ≤ℤ x → x <ℤ high → is_between low high x ≡ true
 within low high x a b = is_between_true low high x a b
 

@@ -6,9 +6,9 @@ use Rattle.std.proofs.lemmas.Int.{ints, clamps, to_z_pos}
 use Rattle.std.proofs.lemmas.Nat.{mod_below}
 use Rattle.std.proofs.Math.Nat.{mul-le-mul, mod-add-div, div-le_self}
 use Rattle.fill_base.specs.Coordinates.{lowest, highest}
-use Rattle.fill_base.specs.Counts.{span_len, sum_between, count_between}
+use Rattle.fill_base.specs.Counts.{span_len, count_between}
 use Rattle.fill_base.proofs.Signed.{read, read_is, coordinate_fits, side_short, le_trans}
-use Rattle.fill_base.proofs.Counting.{sum_between_split, sum_between_const}
+use Rattle.fill_base.proofs.Counting.{sum_between_split}
 use Rattle.fill_area.specs.Grid.{Grid, window_left, window_right}
 use Rattle.fill_area.specs.steps.Strips.{cut_at}
 use Rattle.fill_area.specs.steps.Lines.{lines_area}
@@ -60,13 +60,6 @@ cut_last bottom top strips ordered some = least_last bottom top (strips * strip_
 pub cut_fits : (bottom top : ℤ) (strips s : ℕ) → lowest ≤ℤ bottom → bottom ≤ℤ top → top ≤ℤ highest → FitsSigned w64 (cut_at bottom top strips s)
 cut_fits bottom top strips s low ordered high =
     coordinate_fits (cut_at bottom top strips s) (le_trans _ bottom _ low (cut_low bottom top strips s ordered)) (le_trans _ top _ (cut_high bottom top strips s) high)
-
--- no lines have no squares
-pub no_lines : (f : ℤ → ℕ) (lo : ℤ) → sum_between f lo lo ≡ 0
-no_lines f lo =
-    let c : sum_between f lo lo ≡ span_len lo lo * 0 = sum_between_const f lo lo 0 (omega (arith, ints, clamps)) (λ x le lt. absurd (omega (arith, ints, clamps))) in
-    let z : span_len lo lo * 0 ≡ 0 = omega arith in
-    c ∙ z
 
 -- the lines up to the end of a strip are those up to its beginning, and its own
 pub strip_more : (p : ℤ → ℤ → Bool) (g : Grid) (bottom top : ℤ) (strips s a : ℕ) → bottom ≤ℤ top

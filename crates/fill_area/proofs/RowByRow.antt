@@ -1,5 +1,5 @@
 -- Windows measured row by row.
-use Rattle.std.proofs.Common.{◌≡◌, ℕ, ◌+◌, ◌-◌, ◌*◌, ◌/◌, ◌%◌, ◌≤◌, ◌<◌, ℤ, pos, Bool, List, [], ◌++◌, length, take, get_or, arith, ap, ◌∙◌, sym}
+use Rattle.std.proofs.Common.{◌≡◌, ℕ, ◌+◌, ◌-◌, ◌*◌, ◌/◌, ◌%◌, ◌≤◌, ◌<◌, ℤ, pos, Bool, List, ◌++◌, length, take, get_or, arith, ap, ◌∙◌, sym}
 use Rattle.std.proofs.lemmas.List.{get_or_append_left, length-append}
 use Rattle.std.proofs.Math.Seq.{get_or-append_right, take-append_seam}
 use Rattle.std.proofs.Math.Nat.{mul-le-mul, mul-mod_left}
@@ -16,9 +16,6 @@ pub record AreFirst (p : ℤ → ℤ → Bool) (g : Grid) (b : ℕ) (areas : Lis
   pub count : length areas ≡ b * g.across.count
   pub each : (k : ℕ) (d : ℤ) → k < b * g.across.count → get_or areas k d ≡ whole_at p g k
 
-pub none_yet : (p : ℤ → ℤ → Bool) (g : Grid) → AreFirst p g 0 []
-none_yet p g = record { count = omega arith; each = λ k d lt. absurd (omega (arith, lt)) }
-
 -- a strip that is a whole row of windows
 pub strip_whole : (p : ℤ → ℤ → Bool) (g : Grid) (k : ℕ) → IsGrid g → pos (strip_area p g 1 0 k) ≡ whole_at p g k
 strip_whole p g k grid =
@@ -28,17 +25,6 @@ strip_whole p g k grid =
   where
     strip_end : ℕ → ℤ
     strip_end b = cut_at (window_bottom g b) (window_top g b) 1 1
-
--- a row begins within the list
-pub row_within : (g : Grid) (b columns : ℕ) → IsGrid g → columns ≡ g.across.count → b < g.up.count → b * columns < 1 * (g.across.count * g.up.count)
-row_within g b columns grid is lt =
-    let some : 1 ≤ g.across.count = grid.across.count_is.least in
-    let rows : (b + 1) * g.across.count ≤ g.up.count * g.across.count = mul-le-mul (omega (arith, lt)) (same g.across.count) in
-    let turned : g.up.count * g.across.count ≡ g.across.count * g.up.count = grind (arith) in
-    rw is (omega (arith, some, rows, turned))
-  where
-    same : (n : ℕ) → n ≤ n
-    same n = omega arith
 
 -- one row more
 pub row_more : (p : ℤ → ℤ → Bool) (g : Grid) (b columns : ℕ) (areas row : List ℤ) → IsGrid g → columns ≡ g.across.count → b < g.up.count → length row ≡ g.across.count

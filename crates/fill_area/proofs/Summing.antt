@@ -4,7 +4,6 @@ use Rattle.std.proofs.lemmas.Int.{ints}
 use Rattle.std.proofs.lemmas.List.{get_or-set_same, get_or-set_other, length-set, get_or_default}
 use Rattle.fill_base.proofs.Signed.{read, read_is}
 use Rattle.fill_spans.specs.EvenColumns.{AreSums}
-use Rattle.fill_area.specs.steps.Parts.{PartAdded}
 
 -- the first `n` numbers have grown, and the others are as they were
 pub record PartGrown (count s n : ℕ) (old new : List ℤ) : Type 0 where
@@ -33,10 +32,6 @@ here_sum count s k old new below within later sums part =
     let first : k < length old = omega arith in
     sum_read _ _ (get_or old k (pos 0)) (get_or old (s * count + k) (pos 0)) (part.others k (pos 0) (omega arith) first) (part.others (s * count + k) (pos 0) (omega arith) inner) (sums k (pos 0) first) (sums (s * count + k) (pos 0) inner)
 
-pub part_fits : (count s k : ℕ) (old new : List ℤ) → k < count → s * count + count ≤ length old → 1 ≤ s → AreSums old → PartGrown count s k old new
-    → FitsSigned w64 (read (get_or new k (pos 0)) +ℤ read (get_or new (s * count + k) (pos 0)))
-part_fits count s k old new below within later sums part = (here_sum count s k old new below within later sums part).0
-
 pub part_more : (count s k : ℕ) (old new : List ℤ) → k < count → s * count + count ≤ length old → 1 ≤ s → AreSums old → PartGrown count s k old new
     → PartGrown count s (k + 1) old (set new k (read (read (get_or new k (pos 0)) +ℤ read (get_or new (s * count + k) (pos 0)))))
 part_more count s k old new below within later sums part =
@@ -61,13 +56,3 @@ part_more count s k old new below within later sums part =
     by_place j d lt value value_is first inner false is =
         let e : j ≢ k = grind (arith, is) in
         get_or-set_other new k j value d e ∙ part.grown j d (other j k lt e)
-
-pub part_starts : (count s : ℕ) (old : List ℤ) → PartGrown count s 0 old old
-part_starts count s old = record { len = refl; grown = λ k d lt. absurd (omega arith); others = λ k d le lt. refl }
-
-pub part_done : (count s k : ℕ) (old new : List ℤ) → k ≡ count → PartGrown count s k old new → PartAdded count s old new
-part_done count s k old new all part = record {
-  len = part.len;
-  added = λ j d lt. part.grown j d (omega (arith, lt, all));
-  others = λ j d le lt. part.others j d (omega (arith, le, all)) lt;
-}

@@ -1,6 +1,7 @@
 -- Tests of numbers between two ends, and the squares of a rectangle.
-use Rattle.std.proofs.Common.{◌≡◌, ◌*◌, ℤ, ◌≤ℤ◌, ◌<ℤ◌, refl, arith, ◌∙◌, sym, Bool, true, false, ◌&&◌}
+use Rattle.std.proofs.Common.{◌≡◌, ◌*◌, ℤ, pos, ◌+ℤ◌, ◌≤ℤ◌, ◌<ℤ◌, refl, arith, ◌∙◌, sym, Bool, true, false, ◌&&◌, ◌||◌}
 use Rattle.std.specs.Int.{int_max, int_min}
+use Rattle.std.specs.Ordering.{int_eq}
 use Rattle.std.proofs.lemmas.Int.{ints, clamps}
 use Rattle.fill_base.specs.declared.rect.Rect.{Rect}
 use Rattle.fill_base.specs.Counts.{span_len, count_between, is_between, IsCommonPart}
@@ -18,6 +19,13 @@ is_between_above lo hi x high = grind (arith, ints)
 
 pub is_between_bounds : (lo hi x : ℤ) → is_between lo hi x ≡ true → (lo ≤ℤ x) × (x <ℤ hi)
 is_between_bounds lo hi x is = (grind (arith, ints), grind (arith, ints))
+
+-- a range that begins grows by one number
+pub between_none : (a x : ℤ) → is_between a a x ≡ false
+between_none a x = grind (arith, ints)
+
+pub between_more : (a i x : ℤ) → a ≤ℤ i → is_between a (i +ℤ pos 1) x ≡ is_between a i x || int_eq x i
+between_more a i x le = grind (arith, ints)
 
 -- both of two ranges hold what their common part holds
 pub is_between_meet : (a b c d lo hi x : ℤ) → lo ≡ int_max a b → hi ≡ int_min c d → is_between lo hi x ≡ is_between a c x && is_between b d x

@@ -1,8 +1,8 @@
 -- Signed numbers as the code's values show them: read back from their bits.
-use Rattle.std.proofs.Common.{◌≡◌, ℕ, ◌*◌, ◌^◌, ◌≤◌, ◌<◌, ℤ, pos, ◌-ℤ◌, ◌*ℤ◌, ◌≤ℤ◌, ◌<ℤ◌, refl, arith, w32, w64, to_z, of_z, FitsSigned, true, false, ◌∙◌}
-use Rattle.std.specs.Prelude.{int_le, int_lt}
+use Rattle.std.proofs.Common.{◌≡◌, ℕ, ◌*◌, ◌^◌, ◌≤◌, ◌<◌, ℤ, pos, ◌-ℤ◌, ◌*ℤ◌, ◌≤ℤ◌, ◌<ℤ◌, refl, arith, w32, w64, to_z, of_z, FitsSigned, Bool, true, false, ◌∙◌, ◌↔◌}
+use Rattle.std.specs.Prelude.{int_le, int_lt, IsTrue}
 use Rattle.std.specs.Int.{int_max, int_min}
-use Rattle.std.proofs.lemmas.Int.{ints, clamps, to_z-of_z}
+use Rattle.std.proofs.lemmas.Int.{ints, clamps, by_lt_z, to_z-of_z}
 use Rattle.std.proofs.Math.Nat.{mul-le-mul}
 use Rattle.fill_base.specs.Coordinates.{lowest, highest}
 use Rattle.fill_base.specs.Counts.{span_len}
@@ -20,10 +20,6 @@ read_is z fits = to_z-of_z w64 z fits
 
 pub read32_is : (z : ℤ) → FitsSigned w32 z → read32 z ≡ z
 read32_is z fits = to_z-of_z w32 z fits
-
--- what lies between two numbers that fit, fits
-pub fits_between : (lo hi z : ℤ) → FitsSigned w64 lo → FitsSigned w64 hi → lo ≤ℤ z → z ≤ℤ hi → FitsSigned w64 z
-fits_between lo hi z low high l h = omega (arith, ints, clamps)
 
 -- a coordinate fits 64 bits, and 32
 pub coordinate_fits : (z : ℤ) → lowest ≤ℤ z → z ≤ℤ highest → FitsSigned w64 z
@@ -74,6 +70,11 @@ is_lt a b h = grind (arith, ints)
 
 pub not_lt : (a b : ℤ) → int_lt a b ≡ false → b ≤ℤ a
 not_lt a b h = grind (arith, ints)
+
+-- what a test of an order answers is the order's own test
+pub lt_test : (a b : ℤ) (r : Bool) → (IsTrue r ↔ a <ℤ b) → int_lt a b ≡ r
+lt_test a b true h = let lt : a <ℤ b = h.0 refl in grind (arith, ints)
+lt_test a b false h = by_lt_z a b (λ lt. let both : false ≡ true = h.1 lt in cc) (λ le. grind (arith, ints))
 
 pub fits_max : (a b : ℤ) → FitsSigned w64 a → FitsSigned w64 b → FitsSigned w64 (int_max a b)
 fits_max a b f g = omega (arith, ints, clamps)

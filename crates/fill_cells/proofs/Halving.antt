@@ -1,28 +1,17 @@
 -- The area in both halves of a rectangle.
-use Rattle.std.proofs.Common.{◌≡◌, Bool, true, ℕ, ◌+◌, ◌*◌, ◌^◌, ◌≤◌, ◌<◌, ℤ, pos, ◌+ℤ◌, ◌≤ℤ◌, ◌<ℤ◌, List, refl, arith, ap, ◌∙◌, cond, w64, FitsSigned}
+use Rattle.std.proofs.Common.{◌≡◌, Bool, true, ℕ, ◌+◌, ◌*◌, ◌^◌, ◌≤◌, ◌<◌, ℤ, pos, ◌+ℤ◌, ◌≤ℤ◌, ◌<ℤ◌, List, refl, arith, ap, ◌∙◌, w64, FitsSigned}
 use Rattle.std.proofs.lemmas.Int.{ints, clamps}
 use Rattle.fill_base.specs.declared.rect.Rect.{Rect}
 use Rattle.fill_base.specs.Coordinates.{lowest, highest}
 use Rattle.fill_base.specs.Counts.{span_len, count_between}
-use Rattle.fill_base.specs.Squares.{squares, area_between, area_of}
+use Rattle.fill_base.specs.Squares.{squares, area_of}
 use Rattle.fill_base.proofs.Between.{is_between_true}
-use Rattle.fill_base.proofs.Counting.{sum_between_split, sum_between_add, sum_between_same, count_between_same, sum_between_le, count_between_le}
+use Rattle.fill_base.proofs.Covering.{area_split_across, area_split_up, area_few}
+use Rattle.fill_base.proofs.Counting.{sum_between_same, count_between_same}
 use Rattle.fill_base.proofs.Signed.{read, read_is, lt_le, side_short, product_small, pos_fits}
 use Rattle.fill_region.specs.Squares.{covered}
 use Rattle.fill_cells.specs.steps.Halves.{AreHalves}
 use Rattle.fill_cells.specs.steps.Within.{AreWithin}
-
--- an area adds up at a column
-pub area_split_across : (p : ℤ → ℤ → Bool) (left mid right bottom top : ℤ) → left ≤ℤ mid → mid ≤ℤ right
-    → area_between p left bottom right top ≡ area_between p left bottom mid top + area_between p mid bottom right top
-area_split_across p left mid right bottom top low high =
-    sum_between_add (λ y. count_between (λ x. p x y) left mid) (λ y. count_between (λ x. p x y) mid right) (λ y. count_between (λ x. p x y) left right) bottom top
-    (λ y. sum_between_split (λ x. cond (p x y) 1 0) left mid right low high)
-
--- and at a cut
-pub area_split_up : (p : ℤ → ℤ → Bool) (left right bottom mid top : ℤ) → bottom ≤ℤ mid → mid ≤ℤ top
-    → area_between p left bottom right top ≡ area_between p left bottom right mid + area_between p left mid right top
-area_split_up p left right bottom mid top low high = sum_between_split (λ y. count_between (λ x. p x y) left right) bottom mid top low high
 
 shorter : (a m b c d : ℤ) → a <ℤ m → m <ℤ b → span_len a m + span_len c d < span_len a b + span_len c d
 shorter a m b c d low high = omega (arith, ints, clamps)
@@ -65,7 +54,7 @@ same_within p q part same =
 pub area_small : (p : ℤ → ℤ → Bool) (part : Rect) → area_of p part ≤ 2 ^ 62
 area_small p part =
     let cuts : area_of p part ≤ span_len part.y1 part.y2 * span_len part.x1 part.x2 =
-    sum_between_le (λ y. count_between (λ x. p x y) part.x1 part.x2) part.y1 part.y2 (span_len part.x1 part.x2) (λ y. count_between_le (λ x. p x y) part.x1 part.x2) in
+    area_few p part.x1 part.y1 part.x2 part.y2 in
     let product = product_small (span_len part.y1 part.y2) (span_len part.x1 part.x2) (short part.y1 part.y2 part.bottom part.tall part.top) (short part.x1 part.x2 part.left part.wide part.right) in
     omega (arith, cuts, product)
   where

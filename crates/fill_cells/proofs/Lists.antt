@@ -95,10 +95,6 @@ one_above a b r left right bottom top x1 y1 x2 y2 x y =
     (ap (λ t. is_between a.x1 a.x2 x && t) (range_or a.y1 a.y2 b.y1 b.y2 y a.tall b.tall bottom top)
     ∙ or_and (is_between a.x1 a.x2 x) (is_between a.y1 a.y2 y) (is_between b.y1 b.y2 y))
 
--- a list that covers the part covers all there
-pub whole_stays : (part rect : Rect) (list : List Rect) → IsWhole part list → AreMore part rect list list
-whole_stays part rect list whole x y inside = whole x y inside ∙ sym (ap (λ t. t || squares rect x y) (whole x y inside))
-
 -- a rectangle without squares in the part adds none there
 pub nothing_more : (part rect : Rect) (list : List Rect) → ((x y : ℤ) → squares rect x y && squares part x y ≡ false) → AreMore part rect list list
 nothing_more part rect list apart x y inside =

@@ -1,5 +1,6 @@
 -- The cells of a row put one after another.
-use Rattle.std.proofs.Common.{◌≡◌, Bool, true, false, ◌&&◌, ℕ, ◌+◌, ◌-◌, ◌^◌, ◌≤◌, ◌<◌, ℤ, pos, ◌≤ℤ◌, ◌<ℤ◌, List, [], ◌∷◌, ◌++◌, length, get_or, set, refl, arith, ap, ◌∙◌, sym, subst}
+use Rattle.std.proofs.Common.{◌≡◌, Bool, true, ℕ, ◌+◌, ◌-◌, ◌^◌, ◌≤◌, ◌<◌, ℤ, pos, ◌≤ℤ◌, ◌<ℤ◌, List, [], ◌∷◌, ◌++◌, length, get_or, set, refl, arith, ap, ◌∙◌, sym, subst}
+use Rattle.std.proofs.lemmas.Bool.{and_parts}
 use Rattle.std.specs.Global.{Vec}
 use Rattle.std.proofs.lemmas.Int.{ints, clamps}
 use Rattle.std.proofs.lemmas.List.{get_or_default, get_or-set_other, get_or_append_left, length-append, length-set}
@@ -17,14 +18,10 @@ use Rattle.fill_cells.specs.steps.Within.{AreWithin}
 use Rattle.fill_cells.proofs.Gaps.{cut_le}
 use Rattle.fill_cells.proofs.Halving.{same_within, area_small}
 
-and_both : (a b : Bool) → a && b ≡ true → (a ≡ true) × (b ≡ true)
-and_both true b h = (refl, h)
-and_both false b h = absurd (cc)
-
 -- the edges between which a square of a rectangle lies
 squares_bounds : (r : Rect) (x y : ℤ) → squares r x y ≡ true → (r.x1 ≤ℤ x) × (x <ℤ r.x2) × (r.y1 ≤ℤ y) × (y <ℤ r.y2)
 squares_bounds r x y held =
-    let both = and_both (is_between r.x1 r.x2 x) (is_between r.y1 r.y2 y) held in
+    let both = and_parts (is_between r.x1 r.x2 x) (is_between r.y1 r.y2 y) held in
     let across = is_between_bounds r.x1 r.x2 x both.0 in
     let up = is_between_bounds r.y1 r.y2 y both.1 in
     (across.0, across.1, up.0, up.1)

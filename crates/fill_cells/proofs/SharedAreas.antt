@@ -10,9 +10,10 @@ use Rattle.fill_base.specs.Squares.{area_of, area_between, squares}
 use Rattle.fill_base.proofs.Between.{is_between_true, is_between_below, is_between_above, is_between_bounds}
 use Rattle.fill_base.proofs.Counting.{count_between_same, sum_between_same, sum_between_add}
 use Rattle.fill_base.proofs.Signed.{read, read_is, pos_fits, le_trans, lt_le}
+use Rattle.fill_base.proofs.Covering.{area_split_across, area_split_up}
 use Rattle.fill_area.proofs.Measuring.{no_area}
 use Rattle.fill_region.specs.Squares.{covered}
-use Rattle.fill_cells.proofs.Halving.{area_split_across, area_split_up, area_small, same_within, summed}
+use Rattle.fill_cells.proofs.Halving.{area_small, same_within, summed}
 use Rattle.fill_cells.proofs.Lists.{covered_pushed}
 
 pub and_no : (b : Bool) → b && false ≡ false

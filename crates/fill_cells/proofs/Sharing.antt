@@ -1,5 +1,6 @@
 -- A rectangle put to the lists of the parts that it meets.
-use Rattle.std.proofs.Common.{◌≡◌, Bool, true, false, ◌&&◌, ◌||◌, ℕ, ◌+◌, ◌≤◌, ◌<◌, ℤ, pos, ◌≤ℤ◌, ◌<ℤ◌, List, [], ◌∷◌, ◌++◌, length, take, get_or, set, refl, arith, ap, ◌∙◌, sym, subst}
+use Rattle.std.proofs.Common.{◌≡◌, Bool, true, false, ◌||◌, ℕ, ◌+◌, ◌≤◌, ◌<◌, ℤ, pos, ◌≤ℤ◌, ◌<ℤ◌, List, [], ◌∷◌, ◌++◌, length, take, get_or, set, refl, arith, ap, ◌∙◌, sym, subst}
+use Rattle.std.proofs.lemmas.Bool.{and_parts}
 use Rattle.std.specs.Global.{Vec}
 use Rattle.std.proofs.lemmas.Int.{ints}
 use Rattle.std.proofs.lemmas.List.{get_or_default, get_or-set_same, get_or-set_other, length-set, take_more, take_all}
@@ -56,10 +57,6 @@ or_false : (b : Bool) → (b || false) ≡ b
 or_false true = refl
 or_false false = refl
 
-and_both : (a b : Bool) → a && b ≡ true → (a ≡ true) × (b ≡ true)
-and_both true b h = (refl, h)
-and_both false b h = absurd (cc)
-
 -- two ranges with a number in both
 both_hold : (a b c d z : ℤ) → is_between a b z ≡ true → is_between c d z ≡ true → (c <ℤ b) × (a <ℤ d)
 both_hold a b c d z h k = let p = is_between_bounds a b z h in let q = is_between_bounds c d z k in joined a b c d z p.0 p.1 q.0 q.1
@@ -98,7 +95,7 @@ shared_all row rect cuts begin end first k past old new begin_is end_is met all 
     meets : (lo hi x y : ℤ) → cell_squares row lo hi x y ≡ true → squares rect x y ≡ true → (read begin <ℤ hi) × (lo <ℤ read end)
     meets lo hi x y inside held =
         rw (ap read begin_is ∙ read_is rect.x1 (x1_fits rect), ap read end_is ∙ read_is rect.x2 (x2_fits rect))
-        (both_hold lo hi rect.x1 rect.x2 x (and_both (is_between lo hi x) (is_between row.y1 row.y2 y) inside).0 (and_both (is_between rect.x1 rect.x2 x) (is_between rect.y1 rect.y2 y) held).0)
+        (both_hold lo hi rect.x1 rect.x2 x (and_parts (is_between lo hi x) (is_between row.y1 row.y2 y) inside).0 (and_parts (is_between rect.x1 rect.x2 x) (is_between rect.y1 rect.y2 y) held).0)
 
 pub listed_all : (rects : List Rect) (rect : Rect) (up : List ℤ) (begin end : ℤ) (first k past : ℕ) (old new : List (Vec ℕ)) → begin ≡ rect.y1 → end ≡ rect.y2
     → AreMet up (read begin) (read end) first past → past ≤ k → AreMoreTo (Vec ℕ) (λ v. covered_at rects v.items) row_squares up rect first k old new → AreListed rects up rect old new
@@ -108,7 +105,7 @@ listed_all rects rect up begin end first k past old new begin_is end_is met all 
     meets : (lo hi x y : ℤ) → row_squares lo hi x y ≡ true → squares rect x y ≡ true → (read begin <ℤ hi) × (lo <ℤ read end)
     meets lo hi x y inside held =
         rw (ap read begin_is ∙ read_is rect.y1 (y1_fits rect), ap read end_is ∙ read_is rect.y2 (y2_fits rect))
-        (both_hold lo hi rect.y1 rect.y2 y inside (and_both (is_between rect.x1 rect.x2 x) (is_between rect.y1 rect.y2 y) held).1)
+        (both_hold lo hi rect.y1 rect.y2 y inside (and_parts (is_between rect.x1 rect.x2 x) (is_between rect.y1 rect.y2 y) held).1)
 
 -- the list at one place written
 pub more_at : (V : Type 0) (cover : V → ℤ → ℤ → Bool) (part : ℤ → ℤ → ℤ → ℤ → Bool) (cuts : List ℤ) (rect : Rect) (k : ℕ) (old : List V) (list : V) → k < length old

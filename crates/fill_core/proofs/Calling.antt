@@ -11,7 +11,7 @@ use Rattle.fill_text.specs.declared.script.Edit.{Edit}
 use Rattle.fill_job.specs.Plans.{Layers, Plan, plan_of}
 use Rattle.fill_job.specs.ReadSets.{ReadSet, read_set, wanted_of}
 use Rattle.fill_job.proofs.ReadSets.{same_wanted}
-use Rattle.fill_core.specs.Accounts.{Account, state_of, with_entry}
+use Rattle.fill_core.specs.Accounts.{state_of}
 use Rattle.fill_core.specs.Boxes.{total_in}
 use Rattle.fill_core.specs.Callers.{Job, Proposal, World, Step, IsMarked, Moves, Runs, commit_of, events_by, events_of, job_on, proposal_of, start}
 use Rattle.fill_core.specs.Callers.Step.{Look, Propose, Bring, Commit, Change, Ask}
@@ -35,7 +35,7 @@ state_after rules w v (Commit p same) m = ap (λ (u : World). u.state) m.2
 state_after rules w v (Change caller edit) m = ap (λ (u : World). u.state) m
 state_after rules w v (Ask caller) m = ap (λ (u : World). u.state) m
 
-replay_from_append : (plan : Plan) (s : State) (first rest : List Event) → replay_from plan s (first ++ rest) ≡ replay_from plan (replay_from plan s first) rest
+pub replay_from_append : (plan : Plan) (s : State) (first rest : List Event) → replay_from plan s (first ++ rest) ≡ replay_from plan (replay_from plan s first) rest
 unfolding replay_from
 replay_from_append plan s [] rest = refl
 replay_from_append plan s (e ∷ es) rest = replay_from_append plan (step plan s e) es rest

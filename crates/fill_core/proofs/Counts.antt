@@ -3,16 +3,15 @@ use Rattle.std.proofs.Common.{◌≡◌, refl, ◌∙◌, ℕ, ◌+◌, ◌*◌,
 use Rattle.std.specs.Prelude.{◌==◌}
 use Rattle.std.proofs.lemmas.Bool.{cases_Bool, and_parts}
 use Rattle.std.proofs.lemmas.Int.{ints, clamps}
-use Rattle.std.proofs.lemmas.List.{length_push}
 use Rattle.std.proofs.lemmas.List.Sums.{sum_by-cons}
 use Rattle.std.proofs.Math.Nat.{mul_comm}
 use Rattle.fill_base.specs.Counts.{span_len, is_between, sum_between, count_between}
 use Rattle.fill_base.specs.Squares.{squares}
 use Rattle.fill_base.proofs.Between.{is_between_bounds}
 use Rattle.fill_base.proofs.Counting.{count_between_const, sum_between_add, sum_between_const, sum_between_same, sum_between_split}
+use Rattle.fill_base.proofs.Covering.{area_few, area_none}
 use Rattle.fill_raster.specs.Axes.{first, past, extent}
 use Rattle.fill_raster.specs.Lattice.{Lattice}
-use Rattle.fill_raster.proofs.Points.{area_few, area_none}
 use Rattle.fill_raster.proofs.Ranges.{first_past}
 use Rattle.fill_text.specs.declared.script.Edit.{Edit}
 use Rattle.fill_text.specs.declared.script.Edit.TheVariants.{Add, Cut, Keep}
@@ -47,10 +46,6 @@ one_less false k = refl
 none_less : (f : Bool) → cond f 1 0 ≡ cond f 1 0 + cond (f && not f) 1 0
 none_less true = refl
 none_less false = refl
-
--- what an event leaves filled and what it takes out are what was filled and what it places
-Balanced : Plan → State → Event → Type 0
-Balanced plan s e = count_places plan.raster (step plan s e).fill + withdrawn_by (reply_of plan s e) ≡ count_places plan.raster s.fill + placed_by (reply_of plan s e)
 
 plus_nothing : (m n k : ℕ) → m ≡ n + k → m + 0 ≡ n + k
 plus_nothing m n k e = omega (arith, e)

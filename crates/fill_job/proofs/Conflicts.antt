@@ -1,5 +1,5 @@
 -- Conflicts, by squares.
-use Rattle.std.proofs.Common.{◌≡◌, sym, ℕ, ◌<◌, ℤ, pos, ◌+ℤ◌, ◌-ℤ◌, ◌≤ℤ◌, ◌<ℤ◌, arith, Bool, true, ◌↔◌}
+use Rattle.std.proofs.Common.{◌≡◌, sym, ◌<◌, ℤ, pos, ◌+ℤ◌, ◌-ℤ◌, ◌≤ℤ◌, ◌<ℤ◌, arith, Bool, true, ◌↔◌}
 use Rattle.std.specs.Prelude.{IsTrue}
 use Rattle.std.proofs.lemmas.Bool.{and_from, and_parts}
 use Rattle.std.proofs.lemmas.Int.{ints, clamps}
@@ -14,13 +14,10 @@ use Rattle.fill_size.proofs.Ranges.{nearest}
 use Rattle.fill_job.specs.Searches.{some_below, some_pair, some_within}
 use Rattle.fill_job.specs.Plans.{PointSet, meets_box}
 use Rattle.fill_job.specs.Laws.{BlockedIsSharing, ConflictsAreOfSquares}
-use Rattle.fill_job.proofs.Searching.{some_below_finds, some_below_has}
+use Rattle.fill_job.proofs.Searching.{some_below_finds, some_below_has, step_within}
 
 step_from : (lo hi x : ℤ) → lo ≤ℤ x → x <ℤ hi → (span_len lo x < span_len lo hi) × (lo +ℤ pos (span_len lo x) ≡ x)
 step_from lo hi x low high = (omega (arith, ints, clamps), omega (arith, ints, clamps))
-
-step_in : (lo hi : ℤ) (n : ℕ) → lo ≤ℤ hi → n < span_len lo hi → (lo ≤ℤ (lo +ℤ pos n)) × ((lo +ℤ pos n) <ℤ hi)
-step_in lo hi n ordered lt = (omega (arith, ints, clamps), omega (arith, ints, clamps))
 
 -- a search between four edges finds a square where there is one
 pub some_within_decides : (p : ℤ → ℤ → Bool) (left bottom right top : ℤ) → left ≤ℤ right → bottom ≤ℤ top → IsTrue (some_within p left bottom right top) ↔ HasSquare p left bottom right top
@@ -29,8 +26,8 @@ some_within_decides p left bottom right top wide tall = (
   (λ h.
       let column = some_below_finds (λ a. some_below (λ b. p (left +ℤ pos a) (bottom +ℤ pos b)) (span_len bottom top)) (span_len left right) h in
       let row = some_below_finds (λ b. p (left +ℤ pos column.0) (bottom +ℤ pos b)) (span_len bottom top) column.2 in
-      let x = step_in left right column.0 wide column.1 in
-      let y = step_in bottom top row.0 tall row.1 in
+      let x = step_within left right column.0 wide column.1 in
+      let y = step_within bottom top row.0 tall row.1 in
       record { x = left +ℤ pos column.0; y = bottom +ℤ pos row.0; square = row.2; from_left = x.0; to_right = x.1; from_bottom = y.0; to_top = y.1 }),
   (λ f.
       let x = step_from left right f.x f.from_left f.to_right in
@@ -40,7 +37,7 @@ some_within_decides p left bottom right top wide tall = (
       (some_below_has (λ b. p (left +ℤ pos (span_len left f.x)) (bottom +ℤ pos b)) (span_len bottom top) (span_len bottom f.y) y.0 square)),
 )
 
-some_wide : (b n : ℤ) → IsLength n → b <ℤ (b +ℤ n)
+pub some_wide : (b n : ℤ) → IsLength n → b <ℤ (b +ℤ n)
 some_wide b n long = let l : pos 1 ≤ℤ n = long.least in omega (arith, ints, clamps)
 
 pub grown_le : (b e s : ℤ) → b <ℤ e → pos 0 ≤ℤ s → (b -ℤ s) ≤ℤ (e +ℤ s)

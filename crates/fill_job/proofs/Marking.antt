@@ -7,18 +7,13 @@ use Rattle.std.proofs.lemmas.Bool.{and_parts}
 use Rattle.std.proofs.lemmas.Bool.Decides.{Decides-int_eq}
 use Rattle.std.proofs.lemmas.Int.{ints, clamps}
 use Rattle.fill_base.specs.Counts.{is_between}
+use Rattle.fill_base.proofs.Between.{between_none, between_more}
 use Rattle.fill_job.specs.Plans.{PointSet}
 
 no_more : (o f t : Bool) → o ≡ o || (f && (false && t))
 no_more true f t = refl
 no_more false true t = refl
 no_more false false t = refl
-
-between_none : (a x : ℤ) → is_between a a x ≡ false
-between_none a x = grind (arith, ints)
-
-between_more : (a i x : ℤ) → a ≤ℤ i → is_between a (i +ℤ pos 1) x ≡ is_between a i x || int_eq x i
-between_more a i x le = grind (arith, ints)
 
 -- where the numbers so far end, they are all of the range
 pub between_all : (a b i x : ℤ) → a ≤ℤ i → i ≤ℤ int_max a b → b ≤ℤ i → is_between a i x ≡ is_between a b x
@@ -69,9 +64,6 @@ pub column_more : (o b a s : PointSet) (left i j : ℤ) (t : Bool) → left ≤�
     → (k m : ℤ) → a k m ≡ o k m || (int_eq m j && (is_between left (i +ℤ pos 1) k && s k m))
 column_more o b a s left i j t le t_is before after k m =
     after k m ∙ rw (before k m, t_is, between_more left i k le) (grown (o k m) (int_eq k i) (int_eq m j) (is_between left i k) (s k m) (s i j) (same_place s i j k m))
-
-set_true : (b e : Bool) → b || e ≡ b || (true && e)
-set_true b e = refl
 
 set_false : (b e : Bool) → b ≡ b || (false && e)
 set_false true e = refl

@@ -22,11 +22,8 @@ use Rattle.fill_size.specs.Ranges.{AreRising, AreMarked}
 use Rattle.fill_size.proofs.Ranges.{spacing_read}
 use Rattle.fill_job.specs.Plans.{Layers, Plan, PointSet, blocked, meets_box}
 use Rattle.fill_job.specs.steps.Reaches.{reach, AreMet, AreReaches, AreTaken}
-use Rattle.fill_job.proofs.Conflicts.{some_within_decides, grown_le}
+use Rattle.fill_job.proofs.Conflicts.{some_within_decides, grown_le, some_wide}
 use Rattle.fill_job.proofs.LowWindows.{both_or_none}
-
-some_wide : (b n : ℤ) → IsLength n → b <ℤ (b +ℤ n)
-some_wide b n long = let l : pos 1 ≤ℤ n = long.least in omega (arith, ints, clamps)
 
 -- a set meets a box where it has a square in the grown box
 met_found : (r : Lattice) (s : ℤ) (p : PointSet) (i j : ℤ) → IsLattice r → IsSpacing s
@@ -149,12 +146,6 @@ pub next_index : (left i : ℤ) (index : ℕ) → pos index ≡ i -ℤ left → 
 next_index left i index is = omega (arith, ints, clamps, is)
 
 -- ---- the columns that boxes reach, one place after the other
-
-pub no_reaches : (r : Lattice) (s left : ℤ) → AreReaches r s left left []
-no_reaches r s left = record { count = none left; each = λ a d lt. absurd (omega arith) }
-  where
-    none : (left : ℤ) → 0 ≡ span_len left left
-    none left = omega (arith, ints, clamps)
 
 columns_read : (r : Rect) (s x1 x2 : ℤ) → IsSpacing s → x1 ≡ r.x1 → x2 ≡ r.x2 → (read (read x1 -ℤ read s) ≡ r.x1 -ℤ s) × (read (read x2 +ℤ read s) ≡ r.x2 +ℤ s)
 columns_read r s x1 x2 is e1 e2 =

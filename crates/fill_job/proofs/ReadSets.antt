@@ -31,7 +31,7 @@ left_out true true c follows = refl
 left_out true false true follows = absurd (let e : false ≡ true = follows refl in cc)
 left_out true false false follows = refl
 
-wanted_same : (t a b c d : Bool) → (t ≡ true → a ≡ c) → (t ≡ true → b ≡ d) → t && (not a && b) ≡ t && (not c && d)
+pub wanted_same : (t a b c d : Bool) → (t ≡ true → a ≡ c) → (t ≡ true → b ≡ d) → t && (not a && b) ≡ t && (not c && d)
 wanted_same true a b c d x y = rw (x refl, y refl) refl
 wanted_same false a b c d x y = refl
 
@@ -57,7 +57,7 @@ bounded plan tile i j is h =
     let e : tile_of plan.raster i j ≡ tile = nat_eq_is (tile_of plan.raster i j) tile parts.1 in
     edges_bound plan.raster is.raster tile (rw e at lt) i j h
 
-grown_ordered : (b n s : ℤ) → IsLength n → IsSpacing s → (b -ℤ s) ≤ℤ ((b +ℤ n) +ℤ s)
+pub grown_ordered : (b n s : ℤ) → IsLength n → IsSpacing s → (b -ℤ s) ≤ℤ ((b +ℤ n) +ℤ s)
 grown_ordered b n s long spacing = let l : pos 1 ≤ℤ n = long.least in let k : pos 0 ≤ℤ s = spacing.least in omega (arith, ints)
 
 in_grown : (lo hi b e s x : ℤ) → lo ≤ℤ b → e ≤ℤ hi → (b -ℤ s) ≤ℤ x → x <ℤ (e +ℤ s) → ((lo -ℤ s) ≤ℤ x) × (x <ℤ (hi +ℤ s))

@@ -14,7 +14,7 @@ pub some_pair_same : (p q : ℕ → ℕ → Bool) (m n : ℕ) → ((a b : ℕ) �
 unfolding some_pair
 some_pair_same p q m n each = some_below_same (λ a. some_below (λ b. p a b) n) (λ a. some_below (λ b. q a b) n) m (λ a below. some_below_same (λ b. p a b) (λ b. q a b) n (λ b lt. each a b below lt))
 
-step_within : (lo hi : ℤ) (n : ℕ) → lo ≤ℤ hi → n < span_len lo hi → (lo ≤ℤ (lo +ℤ pos n)) × ((lo +ℤ pos n) <ℤ hi)
+pub step_within : (lo hi : ℤ) (n : ℕ) → lo ≤ℤ hi → n < span_len lo hi → (lo ≤ℤ (lo +ℤ pos n)) × ((lo +ℤ pos n) <ℤ hi)
 step_within lo hi n ordered lt = (omega (arith, ints, clamps), omega (arith, ints, clamps))
 
 pub some_within_same : (p q : ℤ → ℤ → Bool) (left bottom right top : ℤ) → left ≤ℤ right → bottom ≤ℤ top

@@ -124,7 +124,7 @@ part_inside low part c0 c1 r0 r1 is x y h =
 
 -- ---- the read set
 
-and_when : (a b c : Bool) → (a ≡ true → b ≡ c) → a && b ≡ a && c
+pub and_when : (a b c : Bool) → (a ≡ true → b ≡ c) → a && b ≡ a && c
 and_when true b c h = h refl
 and_when false b c h = refl
 

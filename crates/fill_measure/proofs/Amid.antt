@@ -9,9 +9,11 @@ use Rattle.fill_base.proofs.Counting.{sum_from_same, sum_between_const, count_be
 use Rattle.std.proofs.lemmas.List.{get_or_default}
 use Rattle.std.proofs.Math.Nat.{mul-div_cancel_left, mul-le-mul}
 use Rattle.fill_base.proofs.Signed.{read, read_is, pos_fits, coordinate_fits, le_trans, lt_le, product_small, side_short}
+use Rattle.fill_base.proofs.Covering.{area_split_across, area_split_up, area_few}
 use Rattle.fill_area.proofs.Begun.{by_lt}
 use Rattle.fill_cells.specs.Mesh.{AreCuts}
-use Rattle.fill_measure.proofs.SumsAbove.{area_wider, area_taller, area_le, count_read, cut_le}
+use Rattle.fill_cells.proofs.Gaps.{cut_le}
+use Rattle.fill_measure.proofs.SumsAbove.{count_read}
 use Rattle.fill_measure.specs.declared.sides.Side.{Side}
 use Rattle.fill_measure.specs.steps.Sides.{IsSide, coordinate_of}
 use Rattle.fill_measure.specs.steps.Uniform.{IsUniform, turned}
@@ -25,7 +27,7 @@ sum_scaled f k lo (suc n) = let h = sum_scaled f k lo n in omega (arith, h)
 across_grows : (p : ℤ → ℤ → Bool) (left bottom top x z : ℤ) → left ≤ℤ x → x ≤ℤ z → ((x' y : ℤ) → x ≤ℤ x' → x' <ℤ z → p x' y ≡ p x y)
     → area_between p left bottom z top ≡ area_between p left bottom x top + span_len x z * count_between (λ y. p x y) bottom top
 across_grows p left bottom top x z low high same =
-    area_wider p left x z bottom top low high ∙ ap (λ n. area_between p left bottom x top + n) (each ∙ sum_scaled (λ y. cond (p x y) 1 0) (span_len x z) bottom (span_len bottom top))
+    area_split_across p left x z bottom top low high ∙ ap (λ n. area_between p left bottom x top + n) (each ∙ sum_scaled (λ y. cond (p x y) 1 0) (span_len x z) bottom (span_len bottom top))
   where
     each : area_between p x bottom z top ≡ sum_between (λ y. span_len x z * cond (p x y) 1 0) bottom top
     each = sum_from_same (λ y. count_between (λ x. p x y) x z) (λ y. span_len x z * cond (p x y) 1 0) bottom (span_len bottom top)
@@ -35,13 +37,13 @@ across_grows p left bottom top x z low high same =
 up_grows : (p : ℤ → ℤ → Bool) (left right bottom y z : ℤ) → bottom ≤ℤ y → y ≤ℤ z → ((y' x : ℤ) → y ≤ℤ y' → y' <ℤ z → p x y' ≡ p x y)
     → area_between p left bottom right z ≡ area_between p left bottom right y + span_len y z * count_between (λ x. p x y) left right
 up_grows p left right bottom y z low high same =
-    area_taller p left right bottom y z low high ∙ ap (λ n. area_between p left bottom right y + n) (sum_between_const (λ y'. count_between (λ x. p x y') left right) y z (count_between (λ x. p x y) left right) high
+    area_split_up p left right bottom y z low high ∙ ap (λ n. area_between p left bottom right y + n) (sum_between_const (λ y'. count_between (λ x. p x y') left right) y z (count_between (λ x. p x y) left right) high
     (λ y' from below. sum_from_same (λ x. cond (p x y') 1 0) (λ x. cond (p x y) 1 0) left (span_len left right) (λ k lt. ap (λ b. cond b 1 0) (same y' (left +ℤ pos k) from below))))
 
 -- what an area is at most
 pub area_small : (p : ℤ → ℤ → Bool) (left bottom right top : ℤ) → lowest ≤ℤ left → left ≤ℤ right → right ≤ℤ highest → lowest ≤ℤ bottom → bottom ≤ℤ top → top ≤ℤ highest → area_between p left bottom right top ≤ 2 ^ 62
 area_small p left bottom right top a b c d e f =
-    let le = area_le p left bottom right top in
+    let le = area_few p left bottom right top in
     let small = product_small _ _ (side_short bottom top d e f) (side_short left right a b c) in
     omega (arith, le, small)
 
@@ -70,12 +72,6 @@ at_cut cuts side d none = at (get_or cuts side.cut d) side.past none
 -- how far the cut and the coordinate past it lie apart, and the cut and the next one
 span_past : (b : ℤ) (n : ℕ) → span_len b (b +ℤ pos n) ≡ n
 span_past b n = omega (arith, ints, clamps)
-
-pub past_within : (cuts : List ℤ) (side : Side) (d : ℤ) → AreCuts cuts → IsSide cuts side → 0 < side.past → side.past < span_len (get_or cuts side.cut d) (get_or cuts (side.cut + 1) d)
-past_within cuts side d are is some = within (get_or cuts side.cut d) (get_or cuts (side.cut + 1) d) side.past (is.amid some d)
-  where
-    within : (b c : ℤ) (n : ℕ) → (b +ℤ pos n) <ℤ c → n < span_len b c
-    within b c n lt = omega (arith, ints, clamps)
 
 lt_le_lt : (a b c : ℤ) → a <ℤ b → b ≤ℤ c → a <ℤ c
 lt_le_lt a b c h k = omega (arith, ints, clamps)
@@ -117,13 +113,13 @@ below_grown p up left right side count next result gap d are is some same gap_is
 pub left_rises : (p : ℤ → ℤ → Bool) (across : List ℤ) (bottom top : ℤ) (i : ℕ) (d : ℤ) → AreCuts across → i + 1 < length across
     → area_between p (get_or across 0 d) bottom (get_or across i d) top ≤ area_between p (get_or across 0 d) bottom (get_or across (i + 1) d) top
 left_rises p across bottom top i d are lt =
-    let whole = area_wider p (get_or across 0 d) (get_or across i d) (get_or across (i + 1) d) bottom top (cut_le across 0 i d are (omega arith) (omega (arith, lt))) (cut_le across i (i + 1) d are (omega arith) lt) in
+    let whole = area_split_across p (get_or across 0 d) (get_or across i d) (get_or across (i + 1) d) bottom top (cut_le across 0 i d are (omega arith) (omega (arith, lt))) (cut_le across i (i + 1) d are (omega arith) lt) in
     omega (arith, whole)
 
 pub below_rises : (p : ℤ → ℤ → Bool) (up : List ℤ) (left right : ℤ) (j : ℕ) (d : ℤ) → AreCuts up → j + 1 < length up
     → area_between p left (get_or up 0 d) right (get_or up j d) ≤ area_between p left (get_or up 0 d) right (get_or up (j + 1) d)
 below_rises p up left right j d are lt =
-    let whole = area_taller p left right (get_or up 0 d) (get_or up j d) (get_or up (j + 1) d) (cut_le up 0 j d are (omega arith) (omega (arith, lt))) (cut_le up j (j + 1) d are (omega arith) lt) in
+    let whole = area_split_up p left right (get_or up 0 d) (get_or up j d) (get_or up (j + 1) d) (cut_le up 0 j d are (omega arith) (omega (arith, lt))) (cut_le up j (j + 1) d are (omega arith) lt) in
     omega (arith, whole)
 
 -- the sum of the count and as many times the rate as the coordinate is past its cut

@@ -1,5 +1,5 @@
 -- Cuts at the ends of spans, or at the edges of rectangles: what they hold, and where a set is uniform between them.
-use Rattle.std.proofs.Common.{◌≡◌, ℕ, suc, ◌+◌, ◌<◌, ℤ, ◌≤ℤ◌, ◌<ℤ◌, List, [], ◌∷◌, ◌++◌, length, get_or, take, All, refl, arith, ap, subst, ◌∙◌, sym, Bool, ◌||◌, ◌&&◌, Result, Ok, Err, IfOk}
+use Rattle.std.proofs.Common.{◌≡◌, ℕ, suc, ◌+◌, ◌<◌, ℤ, ◌≤ℤ◌, ◌<ℤ◌, List, [], ◌∷◌, ◌++◌, length, get_or, take, All, refl, arith, ap, subst, ◌∙◌, sym, Bool, ◌||◌, ◌&&◌}
 use Rattle.std.specs.Prelude.{int_le, int_lt}
 use Rattle.std.specs.Global.{Vec}
 use Rattle.std.specs.List.{Contains, flat_map}
@@ -17,8 +17,8 @@ use Rattle.fill_area.proofs.Begun.{by_lt}
 use Rattle.fill_area.specs.Parts.{kept_within}
 use Rattle.fill_area.specs.declared.parts.Parts.{Parts}
 use Rattle.fill_cells.specs.Mesh.{AreCuts, gaps}
+use Rattle.fill_cells.proofs.Gaps.{cut_le}
 use Rattle.fill_region.specs.Squares.{covered}
-use Rattle.fill_measure.proofs.SumsAbove.{cut_le}
 use Rattle.fill_measure.specs.declared.edges.Direction.TheVariants.{Across, Up}
 use Rattle.fill_measure.specs.declared.edges.Direction.{Direction}
 use Rattle.fill_measure.specs.steps.Edges.{HoldEdges, IsFromTo, edge_from, edge_to}
@@ -55,11 +55,6 @@ held_uniform p cuts parts are hold = record { begins = λ a lt. nowhere _ (hold.
   where
     nowhere : (z : ℤ) → Contains cuts z → IsUniformAbout p cuts z
     nowhere z has i d lt above below = absurd (amid_none cuts z i d are has lt above below)
-
--- what follows from two facts of a value
-pub if_both : {T E : Type 0} (r : Result T E) (P Q R : T → Type 0) → ((x : T) → P x → Q x → R x) → IfOk r P → IfOk r Q → IfOk r R
-if_both (Ok x) P Q R both p q = both x p q
-if_both (Err e) P Q R both p q = p
 
 -- a span that neither begins nor ends amid two cuts is the same from one to the other
 span_same : (a b c next x : ℤ) → (c <ℤ a → a <ℤ next → ⊥) → (c <ℤ b → b <ℤ next → ⊥) → c ≤ℤ x → x <ℤ next → is_between a b x ≡ is_between a b c

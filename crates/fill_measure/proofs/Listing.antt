@@ -1,23 +1,15 @@
 -- The areas of a row of cells, by the list of the rectangles that meet it.
-use Rattle.std.proofs.Common.{◌≡◌, Bool, true, ℕ, ◌+◌, ◌<◌, ℤ, pos, ◌≤ℤ◌, ◌<ℤ◌, List, length, get_or, arith, ap, ◌∙◌}
+use Rattle.std.proofs.Common.{◌≡◌, Bool, true, ℕ, ◌+◌, ◌<◌, ℤ, pos, ◌≤ℤ◌, List, length, get_or, arith, ap, ◌∙◌}
 use Rattle.std.proofs.lemmas.List.{get_or_default}
 use Rattle.fill_base.specs.declared.rect.Rect.{Rect}
 use Rattle.fill_base.specs.Coordinates.{IsCoordinate}
-use Rattle.fill_base.specs.Counts.{count_between}
 use Rattle.fill_base.specs.Squares.{area_between}
 use Rattle.fill_base.proofs.Between.{is_between_true}
-use Rattle.fill_base.proofs.Counting.{sum_between_same, count_between_same}
 use Rattle.fill_base.proofs.Signed.{read, read_is, coordinate_fits, lt_le}
+use Rattle.fill_base.proofs.Covering.{area_same}
 use Rattle.fill_region.specs.Squares.{covered}
 use Rattle.fill_cells.specs.Mesh.{AreCuts, AreRowAreas, row_squares, gaps}
 use Rattle.fill_measure.specs.steps.Bands.{IsRow, cell_area}
-
--- sets that agree between four cuts have the same area there
-same_between : (p q : ℤ → ℤ → Bool) (left bottom right top : ℤ) → left ≤ℤ right → bottom ≤ℤ top
-    → ((x y : ℤ) → bottom ≤ℤ y → y <ℤ top → p x y ≡ q x y) → area_between p left bottom right top ≡ area_between q left bottom right top
-same_between p q left bottom right top wide tall same =
-    sum_between_same (λ y. count_between (λ x. p x y) left right) (λ y. count_between (λ x. q x y) left right) bottom top tall
-    (λ y low high. count_between_same (λ x. p x y) (λ x. q x y) left right wide (λ x from to. same x y low high))
 
 -- a cut, as the code reads it
 cut_is : (cuts : List ℤ) (i : ℕ) (d : ℤ) → AreCuts cuts → i < length cuts → read (get_or cuts i (pos 0)) ≡ get_or cuts i d
@@ -44,4 +36,4 @@ row_is p across up row items j cuts ups j_in agree areas = record {
     rises cuts i d are i_in = lt_le (get_or cuts i d) (get_or cuts (i + 1) d) (are.rising i (i + 1) d (omega arith) (omega (arith, i_in)))
 
     whole : (d : ℤ) (i : ℕ) → i < gaps across → area_between (covered items) (get_or across i d) (get_or up j d) (get_or across (i + 1) d) (get_or up (j + 1) d) ≡ cell_area p across up i j d
-    whole d i i_in = same_between (covered items) p (get_or across i d) (get_or up j d) (get_or across (i + 1) d) (get_or up (j + 1) d) (rises across i d cuts i_in) (rises up j d ups j_in) (λ x y low high. agree d x y (is_between_true (get_or up j d) (get_or up (j + 1) d) y low high))
+    whole d i i_in = area_same (covered items) p (get_or across i d) (get_or up j d) (get_or across (i + 1) d) (get_or up (j + 1) d) (rises across i d cuts i_in) (rises up j d ups j_in) (λ x y low high. agree d x y (is_between_true (get_or up j d) (get_or up (j + 1) d) y low high))

@@ -1,54 +1,32 @@
 -- Areas between cuts, as sums and differences of those below and left of the crossings.
-use Rattle.std.proofs.Common.{◌≡◌, ℕ, ◌+◌, ◌*◌, ◌^◌, ◌≤◌, ◌<◌, ℤ, pos, ◌+ℤ◌, ◌-ℤ◌, ◌≤ℤ◌, List, [], ◌∷◌, ◌++◌, Bool, cond, length, get_or, replicate, refl, arith, ap, subst, ◌∙◌, sym, w64, FitsSigned}
+use Rattle.std.proofs.Common.{◌≡◌, ℕ, ◌+◌, ◌*◌, ◌^◌, ◌≤◌, ◌<◌, ℤ, pos, ◌+ℤ◌, ◌-ℤ◌, List, [], ◌∷◌, ◌++◌, Bool, length, get_or, replicate, refl, arith, ap, subst, ◌∙◌, sym, w64, FitsSigned}
 use Rattle.std.proofs.lemmas.Int.{ints, clamps}
 use Rattle.std.proofs.lemmas.List.{get_or_append_left, get_or_default, get_or-replicate, length_push, length-replicate}
 use Rattle.std.proofs.lemmas.Nat.{same_from_place}
 use Rattle.std.proofs.Math.Nat.{mul-le-mul}
 use Rattle.std.proofs.Math.Seq.{get_or-append_seam}
-use Rattle.fill_base.specs.Counts.{span_len, count_between}
+use Rattle.fill_base.specs.Counts.{span_len}
 use Rattle.fill_base.specs.Squares.{area_between}
-use Rattle.fill_base.proofs.Signed.{read, read_is, pos_fits, side_short, product_small, lt_le}
-use Rattle.fill_base.proofs.Counting.{sum_between_split, sum_between_add, sum_between_le, count_between_le}
+use Rattle.fill_base.proofs.Signed.{read, read_is, pos_fits, side_short, product_small}
+use Rattle.fill_base.proofs.Covering.{area_split_across, area_split_up, area_few}
 use Rattle.fill_area.proofs.Begun.{by_lt}
 use Rattle.fill_cells.specs.Mesh.{AreCuts, gaps}
+use Rattle.fill_cells.proofs.Gaps.{cut_le}
 use Rattle.fill_measure.specs.steps.Bands.{IsRow}
 use Rattle.fill_measure.specs.steps.PrefixSums.{block_area, ArePrefixSums}
 
--- an area splits at a number between its sides
-pub area_wider : (p : ℤ → ℤ → Bool) (left mid right bottom top : ℤ) → left ≤ℤ mid → mid ≤ℤ right
-    → area_between p left bottom right top ≡ area_between p left bottom mid top + area_between p mid bottom right top
-area_wider p left mid right bottom top low high =
-    sum_between_add (λ y. count_between (λ x. p x y) left mid) (λ y. count_between (λ x. p x y) mid right) (λ y. count_between (λ x. p x y) left right) bottom top
-    (λ y. sum_between_split (λ x. cond (p x y) 1 0) left mid right low high)
-
-pub area_taller : (p : ℤ → ℤ → Bool) (left right bottom mid top : ℤ) → bottom ≤ℤ mid → mid ≤ℤ top
-    → area_between p left bottom right top ≡ area_between p left bottom right mid + area_between p left mid right top
-area_taller p left right bottom mid top low high = sum_between_split (λ y. count_between (λ x. p x y) left right) bottom mid top low high
-
-pub area_le : (p : ℤ → ℤ → Bool) (left bottom right top : ℤ) → area_between p left bottom right top ≤ span_len bottom top * span_len left right
-area_le p left bottom right top = sum_between_le (λ y. count_between (λ x. p x y) left right) bottom top (span_len left right) (λ y. count_between_le (λ x. p x y) left right)
-
 -- nothing lies between a cut and itself
 no_width : (p : ℤ → ℤ → Bool) (x bottom top : ℤ) → area_between p x bottom x top ≡ 0
-no_width p x bottom top = nothing _ (span_len bottom top) (span_len x x) (omega (arith, ints, clamps)) (area_le p x bottom x top)
+no_width p x bottom top = nothing _ (span_len bottom top) (span_len x x) (omega (arith, ints, clamps)) (area_few p x bottom x top)
   where
     nothing : (m n s : ℕ) → s ≡ 0 → m ≤ n * s → m ≡ 0
     nothing m n s none le = let le' : m ≤ n * 0 = subst (λ z. m ≤ n * z) none le in omega (arith, le')
 
 no_height : (p : ℤ → ℤ → Bool) (left right y : ℤ) → area_between p left y right y ≡ 0
-no_height p left right y = nothing _ (span_len y y) (span_len left right) (omega (arith, ints, clamps)) (area_le p left y right y)
+no_height p left right y = nothing _ (span_len y y) (span_len left right) (omega (arith, ints, clamps)) (area_few p left y right y)
   where
     nothing : (m s n : ℕ) → s ≡ 0 → m ≤ s * n → m ≡ 0
     nothing m s n none le = let le' : m ≤ 0 * n = subst (λ z. m ≤ z * n) none le in omega (arith, le')
-
--- cuts do not fall
-pub cut_le : (cuts : List ℤ) (i j : ℕ) (d : ℤ) → AreCuts cuts → i ≤ j → j < length cuts → get_or cuts i d ≤ℤ get_or cuts j d
-cut_le cuts i j d are le lt = by_lt i j
-    (λ below. lt_le _ _ (are.rising i j d below lt))
-    (λ same. let e : i ≡ j = omega (arith, le, same) in rw e (refl_le (get_or cuts j d)))
-  where
-    refl_le : (z : ℤ) → z ≤ℤ z
-    refl_le z = omega (arith, ints, clamps)
 
 -- the area between cuts is small
 pub block_small : (p : ℤ → ℤ → Bool) (across up : List ℤ) (left bottom right top : ℕ) (d : ℤ) → AreCuts across → AreCuts up → left ≤ right → right < length across → bottom ≤ top → top < length up
@@ -56,7 +34,7 @@ pub block_small : (p : ℤ → ℤ → Bool) (across up : List ℤ) (left bottom
 block_small p across up left bottom right top d x_are y_are x_le x_in y_le y_in =
     let wide : span_len (get_or across left d) (get_or across right d) ≤ 2 ^ 31 = short across left right x_are x_le x_in in
     let tall : span_len (get_or up bottom d) (get_or up top d) ≤ 2 ^ 31 = short up bottom top y_are y_le y_in in
-    let le = area_le p (get_or across left d) (get_or up bottom d) (get_or across right d) (get_or up top d) in
+    let le = area_few p (get_or across left d) (get_or up bottom d) (get_or across right d) (get_or up top d) in
     let small = product_small _ _ tall wide in
     omega (arith, le, small)
   where
@@ -102,7 +80,7 @@ stacked p across up i bottom mid top x y x_are y_are i_in low high top_in x_is y
   where
     at : (d : ℤ) → FitsSigned w64 (x +ℤ y) × (read (x +ℤ y) ≡ pos (block_area p across up 0 bottom i top d))
     at d = sum_of _ _ _ _ _ (x_is d) (y_is d)
-        (area_taller p (get_or across 0 d) (get_or across i d) (get_or up bottom d) (get_or up mid d) (get_or up top d) (cut_le up bottom mid d y_are low (omega (arith, high, top_in))) (cut_le up mid top d y_are high top_in))
+        (area_split_up p (get_or across 0 d) (get_or across i d) (get_or up bottom d) (get_or up mid d) (get_or up top d) (cut_le up bottom mid d y_are low (omega (arith, high, top_in))) (cut_le up mid top d y_are high top_in))
         (block_small p across up 0 bottom i top d x_are y_are (omega arith) i_in (omega (arith, low, high)) top_in)
 
 -- one corner more
@@ -150,7 +128,7 @@ total_more p across up row i j total x_are y_are are i_in j_in total_is e = ((at
 
     at : (d : ℤ) → FitsSigned w64 (total +ℤ read (get_or row i e)) × (read (total +ℤ read (get_or row i e)) ≡ pos (block_area p across up 0 j (i + 1) (j + 1) d))
     at d = sum_of _ _ _ _ _ (total_is d) (count_read _ _ (get_or_default row i e d (rw are.count i_in) ∙ are.each i d i_in) (small i d (omega arith)))
-        (area_wider p (get_or across 0 d) (get_or across i d) (get_or across (i + 1) d) (get_or up j d) (get_or up (j + 1) d) (cut_le across 0 i d x_are (omega arith) (omega (arith, i_in))) (cut_le across i (i + 1) d x_are (omega arith) (omega (arith, i_in))))
+        (area_split_across p (get_or across 0 d) (get_or across i d) (get_or across (i + 1) d) (get_or up j d) (get_or up (j + 1) d) (cut_le across 0 i d x_are (omega arith) (omega (arith, i_in))) (cut_le across i (i + 1) d x_are (omega arith) (omega (arith, i_in))))
         (small 0 d (omega arith))
 
 -- the corner with that total above the one below it

@@ -9,12 +9,13 @@ use Rattle.std.proofs.lemmas.Int.{ints, clamps}
 use Rattle.fill_base.specs.Coordinates.{lowest, highest}
 use Rattle.fill_base.specs.Squares.{area_between}
 use Rattle.fill_base.proofs.Signed.{read, le_trans}
+use Rattle.fill_base.proofs.Covering.{area_split_across, area_split_up}
 use Rattle.fill_area.proofs.Measuring.{area_at, bounded, measured}
 use Rattle.fill_area.specs.Density.{window_area, AreMeasured, IsArea}
 use Rattle.fill_area.specs.Grid.{Grid, IsGrid, parts_across, parts_up}
 use Rattle.fill_cells.specs.Mesh.{AreCuts}
 use Rattle.fill_measure.proofs.Amid.{area_small, side_low, side_high}
-use Rattle.fill_measure.proofs.SumsAbove.{area_wider, area_taller, count_read, difference_of}
+use Rattle.fill_measure.proofs.SumsAbove.{count_read, difference_of}
 use Rattle.fill_measure.specs.Sums.{AreSumsOf, areas_from}
 use Rattle.fill_measure.specs.declared.sides.Side.{Side}
 use Rattle.fill_measure.specs.declared.sides.Sides.{Sides}
@@ -33,7 +34,7 @@ pub window_of : (p : ℤ → ℤ → Bool) (g : Grid) (across up : List ℤ) (a 
 window_of p g across up a b s t x1 x0 y1 y0 x_are y_are column row x1_is x0_is y1_is y0_is =
     let high = strip (coordinate_of up t.end d) (read x1) (read x0) (below t.end row.ends.is) (side_high up t.end d y_are row.ends.is) (number s.end t.end x1 column.ends.is row.ends.is x1_is) (number s.begin t.end x0 column.begins.is row.ends.is x0_is) in
     let low = strip (coordinate_of up t.begin d) (read y1) (read y0) (below t.begin row.begins.is) (side_high up t.begin d y_are row.begins.is) (number s.end t.begin y1 column.ends.is row.begins.is y1_is) (number s.begin t.begin y0 column.begins.is row.begins.is y0_is) in
-    let whole = difference_of _ _ _ _ _ high.1 low.1 (area_taller p left right bottom (coordinate_of up t.begin d) (coordinate_of up t.end d) (below t.begin row.begins.is) rows)
+    let whole = difference_of _ _ _ _ _ high.1 low.1 (area_split_up p left right bottom (coordinate_of up t.begin d) (coordinate_of up t.end d) (below t.begin row.begins.is) rows)
     (area_small p left bottom right (coordinate_of up t.end d) left_least columns right_most (y_are.coordinates 0 d y_some).least (below t.end row.ends.is) (side_high up t.end d y_are row.ends.is)) in
     ((high.0, low.0), (whole.0, whole.1 ∙ rw (column.begins.at d, column.ends.at d, row.begins.at d, row.ends.at d) refl))
   where
@@ -78,7 +79,7 @@ window_of p g across up a b s t x1 x0 y1 y0 x_are y_are column row x1_is x0_is y
 
     strip : (top x y : ℤ) → bottom ≤ℤ top → top ≤ℤ highest → x ≡ pos (area_between p (get_or across 0 d) bottom right top) → y ≡ pos (area_between p (get_or across 0 d) bottom left top)
         → FitsSigned w64 (x -ℤ y) × (read (x -ℤ y) ≡ pos (area_between p left bottom right top))
-    strip top x y above most x_is y_is = difference_of _ _ _ _ _ x_is y_is (area_wider p (get_or across 0 d) left right bottom top left_low columns)
+    strip top x y above most x_is y_is = difference_of _ _ _ _ _ x_is y_is (area_split_across p (get_or across 0 d) left right bottom top left_low columns)
         (area_small p (get_or across 0 d) bottom right top (x_are.coordinates 0 d x_some).least (le_trans _ _ _ left_low columns) right_most (y_are.coordinates 0 d y_some).least above most)
 
 -- the sides of a column and of a row of the sums' own windows

@@ -20,7 +20,7 @@ use Rattle.fill_raster.specs.Lattice.{in_raster, in_tile, tile_of, tiles, tile_l
 use Rattle.fill_raster.proofs.RasterLaws.{place_has_a_tile}
 use Rattle.fill_job.specs.Plans.{Plan, IsPlan, Layers, PointSet, blocked, conflicts, holds_box, is_taken, meets_box, in_window_of, low_windows}
 use Rattle.fill_job.specs.ReadSets.{touches}
-use Rattle.fill_job.proofs.ReadSets.{bounded, holding_touches}
+use Rattle.fill_job.proofs.ReadSets.{bounded, holding_touches, wanted_same, grown_ordered}
 use Rattle.fill_job.proofs.Searching.{some_below_has, some_pair_same, some_within_same}
 use Rattle.fill_parts.specs.Cuts.{Part}
 use Rattle.fill_parts.specs.Needs.{AgreeInside, IsEnough, LayersAgree, LieInside, has_tile, has_windows, is_level, needs_tile, needs_windows}
@@ -100,9 +100,6 @@ pub record AreSame (plan : Plan) (p q : Layers) (i j : ℤ) : Type 0 where
   pub taken : is_taken plan p i j ≡ is_taken plan q i j
   pub in_low : in_window_of plan (low_windows plan p.metal) i j ≡ in_window_of plan (low_windows plan q.metal) i j
 
-grown : (b n s : ℤ) → IsLength n → IsSpacing s → (b -ℤ s) ≤ℤ ((b +ℤ n) +ℤ s)
-grown b n s long spacing = let l : pos 1 ≤ℤ n = long.least in let k : pos 0 ≤ℤ s = spacing.least in omega (arith, ints)
-
 lower : (l t b s : ℤ) → l ≤ℤ (t -ℤ s) → t ≤ℤ b → l ≤ℤ (b -ℤ s)
 lower l t b s h k = omega (arith, ints)
 
@@ -124,8 +121,8 @@ same_meeting plan k s d p q is enough agree few near tile i j lt needed h =
     let b = bounded plan tile i j is h in
     let halo = enough.halos tile lt needed in
     some_within_same p q (box_begin r.across i -ℤ d) (box_begin r.up j -ℤ d) (box_end r.across i +ℤ d) (box_end r.up j +ℤ d)
-    (grown (box_begin r.across i) r.across.length d is.raster.across.length_is few)
-    (grown (box_begin r.up j) r.up.length d is.raster.up.length_is few)
+    (grown_ordered (box_begin r.across i) r.across.length d is.raster.across.length_is few)
+    (grown_ordered (box_begin r.up j) r.up.length d is.raster.up.length_is few)
     (agree_at s p q _ _ _ _ agree (record {
       from_left = lower s.left (tile_left r tile) (box_begin r.across i) d (nearer s.left (tile_left r tile) d plan.spacing near halo.from_left) b.left;
       from_bottom = lower s.bottom (tile_bottom r tile) (box_begin r.up j) d (nearer s.bottom (tile_bottom r tile) d plan.spacing near halo.from_bottom) b.bottom;
@@ -158,10 +155,6 @@ place_same plan k s p q is enough agree tile i j lt needed h = record {
   taken = same_taken plan k s p q is enough agree tile i j lt needed h;
   in_low = same_low plan k s p q is enough agree tile i j lt needed h;
 }
-
-wanted_same : (t a b c d : Bool) → (t ≡ true → a ≡ c) → (t ≡ true → b ≡ d) → t && (not a && b) ≡ t && (not c && d)
-wanted_same true a b c d x y = rw (x refl, y refl) refl
-wanted_same false a b c d x y = refl
 
 pub wanted_agree : WantedAgree
 wanted_agree plan k s p q is enough agree tile lt needed = fun_ext (λ i. fun_ext (λ j.

@@ -26,9 +26,6 @@ use Rattle.fill_parts.proofs.Cutting.{row_of_is}
 le_trans : (a b c : ℤ) → a ≤ℤ b → b ≤ℤ c → a ≤ℤ c
 le_trans a b c h k = omega (arith, ints)
 
-le_same : (a : ℤ) → a ≤ℤ a
-le_same a = omega (arith, ints)
-
 pub further : (s t : Sides) (left bottom right top : ℤ) → Reaches s t → LieInside t left bottom right top → LieInside s left bottom right top
 further s t left bottom right top out is = record {
   from_left = le_trans _ _ _ out.left is.from_left;
@@ -36,9 +33,6 @@ further s t left bottom right top out is = record {
   to_right = le_trans _ _ _ is.to_right out.right;
   to_top = le_trans _ _ _ is.to_top out.top;
 }
-
-pub same_reach : (s : Sides) → Reaches s s
-same_reach s = record { left = le_same _; bottom = le_same _; right = le_same _; top = le_same _ }
 
 pub both_reach : (s t u : Sides) → Reaches s t → Reaches t u → Reaches s u
 both_reach s t u a b = record { left = le_trans _ _ _ a.left b.left; bottom = le_trans _ _ _ a.bottom b.bottom; right = le_trans _ _ _ b.right a.right; top = le_trans _ _ _ b.top a.top }

@@ -15,8 +15,9 @@ use Rattle.fill_base.proofs.Distances.{distance, distance_is}
 use Rattle.fill_base.specs.Counts.{span_len}
 use Rattle.fill_base.proofs.Between.{is_between_bounds}
 use Rattle.fill_base.proofs.Signed.{read, read_is, lt_le}
+use Rattle.fill_base.proofs.Covering.{area_none, area_few}
 use Rattle.fill_raster.specs.Marks.{IsBlock, in_block, block_len, index_in, is_marked, count_marked, AreMarks}
-use Rattle.fill_raster.proofs.Points.{area_none, area_few, area_more, and_no, or_no, int_eq_yes}
+use Rattle.fill_raster.proofs.Points.{area_more, and_no, or_no, int_eq_yes}
 use Rattle.fill_raster.proofs.Ranges.{both}
 use Rattle.fill_raster.specs.Bits.{has_bit}
 use Rattle.fill_raster.specs.declared.block.Block.{Block}

@@ -1,12 +1,12 @@
 -- Counts that differ by one point.
-use Rattle.std.proofs.Common.{◌≡◌, ℕ, zero, suc, ◌+◌, ◌*◌, ◌≤◌, ◌<◌, ℤ, pos, ◌+ℤ◌, ◌≤ℤ◌, ◌<ℤ◌, arith, ap, ◌∙◌, sym, refl, inl, inr, Bool, true, false, cond, ◌&&◌, ◌||◌}
+use Rattle.std.proofs.Common.{◌≡◌, ℕ, zero, suc, ◌+◌, ◌≤◌, ◌<◌, ℤ, pos, ◌+ℤ◌, ◌≤ℤ◌, ◌<ℤ◌, arith, ap, ◌∙◌, sym, refl, inl, inr, Bool, true, false, cond, ◌&&◌, ◌||◌}
 use Rattle.std.specs.Ordering.{int_eq}
 use Rattle.std.proofs.lemmas.Bool.{cases_eq, cases_lt}
 use Rattle.std.proofs.lemmas.Bool.Decides.{Decides-int_eq}
 use Rattle.std.proofs.lemmas.Int.{ints, clamps}
 use Rattle.fill_base.specs.Counts.{sum_from, span_len, sum_between, count_between}
 use Rattle.fill_base.specs.Squares.{area_between}
-use Rattle.fill_base.proofs.Counting.{sum_from_same, count_between_same, count_between_le, count_between_const, sum_between_const, sum_between_le}
+use Rattle.fill_base.proofs.Counting.{sum_from_same, count_between_same}
 
 -- a sum in which one term is one more
 sum_from_more : (f g : ℤ → ℕ) (lo : ℤ) (n k : ℕ) → k < n → ((m : ℕ) → m < n → (m ≡ k → ⊥) → f (lo +ℤ pos m) ≡ g (lo +ℤ pos m))
@@ -83,14 +83,3 @@ area_more p q left bottom right top i j li ir bj jt point off =
 
     here : q i j ≡ true
     here = point i j ∙ rw (off, int_eq_yes i, int_eq_yes j) refl
-
--- no set has more than the rectangle
-pub area_few : (p : ℤ → ℤ → Bool) (left bottom right top : ℤ) → area_between p left bottom right top ≤ span_len bottom top * span_len left right
-area_few p left bottom right top = sum_between_le (λ y. count_between (λ x. p x y) left right) bottom top (span_len left right) (λ y. count_between_le (λ x. p x y) left right)
-
--- the empty set has none
-pub area_none : (p : ℤ → ℤ → Bool) (left bottom right top : ℤ) → left ≤ℤ right → bottom ≤ℤ top → ((x y : ℤ) → p x y ≡ false) → area_between p left bottom right top ≡ 0
-area_none p left bottom right top wide tall none =
-    let row = λ (y : ℤ). count_between_const (λ x. p x y) left right false wide (λ x l h. none x y) in
-    let all = sum_between_const (λ y. count_between (λ x. p x y) left right) bottom top (span_len left right * 0) tall (λ y l h. row y) in
-    omega (arith, all)

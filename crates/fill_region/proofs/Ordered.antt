@@ -16,7 +16,7 @@ use Rattle.fill_spans.specs.Columns.{IsRisingBy}
 use denote.Param.Members.{Mut}
 use denote.Ref.{Bor}
 
-not_less : (a b : ℤ) → is_lt (int_cmp a b) ≡ false → b ≤ℤ a
+pub not_less : (a b : ℤ) → is_lt (int_cmp a b) ≡ false → b ≤ℤ a
 not_less a b h = decide (int_cmp a b) (int_ranks a b) h
   where
     decide : (o : Ordering) → MatchOrdering o (a <ℤ b) (a ≡ b) (b <ℤ a) → is_lt o ≡ false → b ≤ℤ a

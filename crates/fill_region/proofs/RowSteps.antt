@@ -17,12 +17,6 @@ use Rattle.fill_region.proofs.Sweeping.{nothing_canonical}
 use Rattle.fill_region.proofs.Looking.{bottoms_rise, row_of_place}
 use Rattle.fill_region.proofs.SweepTurns.{bottom_read}
 
-lt_le_trans : (a b c : ℤ) → a <ℤ b → b ≤ℤ c → a <ℤ c
-lt_le_trans a b c h k = omega (arith, ints, clamps)
-
-le_lt_absurd : (a b : ℤ) → a ≤ℤ b → b <ℤ a → ⊥
-le_lt_absurd a b h k = omega (arith, ints, clamps)
-
 -- a line that the walk has not passed has the row before the next band
 row_here : (bs : List Band) (from top y : ℤ) (n : ℕ) → IsAtBand bs from top n → from <ℤ top → n ≤ length bs → from ≤ℤ y → (n < length bs → y <ℤ next_bottom bs n) → row_from [] bs y ≡ last_row [] (take n bs)
 row_here bs from top y n at lt within low high =

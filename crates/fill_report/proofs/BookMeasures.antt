@@ -1,16 +1,14 @@
 -- What metal and boxes of a sound fill take of a window.
-use Rattle.std.proofs.Common.{◌≡◌, refl, sym, ap, ◌∙◌, ℕ, ◌+◌, ◌*◌, ◌^◌, ◌≤◌, ℤ, pos, ◌-ℤ◌, ◌≤ℤ◌, arith, inl, inr, Bool, true, false, cond, ◌||◌, w64, FitsSigned}
+use Rattle.std.proofs.Common.{◌≡◌, refl, sym, ap, ◌∙◌, ℕ, ◌+◌, ◌*◌, ◌^◌, ◌≤◌, ℤ, pos, ◌-ℤ◌, ◌≤ℤ◌, arith, inl, inr, true, false, w64, FitsSigned}
 use Rattle.std.proofs.lemmas.Int.{ints, clamps}
 use Rattle.std.proofs.Math.Nat.{mul-le-mul}
-use Rattle.fill_base.specs.Counts.{count_between, span_len}
-use Rattle.fill_base.specs.Squares.{area_between}
-use Rattle.fill_base.proofs.Counting.{sum_between_add}
+use Rattle.fill_base.specs.Counts.{span_len}
 use Rattle.fill_base.proofs.Signed.{read, read_is, pos_fits}
+use Rattle.fill_base.proofs.Covering.{area_few, area_either}
 use Rattle.fill_area.specs.Density.{IsArea, window_area}
 use Rattle.fill_area.specs.Grid.{Grid, IsGrid, parts_across, parts_up}
 use Rattle.fill_area.specs.Parts.{part_begin, part_end}
 use Rattle.fill_report.proofs.Lines.{part_as_long}
-use Rattle.fill_raster.proofs.Points.{area_few}
 use Rattle.fill_size.specs.Distance.{IsNear}
 use Rattle.fill_job.specs.Plans.{IsPlan, Layers, Plan, PointSet, plan_of}
 use Rattle.fill_core.specs.Accounts.{Account, opening_of, state_of}
@@ -23,19 +21,6 @@ use Rattle.fill_report.specs.Report.{measures_of, nothing}
 use Rattle.fill_report.specs.declared.line.Measures.{Measures}
 
 -- ---- areas
-
--- the areas of two sets that share no square add up
-area_either : (p q : PointSet) (left bottom right top : ℤ) → ((x y : ℤ) → p x y ≡ true → q x y ≡ true → ⊥)
-    → area_between (λ x y. p x y || q x y) left bottom right top ≡ area_between p left bottom right top + area_between q left bottom right top
-area_either p q left bottom right top apart =
-    sum_between_add (λ y. count_between (λ x. p x y) left right) (λ y. count_between (λ x. q x y) left right) (λ y. count_between (λ x. p x y || q x y) left right) bottom top
-    (λ y. sum_between_add (λ x. cond (p x y) 1 0) (λ x. cond (q x y) 1 0) (λ x. cond (p x y || q x y) 1 0) left right (λ x. one (p x y) (q x y) (apart x y)))
-  where
-    one : (a b : Bool) → (a ≡ true → b ≡ true → ⊥) → cond (a || b) 1 0 ≡ cond a 1 0 + cond b 1 0
-    one true true h = absurd (h refl refl)
-    one true false h = refl
-    one false true h = refl
-    one false false h = refl
 
 -- a number is near to itself
 near_itself : (d x : ℤ) → pos 0 ≤ℤ d → IsNear d x x

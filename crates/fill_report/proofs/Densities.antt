@@ -1,17 +1,11 @@
 -- Tests of densities, as the code makes them.
-use Rattle.std.proofs.Common.{◌≡◌, ℤ, pos, ◌*ℤ◌, ◌<ℤ◌, refl, arith, Bool, true, false, ◌↔◌, w64, FitsSigned}
-use Rattle.std.specs.Prelude.{int_lt, IsTrue}
-use Rattle.std.proofs.lemmas.Int.{ints, by_lt_z}
+use Rattle.std.proofs.Common.{◌≡◌, ℤ, pos, ◌*ℤ◌, refl, Bool, true, false, ◌↔◌, w64, FitsSigned}
+use Rattle.std.specs.Prelude.{IsTrue}
 use Rattle.fill_area.specs.Density.{IsBelow, IsAbove}
-use Rattle.fill_base.proofs.Signed.{read, read_is}
+use Rattle.fill_base.proofs.Signed.{read, read_is, lt_test}
 use Rattle.fill_text.specs.declared.limits.Limits.{Limits}
 use Rattle.fill_report.specs.declared.line.Density.TheVariants.{High, Within}
 use Rattle.fill_report.specs.Report.{density_of}
-
--- what a test of an order answers is the order's own test
-lt_test : (a b : ℤ) (r : Bool) → (IsTrue r ↔ a <ℤ b) → int_lt a b ≡ r
-lt_test a b true h = let lt : a <ℤ b = h.0 refl in grind (arith, ints)
-lt_test a b false h = by_lt_z a b (λ lt. let both : false ≡ true = h.1 lt in cc) (λ le. grind (arith, ints))
 
 pub is_high : (total : ℤ) (limits : Limits) (size : ℤ) (low high : Bool) → FitsSigned w64 total → FitsSigned w64 limits.least → FitsSigned w64 limits.most → FitsSigned w64 size
     → (IsTrue low ↔ IsBelow (read total) (read limits.least) (read size)) → low ≡ false → (IsTrue high ↔ IsAbove (read total) (read limits.most) (read size)) → high ≡ true → High ≡ density_of total limits size

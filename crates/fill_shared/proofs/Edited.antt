@@ -19,7 +19,7 @@ use Rattle.fill_core.specs.declared.event.Event.TheVariants as event
 use Rattle.fill_core.proofs.Counts.{version_counts}
 use Rattle.fill_core.proofs.Unedited.{committed_stays, complete_unedited}
 use Rattle.fill_shared.specs.Passes.{HasCounted}
-use Rattle.fill_shared.specs.Runs.{IsFinished, IsLeft, IsMixed, IsNoBeginning, IsUnedited, IsUnfinished, changes_in}
+use Rattle.fill_shared.specs.Runs.{IsFinished, IsLeft, IsNoBeginning, IsUnedited, IsUnfinished, changes_in}
 
 -- no change, no edit
 pub no_change : (xs : List Edit) → map change_of xs ≡ [] → xs ≡ []
@@ -47,9 +47,6 @@ pub unfinished_by : (a : Account) (pass : Held) (t : Terms) (edits : List Edit) 
 unfinished_by a pass t edits history made same h e most keeping counted lacking =
     let left = left_by a pass t (take made edits) same (ap changes_in (sym h) ∙ e) keeping counted in
     record { made = made; most = most; left = left; lacking = lacking }
-
-pub mixed_by : (a : Account) (pass : Held) (t : Terms) (edits : List Edit) (history : List Entry) → terms_of a ≡ t → history ≡ a.history → IsNoBeginning history edits → IsKeeping a → HasCounted a pass → IsMixed t edits a pass
-mixed_by a pass t edits history same h other keeping counted = record { under = same; other = subst (λ (es : List Entry). IsNoBeginning es edits) h other; keeping = keeping; counted = counted }
 
 pub layers_stay : (plan : Plan) (s : State) (events : List Event) → edits_in events ≡ [] → (replay_from plan s events).layers ≡ s.layers
 unfolding replay_from

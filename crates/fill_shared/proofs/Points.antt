@@ -19,7 +19,7 @@ use Rattle.fill_core.proofs.Searched.{next_first, next_none}
 use Rattle.fill_shared.specs.Passes.{HasCounted}
 use Rattle.fill_shared.specs.Sharing.{AtSomePoint, IsCompleteAt, IsFull, IsLook, IsSeen}
 use Rattle.fill_shared.specs.Working.{Ends, IsNext, Stops}
-use Rattle.fill_shared.specs.declared.worker.WorkEnd.TheVariants.{Done, Full, Memory}
+use Rattle.fill_shared.specs.declared.worker.WorkEnd.TheVariants.{Full}
 use Rattle.fill_shared.specs.declared.shared.Look.TheVariants.{Work}
 
 -- the book before the call keeps what every book keeps, and has at least the caller's events
@@ -73,15 +73,3 @@ full_turn t from job h k m e f look p =
     let n : m.calls ≡ h.calls = ap (λ (x : Held). x.calls) s in
     let next : AtSomePoint t h.calls (IsNext from look.4.0) = (look.0, look.1, look.2, look.3, look.4.1) in
     (s, ((omega arith, omega arith), subst (λ (x : Held). AtSomePoint t x.calls IsFull) (sym f) p), ((look.4.0, next), subst (λ (x : Held). AtSomePoint t x.calls IsFull) e p))
-
--- a turn that finds every tile in is no call
-pub done_turn : (t : Terms) (from version : ℕ) (h m : Held) → m ≡ h → AtSomePoint t h.calls (IsCompleteAt version) → (m ≡ h) × Ends t 1 h m (Done version) × Stops t from h (Done version)
-done_turn t from version h m e p =
-    let n : m.calls ≡ h.calls = ap (λ (x : Held). x.calls) e in
-    (e, ((omega arith, omega arith), subst (λ (x : Held). AtSomePoint t x.calls (IsCompleteAt version)) (sym e) p), p)
-
--- nor is one for want of memory
-pub lost_turn : (t : Terms) (from : ℕ) (h m : Held) → m ≡ h → (m ≡ h) × Ends t 1 h m Memory × Stops t from h Memory
-lost_turn t from h m e =
-    let n : m.calls ≡ h.calls = ap (λ (x : Held). x.calls) e in
-    (e, (omega arith, omega arith), tt)

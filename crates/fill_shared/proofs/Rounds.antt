@@ -1,6 +1,6 @@
 -- Workers and an editor of a round, taken together.
 use Rattle.std.proofs.Common.{◌≡◌, ◌∙◌, sym, ap, subst, arith, ℕ, zero, suc, ◌+◌, ◌*◌, ◌/◌, ◌<◌, ◌≤◌, ◌⊎◌, refl, inl, inr, List, [], ◌∷◌, ◌++◌, length, length-append, map, slice_index_or}
-use Rattle.std.specs.Prelude.{◌≢◌, Result, Ok, Err, IfOk, sum_by}
+use Rattle.std.specs.Prelude.{◌≢◌, sum_by}
 use Rattle.std.specs.List.{All}
 use Rattle.std.proofs.lemmas.List.Elements.{All-head, All-tail}
 use Rattle.std.proofs.lemmas.List.{get_or_append_left, get_or_push, length-map}
@@ -65,10 +65,6 @@ pub seats_ended : {A B : Type 0} (from : A → ℕ) (f : A → Held) (h : B → 
     → SeatsEnded from f t limit xs passes
 seats_ended from f h end t limit xs ys passes count each kept all =
     subst (SeatsEnded from f t limit xs) (sym kept) (length-map ys h ∙ count, all_ended from f h end t limit xs ys count each all)
-
-pub if_both : {T E : Type 0} (r : Result T E) (P Q R : T → Type 0) → ((x : T) → P x → Q x → R x) → IfOk r P → IfOk r Q → IfOk r R
-if_both (Ok x) P Q R f p q = f x p q
-if_both (Err e) P Q R f p q = tt
 
 index_map : {A : Type 0} (f : A → Held) (xs : List A) (k : ℕ) (d : A) (e : Held) → k < length xs → slice_index_or (map f xs) k e ≡ f (slice_index_or xs k d)
 index_map f [] k d e lt = absurd (omega (arith, lt))

@@ -62,6 +62,3 @@ stopped t limit from turns held next then after end below answered same stops = 
     over Tired s = absurd s
     over Full s = (below, s)
     over Memory s = below
-
-pub tired : (t : Terms) (limit from : ℕ) (held : Held) (next : ℕ) (after : Held) → AreTurns t limit from held next after → HasBrought t limit from held after Tired
-tired t limit from held next after answered = record { turns = limit; next = next; answered = answered; over = refl }

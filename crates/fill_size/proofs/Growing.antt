@@ -125,13 +125,6 @@ fits_reads bs d a b c e region least most la lb lc le =
     let high : read (highest -ℤ read d) ≡ highest -ℤ d = rw d_is (read_is (highest -ℤ d) (omega (arith, ints))) in
     fits_test bs d a b c e region least (rw low at la) (rw high at lb) (rw low at lc) (rw high at le)
 
--- nothing is less than 0 away, so a negative growth leaves nothing
-pub none_left : (p : ℤ → ℤ → Bool) (d : ℤ) → d <ℤ pos 0 → StaysInRange p d
-none_left p d below x y r = absurd (apart x r.u r.across.above r.across.below)
-  where
-    apart : (x u : ℤ) → (x -ℤ u) ≤ℤ d → (u -ℤ x) ≤ℤ d → ⊥
-    apart x u h k = omega (arith, ints)
-
 -- grown by 2^31 or more, a square leaves the coordinates, so only the empty set stays within
 none_stays : (p : ℤ → ℤ → Bool) (d : ℤ) → ((x y : ℤ) → p x y ≡ true → IsInRange x y) → pos 2147483648 ≤ℤ d → StaysInRange p d → (x y : ℤ) → p x y ≡ true → ⊥
 none_stays p d region far stays x y is = apart x ((stay_strips p d (omega (arith, ints)) stays).left x y is) (region x y is).right

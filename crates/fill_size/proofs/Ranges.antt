@@ -192,13 +192,6 @@ clear_test p r s x1 y1 x2 y2 b is e1 e2 e3 e4 test =
     opposite true same t = ((λ h. let e : false ≡ true = h in cc), (λ none. absurd (none (same.0 (t.0 refl)))))
     opposite false same t = ((λ h q. let e : false ≡ true = t.1 (same.1 q) in cc), (λ none. refl))
 
--- the grown rectangle has lines
-pub grown_tall : (r : Rect) (s y1 y2 : ℤ) → IsSpacing s → y1 ≡ r.y1 → y2 ≡ r.y2 → read (read y1 -ℤ read s) <ℤ read (read y2 +ℤ read s)
-grown_tall r s y1 y2 is e f = rw (e, f, read_y1 r, read_y2 r, spacing_read s is, shrunk_read r.y1 s (y1_is r) is, grown_read r.y2 s (y2_is r) is) (longer r.y1 r.y2 s r.tall is.least)
-  where
-    longer : (a b s : ℤ) → a <ℤ b → pos 0 ≤ℤ s → (a -ℤ s) <ℤ (b +ℤ s)
-    longer a b s h k = omega (arith, ints)
-
 -- the edges of a grown rectangle, each as the code reckons it
 pub left_grown : (r : Rect) (s x e : ℤ) → IsSpacing s → x ≡ r.x1 → e ≡ read (read x -ℤ read s) → e ≡ r.x1 -ℤ s
 left_grown r s x e is h k = k ∙ rw (h, read_x1 r, spacing_read s is) (shrunk_read r.x1 s (x1_is r) is)

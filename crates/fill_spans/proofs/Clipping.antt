@@ -20,9 +20,6 @@ le_here e x h = grind (arith, ints)
 lt_trans : (a b c : ℤ) → a <ℤ b → b <ℤ c → a <ℤ c
 lt_trans a b c h k = omega (arith, ints)
 
-lt_le_trans : (a b c : ℤ) → a <ℤ b → b ≤ℤ c → a <ℤ c
-lt_le_trans a b c h k = omega (arith, ints)
-
 -- the lower end may fall
 chain_lower : (under lo hi : ℤ) (es : List ℤ) → under <ℤ lo → Chain lo es hi → Chain under es hi
 chain_lower under lo hi [] lt h = lt_trans under lo hi lt h

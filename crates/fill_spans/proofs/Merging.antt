@@ -134,20 +134,6 @@ nothing_from_nothing Union = refl
 nothing_from_nothing Minus = refl
 nothing_from_nothing Meet = refl
 
-pub merged_start : (op : Operation) (a b : List ℤ) → IsCanonical a → IsCanonical b → Merged op a b 0 0 []
-merged_start op a b ca cb =
-    let low_a = (chain_at floor ceiling a 0 ca.rising).0 in
-    let low_b = (chain_at floor ceiling b 0 cb.rising).0 in
-    let low : floor <ℤ front a b 0 0 = below_both floor (next_edge a 0) (next_edge b 0) low_a low_b in
-    record {
-      a_in = omega arith;
-      b_in = omega arith;
-      same = λ x. sym (nothing_from_nothing op);
-      out_below = low;
-      a_below = low;
-      b_below = low;
-    }
-
 -- the sweep has come to the end of both lists
 pub merged_members : (op : Operation) (a b : List ℤ) (i j : ℕ) (out : List ℤ) → Merged op a b i j out → length a ≤ i → length b ≤ j
     → (x : ℤ) → inside out x ≡ applied op (inside a x) (inside b x)

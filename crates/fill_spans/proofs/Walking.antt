@@ -43,12 +43,6 @@ begins_right es start next sum canonical place sum_is = record {
     begun true start x le = omega (arith, ints, clamps)
     begun false start x le = refl
 
-pub begins_there : (es : List ℤ) (start : ℤ) (next : ℕ) (sum : ℤ) → IsFirstAbove es start next → HasReached es (walk_of start next sum) start
-begins_there es start next sum place = record {
-  not_beyond = record { begun = omega (arith, ints, clamps); passed = place.before };
-  ahead = λ lt. lt_le start _ (place.after lt);
-}
-
 -- a walk goes past its next edge
 pub record Passes (es : List ℤ) (start : ℤ) (next : ℕ) (sum edge : ℤ) : Type 0 where
   pub fits : FitsSigned w64 (edge -ℤ sum)

@@ -141,9 +141,6 @@ flat_flat f g (x ∷ xs) = flat_map-append f (g x) (flat_map g xs) ∙ ap (λ ys
 int_same : (x y : ℤ) → int_eq x y ≡ true → x ≡ y
 int_same x y h = (Decides-int_eq x y).0 h
 
-is_place : ℤ × ℤ → ℤ × ℤ → Bool
-is_place p q = int_eq q.0 p.0 && int_eq q.1 p.1
-
 times_both : (b : Bool) (j z : ℤ) (n : ℕ) → total (λ x. one_if (b && int_eq x j)) (numbers_from z n) ≡ one_if (b && is_between z (z +ℤ pos n) j)
 times_both true j z n = times_numbers j z n
 times_both false j z n = total_none (λ x. 0) (numbers_from z n) (λ x is. refl)

@@ -1,12 +1,12 @@
 -- The area of boxes in a rectangle is the sum of what each takes of it.
-use Rattle.std.proofs.Common.{◌≡◌, refl, sym, ap, ◌∙◌, ℕ, zero, suc, ◌+◌, ◌*◌, ◌<◌, ℤ, pos, ◌+ℤ◌, ◌≤ℤ◌, arith, Bool, true, false, cond, ◌&&◌, ◌||◌}
+use Rattle.std.proofs.Common.{◌≡◌, refl, sym, ap, ◌∙◌, ℕ, zero, suc, ◌+◌, ◌*◌, ◌<◌, ℤ, pos, ◌+ℤ◌, ◌≤ℤ◌, arith, Bool, true, false, cond, ◌&&◌}
 use Rattle.std.proofs.lemmas.Bool.{and_parts}
 use Rattle.std.proofs.lemmas.Int.{ints, clamps}
-use Rattle.fill_base.specs.Counts.{is_between, sum_from, sum_between, count_between, span_len}
+use Rattle.fill_base.specs.Counts.{is_between, sum_from, sum_between, span_len}
 use Rattle.fill_base.specs.Squares.{area_between}
 use Rattle.fill_base.proofs.Between.{is_between_above, is_between_below}
-use Rattle.fill_base.proofs.Counting.{sum_from_add, sum_from_const, sum_from_same, sum_between_add, sum_between_split, sum_between_const}
-use Rattle.fill_raster.proofs.Points.{area_none}
+use Rattle.fill_base.proofs.Counting.{sum_from_add, sum_from_const, sum_from_same, sum_between_split, sum_between_const}
+use Rattle.fill_base.proofs.Covering.{area_none, area_either}
 use Rattle.fill_raster.specs.Lattice.{Lattice, box_squares}
 use Rattle.fill_job.specs.Plans.{PointSet}
 use Rattle.fill_job.specs.Searches.{some_below, some_pair, some_within}
@@ -14,18 +14,6 @@ use Rattle.fill_job.proofs.Searching.{some_below_finds}
 use Rattle.fill_state.specs.steps.Taken.{AreApart}
 
 -- ---- sets that share no square
-
-pub area_either : (p q : PointSet) (left bottom right top : ℤ) → ((x y : ℤ) → p x y ≡ true → q x y ≡ true → ⊥)
-    → area_between (λ x y. p x y || q x y) left bottom right top ≡ area_between p left bottom right top + area_between q left bottom right top
-area_either p q left bottom right top apart =
-    sum_between_add (λ y. count_between (λ x. p x y) left right) (λ y. count_between (λ x. q x y) left right) (λ y. count_between (λ x. p x y || q x y) left right) bottom top
-    (λ y. sum_between_add (λ x. cond (p x y) 1 0) (λ x. cond (q x y) 1 0) (λ x. cond (p x y || q x y) 1 0) left right (λ x. one (p x y) (q x y) (apart x y)))
-  where
-    one : (a b : Bool) → (a ≡ true → b ≡ true → ⊥) → cond (a || b) 1 0 ≡ cond a 1 0 + cond b 1 0
-    one true true h = absurd (h refl refl)
-    one true false h = refl
-    one false true h = refl
-    one false false h = refl
 
 -- sets in a row, no two of which share a square
 area_some : (q : ℤ → PointSet) (lo : ℤ) (n : ℕ) (left bottom right top : ℤ) → left ≤ℤ right → bottom ≤ℤ top → ((k m x y : ℤ) → q k x y ≡ true → q m x y ≡ true → k ≡ m)

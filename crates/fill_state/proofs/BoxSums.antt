@@ -6,7 +6,7 @@ use Rattle.fill_base.specs.Counts.{sum_from, sum_between, span_len}
 use Rattle.fill_base.specs.Squares.{area_of, squares}
 use Rattle.fill_base.specs.declared.rect.Rect.{Rect}
 use Rattle.fill_base.proofs.Signed.{read, read_is, is_lt, lt_le, side_short, product_small, pos_fits}
-use Rattle.fill_raster.proofs.Points.{area_few}
+use Rattle.fill_base.proofs.Covering.{area_few}
 use Rattle.fill_raster.specs.Axes.{box_begin, box_end}
 use Rattle.fill_raster.specs.Lattice.{Lattice, box_squares}
 use Rattle.fill_job.specs.Plans.{PointSet}

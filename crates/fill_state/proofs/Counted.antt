@@ -5,10 +5,11 @@ use Rattle.std.specs.Ordering.{int_eq}
 use Rattle.std.proofs.lemmas.Bool.{and_parts, cases_Bool}
 use Rattle.std.proofs.lemmas.Bool.Decides.{Decides-int_eq}
 use Rattle.std.proofs.Math.Nat.{mul_comm}
+use Rattle.fill_base.proofs.Covering.{area_few}
 use Rattle.fill_raster.specs.Axes.{first, past, extent, is_on}
 use Rattle.fill_raster.specs.Lattice.{Lattice, IsLattice, in_raster, tile_of}
 use Rattle.fill_raster.specs.Marks.{Marked, is_marked}
-use Rattle.fill_raster.proofs.Points.{area_few, area_more, int_eq_yes}
+use Rattle.fill_raster.proofs.Points.{area_more, int_eq_yes}
 use Rattle.fill_raster.proofs.Ranges.{on_in, on_within}
 use Rattle.fill_job.specs.Plans.{PointSet}
 use Rattle.fill_core.specs.Boxes.{count_places}

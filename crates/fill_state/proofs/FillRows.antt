@@ -1,17 +1,11 @@
 -- Places that are filled row by row.
-use Rattle.std.proofs.Common.{◌≡◌, refl, ◌∙◌, ℤ, pos, ◌+ℤ◌, ◌≤ℤ◌, arith, Bool, true, false, ◌&&◌, ◌||◌}
+use Rattle.std.proofs.Common.{◌≡◌, refl, ◌∙◌, ℤ, pos, ◌+ℤ◌, ◌≤ℤ◌, Bool, true, false, ◌&&◌, ◌||◌}
 use Rattle.std.specs.Int.{int_max}
 use Rattle.std.specs.Ordering.{int_eq}
-use Rattle.std.proofs.lemmas.Int.{ints}
 use Rattle.fill_base.specs.Counts.{is_between}
+use Rattle.fill_base.proofs.Between.{between_none, between_more}
 use Rattle.fill_job.specs.Plans.{PointSet}
 use Rattle.fill_job.proofs.Marking.{between_all}
-
-between_none : (a x : ℤ) → is_between a a x ≡ false
-between_none a x = grind (arith, ints)
-
-between_more : (a i x : ℤ) → a ≤ℤ i → is_between a (i +ℤ pos 1) x ≡ is_between a i x || int_eq x i
-between_more a i x le = grind (arith, ints)
 
 no_more : (o x : Bool) → o ≡ o || (false && x)
 no_more true x = refl

@@ -15,11 +15,8 @@ use Rattle.fill_text.specs.declared.script.Edit.{Edit}
 use Rattle.fill_text.specs.declared.script.Edit.TheVariants.{Add, Cut, Keep}
 use Rattle.fill_core.specs.Machine.{metal_after}
 use Rattle.fill_job.specs.Plans.{PointSet}
+use Rattle.fill_job.proofs.TileReads.{and_when}
 use Rattle.fill_state.specs.Pieces.{AreFirstPieces, ArePieces, IsPiece}
-
-and_when : (a b c : Bool) → (a ≡ true → b ≡ c) → a && b ≡ a && c
-and_when true b c h = h refl
-and_when false b c h = refl
 
 and_where : (a b c : Bool) → (c ≡ true → a ≡ b) → a && c ≡ b && c
 and_where a b true h = rw (h refl) refl
@@ -116,9 +113,6 @@ pieces_more r d metal n pieces new piece pushed are is = rw pushed (record {
   where
     less : (t n : ℕ) → t < n + 1 → (t ≡ n → ⊥) → t < n
     less t n lt ne = grind (arith, lt, ne)
-
-pub no_pieces : (r : Lattice) (d : ℤ) (metal : PointSet) → AreFirstPieces r d metal 0 []
-no_pieces r d metal = record { count = refl; each = λ t lt. absurd (omega (arith, lt)) }
 
 -- the loops over all tiles
 pub next_tile : (t n m : ℕ) → t < m → m ≡ n → t + 1 ≤ n

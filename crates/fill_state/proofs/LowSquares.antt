@@ -1,15 +1,16 @@
 -- The unit squares of the low windows, one after another.
-use Rattle.std.proofs.Common.{◌≡◌, refl, sym, subst, ap, ◌∙◌, ℕ, zero, suc, ◌+◌, ◌*◌, ◌/◌, ◌%◌, ◌<◌, ℤ, pos, ◌<ℤ◌, arith, inl, inr, List, [], ◌∷◌, ◌++◌, length, get_or, Bool, true, false, ◌&&◌, ◌||◌, ◌↔◌}
-use Rattle.std.specs.Prelude.{int_lt, nat_lt, IsTrue}
+use Rattle.std.proofs.Common.{◌≡◌, refl, sym, subst, ap, ◌∙◌, ℕ, zero, suc, ◌+◌, ◌*◌, ◌/◌, ◌%◌, ◌<◌, ℤ, pos, arith, inl, inr, List, [], ◌∷◌, ◌++◌, length, get_or, Bool, true, false, ◌&&◌, ◌||◌, ◌↔◌}
+use Rattle.std.specs.Prelude.{nat_lt, IsTrue}
 use Rattle.std.specs.Ordering.{int_eq}
 use Rattle.std.proofs.lemmas.Bool.{and_parts, cases_Bool}
 use Rattle.std.proofs.lemmas.Bool.Decides.{Decides-int_eq}
-use Rattle.std.proofs.lemmas.Int.{ints, by_lt_z}
+use Rattle.std.proofs.lemmas.Int.{ints}
 use Rattle.std.proofs.lemmas.List.Folds.{list_any-append}
 use Rattle.std.proofs.lemmas.Nat.{div-mul-add, mod-mul-add, mul-add-lt}
 use Rattle.std.proofs.Math.Nat.{div-add-mod, div-lt_iff_lt-mul}
 use Rattle.fill_base.specs.Squares.{squares}
 use Rattle.fill_base.specs.declared.rect.Rect.{Rect}
+use Rattle.fill_base.proofs.Signed.{lt_test}
 use Rattle.fill_area.specs.Density.{IsBelow}
 use Rattle.fill_area.specs.Grid.{Grid, counted_size}
 use Rattle.fill_raster.proofs.Points.{int_eq_yes}
@@ -46,10 +47,6 @@ next_is k = grind arith
 
 -- ---- one window
 
-lt_test : (a b : ℤ) (r : Bool) → (IsTrue r ↔ a <ℤ b) → int_lt a b ≡ r
-lt_test a b true h = let lt : a <ℤ b = h.0 refl in grind (arith, ints)
-lt_test a b false h = by_lt_z a b (λ lt. let both : false ≡ true = h.1 lt in cc) (λ le. grind (arith, ints))
-
 pub low_at : (g : Grid) (least : ℤ) (totals : List ℤ) (k : ℕ) (size : ℤ) (test : Bool) → length totals ≡ g.across.count * g.up.count → k < length totals → size ≡ counted_size g (k % g.across.count) (k / g.across.count)
     → (IsTrue test ↔ IsBelow (get_or totals k (pos 0)) least size) → low_by g least totals (k % g.across.count) (k / g.across.count) ≡ test
 low_at g least totals k size test count lt size_is is =
@@ -62,16 +59,6 @@ low_at g least totals k size test count lt size_is is =
     (lt_test _ _ test (subst (λ (n : ℤ). IsTrue test ↔ IsBelow (get_or totals k (pos 0)) least n) size_is is))
 
 -- ---- the windows so far
-
-pub low_none : (g : Grid) (least : ℤ) (totals : List ℤ) (a b : ℕ) → covered [] (pos a) (pos b) ≡ low_by g least totals a b && nat_lt (b * g.across.count + a) 0
-low_none g least totals a b = sym (none (low_by g least totals a b) (nat_lt (b * g.across.count + a) 0) (over (b * g.across.count + a)))
-  where
-    over : (m : ℕ) → nat_lt m 0 ≡ false
-    over m = grind arith
-
-    none : (p q : Bool) → q ≡ false → p && q ≡ false
-    none true q h = h
-    none false q h = refl
 
 column_in : (g : Grid) (least : ℤ) (totals : List ℤ) (a b : ℕ) → low_by g least totals a b ≡ true → (a < g.across.count) × (b < g.up.count)
 column_in g least totals a b h =

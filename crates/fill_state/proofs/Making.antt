@@ -3,10 +3,10 @@ use Rattle.std.proofs.Common.{◌≡◌, refl, sym, ap, ◌∙◌, ℕ, ◌+◌,
 use Rattle.std.specs.Prelude.{◌==◌, get_or}
 use Rattle.std.proofs.lemmas.Bool.{and_parts, cases_Bool, cases_eq, eqb-true}
 use Rattle.std.proofs.lemmas.List.{get_or_append_left, get_or_default, get_or_push, length_push}
+use Rattle.fill_base.proofs.Covering.{area_none}
 use Rattle.fill_raster.specs.Axes.{first, past}
 use Rattle.fill_raster.specs.Lattice.{Lattice, IsLattice, KeepsPitch, in_raster, in_tile, tile_of, tiles}
 use Rattle.fill_raster.specs.Marks.{Marked, in_block, is_marked}
-use Rattle.fill_raster.proofs.Points.{area_none}
 use Rattle.fill_raster.proofs.Ranges.{first_past}
 use Rattle.fill_raster.proofs.Tiling.{tile_of_below}
 use Rattle.fill_state.specs.Filling.{Filling, IsCounted, IsFilling, is_filled, marks_of}
@@ -16,13 +16,6 @@ use Rattle.fill_state.specs.steps.Empty.{AreNone}
 
 abbrev pub with_marks : Lattice → List Marked → Filling
 with_marks r marks = record { raster = r; marks = marks }
-
-pub none_first : (r : Lattice) → AreNone (with_marks r []) 0
-none_first r = record {
-  count_is = refl;
-  blocks = λ t lt i j. absurd (omega (arith, lt));
-  none = λ t lt i j. absurd (omega (arith, lt));
-}
 
 last_marks : (r : Lattice) (marks : List Marked) (m : Marked) (count : ℕ) → length marks ≡ count → marks_of (with_marks r (marks ++ m ∷ [])) count ≡ m
 last_marks r marks m count e = get_or_push marks m _ count e

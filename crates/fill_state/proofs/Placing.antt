@@ -33,9 +33,6 @@ changed_keeps f t m is lt block =
       ];
     }
 
-yes_no : (b : Bool) → b ≡ true → b ≡ false → ⊥
-yes_no b h k = let e : true ≡ false = sym h ∙ k in cc
-
 -- the marks of a place's tile are of that tile's places
 pub place_marked : (f : Filling) (i j : ℤ) → IsFilling f → in_raster f.raster i j ≡ true → in_block (marks_of f (tile_of f.raster i j)).block i j ≡ true
 place_marked f i j is on = is.blocks (tile_of f.raster i j) (tile_of_below f.raster i j is.raster on) i j ∙ rw on (itself (tile_of f.raster i j))

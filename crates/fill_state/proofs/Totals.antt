@@ -3,11 +3,11 @@ use Rattle.std.proofs.Common.{◌≡◌, refl, ◌∙◌, ℕ, ◌+◌, ◌≤�
 use Rattle.fill_base.specs.Squares.{area_of}
 use Rattle.fill_base.specs.declared.rect.Rect.{Rect}
 use Rattle.fill_base.proofs.Signed.{read, read_is, pos_fits}
+use Rattle.fill_base.proofs.Covering.{area_either}
 use Rattle.fill_area.specs.Density.{window_area}
 use Rattle.fill_area.specs.Grid.{Grid, parts_across, parts_up}
 use Rattle.fill_area.specs.Parts.{part_begin, part_end}
 use Rattle.fill_job.specs.Plans.{PointSet}
-use Rattle.fill_state.proofs.BoxAreas.{area_either}
 use Rattle.fill_state.proofs.BoxSums.{few_squares}
 
 pub record Together (n : ℕ) (a b : ℤ) : Type 0 where

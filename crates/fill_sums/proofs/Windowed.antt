@@ -33,11 +33,6 @@ place_in g numbers a b is count = rw count (mul-add-lt b g.across.count a g.up.c
 
 -- ---- one number
 
--- a number that was as the code reads it
-pub record IsNumber (n : ℤ) : Type 0 where
-  pub area : IsArea n
-  pub fits : FitsSigned w64 n
-
 -- the numbers before and after are areas
 pub size_most : (g : Grid) → IsGrid g → IsArea (window_size g)
 size_most g is = size_area g.across.length g.up.length is.across.length_is is.up.length_is
@@ -203,9 +198,6 @@ row_joins low mid high c d b h l = rw (range_joins low mid high c h l) (or_and (
 
 pub row_apart : (low mid high c d b : ℕ) → in_range mid high c && (d == b) ≡ true → in_range low mid c && (d == b) ≡ false
 row_apart low mid high c d b h = rw (range_apart low mid high c (and_parts (in_range mid high c) (d == b) h).0) refl
-
-pub row_ahead : (low mid high a b c : ℕ) → in_range mid high a ≡ true → in_range low mid a && (b == c) ≡ false
-row_ahead low mid high a b c h = rw (range_apart low mid high a h) refl
 
 -- the windows of a range and of the next one have moved
 pub moved_both : (low mid high b : ℕ) (way : Way) (p : ℤ → ℤ → Bool) (g : Grid) (old new last : List ℤ) → low ≤ mid → mid ≤ high

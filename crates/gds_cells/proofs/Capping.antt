@@ -32,12 +32,6 @@ more_capped a total m b each new some before below now = record { most = now.mos
   cases t (inr (e, f)) (inl is) = let bound = now.most in inr (omega (arith, is, bound, e), omega (arith, f))
   cases t (inr (e, f)) (inr (full, more)) = inr (full, omega (arith, f))
 
-pub both_capped : (a b total each new : ℕ) → IsCapped a total → IsCapped b each → IsCapped (total + each) new → IsCapped (a + b) new
-both_capped a b total each new before below now =
-    subst (λ n. IsCapped (a + n) new) (once b) (more_capped a total 1 b each new (omega arith) before below (subst (λ n. IsCapped (total + n) new) (sym (once each)) now)) where
-      once : (n : ℕ) → 1 * n ≡ n
-      once n = omega arith
-
 part_right : (f : ℕ → ℕ) (counts : List ℕ) (links : List Link) (k : ℕ) → k < length links → AreRight f counts (take (k + 1) links)
     → AreRight f counts (take k links)
 part_right f counts links k within all j d small =

@@ -50,13 +50,6 @@ pub record AreJoined (entries : List Entry) (layer : Layer) (n : ℕ) (elements 
   pub are : AreOf entries layer (take n elements) (flat_map vec_items shapes) links
   pub fine : AreFine layer (take n elements)
 
-pub none_joined : (entries : List Entry) (layer : Layer) (n : ℕ) (elements : List Element) (shapes : List (Vec Shape)) (links : List Link) → n ≡ 0
-    → shapes ≡ [] → links ≡ [] → AreJoined entries layer n elements shapes links
-none_joined entries layer n elements shapes links none no_shapes no_links = rw (none, no_shapes, no_links) (record {
-  are = record { own = refl; links = refl; singles = refl };
-  fine = λ k d within. absurd (omega (arith, within));
-})
-
 module _ (entries : List Entry) (layer : Layer) (size : ℕ) (elements : List Element) (chunks : List (Result Chunk FlattenError))
     (are : AreChunks entries layer size elements chunks) where
   module _ (done rest : List (Result Chunk FlattenError)) (x : Result Chunk FlattenError) (parts : done ++ x ∷ rest ≡ chunks) where

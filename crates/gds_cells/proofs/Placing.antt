@@ -98,9 +98,6 @@ pub parts_stay : (p : Placement) (element : Element) (pieces : List Rect) (b : B
 parts_stay p element pieces b drawn range = λ k d lt.
     part_carried p b (get_or (parts_of element) k d) (part_of (parts_of element) b k d drawn.extent lt) (drawn.ordered k d lt) range
 
-pub nothing_stays : (p : Placement) (element : Element) → length (parts_of element) ≡ 0 → StaysInRange p element
-nothing_stays p element bare = λ k d lt. absurd (omega arith)
-
 -- ---- what's in range is no wider than all coordinates
 
 axis_narrow : (f : Bool) (a b m : ℤ) → a ≤ℤ b → InRange f a b m → (b -ℤ a) ≤ℤ pos 2147483648

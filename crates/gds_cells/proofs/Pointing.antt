@@ -40,9 +40,6 @@ point_fair f s v w z h k l =
     let sum = sum_size (signed f (cond s v w)) z 35184372088832 (258 * 68719476736) (omega arith) l in
     omega arith
 
-near_close : (z : ℤ) → unsigned_abs z ≤ 8589934592 → IsClose z
-near_close z h = omega arith
-
 pub record FourClose (b : Bounds) : Type 0 where
   pub left : IsClose b.left
   pub bottom : IsClose b.bottom

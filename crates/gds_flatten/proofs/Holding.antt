@@ -85,9 +85,6 @@ held_both cs ds o p q h k first second x y seen =
     either true b e f g = f refl
     either false b e f g = g e
 
-pub held_more : (cs : List Copy) (o p : Option Bounds) → IsHeld cs o → IsAround p o → IsHeld cs p
-held_more cs o p h around x y seen = around x y (h x y seen)
-
 pub held_none : (o : Option Bounds) → IsHeld [] o
 held_none o x y seen = absurd cc
 

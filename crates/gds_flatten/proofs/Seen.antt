@@ -1,7 +1,7 @@
 -- What a rectangle sees of copies.
-use Rattle.std.proofs.Common.{◌≡◌, ℕ, zero, suc, ◌+◌, ◌-◌, ◌<◌, ◌≤◌, ℤ, Bool, true, false, ◌||◌, List, [], ◌∷◌, ◌++◌, length, map, take, get_or, refl, sym, ap, subst, arith, ◌∙◌}
+use Rattle.std.proofs.Common.{◌≡◌, ℕ, zero, suc, ◌+◌, ◌-◌, ◌<◌, ◌≤◌, ℤ, Bool, true, false, ◌||◌, List, [], ◌∷◌, ◌++◌, length, map, get_or, refl, sym, ap, subst, arith, ◌∙◌}
 use Rattle.std.specs.Prelude.{int_lt, int_le, slice_get, Option, Some, None, All}
-use Rattle.std.specs.List.{flat_map, range_with_len}
+use Rattle.std.specs.List.{flat_map}
 use Rattle.std.proofs.lemmas.Int.{ints}
 use Rattle.std.proofs.lemmas.Bool.{and_parts, and_from}
 use Rattle.fill_base.specs.declared.rect.Rect.{Rect}
@@ -24,7 +24,7 @@ use Rattle.gds_cells.specs.steps.Walks.{hierarchy}
 use Rattle.gds_cells.specs.steps.Counting.{links_in}
 use Rattle.gds_cells.proofs.Carrying.{bounds_back}
 use Rattle.gds_cells.proofs.Composing.{carried_together}
-use Rattle.gds_flatten.proofs.Drawing.{drawn_joins, or_joins, or_false, list_more, range_more, whole_flat}
+use Rattle.gds_flatten.proofs.Drawing.{drawn_joins, or_joins, or_false}
 
 -- ---- one after another
 
@@ -34,19 +34,6 @@ none_on r old x y on = or_false (covered old x y)
 pub more_on : (r : Rect) (cs ds : List Copy) (old mid new : List Rect) → IsDrawnOn r cs old mid → IsDrawnOn r ds mid new → IsDrawnOn r (cs ++ ds) old new
 more_on r cs ds old mid new first then x y on =
     then x y on ∙ rw (first x y on, drawn_joins cs ds x y) (or_joins (covered old x y) (drawn cs x y) (drawn ds x y))
-
-pub next_on : {X : Type 0} (r : Rect) (f : X → List Copy) (xs : List X) (k : ℕ) (d : X) (old mid new : List Rect) → k < length xs
-    → IsDrawnOn r (flat_map f (take k xs)) old mid → IsDrawnOn r (f (get_or xs k d)) mid new → IsDrawnOn r (flat_map f (take (k + 1) xs)) old new
-next_on r f xs k d old mid new within before next =
-    rw (list_more f xs k d within) (more_on r (flat_map f (take k xs)) (f (get_or xs k d)) old mid new before next)
-
-pub turn_on : (r : Rect) (f : ℕ → List Copy) (k : ℕ) (old mid new : List Rect)
-    → IsDrawnOn r (flat_map f (range_with_len 0 k)) old mid → IsDrawnOn r (f k) mid new → IsDrawnOn r (flat_map f (range_with_len 0 (k + 1))) old new
-turn_on r f k old mid new before next = rw (range_more f k) (more_on r (flat_map f (range_with_len 0 k)) (f k) old mid new before next)
-
-pub all_on : {X : Type 0} (r : Rect) (f : X → List Copy) (xs : List X) (k : ℕ) (old new : List Rect) → (k < length xs → ⊥)
-    → IsDrawnOn r (flat_map f (take k xs)) old new → IsDrawnOn r (flat_map f xs) old new
-all_on r f xs k old new ended h = subst (λ ys. IsDrawnOn r (flat_map f ys) old new) (whole_flat xs xs k refl ended) h
 
 -- ---- what isn't seen
 

@@ -55,9 +55,6 @@ part_joins (suc f) (suc t) (x ∷ xs) ys =
 pub part_front : {X : Type 0} (f t : ℕ) (xs ys : List X) → t ≤ length xs → part f t (xs ++ ys) ≡ part f t xs
 part_front f t xs ys h = ap (drop f) (take-append-le t xs ys h)
 
-pub part_whole : {X : Type 0} (t : ℕ) (xs : List X) → length xs ≤ t → part 0 t xs ≡ xs
-part_whole t xs h = take_all t xs h
-
 -- a part, as a slice of what there is of it
 pub part_taken : {X : Type 0} (f t s e : ℕ) (xs : List X) → e ≡ min t (length xs) → s ≡ min f e → take (e - s) (drop s xs) ≡ part f t xs
 part_taken f t s e xs e_is s_is =

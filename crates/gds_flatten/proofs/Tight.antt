@@ -110,9 +110,6 @@ tight_both cs ds o p q h k both =
 
 -- ---- shapes
 
-same_still : (z : ℤ) → z +ℤ pos 0 ≡ z
-same_still z = omega (arith, ints, clamps)
-
 least_still : (a b : ℤ) → a ≤ℤ b → int_min (a +ℤ pos 0) (b +ℤ pos 0) ≡ a
 least_still a b h = omega (arith, ints, clamps)
 

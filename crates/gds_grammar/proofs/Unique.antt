@@ -16,7 +16,7 @@ use Rattle.gds_grammar.specs.Forms.{is_well}
 use Rattle.gds_grammar.specs.Values.{Contents}
 use Rattle.gds_grammar.specs.Grammar.{all_rules}
 use Rattle.gds_grammar.specs.Machine.{State, Start, Done, fine, next_state, step, run}
-use Rattle.gds_grammar.specs.steps.Reading.{Reaches, IsOpen, FailsAt, FailsLater, Fails, left_of, error_of}
+use Rattle.gds_grammar.specs.steps.Reading.{Reaches, IsOpen, FailsAt, FailsLater, Fails, error_of}
 use Rattle.gds_grammar.specs.Outcomes.{Spells, SoFar, LacksRecord, RefusesRecord, IsRefused}
 use Rattle.gds_grammar.proofs.Runs.{fine_is, not_fine, only_true, bind_ok, run_append}
 use Rattle.gds_grammar.proofs.Back.{run_is_library, library_runs}
@@ -158,12 +158,6 @@ is_refused bytes (stops.Fault (causes.Refused refusals.Unexpected) left) h lt = 
 is_refused bytes (stops.Fault (causes.Refused refusals.BadXY) left) h lt = (length bytes - left, refuses bytes refusals.BadXY left h lt)
 is_refused bytes (stops.Fault (causes.Refused refusals.NotClosed) left) h lt = (length bytes - left, refuses bytes refusals.NotClosed left h lt)
 is_refused bytes (stops.Fault (causes.Refused refusals.DuplicateCell) left) h lt = (length bytes - left, refuses bytes refusals.DuplicateCell left h lt)
-
-pub within : (bytes : List ℕ) (stop : Stop) → Fails bytes Start stop → left_of stop ≤ length bytes
-within bytes stops.Memory h = omega arith
-within bytes (stops.Fault cause left) h =
-    let size : length bytes ≡ length (flat_map spelling h.reached.taken) + length h.rest = ap length h.reached.parts ∙ length-append (flat_map spelling h.reached.taken) h.rest in
-    omega (arith, size, h.here)
 
 pub spells : (bytes rest : List ℕ) (v : Contents) → Reaches bytes Start rest (Done v) → Spells bytes v
 spells bytes rest v h = record { records = h.taken; rest = rest; parts = h.parts; library = run_is_library all_rules h.taken v h.fit h.runs }

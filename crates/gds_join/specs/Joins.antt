@@ -1,5 +1,5 @@
 -- Fill libraries of parts, joined.
-use Rattle.std.specs.Prelude.{◌≡◌, ◌||◌, ℕ, ℤ, true, not, List, length, take, slice_get, Option, Some, None}
+use Rattle.std.specs.Prelude.{◌≡◌, ◌||◌, ℕ, ℤ, true, not, List, length, slice_get, Option, Some, None}
 use Rattle.fill_raster.specs.Lattice.{tile_of}
 use Rattle.fill_text.specs.ValuesOfRules.{values_of}
 use Rattle.fill_text.specs.declared.rules.Rules.{Rules}
@@ -75,15 +75,6 @@ IsPartRefused rules k design earlier bytes OtherDesign = (units dates : List ℕ
 IsPartRefused rules k design earlier bytes PlaceTwice = (units dates : List ℕ) × (filled : PlaceSet) × IsFillText rules bytes units dates filled × IsOfDesign design units dates × Meets filled earlier
 IsPartRefused rules k design earlier bytes OtherRows = (units dates : List ℕ) × (filled : PlaceSet) × IsFillText rules bytes units dates filled × IsOfDesign design units dates
     × Meets filled (λ i j. not (has_tile (plan_of (values_of rules)) k (tile_of (raster_in rules) i j)))
-
--- the parts before this one are taken, and it is refused behind them
-pub record IsStopped (rules : Rules) (count : ℕ) (texts : List (List ℕ)) (k : ℕ) (e : PartError) : Type 0 where
-  pub design : Option Design
-  pub earlier : PlaceSet
-  pub bytes : List ℕ
-  pub taken : AreTaken rules count (take k texts) design earlier
-  pub text : slice_get texts k ≡ Some bytes
-  pub refused : IsPartRefused rules (part k count) design earlier bytes e
 
 -- each text is that of one of as many parts, in their order, and the bytes are the fill library of all their places
 pub record IsJoined (rules : Rules) (texts : List (List ℕ)) (out : List ℕ) : Type 0 where

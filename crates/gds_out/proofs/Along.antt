@@ -1,5 +1,5 @@
 -- A row that goes on from tile to tile.
-use Rattle.std.proofs.Common.{◌≡◌, refl, ap, sym, subst, ◌∙◌, ℕ, ◌<◌, ℤ, pos, negsuc, w64, FitsSigned, ◌-ℤ◌, ◌≤ℤ◌, ◌<ℤ◌, arith, Bool, true, false, ◌&&◌, ◌⊎◌, inl, inr, List, length, get_or, Bor, Option, Some, None, IfSome}
+use Rattle.std.proofs.Common.{◌≡◌, refl, ap, sym, subst, ◌∙◌, ℕ, ◌<◌, ℤ, pos, ◌-ℤ◌, ◌≤ℤ◌, ◌<ℤ◌, arith, Bool, true, false, ◌&&◌, ◌⊎◌, inl, inr, List, length, get_or, Bor, Option, Some, None, IfSome}
 use Rattle.std.specs.Prelude.{not, slice_get, ◌==◌}
 use Rattle.std.proofs.lemmas.Bool.{and_parts, and_from, cases_Bool, cases_eq, eqb-true, eq-eqb}
 use Rattle.std.proofs.lemmas.Int.{ints, clamps}
@@ -159,6 +159,3 @@ row_ends r filled start i j p wanted p_is from to over before = record {
 
     never : (p q : ℤ) → p ≡ q → p <ℤ q → ⊥
     never p q e lt = omega (arith, ints, clamps, e, lt)
-
-pub number_fits : (z : ℤ) → negsuc 2147483647 ≤ℤ z → z ≤ℤ pos 2147483648 → FitsSigned w64 z
-number_fits z low high = omega (arith, ints, clamps)

@@ -7,7 +7,7 @@ use Rattle.std.proofs.lemmas.List.Sums.{sum_by-append}
 use Rattle.fill_base.specs.declared.place.Point.{Point}
 use Rattle.fill_base.specs.Counts.{is_between}
 use Rattle.gds_shape.specs.declared.edge.Edge.{Edge}
-use Rattle.gds_shape.specs.Winding.{edges, IsAligned, IsManhattan, IsPoint}
+use Rattle.gds_shape.specs.Winding.{edges, IsManhattan, IsPoint}
 use Rattle.gds_shape.specs.Moves.{moved}
 use Rattle.gds_shape.specs.steps.Edges.{goes, spans, passes, passing, IsEdge}
 use Rattle.gds_shape.proofs.Counting.{count_cons}
@@ -68,16 +68,6 @@ pub record Along (points rest : List Point) (made : List Edge) : Type 0 where
   pub manhattan : IsManhattan rest
   pub within : All IsPoint rest
   pub same : (way : Bool) (x y : ℤ) → passing way made x y + count_by (passes way x y) (edges rest) ≡ count_by (passes way x y) (edges points)
-
-pub along_start : (points : List Point) → IsManhattan points → All IsPoint points → Along points points []
-along_start points manhattan within = record { manhattan = manhattan; within = within; same = λ way x y. refl_plus (count_by (passes way x y) (edges points)) }
-  where
-    refl_plus : (n : ℕ) → 0 + n ≡ n
-    refl_plus n = omega arith
-
--- the first two of the points that are left
-pub along_aligned : (points : List Point) (p q : Point) (rest : List Point) (made : List Edge) → Along points (p ∷ q ∷ rest) made → IsAligned (p, q)
-along_aligned points p q rest made a = a.manhattan.0
 
 pub along_step : (points : List Point) (p q : Point) (rest : List Point) (made new : List Edge) (between : Option Edge) → Along points (p ∷ q ∷ rest) made
     → IfSome between (IsEdge p q) → IfNone between (p.y ≡ q.y) → new ≡ made ++ option_to_list between → Along points (q ∷ rest) new

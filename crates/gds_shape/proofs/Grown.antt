@@ -1,5 +1,5 @@
 -- The extent of the first of a list and of what stands before an index.
-use Rattle.std.proofs.Common.{◌≡◌, ℕ, ◌+◌, ◌<◌, ℤ, ◌≤ℤ◌, List, [], length, get_or, take, map, refl, arith, ap, ◌∙◌, sym, ◌↔◌}
+use Rattle.std.proofs.Common.{◌≡◌, ℕ, ◌+◌, ◌<◌, ℤ, ◌≤ℤ◌, List, length, get_or, take, map, refl, arith, ap, ◌∙◌, sym, ◌↔◌}
 use Rattle.std.specs.Prelude.{All}
 use Rattle.std.specs.Int.{int_min, int_max}
 use Rattle.std.proofs.lemmas.Int.{ints, clamps}
@@ -20,17 +20,6 @@ pub record Grown (first : Bounds) (seen : List Bounds) (b : Bounds) : Type 0 whe
   pub bottom : (z : ℤ) → Side (λ c. z ≤ℤ c.bottom) first seen b
   pub right : (z : ℤ) → Side (λ c. c.right ≤ℤ z) first seen b
   pub top : (z : ℤ) → Side (λ c. c.top ≤ℤ z) first seen b
-
-none : (P : Bounds → Type 0) (first : Bounds) → Side P first [] first
-none P first = ((λ h. (h, λ k d lt. absurd (omega arith))), (λ h. h.0))
-
-pub grown_start : (first : Bounds) → Grown first [] first
-grown_start first = record {
-  left = λ z. none (λ c. z ≤ℤ c.left) first;
-  bottom = λ z. none (λ c. z ≤ℤ c.bottom) first;
-  right = λ z. none (λ c. c.right ≤ℤ z) first;
-  top = λ z. none (λ c. c.top ≤ℤ z) first;
-}
 
 before : (P : Bounds → Type 0) (all : List Bounds) (k : ℕ) → k < length all → All P (take (k + 1) all) → All P (take k all)
 before P all k more h j d lt =

@@ -162,9 +162,6 @@ bounds_within all b by near e narrow is = rw is (λ k d lt.
         ((e.left b.left).0 (le_self b.left) k origin lt) ((e.right b.right).0 (le_self b.right) k origin lt)
         ((e.bottom b.bottom).0 (le_self b.bottom) k origin lt) ((e.top b.top).0 (le_self b.top) k origin lt)
 
-pub bounds_found : (all segments : List Bounds) (b : Bounds) → all ≡ segments → IsExtent all b → IsExtent segments b
-bounds_found all segments b is e = rw is at e
-
 pub some_items : (n : ℕ) → false ≡ eqb n 0 → 0 < n
 some_items zero h = let w : false ≡ true = h in cc
 some_items (suc n) h = omega arith

@@ -1,27 +1,19 @@
 -- Edges in rising order.
-use Rattle.std.proofs.Common.{◌≡◌, ℕ, ℤ, ◌≤ℤ◌, ◌<ℤ◌, List, get_or, arith, true, false, Ordering, Less, Equal, Greater}
+use Rattle.std.proofs.Common.{◌≡◌, ℕ, ℤ, ◌≤ℤ◌, ◌<ℤ◌, List, get_or, arith, true, false}
 use Rattle.std.specs.Prelude.{int_le}
-use Rattle.std.specs.Cmp.{int_ranks}
 use Rattle.std.specs.Fn.{Called, ComputesKey}
 use Rattle.std.specs.List.Sorted.{IsSortedByKey, IsPartitionedBy, IsPartitionPoint}
-use Rattle.std.specs.Ordering.{MatchOrdering, int_cmp, is_lt}
+use Rattle.std.specs.Ordering.{int_cmp, is_lt}
 use Rattle.std.proofs.lemmas.Cmp.{int_cmp_total}
 use Rattle.std.proofs.lemmas.Fn.{always_returns_same}
 use Rattle.std.proofs.lemmas.Int.{ints}
 use Rattle.std.proofs.lemmas.List.Sorted.{sorted_far, ranks_by}
 use Rattle.gds_shape.specs.declared.edge.Edge.{Edge}
 use Rattle.fill_base.proofs.Signed.{not_le}
+use Rattle.fill_region.proofs.Ordered.{not_less}
 use Rattle.gds_shape.specs.steps.Edges.{AreRisingBy}
 use denote.Param.Members.{Mut}
 use denote.Ref.{Bor}
-
-not_less : (a b : ℤ) → is_lt (int_cmp a b) ≡ false → b ≤ℤ a
-not_less a b h = decide (int_cmp a b) (int_ranks a b) h
-  where
-    decide : (o : Ordering) → MatchOrdering o (a <ℤ b) (a ≡ b) (b <ℤ a) → is_lt o ≡ false → b ≤ℤ a
-    decide Less m h = cc
-    decide Equal m h = omega (arith, ints)
-    decide Greater m h = omega (arith, ints)
 
 -- from the clause `sorted` of `sort_by_key`, where each call gives the number of the edge
 pub rising_from_sort : (number : Edge → ℤ) → {F : Type 0} {g : Mut F (Bor Edge × Unit {0}) ℤ} {f : F} (edges : List Edge)

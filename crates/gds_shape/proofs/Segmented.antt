@@ -1,5 +1,5 @@
 -- The segments of a path, one after the other.
-use Rattle.std.proofs.Common.{◌≡◌, ℕ, suc, ◌≤◌, ◌<◌, ℤ, ◌+ℤ◌, ◌-ℤ◌, List, [], ◌∷◌, ◌++◌, length, get_or, drop, refl, arith, ◌∙◌, sym, append_assoc, true, false}
+use Rattle.std.proofs.Common.{◌≡◌, suc, ◌≤◌, ◌<◌, ℤ, ◌+ℤ◌, ◌-ℤ◌, List, [], ◌∷◌, ◌++◌, length, get_or, drop, refl, arith, ◌∙◌, sym, append_assoc, true, false}
 use Rattle.std.specs.Prelude.{All}
 use Rattle.std.proofs.lemmas.List.{append-nil}
 use Rattle.fill_base.specs.declared.place.Point.{Point}
@@ -14,9 +14,6 @@ pub record Segmented (half before after : ℤ) (corners rest : List Point) (long
   pub stored : All IsStored rest
   pub longer_is : IsStretch longer
   pub same : made ++ segments half longer after rest ≡ segments half before after corners
-
-pub segmented_start : (half before after : ℤ) (corners : List Point) → All IsStored corners → IsStretch before → Segmented half before after corners corners before []
-segmented_start half before after corners stored stretch = record { stored = stored; longer_is = stretch; same = refl }
 
 pub segmented_step : (half before after : ℤ) (corners : List Point) (d : Point) (rest behind : List Point) (longer end : ℤ) (made new : List Bounds) (next : Bounds)
     → Segmented half before after corners rest longer made → 1 < length rest → IsStretch half → end ≡ ending half after (drop 2 rest) → next ≡ segment (get_or rest 0 d) (get_or rest 1 d) half longer end
@@ -34,9 +31,6 @@ pub segmented_end : (half before after : ℤ) (corners rest : List Point) (longe
 segmented_end half before after corners [] longer made s short = sym (append-nil made) ∙ s.same
 segmented_end half before after corners (p ∷ []) longer made s short = sym (append-nil made) ∙ s.same
 segmented_end half before after corners (p ∷ q ∷ rest) longer made s short = absurd (omega arith)
-
-pub stored_at : (half before after : ℤ) (corners : List Point) (d : Point) (rest : List Point) (longer : ℤ) (made : List Bounds) (k : ℕ) → Segmented half before after corners rest longer made → k < length rest → IsStored (get_or rest k d)
-stored_at half before after corners d rest longer made k s lt = s.stored k d lt
 
 abbrev pub bounds : ℤ → ℤ → ℤ → ℤ → Bounds
 bounds l b r t = record { left = l; bottom = b; right = r; top = t }

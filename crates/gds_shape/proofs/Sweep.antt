@@ -29,9 +29,6 @@ pub record SweptTo (points : List Point) (later crossing : List Edge) (old out :
   pub ahead : (way : Bool) (x y : ℤ) → line ≤ℤ y → count_by (passes way x y) (edges points) ≡ passing way crossing x y + passing way later x y
   pub written : (x y : ℤ) → covered out x y ≡ (covered old x y || (int_lt y line && covers points x y))
 
-counts : Bool → ℤ → ℤ → Edge → Bool
-counts way x y e = goes way e && (int_lt x e.x && spans y e)
-
 off : (a b : Bool) → (a && (b && false)) ≡ false
 off true true = refl
 off true false = refl

@@ -1,5 +1,5 @@
 -- The walk over the edges that cross a strip, from left to right.
-use Rattle.std.proofs.Common.{◌≡◌, ℕ, ◌+◌, ◌≤◌, ◌<◌, ℤ, ◌≤ℤ◌, ◌<ℤ◌, List, [], ◌∷◌, length, get_or, take, refl, arith, ap, ◌∙◌, sym, Bool, true, false, cond, not, ◌&&◌, ◌||◌, eqb, ◌++◌, ◌⊎◌, inl, inr}
+use Rattle.std.proofs.Common.{◌≡◌, ℕ, ◌+◌, ◌≤◌, ◌<◌, ℤ, ◌≤ℤ◌, ◌<ℤ◌, List, [], ◌∷◌, length, get_or, take, refl, arith, ap, ◌∙◌, sym, Bool, true, false, cond, not, ◌&&◌, ◌||◌, eqb, ◌++◌}
 use Rattle.std.specs.Prelude.{int_lt, int_le, All}
 use Rattle.std.proofs.lemmas.Int.{ints, by_lt_z}
 use Rattle.std.proofs.lemmas.List.{get_or_default}
@@ -27,22 +27,6 @@ pub record Walked (old : List Rect) (crossing : List Edge) (bottom top : ℤ) (k
   pub ups_are : ups ≡ going true (take k crossing)
   pub downs_are : downs ≡ going false (take k crossing)
   pub written : (x y : ℤ) → covered out x y ≡ (covered old x y || ((int_lt x left && inside (take k crossing) x) && is_between bottom top y))
-
-pub walk_start : (old : List Rect) (crossing : List Edge) (bottom top : ℤ) → Walked old crossing bottom top 0 lowest 0 0 old
-walk_start old crossing bottom top = record {
-  low = omega (arith, ints);
-  high = omega (arith, ints);
-  passed = λ k d lt. absurd (omega arith);
-  ahead = λ j d le lt. (get_or crossing j d).left;
-  ups_are = refl;
-  downs_are = refl;
-  written = λ x y. nothing (covered old x y) (int_lt x lowest) (is_between bottom top y);
-}
-  where
-    nothing : (a b c : Bool) → a ≡ (a || ((b && false) && c))
-    nothing true b c = refl
-    nothing false true c = refl
-    nothing false false c = refl
 
 -- right of all edges each counts
 all_left : (way : Bool) (es : List Edge) (left x : ℤ) → All (λ e. e.x ≤ℤ left) es → left ≤ℤ x → left_of way es x ≡ going way es
@@ -186,23 +170,3 @@ gap_put old new r left right bottom top is_inside is x1 y1 x2 y2 yes_inside x y 
     table : (b : Bool) → (b || false) ≡ (b && true)
     table true = refl
     table false = refl
-
--- nothing is pushed outside, or where two edges stand at one abscissa
-pub no_gap : (a : Bool) (left right bottom top : ℤ) (is_inside : Bool) → (is_inside ≡ false) ⊎ (right ≤ℤ left) → (x y : ℤ) → a ≡ (a || ((is_between left right x && is_between bottom top y) && is_inside))
-no_gap a left right bottom top is_inside why x y =
-    elim why [
-      | inl out ↦ rw out (outside a (is_between left right x && is_between bottom top y))
-      | inr thin ↦ rw (empty left right x thin) (nothing a)
-    ]
-  where
-    outside : (a b : Bool) → a ≡ (a || (b && false))
-    outside true b = refl
-    outside false true = refl
-    outside false false = refl
-
-    nothing : (a : Bool) → a ≡ (a || ((false && is_between bottom top y) && is_inside))
-    nothing true = refl
-    nothing false = refl
-
-    empty : (a b x : ℤ) → b ≤ℤ a → is_between a b x ≡ false
-    empty a b x h = grind (arith, ints)

@@ -1,7 +1,7 @@
 use Rattle.std.proofs.Common.{inl, inr}
-use Rattle.std.proofs.lemmas.Result.{err_from_is_err_and}
+use Rattle.std.proofs.lemmas.Result.{err_from_is_err_and, on_ok_weaker, IfErr-weaker}
 use Rattle.densfill_io.specs.Taps.{has_failed}
-use Rattle.densfill.proofs.Following.{if_three, still, still_refused, uncreated, whole}
+use Rattle.densfill.proofs.Following.{if_three, uncreated, whole}
 use Rattle.densfill.proofs.fill.Goals as goal
 
 pub returns-in_err-filled-clause-refused : goal.returns-in_err-filled-clause-refused
@@ -27,7 +27,7 @@ returns-in_err-library-clause-refused g c =
 
 pub returns-clause-written : goal.returns-clause-written
 returns-clause-written g c =
-    still c.deliver.result (λ p. (
+    on_ok_weaker c.deliver.result (λ p. (
       c.in_ok-inputs.inputs.rules.inner,
       c.in_ok-inputs.inputs.design.inner,
       c.in_ok-inputs.inputs.script.inner,
@@ -38,7 +38,7 @@ returns-clause-written g c =
 
 pub returns-clause-refused : goal.returns-clause-refused
 returns-clause-refused g c =
-    still_refused c.deliver.result (λ e p. inr (
+    IfErr-weaker c.deliver.result _ _ (λ e p. inr (
       c.in_ok-inputs.inputs.rules.inner,
       c.in_ok-inputs.inputs.design.inner,
       c.in_ok-inputs.inputs.script.inner,

@@ -1,9 +1,9 @@
 use Rattle.std.proofs.Common.{◌≡◌, ◌∙◌, sym, subst, inr, List, ℕ, length, map}
+use Rattle.std.proofs.lemmas.Result.{on_ok_weaker, IfErr-weaker}
 use Rattle.std.proofs.lemmas.List.{length-map}
 use Rattle.std.specs.Io.KnownBytes.{Appends}
 use Rattle.densfill_engine.specs.Joiners.{IsJoinOf}
 use Rattle.densfill.specs.Outcomes.{all_known}
-use Rattle.densfill.proofs.Following.{still, still_refused}
 use Rattle.densfill.proofs.Knowing.{counted, known_weaker}
 use Rattle.densfill.proofs.join.join.Goals as goal
 
@@ -11,7 +11,7 @@ pub returns-clause-written : goal.returns-clause-written
 returns-clause-written g c =
     let made = c.in_ok-library.ensures.joined in
     let lib = c.in_ok-library.library.items in
-    still c.settle.result (λ appended. (
+    on_ok_weaker c.settle.result (λ appended. (
       made.0,
       made.1,
       made.2,
@@ -27,7 +27,7 @@ returns-clause-refused g c =
     let made = c.in_ok-library.ensures.joined in
     let lib = c.in_ok-library.library.items in
     let count = length-map c.args.parts.now (λ p. p.now) in
-    still_refused c.settle.result (λ e is. inr (
+    IfErr-weaker c.settle.result _ _ (λ e is. inr (
       made.0,
       made.1,
       known_weaker _ _ (g.R.File.Read.remaining made.0) (λ r h. known_weaker (λ texts. IsJoinOf r texts lib × (length texts ≡ length (map g.R.File.Read.remaining made.1))) _ (all_known (map g.R.File.Read.remaining made.1))

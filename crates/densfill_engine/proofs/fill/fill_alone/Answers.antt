@@ -1,9 +1,10 @@
 use Rattle.std.proofs.Common.{ap, Err}
 use Rattle.std.proofs.lemmas.Result.{err_from_is_err_and}
+use Rattle.fill_base.proofs.Results.{if_both}
 use Rattle.fill_text.specs.ValuesOfRules.{values_of}
 use Rattle.densfill_engine.specs.declared.refusal.RunFault.TheVariants.{Unfinished}
 use Rattle.densfill_engine.proofs.Checking.{as_error}
-use Rattle.densfill_engine.proofs.Filling.{blank_fresh, both_ok, fill_terms, texts_alone, tiles_short}
+use Rattle.densfill_engine.proofs.Filling.{blank_fresh, fill_terms, texts_alone, tiles_short}
 use Rattle.densfill_engine.proofs.fill.fill_alone.Goals as goal
 
 pub fill_tiles-requires-clause-fresh : goal.fill_tiles-requires-clause-fresh
@@ -17,6 +18,6 @@ returns-in_err-fill_tiles-clause-unfinished g c =
 
 pub returns-clause-filled : goal.returns-clause-filled
 returns-clause-filled g c =
-    both_ok c.texts_of.result (λ f library report. texts_alone (fill_terms (values_of c.args.rules) c.args.design.metal c.args.design.keep) c.in_ok-book.book c.args.limit c.in_ok-book.ensures.book
+    if_both c.texts_of.result _ _ _ (λ f library report. texts_alone (fill_terms (values_of c.args.rules) c.args.design.metal c.args.design.keep) c.in_ok-book.book c.args.limit c.in_ok-book.ensures.book
     c.fill_tiles.new.book c.args.design.units c.args.design.dates f.library.items f.report.items c.rules_make_a_plan.ensures
     c.in_ok-fill_tiles.ensures.run c.in_ok-fill_tiles.ensures.complete library report) c.texts_of.ensures.library c.texts_of.ensures.report

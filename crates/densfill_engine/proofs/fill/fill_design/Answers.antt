@@ -1,10 +1,11 @@
 use Rattle.std.proofs.Common.{◌≡◌, ◌<◌, ℕ, List, arith, length, map, subst}
+use Rattle.std.proofs.lemmas.Result.{IfOk-weaker}
 use Rattle.fill_job.specs.Basis.{layers_in}
 use Rattle.fill_text.specs.Script.{change_of}
 use Rattle.fill_text.specs.ValuesOfRules.{values_of}
 use Rattle.fill_text.specs.declared.script.Edit.{Edit}
 use Rattle.densfill_engine.specs.Fills.{IsFillOf}
-use Rattle.densfill_engine.proofs.Filling.{edits_short, only_one, still_ok}
+use Rattle.densfill_engine.proofs.Filling.{edits_short, only_one}
 use Rattle.densfill_engine.proofs.Later.{behind_fill}
 use Rattle.densfill_engine.proofs.fill.fill_design.Goals as goal
 
@@ -23,7 +24,7 @@ returns-clause-filled g c =
     let values = values_of c.args.task.rules in
     let drawn = c.args.task.design in
     let design = c.in_ok-design.design in
-    still_ok c.fill_alone.result (λ f given.
+    IfOk-weaker c.fill_alone.result _ _ (λ f given.
     subst (λ (l : List Edit). IsFillOf values (layers_in drawn.metal drawn.keep) drawn.units drawn.dates (map change_of l) crew.workers crew.limit f.library.items f.report.items) c.deref.ensures.value
     (behind_fill values (layers_in drawn.metal drawn.keep) (layers_in design.metal design.keep) c.deref.result.now crew.workers crew.limit
     design.units drawn.units design.dates drawn.dates f.library.items f.report.items c.edits_open_anew.ensures c.edits_are_changes.ensures c.in_ok-design.ensures.layers c.in_ok-design.ensures.units

@@ -1,9 +1,10 @@
 use Rattle.std.proofs.Common.{ap, Err}
 use Rattle.std.proofs.lemmas.Result.{err_from_is_err_and}
+use Rattle.fill_base.proofs.Results.{if_both}
 use Rattle.fill_text.specs.ValuesOfRules.{values_of}
 use Rattle.densfill_engine.specs.declared.refusal.RunFault.TheVariants.{Unfinished}
 use Rattle.densfill_engine.proofs.Checking.{as_error}
-use Rattle.densfill_engine.proofs.Filling.{blank_fresh, both_ok, fill_terms}
+use Rattle.densfill_engine.proofs.Filling.{blank_fresh, fill_terms}
 use Rattle.densfill_engine.proofs.PartTexts.{near_full, near_texts}
 use Rattle.densfill_engine.proofs.part_fill.fill_near.Goals as goal
 
@@ -18,5 +19,5 @@ returns-in_err-fill_needed-clause-unfinished g c =
 
 pub returns-clause-filled : goal.returns-clause-filled
 returns-clause-filled g c =
-    both_ok c.part_texts_of.result (λ f library report. near_texts (fill_terms (values_of c.args.rules) c.args.design.metal c.args.design.keep) c.in_ok-book.book c.in_ok-book.ensures.book
+    if_both c.part_texts_of.result _ _ _ (λ f library report. near_texts (fill_terms (values_of c.args.rules) c.args.design.metal c.args.design.keep) c.in_ok-book.book c.in_ok-book.ensures.book
     c.fill_needed.new.book c.args.part c.args.design.units c.args.design.dates f.library.items f.report.items c.in_ok-fill_needed.ensures.brought library report) c.part_texts_of.ensures.library c.part_texts_of.ensures.report

@@ -9,7 +9,7 @@ use Rattle.fill_report.specs.BookReport.{boxes_of}
 use Rattle.fill_report.specs.Report.{lines_from, measures_of}
 use Rattle.fill_parts.specs.Cuts.{first_row, past_row}
 use Rattle.fill_parts.specs.Needs.{has_tile}
-use Rattle.densfill_engine.proofs.Marked.{text_is}
+use Rattle.densfill_engine.proofs.Filling.{text_is}
 use Rattle.densfill_engine.proofs.part_texts.part_texts_of.Goals as goal
 
 pub returns-clause-library : goal.returns-clause-library

@@ -5,7 +5,7 @@ use Rattle.fill_job.specs.Plans.{plan_of}
 use Rattle.fill_core.specs.Accounts.{opening_of, state_of}
 use Rattle.fill_core.specs.Histories.{events_in}
 use Rattle.fill_core.proofs.Replays.{filled_allowed}
-use Rattle.densfill_engine.proofs.Marked.{all_first, marks_are, one_more_tile}
+use Rattle.gds_join.proofs.Marked.{all_first, marks_are, one_more_tile}
 use Rattle.densfill_engine.proofs.texts.marks_of.Goals as goal
 
 pub loop-tile-preserved : goal.loop-tile-preserved

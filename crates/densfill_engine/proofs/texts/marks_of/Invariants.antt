@@ -1,7 +1,7 @@
 -- The marks so far are those of the first tiles.
 use Rattle.fill_job.specs.Plans.{plan_of}
 use Rattle.fill_core.specs.Accounts.{state_of}
-use Rattle.densfill_engine.proofs.Marked.{AreFirst}
+use Rattle.gds_join.proofs.Marked.{AreFirst}
 use Rattle.densfill_engine.proofs.texts.marks_of.Given as goal
 
 abbrev pub invariant-loop-tile : goal.invariant-loop-tile

@@ -2,7 +2,7 @@ use Rattle.std.proofs.Common.{◌∙◌, ap}
 use Rattle.fill_text.specs.ValuesOfRules.{values_of}
 use Rattle.fill_core.specs.Accounts.{state_of}
 use Rattle.gds_out.specs.Places.{marked_by}
-use Rattle.densfill_engine.proofs.Marked.{text_is}
+use Rattle.densfill_engine.proofs.Filling.{text_is}
 use Rattle.densfill_engine.proofs.texts.texts_of.Goals as goal
 
 pub returns-clause-library : goal.returns-clause-library

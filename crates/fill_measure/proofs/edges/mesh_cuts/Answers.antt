@@ -1,8 +1,9 @@
 use Rattle.std.specs.List.{flat_map}
 use Rattle.std.specs.Vec.{vec_items}
+use Rattle.fill_base.proofs.Results.{if_both}
 use Rattle.fill_region.specs.Squares.{covered}
 use Rattle.fill_measure.specs.steps.Uniform.{along}
-use Rattle.fill_measure.proofs.Edging.{held_among, held_uniform, if_both}
+use Rattle.fill_measure.proofs.Edging.{held_among, held_uniform}
 use Rattle.fill_measure.proofs.edges.mesh_cuts.Goals as goal
 
 pub returns-then-sides-saturating_mul-clause-among : goal.returns-then-sides-saturating_mul-clause-among

@@ -1,8 +1,9 @@
 use Rattle.std.proofs.Common.{◌∙◌, ap, arith}
 use Rattle.std.proofs.lemmas.Result.{IfOk-weaker}
+use Rattle.fill_base.proofs.Results.{if_both}
 use Rattle.fill_core.specs.Shares.{Held}
 use Rattle.fill_shared.specs.Passes.{calls_of, parts_of}
-use Rattle.fill_shared.proofs.Rounds.{if_both, map_sum, rested_few, seats_ended, worked_sums}
+use Rattle.fill_shared.proofs.Rounds.{map_sum, rested_few, seats_ended, worked_sums}
 use Rattle.fill_shared.proofs.round.work_all.Goals as goal
 
 pub returns-clause-parts : goal.returns-clause-parts
