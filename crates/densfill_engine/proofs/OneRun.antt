@@ -28,7 +28,7 @@ use Rattle.gds_grammar.specs.Values.{Cell, Contents}
 use Rattle.gds_grammar.proofs.Unique.{spelled_once}
 use Rattle.gds_grammar.proofs.Paths.{well_size}
 use Rattle.gds_cells.specs.Copies.{drawn}
-use Rattle.gds_flatten.specs.Flattening.{copies_of}
+use Rattle.gds_cells.specs.Designs.{copies_of}
 use Rattle.gds_out.specs.FillText.{fill_text}
 use Rattle.gds_join.proofs.Libraries.{parts_library}
 use Rattle.densfill_engine.specs.Designs.{IsDesign, IsKeptOut}

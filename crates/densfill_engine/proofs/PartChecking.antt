@@ -13,7 +13,8 @@ use Rattle.gds_grammar.specs.Layers.{has_layer, of_layers}
 use Rattle.fill_base.specs.declared.layer.Layer.{Layer}
 use Rattle.gds_grammar.specs.Outcomes.{Spells}
 use Rattle.gds_cells.specs.Copies.{drawn, AllStayInRange}
-use Rattle.gds_flatten.specs.Flattening.{IsCountableOn, IsRefusedOn, copies_of}
+use Rattle.gds_cells.specs.Designs.{copies_of}
+use Rattle.gds_flatten.specs.Flattening.{IsCountableOn, IsRefusedOn}
 use Rattle.gds_flatten.specs.Layers.{TellsOfWithin, LayersSufficeWithin}
 use Rattle.gds_cells.specs.declared.error.FlattenError.{FlattenError}
 use Rattle.densfill_engine.specs.Designs.{IsFaultBy}

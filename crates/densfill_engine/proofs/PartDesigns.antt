@@ -12,7 +12,8 @@ use Rattle.gds_grammar.specs.Layers.{has_layer, of_layers}
 use Rattle.gds_grammar.specs.Outcomes.{Spells}
 use Rattle.gds_cells.specs.Copies.{Copy, drawn}
 use Rattle.gds_cells.specs.declared.error.FlattenError.{FlattenError}
-use Rattle.gds_flatten.specs.Flattening.{IsCountableOn, IsRefusedOn, copies_of}
+use Rattle.gds_cells.specs.Designs.{copies_of}
+use Rattle.gds_flatten.specs.Flattening.{IsCountableOn, IsRefusedOn}
 use Rattle.gds_flatten.specs.Layers.{LayersSufficeWithin}
 use Rattle.densfill_engine.specs.PartFills.{IsDesignWithin, IsDrawnNear, IsKeptNear, IsUnflattenedBehindWithin, IsWholeKeptOut}
 use Rattle.densfill_engine.proofs.PartChecking.{refused_on, squares_on, tells, whole, whole_on}

@@ -7,6 +7,7 @@ use Rattle.gds_grammar.specs.Values.{Cell, Contents}
 use Rattle.gds_grammar.specs.Outcomes as library
 use Rattle.fill_base.specs.declared.layer.Layer.{Layer}
 use Rattle.gds_cells.specs.Copies.{drawn, AllStayInRange}
+use Rattle.gds_cells.specs.Designs.{copies_of}
 use Rattle.gds_flatten.specs.Flattening as flatten
 use Rattle.gds_cells.specs.declared.error.FlattenError.{FlattenError}
 use Rattle.densfill_engine.specs.declared.refusal.DesignError.{DesignError}
@@ -22,8 +23,8 @@ pub record IsRead (bytes : List ℕ) (design : Contents) : Type 0 where
 -- the squares are those that the top draws on the layer, and nothing is refused
 pub record IsDrawnOn (cells : List Cell) (top : List ℕ) (layer : Layer) (p : PointSet) : Type 0 where
   pub countable : flatten.IsCountable cells top layer
-  pub inside : AllStayInRange (flatten.copies_of cells top layer)
-  pub squares_are : p ≡ drawn (flatten.copies_of cells top layer)
+  pub inside : AllStayInRange (copies_of cells top layer)
+  pub squares_are : p ≡ drawn (copies_of cells top layer)
 
 -- the same where there is a layer, and no square where there is none
 abbrev pub IsKeptOut : List Cell → List ℕ → Option Layer → PointSet → Type 0

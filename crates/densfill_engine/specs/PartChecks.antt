@@ -10,7 +10,7 @@ use Rattle.fill_parts.specs.PartReport.{part_check}
 use Rattle.gds_grammar.specs.Values.{Cell, Contents}
 use Rattle.fill_base.specs.declared.layer.Layer.{Layer}
 use Rattle.gds_cells.specs.Copies.{drawn, AllStayInRange}
-use Rattle.gds_cells.specs.Designs.{AllFine, index_of}
+use Rattle.gds_cells.specs.Designs.{AllFine, index_of, copies_of}
 use Rattle.gds_flatten.specs.Flattening as flatten
 use Rattle.gds_cells.specs.declared.error.FlattenError.{FlattenError}
 use Rattle.gds_cells.specs.declared.error.FlattenError.TheVariants as flat
@@ -28,8 +28,8 @@ use Rattle.densfill_engine.specs.declared.refusal.Refusal.TheVariants as refusal
 pub record IsWholeDrawnOn (cells : List Cell) (top : List ℕ) (layer : Layer) (p : PointSet) : Type 0 where
   pub sound : flatten.IsSound cells top
   pub fine : AllFine cells (index_of cells top) layer
-  pub inside : AllStayInRange (flatten.copies_of cells top layer)
-  pub squares_are : p ≡ drawn (flatten.copies_of cells top layer)
+  pub inside : AllStayInRange (copies_of cells top layer)
+  pub squares_are : p ≡ drawn (copies_of cells top layer)
 
 -- the metal is what the design's top draws so on the checked layer
 pub record IsWholeDrawn (bytes : List ℕ) (values : Values) (metal : PointSet) : Type 0 where

@@ -21,6 +21,7 @@ use Rattle.fill_parts.specs.PartFill.{layers_by, layers_with, part_fill, rect_of
 use Rattle.fill_parts.specs.PartReport.{part_report}
 use Rattle.gds_grammar.specs.Values.{Cell}
 use Rattle.gds_cells.specs.Copies.{drawn, AllStayInRange}
+use Rattle.gds_cells.specs.Designs.{copies_of}
 use Rattle.gds_flatten.specs.Flattening as flatten
 use Rattle.gds_cells.specs.declared.error.FlattenError.{FlattenError}
 use Rattle.gds_out.specs.FillText.{fill_text}
@@ -93,9 +94,9 @@ is_near frame edit =
 -- the squares are those within a rectangle of what the top draws on the layer, all of which lies within the coordinates
 pub record IsDrawnNear (cells : List Cell) (top : List ℕ) (layer : Layer) (frame : Rect) (p : PointSet) : Type 0 where
   pub countable : flatten.IsCountableOn cells top layer frame
-  pub inside : AllStayInRange (flatten.copies_of cells top layer)
-  pub ranged : (x y : ℤ) → drawn (flatten.copies_of cells top layer) x y ≡ true → IsInRange x y
-  pub squares_are : (x y : ℤ) → p x y ≡ (drawn (flatten.copies_of cells top layer) x y && squares frame x y)
+  pub inside : AllStayInRange (copies_of cells top layer)
+  pub ranged : (x y : ℤ) → drawn (copies_of cells top layer) x y ≡ true → IsInRange x y
+  pub squares_are : (x y : ℤ) → p x y ≡ (drawn (copies_of cells top layer) x y && squares frame x y)
 
 abbrev pub IsKeptNear : List Cell → List ℕ → Option Layer → Rect → PointSet → Type 0
 IsKeptNear cells top None frame keep = (x y : ℤ) → keep x y ≡ false

@@ -9,7 +9,7 @@ use Rattle.gds_cells.specs.declared.placement.Placement.{Placement}
 use Rattle.gds_cells.specs.References.{placements_of, name_of, reference_fault}
 use Rattle.gds_cells.specs.Shapes.{is_shape, shape_fault}
 use Rattle.gds_cells.specs.Graphs.{Graph, IsReached}
-use Rattle.gds_cells.specs.Copies.{Hierarchy}
+use Rattle.gds_cells.specs.Copies.{Copy, Hierarchy, copies}
 
 -- a cell, as the library says it: its name and its elements
 abbrev pub Entry : Type 0
@@ -51,6 +51,10 @@ hierarchy_of cells layer = record {
   own = λ c. filter (is_shape layer) (elements_at cells c);
   singles = λ c. singles_among cells (elements_at cells c);
 }
+
+-- the copies of shapes that the top draws, through chains of at most 256 cells
+abbrev pub copies_of : List Entry → List ℕ → Layer → List Copy
+copies_of cells top layer = copies (hierarchy_of cells layer) 256 (index_of cells top)
 
 -- why an element is refused: a reference always, a shape where it's of the layer
 abbrev pub element_fault : Layer → Element → Option FlattenError

@@ -7,7 +7,7 @@ use Rattle.fill_base.specs.declared.layer.Layer.{Layer}
 use Rattle.fill_base.specs.declared.rect.Rect.{Rect}
 use Rattle.fill_region.specs.Squares.{covered}
 use Rattle.gds_grammar.specs.Values.{boundary, path, reference, array, Shape as Element}
-use Rattle.gds_cells.specs.Designs.{Entry}
+use Rattle.gds_cells.specs.Designs.{Entry, copies_of}
 use Rattle.gds_shape.specs.declared.error.ShapeError.{ShapeError}
 use Rattle.gds_shape.specs.declared.error.ShapeError.TheVariants as shapes
 use Rattle.gds_shape.specs.Winding.{edges}
@@ -22,7 +22,7 @@ use Rattle.gds_cells.specs.Shapes.{is_shape, shape_fault, refusal_if}
 use Rattle.gds_cells.specs.Copies.{Copy, carry_copy, copies, drawn, AllStayInRange}
 use Rattle.gds_cells.specs.Placements.{still}
 use Rattle.gds_cells.specs.Designs.{index_of, graph_of, element_fault, IsFirstFault, AllFine}
-use Rattle.gds_flatten.specs.Flattening.{HasTop, LacksCell, IsSound, copies_of, IsCountable, IsRefused}
+use Rattle.gds_flatten.specs.Flattening.{HasTop, LacksCell, IsSound, IsCountable, IsRefused}
 use Rattle.gds_cells.specs.steps.Searches.{State, IsOrdered}
 use Rattle.gds_cells.specs.steps.Surveys.{IsSurveyed, IsUnsound}
 use Rattle.gds_cells.specs.steps.Walks.{hierarchy, IsDrawn}

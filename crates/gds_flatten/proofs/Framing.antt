@@ -3,12 +3,12 @@ use Rattle.std.proofs.Common.{◌≡◌, ◌⊎◌, inl, inr, ℕ, ℤ, ◌<◌,
 use Rattle.std.specs.Prelude.{Option}
 use Rattle.fill_base.specs.declared.layer.Layer.{Layer}
 use Rattle.gds_shape.specs.declared.bounds.Bounds.{Bounds}
-use Rattle.gds_cells.specs.Designs.{Entry, index_of, graph_of, AllFine}
+use Rattle.gds_cells.specs.Designs.{Entry, index_of, graph_of, AllFine, copies_of}
 use Rattle.gds_cells.specs.declared.cell.Cell.{Cell}
 use Rattle.gds_cells.specs.Graphs.{Graph, item, IsDeep}
 use Rattle.gds_cells.specs.Copies.{Copy, copies, drawn}
 use Rattle.gds_flatten.specs.Frames.{met}
-use Rattle.gds_flatten.specs.Flattening.{HasTop, IsSound, copies_of, IsCountableOn, IsRefused, IsRefusedOn}
+use Rattle.gds_flatten.specs.Flattening.{HasTop, IsSound, IsCountableOn, IsRefused, IsRefusedOn}
 use Rattle.gds_cells.specs.steps.Searches.{State, IsOrdered}
 use Rattle.gds_cells.specs.steps.Surveys.{IsSurveyed}
 use Rattle.gds_cells.specs.steps.Built.{AreBuilt}

@@ -13,8 +13,8 @@ use Rattle.gds_cells.specs.declared.error.FlattenError.TheVariants as errors
 use Rattle.gds_cells.specs.Graphs.{Graph, IsReached, IsCyclic, IsTooDeep}
 use Rattle.gds_cells.specs.Shapes.{is_shape}
 use Rattle.gds_cells.specs.Copies.{Hierarchy, copies, AllStayInRange}
-use Rattle.gds_cells.specs.Designs.{Entry, index_of, elements_at, targets, graph_of, singles_among, hierarchy_of, element_fault, AreFine, AllFine, IsFirstFault}
-use Rattle.gds_flatten.specs.Flattening.{IsSound, copies_of, IsCountable, IsCountableOn, IsRefused, IsRefusedOn}
+use Rattle.gds_cells.specs.Designs.{Entry, index_of, elements_at, targets, graph_of, singles_among, hierarchy_of, element_fault, AreFine, AllFine, IsFirstFault, copies_of}
+use Rattle.gds_flatten.specs.Flattening.{IsSound, IsCountable, IsCountableOn, IsRefused, IsRefusedOn}
 use Rattle.gds_flatten.specs.Frames.{met}
 use Rattle.gds_flatten.specs.Layers.{TellsOf, TellsOfWithin, LayersSuffice, LayersSufficeWithin}
 

@@ -5,9 +5,9 @@ use Rattle.fill_base.specs.declared.rect.Rect.{Rect}
 use Rattle.gds_cells.specs.declared.error.FlattenError.{FlattenError}
 use Rattle.gds_cells.specs.declared.error.FlattenError.TheVariants.{Memory, NoTop, MissingCell, Cycle, TooDeep, TooManyShapes, OutOfRange}
 use Rattle.gds_cells.specs.Graphs.{IsReached, IsCyclic, IsTooDeep}
-use Rattle.gds_cells.specs.Copies.{Copy, copies, AllStayInRange}
+use Rattle.gds_cells.specs.Copies.{AllStayInRange}
 use Rattle.gds_flatten.specs.Frames.{met}
-use Rattle.gds_cells.specs.Designs.{Entry, index_of, graph_of, hierarchy_of, IsFirstFault, AllFine}
+use Rattle.gds_cells.specs.Designs.{Entry, index_of, graph_of, copies_of, IsFirstFault, AllFine}
 
 abbrev pub HasTop : List Entry → List ℕ → Type 0
 HasTop cells top = index_of cells top < length cells
@@ -22,10 +22,6 @@ pub record IsSound (cells : List Entry) (top : List ℕ) : Type 0 where
   pub complete : LacksCell cells top → ⊥
   pub acyclic : IsCyclic (graph_of cells) (index_of cells top) → ⊥
   pub shallow : IsTooDeep (graph_of cells) (index_of cells top) → ⊥
-
--- the copies of shapes that the top draws, through chains of at most 256 cells
-abbrev pub copies_of : List Entry → List ℕ → Layer → List Copy
-copies_of cells top layer = copies (hierarchy_of cells layer) 256 (index_of cells top)
 
 -- references and shapes are sound, and there are not too many copies
 pub record IsCountable (cells : List Entry) (top : List ℕ) (layer : Layer) : Type 0 where

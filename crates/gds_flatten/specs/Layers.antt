@@ -4,8 +4,8 @@ use Rattle.fill_base.specs.declared.layer.Layer.{Layer}
 use Rattle.gds_grammar.specs.Layers.{kept_cell}
 use Rattle.fill_base.specs.declared.rect.Rect.{Rect}
 use Rattle.gds_cells.specs.declared.error.FlattenError.{FlattenError}
-use Rattle.gds_cells.specs.Designs.{Entry}
-use Rattle.gds_flatten.specs.Flattening.{copies_of, IsCountable, IsCountableOn, IsRefused, IsRefusedOn}
+use Rattle.gds_cells.specs.Designs.{Entry, copies_of}
+use Rattle.gds_flatten.specs.Flattening.{IsCountable, IsCountableOn, IsRefused, IsRefusedOn}
 
 -- what is told of the second library is told of the first one: the same copies, and the same refusals
 pub record TellsOf (cells others : List Entry) (top : List ℕ) (layer : Layer) : Type 0 where

@@ -18,8 +18,7 @@ use Rattle.gds_grammar.proofs.Back.{library_runs}
 use Rattle.gds_grammar.proofs.Unique.{one_value}
 use Rattle.gds_cells.specs.declared.placement.Placement.{Placement}
 use Rattle.gds_cells.specs.Copies.{copies, own_copy, carry_copy, copy_covers}
-use Rattle.gds_cells.specs.Designs.{Entry, index_of, hierarchy_of}
-use Rattle.gds_flatten.specs.Flattening.{copies_of}
+use Rattle.gds_cells.specs.Designs.{Entry, index_of, hierarchy_of, copies_of}
 use Rattle.gds_cells.specs.Placements.{carried, shift}
 use Rattle.gds_cells.specs.References.{placement_of, grid_point}
 use Rattle.gds_cells.specs.Shapes.{covers_of}

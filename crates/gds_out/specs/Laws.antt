@@ -13,7 +13,7 @@ use Rattle.fill_stacks.specs.Places.{PlaceSet, filled_places}
 use Rattle.fill_stacks.specs.Stacks.{stacks, stack_places}
 use Rattle.fill_stacks.specs.declared.pieces.Stack.{Stack}
 use Rattle.gds_cells.specs.Copies.{copy_covers}
-use Rattle.gds_flatten.specs.Flattening.{copies_of}
+use Rattle.gds_cells.specs.Designs.{copies_of}
 use Rattle.gds_cells.specs.Placements.{carried, shift}
 use Rattle.gds_cells.specs.References.{grid_point}
 use Rattle.gds_grammar.specs.Grammar.{IsLibrary, all_rules}

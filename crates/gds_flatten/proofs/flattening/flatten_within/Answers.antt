@@ -3,7 +3,7 @@ use Rattle.std.proofs.lemmas.Result.{err_from_is_err_and}
 use Rattle.fill_base.specs.Squares.{squares}
 use Rattle.fill_region.specs.Squares.{covered}
 use Rattle.gds_grammar.specs.Values.{cell_of}
-use Rattle.gds_flatten.specs.Flattening.{copies_of}
+use Rattle.gds_cells.specs.Designs.{copies_of}
 use Rattle.gds_flatten.specs.steps.Framing.{IsFound, IsHeld, IsRefusalOn, IsTight, extent_at}
 use Rattle.gds_cells.specs.steps.Walks.{top_copies}
 use Rattle.gds_flatten.proofs.Flattened.{walked}
