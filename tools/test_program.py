@@ -122,6 +122,17 @@ class Done(Case):
             self.assertEqual(self.run_words("fill", "rules.csv", "design.gds", "script.csv", "pipe"), Ended(0, FILLED, ""))
             self.assertEqual(reader.communicate()[0], FILL)
 
+    def test_the_largest_raster_is_one_array(self) -> None:
+        side = 4096
+        sides = {key: side for key in ("frame_x2", "frame_y2", "tile_nx", "tile_ny", "win_w", "win_h", "win_step_x", "win_step_y")}
+        ones = {key: 1 for key in ("box_w", "box_h", "step_x", "step_y")}
+        zeros = {key: 0 for key in ("origin_x", "origin_y", "fill_spacing", "layer")}
+        (self.folder / "rules.csv").write_text(rule_file(RULES | sides | ones | zeros))
+        self.assertEqual(self.fill(), Ended(0, f"0,0,0,0,{side},{side},0,{side ** 2},{side ** 2},1000000,HIGH\n", ""))
+        array = record(0x0B, 0) + text(0x12, "BOX") + words(0x13, side, side) + points(0, 0, side, 0, 0, side) + END
+        want = library("FILL", structure("BOX", boundary(131, 0, 0, 1, 1)), structure("ALL", array))
+        self.assertEqual((self.folder / "out.gds").read_bytes(), want)
+
     def test_a_small_stack_is_enough(self) -> None:
         def small() -> None:
             resource.setrlimit(resource.RLIMIT_STACK, (96 << 10, 96 << 10))
@@ -159,6 +170,21 @@ class Files(Case):
             self.assert_fault(self.fill(), 4, f"{part}: 30 Device")
             self.assert_no_out()
             (self.folder / "away").rename(self.folder / name)
+
+    def test_an_input_of_a_report_is_missing(self) -> None:
+        (self.folder / "empty").touch()
+        for command, part in ("rects", "script"), ("check", "design"):
+            for given, want in ((("none", "empty"), "rules"), (("none", "none"), "rules"), (("empty", "none"), part)):
+                self.assert_fault(self.run_words(command, *given), 4, f"{want}: 30 Device")
+            self.assert_fault(self.run_words(command, "empty", "empty"), 2, "rules: 23 BadRule key frame_x1")
+
+    def test_a_fill_opens_its_inputs_before_it_reads_one(self) -> None:
+        (self.folder / "empty").touch()
+        for given, status, want in ((("none", "none", "empty"), 4, "rules: 30 Device"), (("empty", "none", "none"), 4, "design: 30 Device"),
+                                    (("empty", "empty", "none"), 4, "script: 30 Device"),
+                                    (("empty", "empty", "empty"), 2, "rules: 23 BadRule key frame_x1")):
+            self.assert_fault(self.run_words("fill", *given, "out.gds", "--limit=9"), status, want)
+            self.assert_no_out()
 
     def test_an_input_is_a_folder(self) -> None:
         for part, name in self.PARTS.items():
@@ -252,8 +278,16 @@ class Refused(Case):
             self.assert_usage(self.run_words(*line))
             self.assert_no_out()
 
+    def test_a_bad_line_is_told_with_its_reason(self) -> None:
+        for line, want in (((), "error: 'densfill' requires a subcommand but one was not provided\n"),
+                           (("--help",), "Checks the metal density of a layout\n"),
+                           (("rects", "rules.csv"), "error: the following required arguments were not provided:\n")):
+            ended = self.run_words(*line)
+            self.assertEqual((ended.status, ended.out, ended.err[:len(want)]), (1, "", want))
+
     def test_a_word_that_is_no_text(self) -> None:
-        self.assert_usage(self.run_words("check", "rules.csv", b"\xff\xfe.gds"))
+        ended = self.run_words("check", "rules.csv", b"\xff\xfe.gds")
+        self.assertEqual((ended.status, ended.out, ended.err), (1, "", "error: a word of the command line is no text\n"))
 
     def test_an_input_is_refused(self) -> None:
         (self.folder / "script.csv").write_text("add,5,0,5,9\n")

@@ -363,6 +363,3 @@ fn main(rt: HostRuntime) -> ExitCode {
         Err(error) => without_words(rt.alloc(), &mut Tap::new(rt.stderr()), &error),
     }
 }
-
-#[cfg(test)]
-mod tests;

@@ -9,6 +9,3 @@ mod rect;
 pub use layer::Layer;
 pub use place::{Place, Point};
 pub use rect::{HIGHEST, LOWEST, Rect, RectError, is_coordinate};
-
-#[cfg(test)]
-mod tests;

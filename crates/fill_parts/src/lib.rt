@@ -8,8 +8,6 @@ mod hull;
 pub mod laws;
 mod needs;
 mod part;
-#[cfg(test)]
-mod tests;
 
 pub use hull::Hull;
 pub use part::Part;

@@ -4,7 +4,5 @@
 
 mod cuts;
 mod strips;
-#[cfg(test)]
-mod tests;
 
 pub use strips::region_of_rects;

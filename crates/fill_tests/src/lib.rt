@@ -5,7 +5,11 @@
 #[cfg(test)]
 mod area;
 #[cfg(test)]
+mod base;
+#[cfg(test)]
 mod measure;
+#[cfg(test)]
+mod parts;
 #[cfg(test)]
 mod raster;
 #[cfg(test)]
@@ -14,5 +18,7 @@ mod region;
 mod size;
 #[cfg(test)]
 mod spans;
+#[cfg(test)]
+mod strips;
 #[cfg(test)]
 mod text;

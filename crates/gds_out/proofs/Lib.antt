@@ -5,7 +5,6 @@ pub mod Names
 pub mod Along
 pub mod RowTurns
 pub mod RowStacks
-pub mod TestMarks
 pub mod ByStacks
 pub mod Standing
 pub mod Boxed

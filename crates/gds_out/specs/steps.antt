@@ -2,4 +2,3 @@ pub mod Writing
 pub mod Columns
 pub mod Ranges
 pub mod Rows
-pub mod Tiles

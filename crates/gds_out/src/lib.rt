@@ -7,8 +7,6 @@ mod elements;
 pub mod laws;
 mod library;
 mod rows;
-#[cfg(test)]
-mod tests;
 mod writer;
 
 pub use library::fill_library;

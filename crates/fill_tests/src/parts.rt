@@ -1,7 +1,7 @@
 //! Cuts, and what parts need, of ten rows of places in three rows of tiles under four rows of windows.
 
-use crate::{Hull, Part};
 use fill_base::Rect;
+use fill_parts::{Hull, Part};
 use fill_text::{Rules, read_rules};
 use std::alloc::Global;
 use std::test::Fail;

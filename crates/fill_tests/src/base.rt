@@ -1,5 +1,6 @@
-use crate::rect::{HIGHEST, LOWEST};
-use crate::{Rect, RectError};
+//! Rectangles: their refusals, their equality, their areas and what two have in common.
+
+use fill_base::{HIGHEST, LOWEST, Rect, RectError};
 use std::test::Fail;
 
 #[test]

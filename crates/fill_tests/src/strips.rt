@@ -1,8 +1,8 @@
 //! Rectangles over one another: the region is that of one sweep.
 
-use crate::region_of_rects;
 use fill_base::Rect;
 use fill_region::Region;
+use fill_strips::region_of_rects;
 use std::alloc::Global;
 use std::test::Fail;
 
