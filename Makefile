@@ -1,27 +1,29 @@
 # make demo               runs check, fill and rects on examples/ and tells how many windows are low and high (by the built
 #                         program, or where there is none unproved, by rt try)
+# make quick              builds without proofs, and runs all cases and tests that need none: green before lunch
 # make build              proves the program and leaves it, optimized, at bin/densfill
 # make install PREFIX=..  installs the built program, its deck, its arrays and its manual page below PREFIX (by default /usr/local)
 # make check CRATE=name   proves one crate over what earlier runs kept: for work on it
-# make test               the gate: every proof from nothing, the must-fail edits, the tests, the programs, and the program
-#                         with its deck and its arrays run as users do
+# make plants CRATE=name  tries the planted bugs that the gate leaves out, of one crate, or without CRATE of all
+# make test               the gate: every proof from nothing, the must-fail edits, the tests, the programs, the cases, and the
+#                         program with its deck and its arrays run as users do
 # make test-klayout       what the deck does in KLayout, without a window
 # make test-cluster       a chip of 16 million shapes in parts on a Slurm of two nodes that is set up for it (as root)
 # make bench              times the program on generated input and prints tables
 
-.PHONY: demo build install check test test-klayout test-cluster bench
+.PHONY: demo quick build install check plants test test-klayout test-cluster bench
 
-EXAMPLES := $(CURDIR)/examples
 PREFIX ?= /usr/local
 BUILT := crates/densfill/out/densfill
 
 demo:
 	@tools/demo.py
 
+quick:
+	@tools/quick.py
+
 build:
-	mkdir -p bin
-	cd crates/densfill && rt run -- rects $(EXAMPLES)/rules.csv $(EXAMPLES)/script.csv > ../../bin/build.log
-	cp crates/densfill/out/densfill bin/densfill
+	@tools/build.py
 
 install: $(if $(wildcard bin/densfill),,build)
 	install -D -m 755 bin/densfill $(DESTDIR)$(PREFIX)/bin/densfill
@@ -35,9 +37,14 @@ install: $(if $(wildcard bin/densfill),,build)
 check:
 	cd crates/$(CRATE) && rt check
 
+plants:
+	@tools/plants.py $(CRATE)
+
 test:
-	rt ci
+	tools/count_plants.py
+	RT_JOBS=$$(tools/lanes.py) rt ci
 	tools/demo.py
+	tools/test_cases.py $(BUILT)
 	tools/test_program.py $(BUILT)
 	tools/refuse.py $(BUILT)
 	tools/test_parts.py $(BUILT)
