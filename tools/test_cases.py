@@ -22,7 +22,7 @@ from pathlib import Path
 
 sys.path.insert(0, str(Path(__file__).resolve().parent))
 from built import ROOT, built  # noqa: E402
-from designs import design, spread, told  # noqa: E402
+from designs import design, named, spread, told  # noqa: E402
 
 CASES = ROOT / "cases"
 SHARED = CASES / "rules"
@@ -89,6 +89,22 @@ def joined(lines: Iterable[str]) -> bytes:
     return "".join(f"{line}\n" for line in lines).encode()
 
 
+def changed(records: list[bytes], changes: Iterable[str]) -> list[bytes]:
+    """The records of a rule file with changes: `key,value` in the place of its key's or behind all, `-key` takes one out, and `3: text`
+    stands in the place of the third, with bytes such as \\xff."""
+    found = list(records)
+    for change in changes:
+        numbered = re.fullmatch(r"(\d+): ?(.*)", change)
+        if numbered:
+            found[int(numbered[1]) - 1] = named(numbered[2])
+            continue
+        key = change.removeprefix("-").split(",")[0].encode() + b","
+        kept = [change.encode()] if "," in change else []
+        at = next((i for i, line in enumerate(found) if line.startswith(key)), len(found))
+        found[at : at + 1] = kept
+    return found
+
+
 @dataclass(frozen=True)
 class Case:
     """A folder of cases/."""
@@ -113,16 +129,9 @@ class Case:
         changes = self.text("rules")
         if changes is None:
             return (self.folder / "rules.csv").read_bytes()
-        first, *lines = changes.split("\n")
-        shared = (SHARED / f"{first.removeprefix('rules = ')}.csv").read_text()
-        values = dict(line.split(",", 1) for line in shared.splitlines())
-        for line in filter(None, lines):
-            key, _, value = line.partition(",")
-            if line.startswith("-"):
-                del values[line[1:]]
-            else:
-                values[key] = value
-        return joined(f"{key},{value}" for key, value in values.items())
+        first, *lines = changes.splitlines()
+        shared = (SHARED / f"{first.removeprefix('rules = ')}.csv").read_bytes().splitlines()
+        return b"".join(line + b"\n" for line in changed(shared, lines))
 
     def file(self, word: str) -> bytes | None:
         """The bytes of the file that a word of the line names, where the case has or spells it."""
@@ -143,7 +152,8 @@ class Case:
             return joined(spread(spelled))
         if metal is None:
             return (self.text("report.csv") or "").encode()
-        return report_of(dict(line.split(",", 1) for line in self.rules().decode().splitlines()), spread(metal))
+        rules = (line.split(",", 1) for line in self.rules().decode("latin-1").splitlines() if "," in line)
+        return report_of(dict(rules), spread(metal))
 
     def wanted(self) -> Ended:
         """What must come of it."""
