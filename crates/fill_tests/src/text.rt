@@ -1,3 +1,4 @@
+//! Rule files and scripts that are taken, and texts of refusals. What is refused, and why, is told by cases/.
 use fill_area::Windows;
 use fill_base::{Layer, Point, Rect};
 use fill_raster::Raster;
@@ -5,7 +6,6 @@ use fill_text::{
     Edit, Key, NumberKey, OptionalKey, RuleError, ScriptError, TextKey, read_rules, read_script,
 };
 use std::alloc::Global;
-use std::process::Abort;
 use std::test::Fail;
 
 /// A rule file, a record a line.
@@ -46,41 +46,13 @@ const RULES: [&str; 32] = [
 
 /// The rule file with the record `at`, from 1, written in another way.
 fn rules_with(alloc: Global, at: usize, record: &str) -> Result<Vec<u8>, Fail> {
-    rules_with_both(alloc, (at, record), (0, ""))
-}
-
-/// The rule file with two records, each at a number from 1, written in another way.
-fn rules_with_both(
-    alloc: Global,
-    one: (usize, &str),
-    other: (usize, &str),
-) -> Result<Vec<u8>, Fail> {
     let mut text = Vec::new(alloc);
     for (i, line) in RULES.iter().enumerate() {
-        let line = if i + 1 == one.0 {
-            one.1
-        } else if i + 1 == other.0 {
-            other.1
-        } else {
-            *line
-        };
+        let line = if i + 1 == at { record } else { *line };
         text.extend_from_slice(line.as_bytes())?;
         text.push(b'\n')?;
     }
     Ok(text)
-}
-
-fn assert_refused(rt: &impl Abort, alloc: Global, text: &[u8], want: RuleError) {
-    match read_rules(alloc, text) {
-        Ok(_) => assert!(rt; false, "accepted, and not {want:?}"),
-        Err(error) => assert_eq!(rt; error, want),
-    }
-}
-
-fn missing(key: NumberKey) -> RuleError {
-    RuleError::BadRule {
-        key: Key::Number(key),
-    }
 }
 
 /// A rule file in which no two rules have one value, so that none can stand for another.
@@ -200,7 +172,9 @@ fn refusals_print_their_reason(rt: HostRuntime) -> Result<(), Fail> {
             "record 4 has a bad number",
         ),
         (
-            missing(NumberKey::Min),
+            RuleError::BadRule {
+                key: Key::Number(NumberKey::Min),
+            },
             "the rule min is missing or out of range",
         ),
         (RuleError::BadRect, "the frame holds no square"),
@@ -284,229 +258,7 @@ fn optional_rules_have_their_values(rt: HostRuntime) -> Result<(), Fail> {
 }
 
 #[test]
-fn the_first_fault_of_an_optional_record_is_refused(rt: HostRuntime) -> Result<(), Fail> {
-    let alloc = rt.alloc();
-    let layer = Key::Optional(OptionalKey::KeepLayer);
-    let datatype = Key::Optional(OptionalKey::KeepDatatype);
-    for (more, want) in [
-        ("keep_layer,8\n", RuleError::BadRule { key: datatype }),
-        ("keep_datatype,8\n", RuleError::BadRule { key: layer }),
-        ("keep_layer,65536\n", RuleError::BadRule { key: layer }),
-        ("keep_datatype,-1\n", RuleError::BadRule { key: datatype }),
-        ("keep_layer,x\n", RuleError::BadNumber { line: 33 }),
-        (
-            "keep_layer,1\nkeep_layer,1\n",
-            RuleError::BadRow { line: 34 },
-        ),
-        ("padding,none\n", RuleError::BadRule { key: Key::Padding }),
-        ("padding,Zero\n", RuleError::BadRule { key: Key::Padding }),
-        (
-            "padding,zero\npadding,zero\n",
-            RuleError::BadRow { line: 34 },
-        ),
-        ("keep,1\n", RuleError::BadRow { line: 33 }),
-    ] {
-        assert_refused(&rt, alloc, &rules_and(alloc, more)?, want);
-    }
-    let mut short = rules_with(alloc, 21, "")?;
-    short.extend_from_slice(b"keep_layer,8\n")?;
-    assert_refused(&rt, alloc, &short, missing(NumberKey::Min));
-    Ok(())
-}
-
-#[test]
-fn the_first_fault_of_a_record_is_refused(rt: HostRuntime) -> Result<(), Fail> {
-    let alloc = rt.alloc();
-    for (at, record, want) in [
-        (3, "frame_x2", RuleError::BadRow { line: 3 }),
-        (3, "frame_x2,100,", RuleError::BadRow { line: 3 }),
-        (3, "frame_x3,100", RuleError::BadRow { line: 3 }),
-        (3, "frame_x1,1e2", RuleError::BadRow { line: 3 }),
-        (3, "\"\"", RuleError::BadRow { line: 3 }),
-        (3, " ", RuleError::BadRow { line: 3 }),
-        (3, "frame_x2,1e2", RuleError::BadNumber { line: 3 }),
-        (3, "frame_x2,+1", RuleError::BadNumber { line: 3 }),
-        (3, "frame_x2,-", RuleError::BadNumber { line: 3 }),
-        (3, "frame_x2,", RuleError::BadNumber { line: 3 }),
-        (3, "frame_x2, ", RuleError::BadNumber { line: 3 }),
-        (3, "frame_x2,1\"00\"", RuleError::BadNumber { line: 3 }),
-        (
-            3,
-            "frame_x2,0000000000000000001",
-            RuleError::BadNumber { line: 3 },
-        ),
-        (
-            3,
-            "frame_x2,100000000000000000",
-            missing(NumberKey::FrameX2),
-        ),
-        (3, "frame_x2,1073741825", missing(NumberKey::FrameX2)),
-        (3, "frame_x2,-1073741825", missing(NumberKey::FrameX2)),
-        (5, "box_w,0", missing(NumberKey::BoxW)),
-        (5, "box_w,1048577", missing(NumberKey::BoxW)),
-        (11, "spacing,-1", missing(NumberKey::Spacing)),
-        (24, "tile_ny,4097", missing(NumberKey::TileNy)),
-        (25, "layer,65536", missing(NumberKey::Layer)),
-        (
-            29,
-            "top,",
-            RuleError::BadRule {
-                key: Key::Text(TextKey::Top),
-            },
-        ),
-        (
-            30,
-            "fill_lib,FILL-1",
-            RuleError::BadRule {
-                key: Key::Text(TextKey::FillLib),
-            },
-        ),
-        (
-            31,
-            "fill_cell,ABCDEFGHIJKLMNOPQRSTUVWXYZ0123456",
-            RuleError::BadRule {
-                key: Key::Text(TextKey::FillCell),
-            },
-        ),
-    ] {
-        assert_refused(&rt, alloc, &rules_with(alloc, at, record)?, want);
-    }
-    assert_refused(&rt, alloc, b"box_w,0\nbox_w", missing(NumberKey::BoxW));
-    Ok(())
-}
-
-#[test]
-fn the_values_together_are_checked(rt: HostRuntime) -> Result<(), Fail> {
-    let alloc = rt.alloc();
-    assert_refused(&rt, alloc, b"", missing(NumberKey::FrameX1));
-    for (at, record, want) in [
-        (21, "", missing(NumberKey::Min)),
-        (28, "", missing(NumberKey::FillDatatype)),
-        (
-            29,
-            "",
-            RuleError::BadRule {
-                key: Key::Text(TextKey::Top),
-            },
-        ),
-        (
-            32,
-            "",
-            RuleError::BadRule {
-                key: Key::Text(TextKey::FillTop),
-            },
-        ),
-        (22, "max,200000", missing(NumberKey::Max)),
-        (
-            32,
-            "fill_top,BOX4",
-            RuleError::BadRule {
-                key: Key::Text(TextKey::FillTop),
-            },
-        ),
-        (3, "frame_x2,0", RuleError::BadRect),
-        (3, "frame_x2,-5", RuleError::BadRect),
-        (17, "win_x,1073741800", RuleError::BadWindows),
-        (19, "win_nx,349526", RuleError::BadWindows),
-        (7, "step_x,5", RuleError::BadPitch),
-        (8, "step_y,5", RuleError::BadPitch),
-        (12, "fill_spacing,7", RuleError::BadPitch),
-        (3, "frame_x2,16777217", RuleError::TooManyPlaces),
-        (4, "frame_y2,1073741824", RuleError::TooManyPlaces),
-    ] {
-        assert_refused(&rt, alloc, &rules_with(alloc, at, record)?, want);
-    }
-    for (at, record) in [
-        (19, "win_nx,349525"),
-        (7, "step_x,6"),
-        (12, "fill_spacing,6"),
-        (3, "frame_x2,16777216"),
-        (3, "frame_x2,5"),
-        (22, "max,300000"),
-        (32, "fill_top,TOP"),
-        (26, "datatype,-0"),
-        (26, "datatype,000000000000000000"),
-    ] {
-        assert!(rt;
-            read_rules(alloc, &rules_with(alloc, at, record)?).is_ok(),
-            "{record}"
-        );
-    }
-    Ok(())
-}
-
-#[test]
-fn records_are_those_of_csv(rt: HostRuntime) -> Result<(), Fail> {
-    let alloc = rt.alloc();
-    for (at, record) in [
-        (1, "\u{feff}frame_x1,0"),
-        (3, "frame_x2,\"1\"00"),
-        (3, "\"frame_x2\",\"100\""),
-        (3, "\r\n\n\rframe_x2,100\r"),
-        (32, "fill_top,FILLTOP\n\n"),
-    ] {
-        let rules = read_rules(alloc, &rules_with(alloc, at, record)?)?;
-        assert_eq!(rt; rules.frame_x2(), 100, "{record}");
-    }
-    let quoted = read_rules(alloc, &rules_with(alloc, 29, "top,\"a,\"\"b\n\"")?)?;
-    assert!(rt; quoted.top() == b"a,\"b\n".as_slice());
-    let mut text = rules_with(alloc, 0, "")?;
-    assert_eq!(rt; text.pop(), Some(b'\n'));
-    let open = read_rules(alloc, &text)?;
-    assert!(rt; open.fill_top() == b"FILLTOP".as_slice());
-    assert_refused(
-        &rt,
-        alloc,
-        &rules_with(alloc, 2, "\u{feff}frame_y1,0")?,
-        RuleError::BadRow { line: 2 },
-    );
-    assert_refused(
-        &rt,
-        alloc,
-        &rules_with(alloc, 2, "\n\nframe_y1,x")?,
-        RuleError::BadNumber { line: 2 },
-    );
-    Ok(())
-}
-
-#[test]
-fn an_open_quote_runs_to_the_end_of_the_file(rt: HostRuntime) -> Result<(), Fail> {
-    let alloc = rt.alloc();
-    let endings: [(&[u8], &[u8]); 3] = [
-        (b"top,\"TOP", b"TOP"),
-        (b"top,\"TOP\n\"\",\n", b"TOP\n\",\n"),
-        (b"\"top\",\"T,P\nspacing,3", b"T,P\nspacing,3"),
-    ];
-    for (ending, want) in endings {
-        let mut text = rules_with(alloc, 29, "")?;
-        text.extend_from_slice(ending)?;
-        let rules = read_rules(alloc, &text)?;
-        assert!(rt; rules.top() == want);
-        assert_eq!(rt; rules.spacing(), 2);
-    }
-    assert_refused(
-        &rt,
-        alloc,
-        &rules_with(alloc, 3, "frame_x2,\"100")?,
-        RuleError::BadNumber { line: 3 },
-    );
-    assert_refused(
-        &rt,
-        alloc,
-        &rules_with(alloc, 3, "\"frame_x2,100")?,
-        RuleError::BadRow { line: 3 },
-    );
-    Ok(())
-}
-
-#[test]
 fn a_script_gives_its_edits(rt: HostRuntime) -> Result<(), Fail> {
-    let edits = read_script(
-        rt.alloc(),
-        b"add,0,0,10,10\r\n\nadd,5,5,15,15\n\"cut\",0,0,\"5\",-0\n",
-    )
-    .map_err(|_| "refused");
-    assert!(rt; edits.is_err(), "the last one holds no square");
     let edits = read_script(
         rt.alloc(),
         b"add,0,0,10,10\r\n\nadd,5,5,15,15\n\"cut\",-5,0,\"5\",5\nkeep,7,8,9,10",
@@ -523,77 +275,6 @@ fn a_script_gives_its_edits(rt: HostRuntime) -> Result<(), Fail> {
 }
 
 #[test]
-fn the_first_fault_of_a_script_is_refused(rt: HostRuntime) {
-    let cases: [(&[u8], ScriptError); 11] = [
-        (b"keep,0,0,10", ScriptError::BadRow { line: 1 }),
-        (
-            b"keep,0,0,1,1\nkeep,1,0,1,1",
-            ScriptError::BadRow { line: 2 },
-        ),
-        (b"add,0,0,10", ScriptError::BadRow { line: 1 }),
-        (b"add,0,0,10,10,", ScriptError::BadRow { line: 1 }),
-        (b"add,5,0,5,9", ScriptError::BadRow { line: 1 }),
-        (b"add,0,0,1,1073741825", ScriptError::BadRow { line: 1 }),
-        (b"add,9,9,1,x", ScriptError::BadNumber { line: 1 }),
-        (b"mov,0,0,x,1", ScriptError::BadRow { line: 1 }),
-        (b"Add,0,0,1,1", ScriptError::BadRow { line: 1 }),
-        (
-            b"add,0,0,1,1\ncut,0,0,x,9",
-            ScriptError::BadNumber { line: 2 },
-        ),
-        (
-            b"\n\nadd,0,0,1,1\n\ncut,0,0,9,\n",
-            ScriptError::BadNumber { line: 2 },
-        ),
-    ];
-    for (text, want) in cases {
-        match read_script(rt.alloc(), text) {
-            Ok(_) => assert!(rt; false, "accepted, and not {want:?}"),
-            Err(error) => assert_eq!(rt; error, want),
-        }
-    }
-}
-
-#[test]
-fn a_script_has_at_most_100_000_records(rt: HostRuntime) -> Result<(), Fail> {
-    let mut text = Vec::new(rt.alloc());
-    for _ in 0..100_000 {
-        text.extend_from_slice(b"add,0,0,1,1\n")?;
-    }
-    assert_eq!(rt; read_script(rt.alloc(), &text)?.len(), 100_000);
-    text.extend_from_slice(b"\n\n")?;
-    assert!(rt;
-        read_script(rt.alloc(), &text).is_ok(),
-        "empty lines are no records"
-    );
-    let allowed = text.len();
-    text.extend_from_slice(b"cut,0,0,1,1")?;
-    assert!(rt;
-        matches!(
-            read_script(rt.alloc(), &text),
-            Err(ScriptError::TooManyLines)
-        ),
-        "one record more, and a good one"
-    );
-    text.truncate(allowed);
-    text.extend_from_slice(b"nonsense")?;
-    assert!(rt;
-        matches!(
-            read_script(rt.alloc(), &text),
-            Err(ScriptError::TooManyLines)
-        )
-    );
-    text[0] = b'A';
-    assert!(rt;
-        matches!(
-            read_script(rt.alloc(), &text),
-            Err(ScriptError::BadRow { line: 1 })
-        )
-    );
-    Ok(())
-}
-
-#[test]
 fn edits_of_one_kind_and_one_rectangle_are_equal(rt: HostRuntime) -> Result<(), Fail> {
     let rect = Rect::new(0, 0, 10, 10)?;
     let wider = Rect::new(0, 0, 11, 10)?;
@@ -605,33 +286,5 @@ fn edits_of_one_kind_and_one_rectangle_are_equal(rt: HostRuntime) -> Result<(), 
     assert_eq!(rt; Edit::Keep(rect), Edit::Keep(rect));
     assert_ne!(rt; Edit::Keep(rect), Edit::Add(rect));
     assert_ne!(rt; Edit::Keep(rect), Edit::Keep(wider));
-    Ok(())
-}
-
-#[test]
-fn pitch_and_places_are_judged_last(rt: HostRuntime) -> Result<(), Fail> {
-    let alloc = rt.alloc();
-    for (one, other, want) in [
-        (
-            (7, "step_x,5"),
-            (17, "win_x,1073741800"),
-            RuleError::BadWindows,
-        ),
-        ((7, "step_x,5"), (3, "frame_x2,0"), RuleError::BadRect),
-        ((7, "step_x,5"), (22, "max,200000"), missing(NumberKey::Max)),
-        (
-            (8, "step_y,5"),
-            (3, "frame_x2,1073741824"),
-            RuleError::BadPitch,
-        ),
-        ((8, "step_y,5"), (3, "frame_x2,5"), RuleError::BadPitch),
-        (
-            (3, "frame_x2,1073741824"),
-            (19, "win_nx,349526"),
-            RuleError::BadWindows,
-        ),
-    ] {
-        assert_refused(&rt, alloc, &rules_with_both(alloc, one, other)?, want);
-    }
     Ok(())
 }

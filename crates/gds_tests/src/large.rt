@@ -1,37 +1,10 @@
-//! Designs of many copies, which several threads carry in shares.
+//! A design of many copies, which several threads carry in shares.
 
-use crate::designs::{Draft, EDGE, SQUARE, design, drawn, refused};
+use crate::designs::{Draft, SQUARE, design};
 use crate::records::{CHECKED, METAL, name_of};
-use gds_flatten::{FlattenError, flatten_parts};
+use gds_flatten::flatten_parts;
 use gds_grammar::read_library;
 use std::test::*;
-
-/// 100,000 squares: ten by ten times fifty by twenty.
-#[test]
-fn large_design(rt: HostRuntime) -> Result<(), Fail> {
-    let alloc = rt.alloc();
-    let top = [Draft::Array(1, (10, 10), &[(0, 0), (1000, 0), (0, 400)])];
-    let middle = [Draft::Array(2, (50, 20), &[(0, 0), (100, 0), (0, 40)])];
-    let square = [Draft::Boundary(METAL, SQUARE)];
-    let edges = drawn(&rt, alloc, &[(0, &top), (1, &middle), (2, &square)])?;
-    assert_eq!(rt; edges.len(), 100_000);
-    let mut wrong = 0u32;
-    let mut next = (0i64, 0i64);
-    for edge in &edges {
-        let (x, y) = next;
-        if *edge != (x, y, x.wrapping_add(1), y.wrapping_add(1)) {
-            wrong = wrong.wrapping_add(1);
-        }
-        next = if x == 998 {
-            (0, y.wrapping_add(2))
-        } else {
-            (x.wrapping_add(2), y)
-        };
-    }
-    assert_eq!(rt; wrong, 0);
-    assert_eq!(rt; next, (0, 400));
-    Ok(())
-}
 
 /// The corner of a square of the next test: the top's own, and then twenty by ten in each of ten by ten cells.
 fn corner_of(number: u32) -> (i64, i64) {
@@ -79,19 +52,5 @@ fn parts_of_a_large_design(rt: HostRuntime) -> Result<(), Fail> {
         number = number.wrapping_add(1);
     }
     assert_eq!(rt; wrong, 0);
-    Ok(())
-}
-
-/// The last of 20,001 copies, and of the last share, passes the coordinates.
-#[test]
-fn fault_in_the_last_part(rt: HostRuntime) -> Result<(), Fail> {
-    let top = [
-        Draft::Array(1, (200, 100), &[(0, 0), (1000, 0), (0, 400)]),
-        Draft::Ref(2, (1, 0)),
-    ];
-    let square = [Draft::Boundary(METAL, SQUARE)];
-    let edge = [Draft::Boundary(METAL, EDGE)];
-    let refused = refused(&rt, rt.alloc(), &[(0, &top), (1, &square), (2, &edge)])?;
-    assert_eq!(rt; refused, Some(FlattenError::OutOfRange));
     Ok(())
 }

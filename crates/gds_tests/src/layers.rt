@@ -2,7 +2,7 @@
 
 use crate::designs::SQUARE;
 use crate::records::{begin_cell, finished, head, name_of, put, put_points};
-use fill_base::{Layer, Point};
+use fill_base::Layer;
 use gds_grammar::{Element, Library, read_layers};
 use std::alloc::Global;
 use std::mem;
@@ -95,45 +95,5 @@ fn shapes_of_some_layers(rt: HostRuntime) -> Result<(), Fail> {
     let library = read_layers(rt.alloc(), &bytes, &[])?;
     assert_eq!(rt; kept(rt.alloc(), &library)?.len(), 0);
     assert_eq!(rt; library.cells.len(), 2);
-    Ok(())
-}
-
-/// The points of the next test.
-const ENDS: &[Point] = &[
-    Point {
-        x: -2_147_483_648,
-        y: 2_147_483_647,
-    },
-    Point {
-        x: 2_147_483_647,
-        y: 2_147_483_647,
-    },
-];
-
-/// Points at both ends of their four bytes come back as they are, from a shape behind one of another layer.
-#[test]
-fn points_at_the_ends(rt: HostRuntime) -> Result<(), Fail> {
-    let (low, high) = (-2_147_483_648, 2_147_483_647);
-    let mut bytes = head(rt.alloc())?;
-    begin_cell(&mut bytes, 0)?;
-    put_drawn(&mut bytes, 8, (9, 0))?;
-    put(&mut bytes, 9, 0, &[])?;
-    put(&mut bytes, 0x0d, 2, &[0, 7])?;
-    put(&mut bytes, 0x0e, 2, &[0, 0])?;
-    put_points(&mut bytes, &[(low, high), (high, high)])?;
-    put(&mut bytes, 7, 0, &[])?;
-    let bytes = finished(bytes)?;
-    let seven = Layer {
-        layer: 7,
-        data_type: 0,
-    };
-    let library = read_layers(rt.alloc(), &bytes, &[seven])?;
-    for element in library.cells.get(name_of(0).as_slice()).ok_or("no cell")? {
-        let Element::Path(path) = element else {
-            return Err("no path".into());
-        };
-        let points = path.points.to_vec(rt.alloc())?;
-        assert_eq!(rt; points.as_slice(), ENDS);
-    }
     Ok(())
 }

@@ -13,8 +13,6 @@ mod large;
 #[cfg(test)]
 mod layers;
 #[cfg(test)]
-mod names;
-#[cfg(test)]
 mod placements;
 #[cfg(test)]
 mod random;
@@ -26,5 +24,3 @@ mod runs;
 mod scan;
 #[cfg(test)]
 mod shape;
-#[cfg(test)]
-mod within;

@@ -1,9 +1,9 @@
-//! Cells of many elements, which several threads build in runs.
+//! A cell of many elements, which several threads build in runs.
 
-use crate::designs::{Draft, SLANTED, SQUARE, UNEVEN, design, refused};
+use crate::designs::{Draft, SQUARE, design};
 use crate::records::{CHECKED, METAL, name_of};
 use fill_base::Rect;
-use gds_flatten::{FlattenError, flatten_parts};
+use gds_flatten::flatten_parts;
 use gds_grammar::read_library;
 use std::test::*;
 
@@ -59,25 +59,5 @@ fn cell_of_many_elements(rt: HostRuntime) -> Result<(), Fail> {
     let rects = parts.concat(alloc)?;
     assert_eq!(rt; rects.len(), 30_000);
     assert_eq!(rt; out_of_place(&rects), 0);
-    Ok(())
-}
-
-/// Of a fault in the second run and one in the third, the first is told.
-#[test]
-fn first_fault_of_many_elements(rt: HostRuntime) -> Result<(), Fail> {
-    let alloc = rt.alloc();
-    let square = [Draft::Boundary(METAL, SQUARE)];
-    let uneven = Draft::Array(1, (3, 2), UNEVEN);
-    let slanted = Draft::Boundary(METAL, SLANTED);
-    for (first, second, error) in [
-        (uneven, slanted, FlattenError::BadArray),
-        (slanted, uneven, FlattenError::NotManhattan),
-    ] {
-        let mut top = Vec::from_elem(alloc, Draft::Boundary(METAL, SQUARE), 20_000)?;
-        top[9_000] = first;
-        top[18_000] = second;
-        let refused = refused(&rt, alloc, &[(0, &top), (1, &square)])?;
-        assert_eq!(rt; refused, Some(error));
-    }
     Ok(())
 }

@@ -1,4 +1,4 @@
-//! Boundaries and paths: their squares, counted by hand.
+//! A boundary and a path, their segments, and what is far from the origin. What other shapes cover is told by cases/.
 
 use crate::records::{METAL, begin_cell, finished, head, name_of, put, put_points, put_shape};
 use fill_base::{Point, Rect};
@@ -40,7 +40,7 @@ fn boundary_area(
 }
 
 #[test]
-fn boundaries_with_a_hole(rt: HostRuntime) -> Result<(), Fail> {
+fn boundary_with_a_hole(rt: HostRuntime) -> Result<(), Fail> {
     let hole = [
         at(0, 0),
         at(0, 3),
@@ -56,66 +56,6 @@ fn boundaries_with_a_hole(rt: HostRuntime) -> Result<(), Fail> {
         at(0, 0),
     ];
     assert_eq!(rt; boundary_area(&rt, rt.alloc(), &hole)?, Ok(84));
-    // The inner loop the other way: its squares have the winding number 2.
-    let twice = [
-        at(0, 0),
-        at(0, 3),
-        at(3, 3),
-        at(3, 7),
-        at(7, 7),
-        at(7, 3),
-        at(3, 3),
-        at(0, 3),
-        at(0, 10),
-        at(10, 10),
-        at(10, 0),
-        at(0, 0),
-    ];
-    assert_eq!(rt; boundary_area(&rt, rt.alloc(), &twice)?, Ok(100));
-    Ok(())
-}
-
-#[test]
-fn rectangles_in_both_directions(rt: HostRuntime) -> Result<(), Fail> {
-    let upright_first = [at(-1, 2), at(-1, 7), at(3, 7), at(3, 2), at(-1, 2)];
-    let level_first = [at(3, 7), at(-1, 7), at(-1, 2), at(3, 2), at(3, 7)];
-    let flat = [at(0, 4), at(9, 4), at(9, 4), at(0, 4), at(0, 4)];
-    assert_eq!(rt; boundary_area(&rt, rt.alloc(), &upright_first)?, Ok(20));
-    assert_eq!(rt; boundary_area(&rt, rt.alloc(), &level_first)?, Ok(20));
-    assert_eq!(rt; boundary_area(&rt, rt.alloc(), &flat)?, Ok(0));
-    Ok(())
-}
-
-#[test]
-fn refused_boundaries(rt: HostRuntime) -> Result<(), Fail> {
-    let slanted = [at(0, 0), at(4, 4), at(4, 0), at(0, 0)];
-    let far = [
-        at(0, 0),
-        at(0, 1_073_741_825),
-        at(1, 1_073_741_825),
-        at(0, 0),
-    ];
-    let wide = [at(0, 0), at(0, 1_073_741_825), at(0, 0), at(0, 0)];
-    let widest = [
-        at(-1_073_741_824, 0),
-        at(-1_073_741_824, 1),
-        at(1_073_741_824, 1),
-        at(1_073_741_824, 0),
-        at(-1_073_741_824, 0),
-    ];
-    assert_eq!(rt;
-        boundary_area(&rt, rt.alloc(), &slanted)?,
-        Err(ShapeError::NotManhattan)
-    );
-    assert_eq!(rt;
-        boundary_area(&rt, rt.alloc(), &far)?,
-        Err(ShapeError::NotManhattan)
-    );
-    assert_eq!(rt;
-        boundary_area(&rt, rt.alloc(), &wide)?,
-        Err(ShapeError::OutOfRange)
-    );
-    assert_eq!(rt; boundary_area(&rt, rt.alloc(), &widest)?, Ok(2_147_483_648));
     Ok(())
 }
 
@@ -148,6 +88,15 @@ fn library_of(alloc: Global, wire: Wire<'_>) -> Result<Vec<u8>, Fail> {
     finished(bytes)
 }
 
+/// A corner: ten to the right, then ten upwards, of width four.
+const CORNER: Wire<'static> = Wire {
+    path_type: 0,
+    width: 4,
+    begin: 0,
+    end: 0,
+    points: &[(0, 0), (10, 0), (10, 10)],
+};
+
 /// What a path's region comes to: its squares, or why it is refused.
 fn path_area(alloc: Global, wire: Wire<'_>) -> Result<Result<i64, ShapeError>, Fail> {
     let bytes = library_of(alloc, wire)?;
@@ -164,234 +113,9 @@ fn path_area(alloc: Global, wire: Wire<'_>) -> Result<Result<i64, ShapeError>, F
     Err("no path".into())
 }
 
-/// A corner: ten to the right, then ten upwards, of width four.
-const CORNER: Wire<'static> = Wire {
-    path_type: 0,
-    width: 4,
-    begin: 0,
-    end: 0,
-    points: &[(0, 0), (10, 0), (10, 10)],
-};
-
-/// The corner, with points that double or lie on its way.
-const TWISTED: &[(i32, i32)] = &[
-    (0, 0),
-    (0, 0),
-    (4, 0),
-    (9, 0),
-    (10, 0),
-    (10, 5),
-    (10, 10),
-    (10, 10),
-];
-
-/// Paths and how many squares they cover.
-const AREAS: &[(Wire<'static>, i64)] = &[
-    (CORNER, 80),
-    (
-        Wire {
-            path_type: 2,
-            ..CORNER
-        },
-        96,
-    ),
-    (
-        Wire {
-            path_type: 4,
-            begin: 1,
-            end: 3,
-            ..CORNER
-        },
-        96,
-    ),
-    (
-        Wire {
-            points: &[(0, 0), (10, 0)],
-            begin: -2,
-            path_type: 2,
-            ..CORNER
-        },
-        56,
-    ),
-    (
-        Wire {
-            width: -4,
-            ..CORNER
-        },
-        80,
-    ),
-    (
-        Wire {
-            points: TWISTED,
-            ..CORNER
-        },
-        80,
-    ),
-    (
-        Wire {
-            width: 0,
-            path_type: 1,
-            points: &[(0, 0), (1, 1)],
-            ..CORNER
-        },
-        0,
-    ),
-    (
-        Wire {
-            width: 3,
-            path_type: 1,
-            points: &[(5, 5), (5, 5)],
-            ..CORNER
-        },
-        0,
-    ),
-    (
-        Wire {
-            points: FAR,
-            width: 2,
-            ..CORNER
-        },
-        20,
-    ),
-];
-
 #[test]
-fn paths_of_each_type(rt: HostRuntime) -> Result<(), Fail> {
-    for (wire, area) in AREAS {
-        assert_eq!(rt; path_area(rt.alloc(), *wire)?, Ok(*area));
-    }
-    Ok(())
-}
-
-/// The first extension is that of the first corner, the second that of the last.
-#[test]
-fn extensions_at_their_ends(rt: HostRuntime) -> Result<(), Fail> {
-    let wire = Wire {
-        path_type: 4,
-        begin: 1,
-        end: 3,
-        ..CORNER
-    };
-    let bytes = library_of(rt.alloc(), wire)?;
-    let library = read_library(rt.alloc(), &bytes)?;
-    for element in library.cells.get(name_of(0).as_slice()).ok_or("no cell")? {
-        if let Element::Path(path) = element {
-            let region = path_region(rt.alloc(), path)?;
-            let inside = [(-1, 0), (10, 12), (11, -2), (8, 12)];
-            let outside = [(-2, 0), (10, 13), (12, -2), (7, 12), (7, 2)];
-            for (x, y) in inside {
-                assert!(rt; region.has(x, y), "({x}, {y})");
-            }
-            for (x, y) in outside {
-                assert!(rt; !region.has(x, y), "({x}, {y})");
-            }
-        }
-    }
-    Ok(())
-}
-
-/// To the right, and half the way back.
-const BACK: &[(i32, i32)] = &[(0, 0), (10, 0), (5, 0)];
-
-/// Upright at the right end of the coordinates.
-const FAR: &[(i32, i32)] = &[(1_073_741_823, 0), (1_073_741_823, 10)];
-
-/// With a slanted segment, and back over itself.
-const SLANTED: &[(i32, i32)] = &[(0, 0), (10, 0), (5, 5), (0, 5), (9, 5)];
-
-/// Paths and why they are refused; most have a later fault too.
-const REFUSALS: &[(Wire<'static>, ShapeError)] = &[
-    (
-        Wire {
-            points: SLANTED,
-            path_type: 1,
-            width: 3,
-            ..CORNER
-        },
-        ShapeError::NotManhattan,
-    ),
-    (
-        Wire {
-            points: BACK,
-            path_type: 1,
-            width: 3,
-            ..CORNER
-        },
-        ShapeError::RoundEnd,
-    ),
-    (
-        Wire {
-            points: BACK,
-            path_type: 4,
-            width: 3,
-            begin: -1,
-            ..CORNER
-        },
-        ShapeError::OddWidth,
-    ),
-    (
-        Wire {
-            points: BACK,
-            path_type: 4,
-            begin: -1,
-            ..CORNER
-        },
-        ShapeError::DoublesBack,
-    ),
-    (
-        Wire {
-            points: FAR,
-            path_type: 4,
-            end: -1,
-            ..CORNER
-        },
-        ShapeError::BadExtension,
-    ),
-    (
-        Wire {
-            points: FAR,
-            ..CORNER
-        },
-        ShapeError::OutOfRange,
-    ),
-    (
-        Wire {
-            width: -2_147_483_648,
-            ..CORNER
-        },
-        ShapeError::OutOfRange,
-    ),
-];
-
-#[test]
-fn refused_paths(rt: HostRuntime) -> Result<(), Fail> {
-    for (wire, refusal) in REFUSALS {
-        assert_eq!(rt; path_area(rt.alloc(), *wire)?, Err(*refusal));
-    }
-    Ok(())
-}
-
-/// A comb of 4,000 points, with teeth of growing height.
-#[test]
-fn large_boundary(rt: HostRuntime) -> Result<(), Fail> {
-    let mut points = Vec::new(rt.alloc());
-    points.push(at(0, 0))?;
-    let mut left = 0i64;
-    for height in 1..=1000u16 {
-        let top = i64::from(height);
-        points.push(at(left, top))?;
-        points.push(at(left.wrapping_add(1), top))?;
-        points.push(at(left.wrapping_add(1), 1))?;
-        left = left.wrapping_add(2);
-        points.push(at(left, 1))?;
-    }
-    points.push(at(2000, 0))?;
-    points.push(at(0, 0))?;
-    // The base of 2000 squares, and teeth of 0 to 999 squares.
-    assert_eq!(rt;
-        boundary_area(&rt, rt.alloc(), &points)?,
-        Ok(2000 + 999 * 500)
-    );
+fn path_with_a_corner(rt: HostRuntime) -> Result<(), Fail> {
+    assert_eq!(rt; path_area(rt.alloc(), CORNER)?, Ok(80));
     Ok(())
 }
 
