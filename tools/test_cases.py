@@ -252,8 +252,8 @@ def run_built(runs: list[Run], program: Path) -> None:
         list(pool.map(one, runs))
 
 
-def run_unproved(runs: list[Run], folder: Path) -> str:
-    """Runs all by one build without proofs, and answers what it told where a run had no answer. A case of `rt try` is an empty
+def try_cases(runs: list[Run], folder: Path) -> str:
+    """Runs some by one build without proofs, and answers what it told where a run had no answer. A case of `rt try` is an empty
     standard input and its words; texts come under the case's name, and a line on standard error tells its status."""
     folder.mkdir()
     for number, run in enumerate(runs):
@@ -270,6 +270,13 @@ def run_unproved(runs: list[Run], folder: Path) -> str:
         else:
             runs[int(number)].faults.append(f"run={how.decode()}")
     return "" if len(ends) == len(runs) else done.stderr.decode(errors="replace")[-2000:]
+
+
+def run_unproved(runs: list[Run], folder: Path) -> str:
+    """Runs all without proofs, by a build for every second processor: `rt try` takes a second for each case, one after another."""
+    shares = max(1, (os.cpu_count() or 1) // 2)
+    with ThreadPoolExecutor(shares) as pool:
+        return "".join(pool.map(lambda share: try_cases(runs[share::shares], folder / f"try{share}"), range(shares)))
 
 
 def cases_of(only: str, are_slow_ones_left_out: bool) -> list[Case]:
@@ -303,7 +310,7 @@ def main() -> int:
         folder = Path(path).resolve()
         runs = [Run(case, folder / f"{number:05}") for number, case in enumerate(cases_of(given.only, given.unproved))]
         if given.unproved:
-            print(run_unproved(runs, folder / "try"), end="")
+            print(run_unproved(runs, folder), end="")
         else:
             run_built(runs, given.program.resolve())
         return tell(runs)
