@@ -10,6 +10,7 @@ import argparse
 import difflib
 import os
 import re
+import struct
 import subprocess
 import sys
 import tempfile
@@ -29,6 +30,8 @@ SHARED = CASES / "rules"
 OUT = "out.gds"
 # The files of a case that aren't read by the program.
 OF_RUNNER = {"args", "rules", "report.csv", "report", "metal", "fill", "error", "status", "about", "slow"}
+# What reading a case raises where it is written wrongly.
+MISSPELLED = (KeyError, IndexError, TypeError, ValueError, OSError, struct.error)
 SECONDS = 300
 MOST_LINES = 24
 
@@ -117,7 +120,7 @@ class Case:
 
     @cached_property
     def words(self) -> list[str]:
-        return (self.folder / "args").read_text().split()
+        return (self.text("args") or "").split()
 
     def text(self, name: str) -> str | None:
         """What a file of the case says, where it has that file."""
@@ -179,10 +182,13 @@ class Run:
     def prepare(self) -> None:
         """Writes the files that the line names."""
         self.folder.mkdir()
-        for word in self.case.words:
-            data = self.case.file(word)
-            if data is not None:
-                (self.folder / word).write_bytes(data)
+        try:
+            for word in self.case.words:
+                data = self.case.file(word)
+                if data is not None:
+                    (self.folder / word).write_bytes(data)
+        except MISSPELLED as fault:
+            self.faults.append(f"its files can't be written: {fault!r}")
 
     def absolute(self) -> list[str]:
         """The line with the paths of its files."""
@@ -207,7 +213,14 @@ class Run:
     def judge(self) -> None:
         """Looks at what came."""
         self.faults += [f"nothing reads {name}" for name in self.case.unread()]
-        wanted, got = self.case.wanted(), self.ended
+        try:
+            self.compare(self.case.wanted())
+        except MISSPELLED as fault:
+            self.faults.append(f"what must come can't be read: {fault!r}")
+
+    def compare(self, wanted: Ended) -> None:
+        """Looks where what came is not what must come."""
+        got = self.ended
         if got is None:
             self.faults.append("no answer")
             return
@@ -252,8 +265,8 @@ def run_built(runs: list[Run], program: Path) -> None:
         list(pool.map(one, runs))
 
 
-def run_unproved(runs: list[Run], folder: Path) -> str:
-    """Runs all by one build without proofs, and answers what it told where a run had no answer. A case of `rt try` is an empty
+def try_cases(runs: list[Run], folder: Path) -> str:
+    """Runs some by one build without proofs, and answers what it told where a run had no answer. A case of `rt try` is an empty
     standard input and its words; texts come under the case's name, and a line on standard error tells its status."""
     folder.mkdir()
     for number, run in enumerate(runs):
@@ -270,6 +283,13 @@ def run_unproved(runs: list[Run], folder: Path) -> str:
         else:
             runs[int(number)].faults.append(f"run={how.decode()}")
     return "" if len(ends) == len(runs) else done.stderr.decode(errors="replace")[-2000:]
+
+
+def run_unproved(runs: list[Run], folder: Path) -> str:
+    """Runs all without proofs, by a build for every second processor: `rt try` takes a second for each case, one after another."""
+    shares = max(1, (os.cpu_count() or 1) // 2)
+    with ThreadPoolExecutor(shares) as pool:
+        return "".join(pool.map(lambda share: try_cases(runs[share::shares], folder / f"try{share}"), range(shares)))
 
 
 def cases_of(only: str, are_slow_ones_left_out: bool) -> list[Case]:
@@ -303,7 +323,7 @@ def main() -> int:
         folder = Path(path).resolve()
         runs = [Run(case, folder / f"{number:05}") for number, case in enumerate(cases_of(given.only, given.unproved))]
         if given.unproved:
-            print(run_unproved(runs, folder / "try"), end="")
+            print(run_unproved(runs, folder), end="")
         else:
             run_built(runs, given.program.resolve())
         return tell(runs)

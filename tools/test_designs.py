@@ -1,11 +1,12 @@
 #!/usr/bin/env python3
-"""Tests of the designs that are written as text, by bytes that stand here in hexadecimal digits.
+"""Tests of what cases are written in: designs, by bytes that stand here in hexadecimal digits, changes of rules, and metal.
 
 usage: test_designs.py
 """
 import unittest
 
 from designs import design, real
+from test_cases import changed, report_of
 
 HEAD = (
     "0006 0002 0258"
@@ -82,6 +83,31 @@ class Designs(unittest.TestCase):
     def test_reals(self) -> None:
         for value, wanted in (0, "00" * 8), (1, "4110"), (45, "422d"), (180, "42b4"), (270, "4310e0"), (450, "431c20"), (-90, "c25a"):
             self.assertEqual(real(value).hex(), wanted.ljust(16, "0"))
+
+
+class Cases(unittest.TestCase):
+    """Rules and reports of cases."""
+
+    def test_changes_of_rules(self) -> None:
+        self.assertEqual(changed([b"min,1", b"max,2"], ["max,3", "padding,zero"]), [b"min,1", b"max,3", b"padding,zero"])
+        self.assertEqual(changed([b"min,1", b"max,2"], ["-min"]), [b"max,2"])
+        self.assertEqual(changed([b"min,1", b"max,2"], ["2: ", "1: min\\n\\xff"]), [b"min\n\xff", b""])
+
+    def test_reports_of_metal(self) -> None:
+        windows = {
+            "win_x": "0",
+            "win_y": "-1",
+            "win_step_x": "2",
+            "win_step_y": "3",
+            "win_w": "3",
+            "win_h": "2",
+            "win_nx": "2",
+            "win_ny": "2",
+        }
+        report = report_of(windows | {"min": "166666", "max": "500000"}, ["1,0 3,1", "4,2 9,9"])
+        lines = "0,0,0,-1,3,1,2,0,2,333333,OK", "1,0,2,-1,5,1,1,0,1,166666,OK", "0,1,0,2,3,4,0,0,0,0,LOW", "1,1,2,2,5,4,2,0,2,333333,OK"
+        self.assertEqual(report.decode().splitlines(), list(lines))
+        self.assertEqual(report_of(windows | {"min": "0", "max": "166666", "win_ny": "1"}, ["2,0 3,1"]).count(b"166666,HIGH"), 2)
 
 
 if __name__ == "__main__":
