@@ -44,6 +44,7 @@ test:
 	tools/count_plants.py
 	RT_JOBS=$$(tools/lanes.py) rt ci
 	tools/demo.py
+	tools/test_designs.py
 	tools/test_cases.py $(BUILT)
 	tools/test_program.py $(BUILT)
 	tools/refuse.py $(BUILT)
