@@ -5,11 +5,13 @@ which stream, and the exit status.
 usage: test_program.py [PROGRAM]     (by default bin/densfill, else what the gate left in crates/densfill/out; needs python3)
 """
 import os
+import re
 import resource
 import shutil
 import signal
 import subprocess
 import sys
+import unittest
 from dataclasses import dataclass
 from pathlib import Path
 
@@ -246,6 +248,22 @@ class Files(Case):
         self.assertEqual((done.returncode, done.stderr), (4, b"densfill: out: 30 Device\n"))
         self.assertEqual((self.folder / "both").read_bytes(), b"")
 
+    @unittest.skipIf(os.geteuid(), "only root may give a file away")
+    def test_out_of_another_user_cannot_be_replaced(self) -> None:
+        (self.folder / "out.gds").write_bytes(b"before")
+        (self.folder / "out.gds").chmod(0o666)
+        self.folder.chmod(0o1777)
+        self.assert_fault(self.fill(), 4, "out: 30 Device")
+        self.assertEqual((self.folder / "out.gds").read_bytes(), b"before")
+
+    @unittest.skipUnless(shutil.which("strace"), "needs strace")
+    def test_a_library_is_synced_before_it_takes_its_place(self) -> None:
+        line = ["strace", "-f", "-e", "trace=fsync,fdatasync,rename,renameat,renameat2", "-o", "calls", "./densfill", "fill", "rules.csv"]
+        done = subprocess.run([*line, "design.gds", "script.csv", "out.gds"], cwd=self.folder, capture_output=True, check=False)
+        self.assertEqual((done.returncode, done.stdout.decode()), (0, FILLED))
+        calls = re.findall(r"(sync|rename)\w*\(", (self.folder / "calls").read_text())
+        self.assertEqual(calls[-2:], ["sync", "rename"])
+
     def test_a_full_disk_leaves_the_old_library(self) -> None:
         (self.folder / "out.gds").write_bytes(b"before")
         (self.folder / "out.gds").chmod(0o666)
@@ -395,6 +413,16 @@ class Parts(Case):
         for out in "1.gds", "./1.gds", "rules.csv":
             self.assert_fault(self.run_words("join", "rules.csv", out, "1.gds"), 4, "out: 30 Device")
         self.assertEqual((self.folder / "1.gds").read_bytes(), FILL)
+
+    def test_the_first_missing_input_of_a_part_is_told(self) -> None:
+        self.assert_fault(self.run_words("check", "none.csv", "none.gds", "--part", "1/2"), 4, "rules: 30 Device")
+        self.assert_fault(self.run_words("check", "rules.csv", "none.gds", "--part", "1/2"), 4, "design: 30 Device")
+
+    def test_out_is_the_design_of_a_part(self) -> None:
+        (self.folder / "design.gds").chmod(0o666)
+        ended = self.run_words("fill", "rules.csv", "design.gds", "script.csv", "design.gds", "--part", "1/2")
+        self.assert_fault(ended, 4, "out: 30 Device")
+        self.assertEqual((self.folder / "design.gds").read_bytes(), DESIGN)
 
     def test_lines_of_no_program(self) -> None:
         for part in "0/4", "5/4", "1/4097", "1", "a/b", "", "+1/4", "1/4/4", "1/":
