@@ -28,7 +28,7 @@ from densfill_deck.gds import boxes, database_unit, real  # noqa: E402
 from densfill_deck.lengths import Unfit, in_millionths, in_units, metres  # noqa: E402
 from densfill_deck.pictures import density_map  # noqa: E402
 from densfill_deck.reports import Limits, Window, figures, histogram, worst  # noqa: E402
-from stream import boundary, library, structure  # noqa: E402
+from stream import array, boundary, library, path, reference, structure  # noqa: E402
 
 NM = Fraction(1, 10**9)
 LAYERS = range(1, 9)
@@ -96,10 +96,15 @@ class Conversions(unittest.TestCase):
 class Faults(Folder):
     """What is wrong with a deck is told at once, with its place and what would be right."""
 
-    def faults(self, text: str) -> list[str]:
+    def faults(self, text: str, design: Path | None = None, only: tuple[str, ...] = ()) -> list[str]:
         with self.assertRaises(Refused) as caught:
-            read_deck(self.deck(text))
-        return [str(fault).split("deck.toml", 1)[1] for fault in caught.exception.faults]
+            read_deck(self.deck(text), design, only)
+        return [str(fault).replace(f"{self.folder}/", "").removeprefix("deck.toml") for fault in caught.exception.faults]
+
+    def design(self, *structures: bytes) -> Path:
+        path = self.folder / "design.gds"
+        path.write_bytes(library("D", *structures))
+        return path
 
     def test_each_fault(self) -> None:
         for more, want in (('spaceing = 1\n', ':20: layer M1, spaceing: is no key of a deck: write "spacing"'),
@@ -124,7 +129,107 @@ class Faults(Folder):
             self.assertIn(want, found)
 
     def test_two_layers_of_one_name(self) -> None:
-        self.assertEqual(self.faults(GOOD + layer(1) + layer(1)), [": layer M1: two layers have this name"])
+        self.assertEqual(self.faults(GOOD + layer(1) + layer(1)), [":22: layer M1, name: two layers have the name M1"])
+
+    def test_values_that_do_not_go_together(self) -> None:
+        for more, want in (('max = "20 %"\n', ":20: layer M1, max: 20 % is below min, 30 %"),
+                           ('frame = ["40 um", 0, 0, "40 um"]\n', ":20: layer M1, frame: its left edge is not left of its right one"),
+                           ('frame = [0, 40, "40 um", 3]\n', ":20: layer M1, frame: its lower edge is not below its upper one"),
+                           ('pitch = "1.5 um"\n', ":20: layer M1, pitch: 1.5 um is less than box and fill_spacing together: write 2 um or more"),
+                           ('spacing = -1\n', ":20: layer M1, spacing: -1000 database units: write 0 to 1048576"),
+                           ('window = 0\n', ":20: layer M1, window: 0 database units: write 1 to 1048576"),
+                           ('frame = [0, 0, "4 m", 5]\n', ":20: layer M1, frame: 4000000000 database units: write -1073741824 to 1073741824"),
+                           ('tile = 5000\n', ":20: layer M1, tile: 5000: write 1 to 4096"),
+                           ('step = "10 nm"\n', ":20: layer M1, step: 2001 by 2001 windows are more than 1048576"),
+                           ('windows = 200000\nstep = 100\n', ":20: layer M1, windows: 200000 by 200000 windows are more than 1048576"),
+                           ('windows = [100000, 1]\nstep = 100\n', ":20: layer M1, windows: the last window ends beyond 1073741824 database units"),
+                           ('box = "1 nm"\npitch = "2 nm"\nfill_spacing = 0\n', ":21: layer M1, pitch: some 400000000 places for a box"),
+                           ('fill_layer = "1/0"\n', ":20: layer M1, fill_layer: 1/0 is the layer of the metal: write one of the boxes' own"),
+                           ('top_cell = "M1_BOX"\n', ":20: layer M1, top_cell: M1_BOX is the name of cell too: write another one"),
+                           ('empty = "yes"\n', ":20: layer M1, empty: 'yes': write true or false")):
+            text = GOOD + layer(1, more) if "fill_layer" not in more else GOOD + layer(1, more).replace('fill_layer = "1/1"\n', "")
+            self.assertTrue(any(found.startswith(want.replace(":20", ":19") if "fill_layer" in more else want) for found in self.faults(text)),
+                            (more, self.faults(text)))
+
+    def test_layers_that_share_what_they_may_not(self) -> None:
+        self.assertEqual(self.faults(GOOD + layer(1) + layer(2).replace("2/1", "1/1")),
+                         [":24: layer M2, fill_layer: the boxes of M1 have the layer 1/1 too: write one for each metal"])
+        self.assertEqual(self.faults(GOOD + layer(1, 'top_cell = "T"\n') + layer(2, 'top_cell = "T"\n')),
+                         [":26: layer M2, top_cell: the library of M1 has the top T too: write one for each layer"])
+
+    def test_scripts(self) -> None:
+        script = self.folder / "late.csv"
+        more = 'script = "late.csv"\n'
+        self.assertEqual(self.faults(GOOD + layer(1, more)), [":20: layer M1, script: late.csv: No such file or directory"])
+        for line in ("add,1,1,1,1", "ad,1,1,2,2", "add,1,1,2", "cut,1,1,2,0.5", "keep,0,0,5,2000000000"):
+            script.write_text(f"add,0,0,5,5\n\n{line}\n")
+            self.assertEqual(self.faults(GOOD + layer(1, more))[0].split(": write")[0], f"late.csv:3: layer M1, script: {line!r} is no change")
+        script.write_text("add,0,0,5,5\n\ncut,-1,-1,2,2\n")
+        self.assertEqual(len(read_deck(self.deck(GOOD + layer(1, more))).layers), 1)
+        script.write_text("add,0,0,5,5\n" * 100_001)
+        self.assertIn("has 100001 changes, more than 100000", self.faults(GOOD + layer(1, more))[0])
+
+    def test_a_fault_of_the_defaults_is_told_once(self) -> None:
+        found = self.faults(GOOD.replace('min = "30 %"', 'min = "90 %"').replace('"1 um"\n', '"0.5 nm"\n') + layer(1) + layer(2) + layer(3))
+        self.assertEqual([fault.split(": ")[:2] for fault in found],
+                         [[":11", "[defaults], box"], [":14", "[defaults], fill_spacing"], [":10", "[defaults], max"]])
+
+    def test_a_share_below_one(self) -> None:
+        for value in ("0.3", '"0.3"'):
+            told = [str(warning).split("deck.toml")[1] for warning in read_deck(self.deck(GOOD + layer(1, f"min = {value}\n"))).warnings]
+            self.assertEqual(told, [':20: layer M1, min: warning: 0.3 is 0.3 %, as a number is one of percent: write "0.3 %", or "30 %"'])
+        self.assertEqual(read_deck(self.deck(GOOD + layer(1, 'min = "0.3 %"\n'))).warnings, [])
+
+    def test_tables_of_another_kind(self) -> None:
+        for text, want in ((GOOD + layer(1).replace("[[layer]]", "[layer]"), ":16: layer: write [[layer]] above its keys"),
+                           (GOOD.replace("[defaults]", "[[defaults]]") + layer(1), ":5: defaults: write [defaults] above its keys"),
+                           ("deck = 3\n", ": deck: write [deck] above its keys"),
+                           (GOOD + layer(1) + "\n[layers]\n", ': the deck, layers: is no key of a deck: write "layer"')):
+            self.assertIn(want, self.faults(text))
+
+    def test_a_layer_that_draws_nothing(self) -> None:
+        low = structure("LOW", boundary(2, 0, 0, 9, 9))
+        design = self.design(low, structure("TOP", boundary(1, 0, 0, 5, 5), reference("LOW", 0, 0)), structure("OTHER", boundary(3, 0, 0, 5, 5)))
+        text = GOOD + layer(1) + layer(2) + layer(3)
+        self.assertEqual(self.faults(text, design),
+                         [":28: layer M3, layer: the top TOP draws nothing on 3/0: it draws 1/0, 2/0; write empty = true where that is meant"])
+        self.assertEqual(self.faults(text.replace('"1/0"', '"1/7"') + "empty = true\n", design),
+                         [":18: layer M1, layer: the top TOP draws nothing on 1/7: it draws 1/0, 2/0; write empty = true where that is meant"])
+        self.assertEqual(len(read_deck(self.deck(text + "empty = true\n"), design).layers), 3)
+        self.assertEqual(len(read_deck(self.deck(text), design, ("M1", "M2")).layers), 3)
+        self.assertEqual(len(read_deck(self.deck(text)).layers), 3)
+        deck = read_deck(self.deck(GOOD + layer(1, 'keep_layer = "40/0"\n')), design)
+        self.assertIn("draws nothing on 40/0, so nothing is kept free of boxes", str(deck.warnings[0]))
+
+    def test_a_top_that_the_design_does_not_have(self) -> None:
+        design = self.design(structure("TOPS", boundary(1, 0, 0, 5, 5)), structure("LOW"))
+        self.assertEqual(self.faults(GOOD + layer(1), design), [":2: [deck], top: the design has no structure TOP: its tops are TOPS, LOW"])
+
+    def test_a_unit_that_is_not_the_designs(self) -> None:
+        design = self.design(structure("TOP", boundary(1, 0, 0, 5, 5)))
+        for unit in ("2 nm", "500 pm"):
+            found = self.faults(GOOD.replace('unit = "1 nm"', f'unit = "{unit}"') + layer(1), design)
+            self.assertEqual(found, [f':3: [deck], unit: {unit} is not the design\'s, 1 nm: write "file", or scale the design in the layout tool'])
+        self.assertEqual(read_deck(self.deck(GOOD.replace("1 nm", "file") + layer(1)), design).unit, NM)
+        self.assertIn("is no length above 0", self.faults(GOOD.replace('unit = "1 nm"', "unit = 0") + layer(1))[0])
+
+    def test_a_design_that_is_none(self) -> None:
+        design = self.folder / "design.gds"
+        for data, want in ((b"\x1f\x8b\x08", "is zipped: unzip it before, as gunzip does"), (b"%SEMI-OASIS\r\n", "is an OASIS file: write it"),
+                           (b"HEADER 600;\nBGNLIB", "is a text and no GDSII stream"), (b"", "is empty"), (b"\xff\xd8", "is no GDSII stream"),
+                           (library("D", structure("TOP"))[:-9], "the stream ends before ENDLIB: it was cut off")):
+            design.write_bytes(data)
+            self.assertTrue(self.faults(GOOD + layer(1), design)[0].startswith(f"design.gds: the design: {want}"), want)
+        design.unlink()
+        self.assertEqual(self.faults(GOOD + layer(1), design), ["design.gds: the design: No such file or directory"])
+
+    def test_the_frame_is_the_box_of_the_top(self) -> None:
+        text = GOOD.replace('frame = [0, 0, "40 um", "40 um"]', 'frame = "top"') + layer(1)
+        low = structure("LOW", boundary(1, 0, 0, 10, 30), path(2, 4, 0, 0, 100, 0, 100, 50))
+        top = structure("TOP", reference("LOW", 7, 1, 1), array("LOW", 3, 2, (1000, 0, 1600, 0, 1000, 900)), boundary(3, -5, 2, 0, 3))
+        n = read_deck(self.deck(text), self.design(low, top)).layers[0].numbers
+        self.assertEqual([n[f"frame_{edge}"] for edge in ("x1", "y1", "x2", "y2")], [-43, -2, 1502, 500])
+        self.assertEqual(self.faults(text), [""":6: [defaults], frame: "top" is the box of a design's top: give a design too"""])
 
     def test_no_toml(self) -> None:
         self.assertRegex(self.faults("[deck\n")[0], r"^:1: the deck: ")
@@ -233,11 +338,11 @@ class Runs(Folder):
         self.assertGreater(missed, 0)
 
     def test_a_layer_that_fails_ends_no_other(self) -> None:
-        self.path.write_text(GOOD + layer(1) + layer(2, 'script = "none.csv"\n') + layer(3))
-        (self.folder / "none.csv").write_text("add,1,1,1,1\n")
+        self.path.write_text(GOOD + layer(1) + layer(2) + layer(3))
+        self.design.write_bytes(library("D", structure("TOP", *(boundary(k, 0, 0, 900, 900) for k in (1, 3)), path(2, 40, 0, 0, 100, 90))))
         ended = self.run_deck()
         self.assertEqual(ended.returncode, 2)
-        self.assertIn("M2              failed: an input is refused: densfill: script: 21 BadRow line 1", ended.stdout)
+        self.assertIn("M2              failed: an input is refused: densfill: design: 9 NotManhattan", ended.stdout)
         self.assertTrue((self.out / "M1.fill.gds").exists() and (self.out / "M3.fill.gds").exists())
         self.assertFalse((self.out / "M2.fill.gds").exists())
 
@@ -260,6 +365,83 @@ class Runs(Folder):
         for words in (("--jobs", "0"), ("--fail-on", "none"), ("--what",)):
             self.assertEqual(self.run_deck(*words).returncode, 1, words)
         self.assertEqual(self.run_deck("--only", "M9").returncode, 2)
+
+    def test_quiet_silences_progress_alone(self) -> None:
+        self.path.write_text(GOOD + layer(1) + layer(2))
+        self.design.write_bytes(library("D", structure("TOP", boundary(1, 0, 0, 900, 900), path(2, 40, 0, 0, 100, 90))))
+        loud, quiet = self.run_deck(), self.run_deck("--quiet")
+        told = "densfill-deck: M2: an input is refused: densfill: design: 9 NotManhattan"
+        self.assertEqual((quiet.returncode, quiet.stderr.splitlines()[0], "layers done" in quiet.stderr), (2, told, False))
+        self.assertIn(told, loud.stderr)
+        self.assertIn("2 of 2 layers done", loud.stderr)
+        self.assertIn("M1 ", quiet.stdout)
+        self.path.write_text(GOOD + layer(1, "min = 0.3\n"))
+        self.assertIn("min: warning: 0.3 is 0.3 %", self.run_deck("--quiet").stderr)
+
+    def test_a_wrong_layer_runs_nothing(self) -> None:
+        self.path.write_text(GOOD + layer(1) + layer(2).replace('"2/0"', '"2/9"'))
+        ended = self.run_deck()
+        self.assertEqual((ended.returncode, ended.stdout), (2, ""))
+        self.assertIn("deck.toml:23: layer M2, layer: the top TOP draws nothing on 2/9: it draws 2/0, 1/0, 3/0", ended.stderr)
+        self.assertFalse(self.out.exists())
+        self.assertEqual(self.run_deck("--only", "M1").returncode, 0)
+
+    def test_one_layer_keeps_the_others_results(self) -> None:
+        self.run_deck("--only", "M1", "M2", "M3")
+        before = json.loads((self.out / "summary.json").read_text())["layers"]
+        self.path.write_text(self.path.read_text().replace('name = "M2"\n', 'name = "M2"\nmin = "20 %"\n'))
+        ended = self.run_deck("--only", "M3", "--fail-on", "low")
+        self.assertEqual(ended.returncode, 0 if all(row[10] != "LOW" for row in self.numbers("M3")) else 3)
+        told = json.loads((self.out / "summary.json").read_text())["layers"]
+        self.assertEqual([(one["name"], one["from_an_earlier_run"]) for one in told], [("M1", True), ("M3", False)])
+        self.assertEqual(told[0]["after"], before[0]["after"])
+        self.assertIn("M2: what ", ended.stderr)
+        self.assertIn(" of other inputs and isn't shown: run it anew", ended.stderr)
+        page = ET.fromstring((self.out / "report.html").read_text().split(">", 1)[1])
+        self.assertEqual([h.text for h in page.iter("h2")], ["M1", "M3"])
+        markers = ET.parse(self.out / "markers.lyrdb").getroot()
+        self.assertEqual(len(markers.find("items")), sum(row[10] != "OK" for name in ("M1", "M3") for row in self.numbers(name)))
+
+    def merge(self, *words: str) -> tuple[int, str]:
+        line = [sys.executable, str(DECK / "densfill-deck"), "merge", str(self.path), str(self.design), *words]
+        done = subprocess.run(line, capture_output=True, text=True, check=False, env=os.environ | {"QT_QPA_PLATFORM": "offscreen"})
+        return done.returncode, done.stderr
+
+    def test_stale_fill_is_not_merged(self) -> None:
+        self.path.write_text(GOOD + layer(1) + layer(2))
+        self.run_deck()
+        out, deck, design, fill = self.folder / "merged.gds", self.path.read_text(), self.design.read_bytes(), self.out / "M1.fill.gds"
+        for path, data, want in ((self.design, design.replace(b"\0\0\x9c\x40", b"\0\0\x9c\x3f", 1), "the design has changed since the fill"),
+                                 (self.path, deck.replace('"0.5 um"', '"0.6 um"').encode(), "M1: the deck asks for other fill; M2: the deck"),
+                                 (fill, (self.out / "M2.fill.gds").read_bytes(), "M1.fill.gds has changed since")):
+            before = path.read_bytes()
+            path.write_bytes(data)
+            status, err = self.merge(str(out))
+            self.assertEqual((status, out.exists()), (2, False))
+            self.assertIn(f"deck.out: {want}", err)
+            self.assertIn("--resume, or merge --stale", err)
+            path.write_bytes(before)
+        (self.out / "summary.json").unlink()
+        self.assertIn("there is no summary.json of the run", self.merge(str(out))[1])
+
+    def test_merged_files_of_other_formats(self) -> None:
+        self.path.write_text(GOOD + layer(1))
+        self.run_deck()
+        before = self.design.read_bytes()
+        for name in ("out.oas", "out.gds.gz", "OUT.OAS"):
+            status, err = self.merge(str(self.folder / name))
+            self.assertEqual((status, f"GDSII is written, not zipped: name it {name[:3]}.gds" in err), (2, True), err)
+        self.assertIn("is one of the files that are merged", self.merge(str(self.design))[1])
+        self.assertEqual(self.design.read_bytes(), before)
+
+    @unittest.skipUnless(shutil.which("klayout"), "KLayout isn't installed")
+    def test_stale_fill_is_merged_where_it_is_asked_for(self) -> None:
+        self.path.write_text(GOOD + layer(1))
+        self.run_deck()
+        self.design.write_bytes(self.design.read_bytes().replace(b"\0\0\x9c\x40", b"\0\0\x9c\x3f", 1))
+        self.assertEqual(self.merge(str(self.folder / "merged.gds"), "--stale"),
+                         (0, "densfill-deck: merged all the same: the design has changed since the fill\n"))
+        self.assertTrue((self.folder / "merged.gds").exists())
 
     def test_interruption_leaves_whole_files(self) -> None:
         slow = self.folder / "slow"

@@ -7,12 +7,13 @@ import subprocess
 import sys
 import threading
 import time
+from collections.abc import Callable
 from concurrent.futures import ThreadPoolExecutor, as_completed, wait
 from dataclasses import asdict, dataclass
 from functools import cache
 from pathlib import Path
 
-from .deck import Layer
+from .tables import Layer
 
 # What a run takes beside the bytes of its file, measured on flat designs: twice the file and a little more.
 MEMORY_FOR_A_BYTE = 2.5
@@ -63,11 +64,13 @@ def input_digest(path: Path) -> str:
     return digest(path)
 
 
-def fingerprint(inputs: Inputs, layer: Layer) -> dict[str, str]:
-    """What a layer's results depend on: the rules, the design, the script, the program and what is run."""
-    return {"rules": hashlib.sha256(layer.rules().encode()).hexdigest(), "design": input_digest(inputs.design),
-            "program": input_digest(inputs.program), "script": input_digest(layer.script) if layer.script else "",
-            "does": "fill" if layer.fills else "check"}
+def fingerprint(inputs: Inputs, layer: Layer, of: tuple[str, ...] = ("rules", "design", "program", "script", "does")) -> dict[str, str]:
+    """What a layer's results depend on: the rules, the design, the program, the script and what is run; or some of it."""
+    ways: dict[str, Callable[[], str]] = {
+        "rules": lambda: hashlib.sha256(layer.rules().encode()).hexdigest(), "design": lambda: input_digest(inputs.design),
+        "program": lambda: input_digest(inputs.program), "script": lambda: input_digest(layer.script) if layer.script else "",
+        "does": lambda: "fill" if layer.fills else "check"}
+    return {name: ways[name]() for name in of}
 
 
 def words(inputs: Inputs, layer: Layer, files: Files, library: Path) -> list[str]:
