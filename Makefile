@@ -5,7 +5,7 @@
 # make check CRATE=name   proves one crate over what earlier runs kept: for work on it
 # make test               the gate: every proof from nothing, the must-fail edits, the tests, the programs, and the program
 #                         with its deck and its arrays run as users do
-# make test-klayout       what the deck does in KLayout, without a window
+# make test-klayout       what the deck does in KLayout, in a window on a display of its own and without one
 # make test-cluster       a chip of 16 million shapes in parts on a Slurm of two nodes that is set up for it (as root)
 # make bench              times the program on generated input and prints tables
 

@@ -28,7 +28,7 @@ from densfill_deck.gds import boxes, database_unit, real  # noqa: E402
 from densfill_deck.lengths import Unfit, in_millionths, in_units, metres  # noqa: E402
 from densfill_deck.pictures import density_map  # noqa: E402
 from densfill_deck.reports import Limits, Window, figures, histogram, worst  # noqa: E402
-from stream import array, boundary, library, path, reference, structure  # noqa: E402
+from stream import array, boundary, library, path as wire, reference, structure  # noqa: E402
 
 NM = Fraction(1, 10**9)
 LAYERS = range(1, 9)
@@ -225,7 +225,7 @@ class Faults(Folder):
 
     def test_the_frame_is_the_box_of_the_top(self) -> None:
         text = GOOD.replace('frame = [0, 0, "40 um", "40 um"]', 'frame = "top"') + layer(1)
-        low = structure("LOW", boundary(1, 0, 0, 10, 30), path(2, 4, 0, 0, 100, 0, 100, 50))
+        low = structure("LOW", boundary(1, 0, 0, 10, 30), wire(2, 4, 0, 0, 100, 0, 100, 50))
         top = structure("TOP", reference("LOW", 7, 1, 1), array("LOW", 3, 2, (1000, 0, 1600, 0, 1000, 900)), boundary(3, -5, 2, 0, 3))
         n = read_deck(self.deck(text), self.design(low, top)).layers[0].numbers
         self.assertEqual([n[f"frame_{edge}"] for edge in ("x1", "y1", "x2", "y2")], [-43, -2, 1502, 500])
@@ -339,7 +339,7 @@ class Runs(Folder):
 
     def test_a_layer_that_fails_ends_no_other(self) -> None:
         self.path.write_text(GOOD + layer(1) + layer(2) + layer(3))
-        self.design.write_bytes(library("D", structure("TOP", *(boundary(k, 0, 0, 900, 900) for k in (1, 3)), path(2, 40, 0, 0, 100, 90))))
+        self.design.write_bytes(library("D", structure("TOP", *(boundary(k, 0, 0, 900, 900) for k in (1, 3)), wire(2, 40, 0, 0, 100, 90))))
         ended = self.run_deck()
         self.assertEqual(ended.returncode, 2)
         self.assertIn("M2              failed: an input is refused: densfill: design: 9 NotManhattan", ended.stdout)
@@ -368,7 +368,7 @@ class Runs(Folder):
 
     def test_quiet_silences_progress_alone(self) -> None:
         self.path.write_text(GOOD + layer(1) + layer(2))
-        self.design.write_bytes(library("D", structure("TOP", boundary(1, 0, 0, 900, 900), path(2, 40, 0, 0, 100, 90))))
+        self.design.write_bytes(library("D", structure("TOP", boundary(1, 0, 0, 900, 900), wire(2, 40, 0, 0, 100, 90))))
         loud, quiet = self.run_deck(), self.run_deck("--quiet")
         told = "densfill-deck: M2: an input is refused: densfill: design: 9 NotManhattan"
         self.assertEqual((quiet.returncode, quiet.stderr.splitlines()[0], "layers done" in quiet.stderr), (2, told, False))
@@ -385,6 +385,18 @@ class Runs(Folder):
         self.assertIn("deck.toml:23: layer M2, layer: the top TOP draws nothing on 2/9: it draws 2/0, 1/0, 3/0", ended.stderr)
         self.assertFalse(self.out.exists())
         self.assertEqual(self.run_deck("--only", "M1").returncode, 0)
+
+    def test_a_check_fills_nothing(self) -> None:
+        self.assertEqual(self.run_deck("--no-fill", "--only", "1/0", "M2").returncode, 0)
+        self.assertEqual([path.name for path in self.out.glob("*.fill.gds")], [])
+        told = json.loads((self.out / "summary.json").read_text())["layers"]
+        self.assertEqual([(one["name"], one["fills"], one["boxes"]) for one in told], [("M1", False, 0), ("M2", False, 0)])
+        report = subprocess.run([self.program, "check", self.out / "M1.rules.csv", self.design], capture_output=True, text=True, check=True).stdout
+        self.assertEqual((self.out / "M1.report.csv").read_text(), report)
+        self.run_deck("--only", "M2")
+        ended = self.run_deck("--no-fill")
+        self.assertEqual(ended.returncode, 2)
+        self.assertIn("deck.out has fill of M2, which a check would leave beside another report: another --out", ended.stderr)
 
     def test_one_layer_keeps_the_others_results(self) -> None:
         self.run_deck("--only", "M1", "M2", "M3")

@@ -241,7 +241,7 @@ def read_deck(path: Path, design: Path | None = None, only: Iterable[str] = ()) 
     read = [(table, layer) for table in layer_tables(text, layers, shared, unit) if (layer := read_layer(table, top, contents if there else None))]
     judge_together(read)
     if contents is not None and isinstance(top, str) and there:
-        judge_metal([(table, layer) for table, layer in read if not only or layer.name in only], top, contents)
+        judge_metal([(table, layer) for table, layer in read if not only or layer.name in only or layer.metal in only], top, contents)
     if text.faults:
         raise Refused(text.faults)
     return Deck(path, unit, deck.get("unit", "file") == "file", str(top), [layer for _, layer in read], text.warnings)

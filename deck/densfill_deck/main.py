@@ -5,6 +5,7 @@ import json
 import os
 import shutil
 import sys
+from dataclasses import replace
 from fractions import Fraction
 from pathlib import Path
 from typing import NoReturn
@@ -45,7 +46,8 @@ def parser() -> Parser:
     run.add_argument("design", type=Path)
     run.add_argument("--out", type=Path, help="the folder of results (by default DECK.out beside the deck)")
     run.add_argument("--jobs", type=positive, help="how many layers run side by side (by default by processors and memory)")
-    run.add_argument("--only", nargs="+", metavar="LAYER", help="these layers alone")
+    run.add_argument("--only", nargs="+", metavar="LAYER", help="these layers alone, by their names or as 31/0")
+    run.add_argument("--no-fill", action="store_true", help="check all layers, and fill none")
     run.add_argument("--resume", action="store_true", help="keep what an earlier run left of the same inputs")
     run.add_argument("--fail-on", choices=("low", "high", "any"), help="status 3 where a window stays so")
     run.add_argument("--quiet", action="store_true", help="no progress on the terminal")
@@ -81,11 +83,18 @@ def program_of(given: Path | None) -> Path:
 
 def chosen(deck: Deck, only: list[str] | None) -> list[Layer]:
     """The layers that are asked for, in the deck's order."""
-    names = {layer.name for layer in deck.layers}
-    unknown = sorted(set(only or ()) - names)
+    unknown = sorted(set(only or ()) - {name for layer in deck.layers for name in (layer.name, layer.metal)})
     if unknown:
-        raise KeyError(f"no layer {', '.join(unknown)} in the deck: it has {', '.join(sorted(names))}")
-    return [layer for layer in deck.layers if not only or layer.name in only]
+        raise KeyError(f"no layer {', '.join(unknown)} in the deck: it has {', '.join(f'{layer.name} ({layer.metal})' for layer in deck.layers)}")
+    return [layer for layer in deck.layers if not only or layer.name in only or layer.metal in only]
+
+
+def checked_alone(layers: list[Layer], folder: Path) -> list[Layer]:
+    """Layers that are checked and not filled, in a folder without fill of them."""
+    filled = [layer.name for layer in layers if Files.of(folder, layer).library.exists()]
+    if filled:
+        raise ValueError(f"{folder} has fill of {', '.join(filled)}, which a check would leave beside another report: another --out")
+    return [replace(layer, fills=False) for layer in layers]
 
 
 def section_of(outcome: Outcome) -> Section:
@@ -121,8 +130,9 @@ def tell(words: object) -> None:
 def kept(runner: Runner, deck: Deck, layers: list[Layer]) -> dict[str, Ran]:
     """The runs that are shown: those of the other layers that the folder has of the same inputs. What it has of other inputs is told."""
     found: dict[str, Ran] = {}
+    names = {layer.name for layer in layers}
     for layer in deck.layers:
-        if layer in layers:
+        if layer.name in names:
             continue
         if earlier := runner.earlier(layer):
             found[layer.name] = earlier
@@ -138,12 +148,15 @@ def run(given: argparse.Namespace) -> int:
     for warning in deck.warnings:
         tell(warning)
     folder = results_of(given.deck, given.out)
+    if given.no_fill:
+        layers = checked_alone(layers, folder)
     folder.mkdir(parents=True, exist_ok=True)
     inputs = Inputs(program_of(given.program), given.design.resolve(), folder)
     runner = Runner(inputs, given.quiet)
     done = runner.run_all(layers, jobs_for(given.design, len(layers), given.jobs), given.resume)
     ran = kept(runner, deck, layers) | {one.layer: one for one in done}
-    outcomes = [outcome_of(inputs, layer, ran[layer.name]) for layer in deck.layers if layer.name in ran]
+    as_run = {layer.name: layer for layer in layers}
+    outcomes = [outcome_of(inputs, as_run.get(layer.name, layer), ran[layer.name]) for layer in deck.layers if layer.name in ran]
     print(write_results(inputs, deck, outcomes), end="")
     print(f"results: {folder}/report.html, summary.json, markers.lyrdb", flush=True)
     for outcome in outcomes:
@@ -151,7 +164,7 @@ def run(given: argparse.Namespace) -> int:
             tell(f"densfill-deck: {outcome.layer.name}: {failure(outcome.ran)}")
     if any(one.status != 0 for one in done):
         return FAILED
-    asked = [outcome for outcome in outcomes if outcome.layer in layers]
+    asked = [outcome for outcome in outcomes if outcome.layer.name in as_run]
     return MISSED if given.fail_on and any(outcome.misses(given.fail_on) for outcome in asked) else DONE
 
 

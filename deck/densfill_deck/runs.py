@@ -52,6 +52,10 @@ class Files:
     def of(folder: Path, layer: Layer) -> "Files":
         return Files(*(folder / f"{layer.name}{ending}" for ending in (".rules.csv", ".report.csv", ".fill.gds", ".log", ".run.json")))
 
+    def left(self, fills: bool) -> list[Path]:
+        """Those that a run leaves, of which hashes are noted."""
+        return [self.rules, self.report, self.library] if fills else [self.rules, self.report]
+
 
 def digest(path: Path) -> str:
     with open(path, "rb") as file:
@@ -162,7 +166,7 @@ class Runner:
         """Notes what a whole run was made of, and forgets an earlier one that is whole no more."""
         files = Files.of(self.inputs.folder, layer)
         if ran.status == 0:
-            outputs = {path.name: digest(path) for path in (files.report, files.library) if path.exists()}
+            outputs = {path.name: digest(path) for path in files.left(layer.fills)[1:]}
             record = {"inputs": fingerprint(self.inputs, layer), "outputs": outputs, "ran": asdict(ran)}
             part = files.record.with_name(files.record.name + ".part")
             part.write_text(json.dumps(record, indent=1) + "\n")

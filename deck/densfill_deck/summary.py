@@ -84,8 +84,7 @@ def told_layer(inputs: Inputs, outcome: Outcome, unit: Fraction) -> dict[str, ob
         told |= {"windows": len(outcome.after), "boxes": outcome.boxes, "min": layer.numbers["min"] / 10**6,
                  "max": layer.numbers["max"] / 10**6, "before": told_figures(outcome.figures[0], unit),
                  "after": told_figures(outcome.figures[1], unit),
-                 "files": {path.name: digest(path) for path in (outcome.files.rules, outcome.files.report, outcome.files.library)
-                           if path.exists()}}
+                 "files": {path.name: digest(path) for path in outcome.files.left(layer.fills)}}
     return told
 
 
