@@ -183,7 +183,7 @@ class Runs(Case):
     """Arrays by processes on this machine."""
 
     def test_the_bytes_are_those_of_one_run(self) -> None:
-        for does in ("check", "fill"):
+        for does in ("check", "fill"):   # in this order: a check takes no fill away
             for parts in 1, 2, 5, 17:
                 self.assert_whole(does, self.array(does, "--parts", parts))
                 self.assertEqual(len(list((self.out / "parts").glob(f"*-of-{parts}.report.csv"))), parts)
@@ -223,6 +223,7 @@ class Runs(Case):
             ended = self.array("fill", "--parts", 4, "--resume")
             self.assertNotIn("kept", ended.stdout)
             self.assert_whole("fill", ended)
+        (self.out / "fill.gds").unlink()
         self.assertNotIn("kept", self.array("check", "--parts", 4, "--resume").stdout)
 
     def test_a_part_that_is_refused_ends_no_other(self) -> None:
@@ -332,6 +333,14 @@ class Runs(Case):
         self.assertEqual((ended.returncode, "of no array" in ended.stderr), (2, True))
         self.assertEqual((self.folder / "fill.gds").read_bytes(), b"mine")
         self.assertFalse((self.folder / "parts").exists())
+
+    def test_a_check_takes_no_fill_away(self) -> None:
+        self.array("fill", "--parts", 2)
+        ended = self.array("check", "--parts", 2)
+        self.assertEqual((ended.returncode, ended.stdout), (2, ""))
+        self.assertIn("has the fill of an earlier array, which a check would take away: another --out", ended.stderr)
+        self.assertEqual(self.joined("fill"), self.one_run("fill"))
+        self.assertEqual(self.array("check", "--parts", 2, "--out", "other").returncode, 0)
 
     def test_a_missing_input(self) -> None:
         (self.folder / "design.gds").unlink()

@@ -23,12 +23,14 @@ ROOT = DECK.parent
 sys.path[:0] = [str(DECK), str(ROOT / "tools")]
 
 from built import FolderCase, interruptible, run_tests  # noqa: E402
-from densfill_deck.deck import Refused, read_deck  # noqa: E402
+from densfill_deck.contents import contents_of  # noqa: E402
+from densfill_deck.deck import read_deck  # noqa: E402
 from densfill_deck.gds import boxes, database_unit, real  # noqa: E402
 from densfill_deck.lengths import Unfit, in_millionths, in_units, metres  # noqa: E402
 from densfill_deck.pictures import density_map  # noqa: E402
 from densfill_deck.reports import Limits, Window, figures, histogram, worst  # noqa: E402
-from stream import array, boundary, library, path as wire, reference, structure  # noqa: E402
+from densfill_deck.tables import Refused  # noqa: E402
+from stream import END, array, boundary, library, path as wire, points, record, reference, structure, text as string, words as two_bytes  # noqa: E402
 
 NM = Fraction(1, 10**9)
 LAYERS = range(1, 9)
@@ -59,6 +61,11 @@ class Folder(FolderCase):
     def deck(self, text: str) -> Path:
         path = self.folder / "deck.toml"
         path.write_text(text)
+        return path
+
+    def design(self, *structures: bytes) -> Path:
+        path = self.folder / "design.gds"
+        path.write_bytes(library("D", *structures))
         return path
 
 
@@ -100,11 +107,6 @@ class Faults(Folder):
         with self.assertRaises(Refused) as caught:
             read_deck(self.deck(text), design, only)
         return [str(fault).replace(f"{self.folder}/", "").removeprefix("deck.toml") for fault in caught.exception.faults]
-
-    def design(self, *structures: bytes) -> Path:
-        path = self.folder / "design.gds"
-        path.write_bytes(library("D", *structures))
-        return path
 
     def test_each_fault(self) -> None:
         for more, want in (('spaceing = 1\n', ':20: layer M1, spaceing: is no key of a deck: write "spacing"'),
@@ -255,6 +257,119 @@ class Values(Folder):
         self.assertEqual(database_unit(design), NM)
 
 
+def element(kind: int, *records: bytes) -> bytes:
+    """An element on layer 1/0, or a reference, of any records."""
+    on = two_bytes(0x0D, 1) + two_bytes(0x0E, 0) if kind in (0x08, 0x09) else b""
+    return record(kind, 0) + on + b"".join(records) + END
+
+
+def long(kind: int, number: int) -> bytes:
+    return record(kind, 3, struct.pack(">i", number))
+
+
+HALF, LOW, NOT_TURNED = bytes.fromhex("4080000000000000"), string(0x12, "LOW"), record(0x1A, 1, b"\0\0")
+SQUARE = (0, 0, 0, 8, 8, 8, 8, 0, 0, 0)
+# Elements that the program refuses, and its reason.
+REFUSED = [(element(0x08, points(0, 0, 0, 8, 9, 9, 8, 0, 0, 0)), "NotManhattan"), (element(0x08, points(*SQUARE[:8], 0, 4, 0, 5)), "NotClosed"),
+           (element(0x08, points(0, 0, 0, 8, 8, 0)), "BadXY"), (element(0x08, points(0, 0, 0, 8, 8, 8, 8, 0, 1, 0)), "NotClosed"),
+           (element(0x09, long(0x0F, 4), points(0, 0, 5, 9)), "NotManhattan"), (element(0x09, two_bytes(0x21, 1), long(0x0F, 4), points(0, 0, 5, 0)), "RoundEnd"),
+           (element(0x09, long(0x0F, 3), points(0, 0, 5, 0)), "OddWidth"), (element(0x09, long(0x0F, 4), points(0, 0, 9, 0, 9, 0, 5, 0)), "DoublesBack"),
+           (element(0x09, two_bytes(0x21, 4), long(0x0F, 4), long(0x30, -1), points(0, 0, 9, 0)), "BadExtension"),
+           (element(0x0A, LOW, NOT_TURNED, record(0x1B, 5, HALF), points(0, 0)), "BadTransform"),
+           (element(0x0A, LOW, record(0x1A, 1, b"\0\2"), points(0, 0)), "BadTransform"),
+           (element(0x0A, LOW, NOT_TURNED, record(0x1C, 5, HALF), points(0, 0)), "BadTransform"),
+           (element(0x0B, LOW, two_bytes(0x13, 2, 1), points(0, 0, 5, 0, 0, 4)), "BadArray"),
+           (element(0x0B, LOW, two_bytes(0x13, 0, 1), points(0, 0, 4, 0, 0, 4)), "BadArray")]
+TAKEN = [element(0x08, points(*SQUARE)), element(0x09, long(0x0F, 4), points(0, 0, 9, 0, 9, 0, 12, 0, 12, 7)), element(0x09, points(0, 0, 5, 9)),
+         element(0x0B, LOW, two_bytes(0x13, 2, 2), points(0, 0, 8, 2, 0, 4)), element(0x09, two_bytes(0x21, 1), long(0x0F, 3), points(4, 4, 4, 4))]
+
+
+class Designs(Folder):
+    """What a design has, and what of it the program refuses."""
+
+    def command(self, *given: object) -> subprocess.CompletedProcess[str]:
+        line = [sys.executable, str(DECK / "densfill-deck"), *map(str, given)]
+        return subprocess.run(line, cwd=self.folder, capture_output=True, text=True, check=False)
+
+    def test_layers(self) -> None:
+        low = structure("LOW", boundary(1, 0, 0, 10, 30), boundary(2, 0, 0, 1, 1), wire(2, 4, 0, 0, 100, 0, 100, 50))
+        top = structure("TOP", reference("LOW", 7, 1, 1), array("LOW", 3, 2, (1000, 0, 1600, 0, 1000, 900)), boundary(3, -5, 2, 0, 3))
+        note = record(0x0C, 0) + two_bytes(0x0D, 9) + two_bytes(0x16, 4) + points(0, 0) + string(0x19, "A") + END
+        ended = self.command("layers", self.design(low, top, structure("OTHER", note)))
+        self.assertEqual(ended.stdout.splitlines()[1:], [
+            "elements: 3 boundaries, 1 path, 1 reference, 1 array, 1 text", "", "top TOP: -0.043, -0.002 to 1.502, 0.5 um",
+            "         1/0           7 shapes  -0.023, 0 to 1.41, 0.48 um", "         2/0          14 shapes  -0.043, -0.002 to 1.502, 0.5 um",
+            "         3/0           1 shape   -0.005, 0.002 to 0, 0.003 um", "", "top OTHER: nothing", "  texts, nodes or boxes alone: 9/4"])
+
+    def test_boxes_of_shapes_in_every_orientation(self) -> None:
+        corners = [(k % 3 + 1, k * 7 % 50, k * 11 % 60, k * 7 % 50 + 3 + k, k * 11 % 60 + 9) for k in range(40)]
+        low = structure("LOW", *(boundary(*corner) for corner in corners))
+        for turns in range(4):
+            for reflected in (False, True):
+                drawn = contents_of(self.design(low, structure("TOP", reference("LOW", 300, -20, turns, reflected)))).drawn("TOP")
+                for k in (1, 2, 3):
+                    at = [(x, y) for on, x1, y1, x2, y2 in corners if on == k for x, y in ((x1, y1), (x2, y2))]
+                    for _ in range(reflected):
+                        at = [(x, -y) for x, y in at]
+                    for _ in range(turns):
+                        at = [(-y, x) for x, y in at]
+                    x, y = zip(*at)
+                    self.assertEqual(drawn[k, 0].box, (min(x) + 300, min(y) - 20, max(x) + 300, max(y) - 20), (turns, reflected, k))
+                    self.assertEqual(drawn[k, 0].count, sum(on == k for on, *_ in corners))
+
+    def test_where_finds_what_the_program_refuses(self) -> None:
+        low = structure("LOW", boundary(2, 0, 0, 5, 5))
+        (self.folder / "rules.csv").write_text(read_deck(self.deck(GOOD + layer(1))).layers[0].rules())
+        for bad, reason in REFUSED:
+            design = self.design(low, structure("TOP", *TAKEN, bad, *TAKEN))
+            told = subprocess.run([self.program, "check", self.folder / "rules.csv", design], capture_output=True, text=True, check=False)
+            self.assertIn(f" {reason}", told.stderr)
+            ended = self.command("where", design, "--layer", "1/0", "--top", "TOP", "--out", "found.lyrdb")
+            self.assertEqual((ended.returncode, ended.stderr), (2, ""))
+            self.assertTrue(ended.stdout.startswith(f"{reason}: cell TOP, element {len(TAKEN) + 1}: the "), ended.stdout)
+            self.assertEqual(len(ended.stdout.splitlines()), 2, ended.stdout)
+            self.assertEqual(len(ET.parse(self.folder / "found.lyrdb").getroot().find("items")), 1)
+        design = self.design(low, structure("TOP", *TAKEN), structure("OTHER", REFUSED[0][0], boundary(1, 0, 0, 3, 3)))
+        ended = self.command("where", design, "--layer", "1/0", "--top", "TOP")
+        self.assertEqual((ended.returncode, ended.stdout), (0, "nothing that the program refuses was found\n"))
+        self.assertIn("NotManhattan: cell OTHER, element 1: the boundary on 1/0 has a slanted edge: 0,0 0,8 9,9 8,0 0,0\n",
+                      self.command("where", design, "--layer", "1/0").stdout)
+        self.assertEqual(self.command("where", design, "--layer", "2/0").returncode, 0)
+
+    def test_where_tells_names(self) -> None:
+        low, metal = structure("LOW", reference("TOP", 0, 0)), boundary(1, 0, 0, 5, 5)
+        chain = [structure(f"C{k}", reference(f"C{k + 1}", 0, 0)) for k in range(1, 300)]
+        for structures, want in (((structure("TOP", reference("LOW", 0, 0), metal), low), "Cycle: TOP > LOW > TOP"),
+                                 ((structure("TOP", reference("LOT", 0, 0), metal), low), "MissingCell: TOP refers to LOT, which no structure is named"),
+                                 ((structure("TOP", metal), structure("TOP")), "DuplicateCell: 2 structures have the name TOP"),
+                                 ((structure("TOPS", metal),), "NoTop: no structure has the name TOP: the design's tops are TOPS"),
+                                 ((structure("TOP", reference("C1", 0, 0)), *chain, structure("C300", metal)), "TooDeep: below TOP cells are nested 301 deep")):
+            ended = self.command("where", self.design(*structures), "--layer", "1/0", "--top", "TOP")
+            self.assertEqual((ended.returncode, ended.stdout.startswith(want)), (2, True), ended.stdout)
+        design = self.design(structure("TOP", reference("LOW", 1 << 30, 0), metal), structure("LOW", metal))
+        self.assertIn("OutOfRange: below TOP shapes on 1/0 lie in 0,0,1073741829,5", self.command("where", design, "--layer", "1/0").stdout)
+
+    @unittest.skipUnless(shutil.which("klayout"), "KLayout isn't installed")
+    def test_klayout_reads_the_markers_of_where(self) -> None:
+        low = structure("LOW", *[bad for bad, _ in REFUSED[:1] + REFUSED[4:]], boundary(2, 0, 0, 5, 5))
+        self.command("where", self.design(low, structure("TOP", reference("LOW", 0, 0))), "--layer", "1/0")
+        script = self.folder / "count.py"
+        script.write_text("import pya\ndb = pya.ReportDatabase('m')\ndb.load('design.where.lyrdb')\n"
+                          "shown = [v for i in db.each_item() for v in i.each_value() if v.is_polygon() or v.is_path() or v.is_box()]\n"
+                          "print('items', db.num_items(), len(shown))\n")
+        done = subprocess.run(["klayout", "-b", "-r", script], capture_output=True, text=True, check=False, cwd=self.folder,
+                              env=os.environ | {"QT_QPA_PLATFORM": "offscreen"})
+        self.assertIn("items 11 11", done.stdout + done.stderr)
+
+    def test_no_design(self) -> None:
+        self.deck(GOOD)
+        for name, want in (("none.gds", "No such file"), ("deck.toml", "is a text and no GDSII stream")):
+            for command in ("layers", "where"):
+                ended = self.command(command, name)
+                self.assertEqual((ended.returncode, want in ended.stderr, ended.stderr.count("\n")), (2, True, 1), ended.stderr)
+        self.assertEqual(self.command("where", "none.gds", "--layer", "31").returncode, 1)
+
+
 def window(column: int, row: int, share: int, state: str) -> Window:
     return Window(column, row, 0, 0, 100, 100, share // 100, 0, share // 100, share, state)
 
@@ -345,6 +460,23 @@ class Runs(Folder):
         self.assertIn("M2              failed: an input is refused: densfill: design: 9 NotManhattan", ended.stdout)
         self.assertTrue((self.out / "M1.fill.gds").exists() and (self.out / "M3.fill.gds").exists())
         self.assertFalse((self.out / "M2.fill.gds").exists())
+
+    def test_a_second_look_at_faults(self) -> None:
+        self.path.write_text(GOOD + layer(1))
+        low = structure("LOW", boundary(1, 0, 0, 9, 9), wire(1, 4, 0, 0, 7, 9))
+        all_of_it = f"all of it: densfill-deck where {self.design} --top TOP --layer 1/0"
+        for structures, want in (((structure("TOP", reference("LOW", 0, 0)), low),
+                                  ["an input is refused: densfill: design: 9 NotManhattan",
+                                   "NotManhattan: cell LOW, element 2: the path on 1/0 has a slanted edge: 0,0 7,9", all_of_it]),
+                                 ((structure("TOP", boundary(1, 0, 0, 9, 9), reference("LOT", 0, 0)),),
+                                  ["an input is refused: densfill: design: 15 MissingCell",
+                                   "MissingCell: TOP refers to LOT, which no structure is named", all_of_it])):
+            self.design.write_bytes(library("D", *structures))
+            self.assertEqual(self.run_deck("--quiet").stderr.splitlines(), [f"densfill-deck: M1: {line}" for line in want])
+        (self.folder / "failing").write_text("#!/bin/sh\nrm $3\necho 'densfill: design: 30 Device' >&2\nexit 4\n")
+        (self.folder / "failing").chmod(0o755)
+        self.assertIn(f"densfill-deck: M1: {self.design}: No such file or directory",
+                      self.run_deck("--quiet", "--program", str(self.folder / "failing")).stderr)
 
     def test_resume_runs_what_changed(self) -> None:
         self.run_deck()

@@ -134,6 +134,9 @@ def prepare(given: argparse.Namespace, folder: Path) -> Asked:
     """Writes the array's folder, and takes away what an earlier one left there and isn't kept; files of others it leaves alone."""
     if not (folder / "array.json").exists() and any((folder / name).exists() for name in RESULTS):
         raise NoParts(f"{folder} has files of the names {', '.join(RESULTS)} that are of no array: another --out")
+    earlier = earlier_of(folder)
+    if earlier and earlier.does == "fill" and given.command == "check" and (folder / "fill.gds").exists():
+        raise NoParts(f"{folder} has the fill of an earlier array, which a check would take away: another --out")
     asked = asked_of(given)
     (folder / "parts").mkdir(parents=True, exist_ok=True)
     write_asked(folder, asked)

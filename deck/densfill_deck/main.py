@@ -10,8 +10,10 @@ from fractions import Fraction
 from pathlib import Path
 from typing import NoReturn
 
-from .deck import read_deck
-from .lengths import metres, told
+from .deck import layer_of, read_deck
+from .lengths import Unfit, metres, told
+from .listing import list_faults, list_layers
+from .look import SecondLook
 from .markers import database
 from .merge import NotMerged, assert_fit, changes, merge
 from .page import Section, page
@@ -38,6 +40,13 @@ def positive(word: str) -> int:
     return number
 
 
+def on(word: str) -> tuple[int, int]:
+    try:
+        return layer_of(word)
+    except Unfit as unfit:
+        raise argparse.ArgumentTypeError(str(unfit)) from unfit
+
+
 def parser() -> Parser:
     whole = Parser(prog="densfill-deck", description=__doc__)
     commands = whole.add_subparsers(dest="command", required=True, parser_class=Parser)
@@ -59,6 +68,13 @@ def parser() -> Parser:
     explain.add_argument("report", type=Path)
     explain.add_argument("--out", type=Path, help="the page (by default REPORT.html)")
     explain.add_argument("--unit", default="1 nm", help="the database unit")
+    listing = commands.add_parser("layers", help="what a design has: tops, layers with shapes and boxes, kinds of elements")
+    listing.add_argument("design", type=Path)
+    look = commands.add_parser("where", help="each shape of a design that the program refuses, and names that lead nowhere")
+    look.add_argument("design", type=Path)
+    look.add_argument("--layer", type=on, nargs="+", default=[], help="layers and data types that are to be checked, as 31/0")
+    look.add_argument("--top", help="the top structure (by default each of the design's)")
+    look.add_argument("--out", type=Path, help="a marker file for KLayout (by default DESIGN.where.lyrdb, where shapes are found)")
     joined = commands.add_parser("merge", help="the design and its fill in one file, by KLayout")
     joined.add_argument("deck", type=Path)
     joined.add_argument("design", type=Path)
@@ -159,9 +175,11 @@ def run(given: argparse.Namespace) -> int:
     outcomes = [outcome_of(inputs, as_run.get(layer.name, layer), ran[layer.name]) for layer in deck.layers if layer.name in ran]
     print(write_results(inputs, deck, outcomes), end="")
     print(f"results: {folder}/report.html, summary.json, markers.lyrdb", flush=True)
+    look = SecondLook(inputs.design, deck.top)
     for outcome in outcomes:
         if not outcome.is_whole:
-            tell(f"densfill-deck: {outcome.layer.name}: {failure(outcome.ran)}")
+            for line in (failure(outcome.ran), *look.at(outcome.ran.told, outcome.layer, outcome.files)):
+                tell(f"densfill-deck: {outcome.layer.name}: {line}")
     if any(one.status != 0 for one in done):
         return FAILED
     asked = [outcome for outcome in outcomes if outcome.layer.name in as_run]
@@ -212,10 +230,19 @@ def merged(given: argparse.Namespace) -> int:
     return DONE
 
 
+def layers(given: argparse.Namespace) -> int:
+    list_layers(given.design)
+    return DONE
+
+
+def where(given: argparse.Namespace) -> int:
+    return FAILED if list_faults(given.design, set(given.layer), given.top, given.out) else DONE
+
+
 def main() -> int:
     given = parser().parse_args()
     try:
-        return {"run": run, "check": check, "explain": explain, "merge": merged}[given.command](given)
+        return {"run": run, "check": check, "explain": explain, "merge": merged, "layers": layers, "where": where}[given.command](given)
     except Refused as refused:
         print(refused, file=sys.stderr)
     except (OSError, KeyError, NoReport, NotMerged, ValueError) as error:
