@@ -1,7 +1,7 @@
 # make demo               runs check, fill and rects on examples/ and tells how many windows are low and high (by the built
 #                         program, or where there is none unproved, by rt try)
 # make build              proves the program and leaves it, optimized, at bin/densfill
-# make install PREFIX=..  installs the built program, its deck, its arrays and its manual page below PREFIX (by default /usr/local)
+# make install PREFIX=..  installs the built program, its deck, its arrays, manual pages and formats below PREFIX (by default /usr/local)
 # make check CRATE=name   proves one crate over what earlier runs kept: for work on it
 # make test               the gate: every proof from nothing, the must-fail edits, the tests, the programs, and the program
 #                         with its deck and its arrays run as users do
@@ -25,7 +25,8 @@ build:
 
 install: $(if $(wildcard bin/densfill),,build)
 	install -D -m 755 bin/densfill $(DESTDIR)$(PREFIX)/bin/densfill
-	install -D -m 644 docs/densfill.1 $(DESTDIR)$(PREFIX)/share/man/man1/densfill.1
+	install -D -m 644 -t $(DESTDIR)$(PREFIX)/share/man/man1 docs/densfill.1 docs/densfill-deck.1 docs/densfill-array.1
+	install -D -m 644 -t $(DESTDIR)$(PREFIX)/share/doc/densfill docs/FORMATS.md docs/DECK.md docs/CLUSTER.md
 	install -D -m 755 deck/densfill-deck $(DESTDIR)$(PREFIX)/bin/densfill-deck
 	install -D -m 644 -t $(DESTDIR)$(PREFIX)/lib/densfill/densfill_deck deck/densfill_deck/*.py
 	install -D -m 644 -t $(DESTDIR)$(PREFIX)/lib/densfill/klayout deck/klayout/*

@@ -3,9 +3,11 @@
 
 usage: test_deck.py [PROGRAM]     (by default bin/densfill, else what the gate left in crates/densfill/out)
 """
+import base64
 import csv
 import json
 import os
+import re
 import shutil
 import signal
 import struct
@@ -27,6 +29,7 @@ from densfill_deck.contents import contents_of  # noqa: E402
 from densfill_deck.deck import read_deck  # noqa: E402
 from densfill_deck.gds import boxes, database_unit, real  # noqa: E402
 from densfill_deck.lengths import Unfit, in_millionths, in_units, metres  # noqa: E402
+from densfill_deck.page import Section, page  # noqa: E402
 from densfill_deck.pictures import density_map  # noqa: E402
 from densfill_deck.reports import Limits, Window, figures, histogram, worst  # noqa: E402
 from densfill_deck.tables import Refused  # noqa: E402
@@ -284,6 +287,33 @@ TAKEN = [element(0x08, points(*SQUARE)), element(0x09, long(0x0F, 4), points(0, 
          element(0x0B, LOW, two_bytes(0x13, 2, 2), points(0, 0, 8, 2, 0, 4)), element(0x09, two_bytes(0x21, 1), long(0x0F, 3), points(4, 4, 4, 4))]
 
 
+class Installed(Folder):
+    """What `make install` puts where, and that it runs there."""
+
+    def test_manual_pages_and_documents(self) -> None:
+        (self.folder / "clone").mkdir()
+        for name in ("Makefile", "deck", "cluster", "docs"):
+            (self.folder / "clone" / name).symlink_to(ROOT / name)
+        (self.folder / "clone/bin").mkdir()
+        shutil.copy(self.program, self.folder / "clone/bin/densfill")
+        subprocess.run(["make", "install", f"PREFIX={self.folder}/there"], cwd=self.folder / "clone", check=True, capture_output=True)
+        there = self.folder / "there"
+        self.assertEqual({path.name for path in (there / "share/doc/densfill").iterdir()}, {"FORMATS.md", "DECK.md", "CLUSTER.md"})
+        for name, commands in (("deck", ("run", "check", "layers", "where", "explain", "merge")), ("array", ("check", "fill", "table"))):
+            page = (there / f"share/man/man1/densfill-{name}.1").read_text()
+            for command in commands:
+                self.assertIn(f".B densfill-{name} {command}\n", page)
+                told = subprocess.run([there / f"bin/densfill-{name}", command, "--help"], capture_output=True, text=True, check=True).stdout
+                for option in set(re.findall(r"--[a-z-]+", told)) - {"--help"}:
+                    self.assertIn(option.replace("-", "\\-"), page, (name, command))
+
+    @unittest.skipUnless(shutil.which("man"), "man isn't installed")
+    def test_manual_pages_are_well_formed(self) -> None:
+        for page in sorted((ROOT / "docs").glob("*.1")):
+            told = subprocess.run(["man", "--warnings", "-l", page], capture_output=True, text=True, check=True, env=os.environ | {"PAGER": "cat"})
+            self.assertEqual(told.stderr, "", page)
+
+
 class Designs(Folder):
     """What a design has, and what of it the program refuses."""
 
@@ -403,6 +433,33 @@ class Reports(unittest.TestCase):
         self.assertEqual(struct.unpack(">II", picture[16:24]), (2, 2))
 
 
+class Pages(Folder):
+    """A page of many windows in a browser."""
+
+    @unittest.skipUnless(shutil.which("chromium"), "chromium isn't installed")
+    def test_twelve_layers_of_seventy_thousand_windows(self) -> None:
+        side, limits = 265, Limits(300_000, 700_000)
+        windows = [Window(k % side, k // side, k % side * 10, k // side * 10, k % side * 10 + 20, k // side * 10 + 20, 0, 0, 0, k * 7919 % 1_000_001, "LOW")
+                   for k in range(side * side)]
+        windows = [w._replace(state=limits.state(w.share, 10**6)) for w in windows]
+        sections = [Section(f"M{k}", "note", limits, windows, windows) for k in range(12)]
+        path = self.folder / "page.html"
+        probe = ("<script>var map = document.querySelectorAll('img[data-shares]')[23], box = map.getBoundingClientRect();"
+                 "map.dispatchEvent(new MouseEvent('mousemove', {clientX: box.left + box.width * 2.5 / 265, clientY: box.bottom - box.height * 1.5 / 265}));"
+                 "document.title = 'seen ' + Math.round(performance.now()) + ' ' + map.closest('figure').querySelector('.at').textContent;</script></body>")
+        text_of_page = page("t", [], sections, NM)
+        path.write_text(text_of_page.replace("</body>", probe))
+        self.assertLess(len(text_of_page), 10_000_000)
+        done = subprocess.run(["chromium", "--headless", "--no-sandbox", "--disable-gpu", f"--user-data-dir={self.folder}/profile", "--dump-dom", path],
+                              capture_output=True, text=True, check=True, timeout=120)
+        seen = re.search(r"<title>seen (\d+) ([^<]*)</title>", done.stdout)
+        self.assertIsNotNone(seen)
+        share = windows[side + 2].share // 100 / 100
+        self.assertEqual(seen.group(2), f"column 2, row 1: {share:.2f} %, from 0.02, 0.01 um")
+        print(f"a page of twelve layers: {len(text_of_page) / 1e6:.1f} MB, {seen.group(1)} ms in a browser", flush=True)
+        self.assertLess(int(seen.group(1)), 2000 * max(1.0, os.getloadavg()[0] / (os.cpu_count() or 1)))
+
+
 class Runs(Folder):
     """Whole runs of eight layers on a generated design."""
 
@@ -446,7 +503,16 @@ class Runs(Folder):
         page = (self.out / "report.html").read_text()
         root = ET.fromstring(page.split(">", 1)[1])
         self.assertEqual([h.text for h in root.iter("h2")], ["M1", "M8"])
-        self.assertEqual(len(list(root.iter("img"))), 3)
+        images = list(root.iter("img"))
+        self.assertEqual(len(images), 3)
+        shares = base64.b64decode(images[1].get("data-shares"))
+        self.assertEqual([int.from_bytes(shares[k:k + 2], "big") for k in range(0, len(shares), 2)], [int(row[9]) // 100 for row in self.numbers("M1")])
+        self.assertEqual([images[1].get(f"data-{name}") for name in ("columns", "rows", "x", "y", "across", "up")], ["3", "3", "0", "0", "10", "10"])
+        self.assertEqual([span.text for span in root.iter("span")][:5], ["5", "12.5", "20", "27.5", "35"])
+        over = [[cell.text for cell in row] for row in root.findall(".//table")[1]]
+        self.assertEqual([cells[0] for cells in over], ["layer", "M1", "M8"])
+        self.assertEqual(over[1][3], str(sum(row[10] == "LOW" for row in self.numbers("M1"))))
+        self.assertEqual(over[2][1:3], ["9", None])
         items = ET.parse(self.out / "markers.lyrdb").getroot().find("items")
         missed = sum(row[10] != "OK" for name in ("M1", "M8") for row in self.numbers(name))
         self.assertEqual(len(items), missed)

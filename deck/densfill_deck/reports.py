@@ -5,7 +5,7 @@ from heapq import nsmallest
 from pathlib import Path
 from typing import NamedTuple
 
-WORST = 20
+WORST = 100
 
 
 class Window(NamedTuple):
