@@ -102,6 +102,12 @@ class Picking(unittest.TestCase):
                 self.assertLessEqual(needed[parts - 1], bound)
                 self.assertTrue(parts == 1 or needed[parts - 2] > bound)
 
+    def test_estimates_are_not_below_what_was_measured(self) -> None:
+        chip, million = Chip(40, 50, 40_000, 3_000), 10**6
+        for does, size_of_file, copies, megabytes in (("check", 100_000, 3_900_000, 122), ("check", 239 * million, 3_900_000, 600),
+                                                      ("fill", 100_000, 3_900_000, 537)):
+            self.assertGreater(Work(does, chip, size_of_file, copies).memory(1), megabytes * million)
+
     def test_no_more_parts_than_rows(self) -> None:
         with self.assertRaisesRegex(NoParts, "reads the whole file"):
             parts_for(Work("fill", Chip(40, 50, 40_000, 3_000), 1 << 30, 1000), 1 << 30)

@@ -19,6 +19,7 @@ import xml.etree.ElementTree as ET
 from decimal import Decimal
 from fractions import Fraction
 from pathlib import Path
+from unittest import mock
 
 DECK = Path(__file__).resolve().parent
 ROOT = DECK.parent
@@ -29,9 +30,10 @@ from densfill_deck.contents import contents_of  # noqa: E402
 from densfill_deck.deck import read_deck  # noqa: E402
 from densfill_deck.gds import boxes, database_unit, real  # noqa: E402
 from densfill_deck.lengths import Unfit, in_millionths, in_units, metres  # noqa: E402
-from densfill_deck.page import Section, page  # noqa: E402
+from densfill_deck.page import Section, page as whole_page  # noqa: E402
 from densfill_deck.pictures import density_map  # noqa: E402
 from densfill_deck.reports import Limits, Window, figures, histogram, worst  # noqa: E402
+from densfill_deck.runs import jobs_for, memory_for  # noqa: E402
 from densfill_deck.tables import Refused  # noqa: E402
 from stream import END, array, boundary, library, path as wire, points, record, reference, structure, text as string, words as two_bytes  # noqa: E402
 
@@ -447,7 +449,7 @@ class Pages(Folder):
         probe = ("<script>var map = document.querySelectorAll('img[data-shares]')[23], box = map.getBoundingClientRect();"
                  "map.dispatchEvent(new MouseEvent('mousemove', {clientX: box.left + box.width * 2.5 / 265, clientY: box.bottom - box.height * 1.5 / 265}));"
                  "document.title = 'seen ' + Math.round(performance.now()) + ' ' + map.closest('figure').querySelector('.at').textContent;</script></body>")
-        text_of_page = page("t", [], sections, NM)
+        text_of_page = whole_page("t", [], sections, NM)
         path.write_text(text_of_page.replace("</body>", probe))
         self.assertLess(len(text_of_page), 10_000_000)
         done = subprocess.run(["chromium", "--headless", "--no-sandbox", "--disable-gpu", f"--user-data-dir={self.folder}/profile", "--dump-dom", path],
@@ -553,6 +555,19 @@ class Runs(Folder):
         told = {one["name"]: one["from_an_earlier_run"] for one in json.loads((self.out / "summary.json").read_text())["layers"]}
         self.assertEqual([name for name, kept in told.items() if not kept], ["M3", "M5", "M6"])
         self.assertGreater(len(self.numbers("M5")), 0)
+
+    def test_layers_side_by_side_have_room(self) -> None:
+        low = structure("LOW", *[boundary(k, x, 0, x + 3, 9) for k in LAYERS for x in range(0, 1000, 5)])
+        self.design.write_bytes(library("D", low, structure("TOP", array("LOW", 100, 100, (0, 0, 100_000, 0, 0, 1000)))))
+        deck = read_deck(self.path, self.design)
+        self.assertEqual(deck.copies, {f"M{k}": 2_000_000 for k in LAYERS})
+        self.assertEqual(memory_for(0, 2_000_000, True), (64 << 20) + 300_000_000)
+        for free, want in ((10 << 30, 8), (1 << 30, 2), (1 << 20, 1)):
+            with mock.patch("densfill_deck.runs.free_memory", return_value=free), mock.patch("os.cpu_count", return_value=16):
+                self.assertEqual(jobs_for(self.design, deck.layers, deck.copies, None), want)
+                self.assertEqual(jobs_for(self.design, deck.layers, deck.copies, 5), 5)
+        for size, copies, fills, megabytes in ((100_000, 3_900_000, False, 122), (239_000_000, 3_900_000, False, 600), (100_000, 3_900_000, True, 537)):
+            self.assertGreater(memory_for(size, copies, fills), megabytes * 10**6)
 
     def test_limits_that_are_missed(self) -> None:
         self.path.write_text(GOOD + layer(1, 'min = "90 %"\nmax = "95 %"\n'))

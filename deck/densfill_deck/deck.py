@@ -7,7 +7,7 @@ from decimal import Decimal
 from fractions import Fraction
 from pathlib import Path
 
-from .contents import Contents, contents_of
+from .contents import Contents, Table as Shapes, contents_of
 from .gds import NoStream, database_unit
 from .judge import judge_metal, judge_script, judge_table, judge_together, judge_top
 from .lengths import Unfit, in_millionths, metres, told
@@ -222,6 +222,15 @@ def layer_tables(text: Text, layers: list[dict[str, object]], shared: dict[str, 
     return [Table(text, f"layer {own.get('name', k)!s}", header, own, shared, unit) for k, (own, header) in enumerate(zip(layers, headers), 1)]
 
 
+def copies_of(layers: list[Layer], drawn: Shapes) -> dict[str, int]:
+    """How many copies of shapes a run of each layer flattens, those of its keep-outs among them."""
+    of = {layer.name: [(layer.numbers["layer"], layer.numbers["datatype"])] for layer in layers}
+    for layer in layers:
+        if layer.fills and "keep_layer" in layer.numbers:
+            of[layer.name].append((layer.numbers["keep_layer"], layer.numbers["keep_datatype"]))
+    return {name: sum(drawn[on].count for on in all_of if on in drawn) for name, all_of in of.items()}
+
+
 def read_deck(path: Path, design: Path | None = None, only: Iterable[str] = ()) -> Deck:
     """The deck of a file, judged with a design where one is given: its unit, its top, and that it draws on the layers, or on those alone that
     are named. All faults are told at once."""
@@ -244,4 +253,5 @@ def read_deck(path: Path, design: Path | None = None, only: Iterable[str] = ()) 
         judge_metal([(table, layer) for table, layer in read if not only or layer.name in only or layer.metal in only], top, contents)
     if text.faults:
         raise Refused(text.faults)
-    return Deck(path, unit, deck.get("unit", "file") == "file", str(top), [layer for _, layer in read], text.warnings)
+    copies = copies_of([layer for _, layer in read], contents.drawn(str(top))) if contents is not None else {}
+    return Deck(path, unit, deck.get("unit", "file") == "file", str(top), [layer for _, layer in read], text.warnings, copies)

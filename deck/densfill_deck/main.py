@@ -169,7 +169,7 @@ def run(given: argparse.Namespace) -> int:
     folder.mkdir(parents=True, exist_ok=True)
     inputs = Inputs(program_of(given.program), given.design.resolve(), folder)
     runner = Runner(inputs, given.quiet)
-    done = runner.run_all(layers, jobs_for(given.design, len(layers), given.jobs), given.resume)
+    done = runner.run_all(layers, jobs_for(given.design, layers, deck.copies, given.jobs), given.resume)
     ran = kept(runner, deck, layers) | {one.layer: one for one in done}
     as_run = {layer.name: layer for layer in layers}
     outcomes = [outcome_of(inputs, as_run.get(layer.name, layer), ran[layer.name]) for layer in deck.layers if layer.name in ran]

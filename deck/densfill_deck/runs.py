@@ -15,9 +15,10 @@ from pathlib import Path
 
 from .tables import Layer
 
-# What a run takes beside the bytes of its file, measured on flat designs: twice the file and a little more.
-MEMORY_FOR_A_BYTE = 2.5
+# What a run takes in bytes, by measured runs (docs/CLUSTER.md): at least so much, each byte of the design's file, and each copy of a shape.
 MEMORY_AT_LEAST = 64 << 20
+MEMORY_FOR_A_BYTE = 2.5
+MEMORY_FOR_A_COPY = {False: 40, True: 150}
 
 
 @dataclass(frozen=True)
@@ -188,12 +189,19 @@ class Runner:
         return None
 
 
-def jobs_for(design: Path, layers: int, asked: int | None) -> int:
-    """How many layers run side by side: as many as asked for, else as there are processors and memory for."""
+def memory_for(size: int, copies: int, fills: bool) -> int:
+    """Bytes that a layer's run takes, about: of a file of so many bytes, of which it flattens so many copies."""
+    return MEMORY_AT_LEAST + int(size * MEMORY_FOR_A_BYTE) + copies * MEMORY_FOR_A_COPY[fills]
+
+
+def jobs_for(design: Path, layers: list[Layer], copies: dict[str, int], asked: int | None) -> int:
+    """How many layers run side by side: as many as asked for, else as there are processors and memory for those that take most."""
     if asked:
         return asked
-    each = max(MEMORY_AT_LEAST, int(design.stat().st_size * MEMORY_FOR_A_BYTE))
-    return max(1, min(layers, os.cpu_count() or 1, free_memory() // each))
+    size, free = design.stat().st_size, free_memory()
+    each = sorted((memory_for(size, copies.get(layer.name, 0), layer.fills) for layer in layers), reverse=True)
+    fit = next((k for k in range(len(each)) if sum(each[:k + 1]) > free), len(each))
+    return max(1, min(fit, os.cpu_count() or 1))
 
 
 def free_memory() -> int:

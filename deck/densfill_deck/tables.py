@@ -49,13 +49,14 @@ class Layer:
 
 @dataclass(frozen=True)
 class Deck:
-    """A deck that can be run, and what is odd about it."""
+    """A deck that can be run, what is odd about it, and how many copies of shapes the design has of each layer."""
     path: Path
     unit: Fraction
     of_the_file: bool
     top: str
     layers: list[Layer]
     warnings: list[Fault]
+    copies: dict[str, int] = field(default_factory=dict)
 
 
 @dataclass(frozen=True)
