@@ -2,12 +2,12 @@
 #                         program, or where there is none unproved, by rt try)
 # make quick              builds without proofs, and runs all cases and tests that need none: green before lunch
 # make build              proves the program and leaves it, optimized, at bin/densfill
-# make install PREFIX=..  installs the built program, its deck, its arrays and its manual page below PREFIX (by default /usr/local)
+# make install PREFIX=..  installs the built program, its deck, its arrays, manual pages and formats below PREFIX (by default /usr/local)
 # make check CRATE=name   proves one crate over what earlier runs kept: for work on it
 # make plants CRATE=name  tries the planted bugs that the gate leaves out, of one crate, or without CRATE of all
 # make test               the gate: every proof from nothing, the must-fail edits, the tests, the programs, the cases, and the
 #                         program with its deck and its arrays run as users do
-# make test-klayout       what the deck does in KLayout, without a window
+# make test-klayout       what the deck does in KLayout, in a window on a display of its own and without one
 # make test-cluster       a chip of 16 million shapes in parts on a Slurm of two nodes that is set up for it (as root)
 # make bench              times the program on generated input and prints tables
 
@@ -27,7 +27,8 @@ build:
 
 install: $(if $(wildcard bin/densfill),,build)
 	install -D -m 755 bin/densfill $(DESTDIR)$(PREFIX)/bin/densfill
-	install -D -m 644 docs/densfill.1 $(DESTDIR)$(PREFIX)/share/man/man1/densfill.1
+	install -D -m 644 -t $(DESTDIR)$(PREFIX)/share/man/man1 docs/densfill.1 docs/densfill-deck.1 docs/densfill-array.1
+	install -D -m 644 -t $(DESTDIR)$(PREFIX)/share/doc/densfill docs/FORMATS.md docs/DECK.md docs/CLUSTER.md
 	install -D -m 755 deck/densfill-deck $(DESTDIR)$(PREFIX)/bin/densfill-deck
 	install -D -m 644 -t $(DESTDIR)$(PREFIX)/lib/densfill/densfill_deck deck/densfill_deck/*.py
 	install -D -m 644 -t $(DESTDIR)$(PREFIX)/lib/densfill/klayout deck/klayout/*

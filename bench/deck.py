@@ -68,7 +68,7 @@ def by_deck(program: Path, folder: Path) -> tuple[float, float]:
     (folder / "times").unlink(missing_ok=True)
     begun = time.perf_counter()
     words = [sys.executable, DECK, "run", folder / "deck.toml", folder / "design.gds", "--out", folder / "results", "--program", program, "--quiet"]
-    subprocess.run(words, check=True)
+    subprocess.run(words, check=True, stdout=subprocess.DEVNULL)
     whole = time.perf_counter() - begun
     times = [tuple(map(float, line.split())) for line in (folder / "times").read_text().splitlines()]
     runs = max(end for _, end in times) - min(start for start, _ in times)

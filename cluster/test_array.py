@@ -3,6 +3,7 @@
 
 usage: test_array.py [PROGRAM]     (by default bin/densfill, else what the gate left in crates/densfill/out)
 """
+import io
 import json
 import os
 import re
@@ -13,17 +14,20 @@ import tempfile
 import time
 import unittest
 from pathlib import Path
+from unittest import mock
 
 HERE = Path(__file__).resolve().parent
 ROOT = HERE.parent
 sys.path[:0] = [str(HERE), str(ROOT / "tools")]
 
 from built import FolderCase, interruptible, rule_file, run_tests  # noqa: E402
-from densfill_array.folder import Part  # noqa: E402
-from densfill_array.main import size  # noqa: E402
+from densfill_array.folder import Part, read_asked  # noqa: E402
+from densfill_array.main import Teller, size  # noqa: E402
 from densfill_array.part import ranges  # noqa: E402
+from densfill_array.queue import note  # noqa: E402
 from densfill_array.rules import Chip, NoParts, Work, parts_for, read_work  # noqa: E402
-from stream import array, boundary, library, path, reference, structure  # noqa: E402
+from densfill_array.table import progress, states  # noqa: E402
+from stream import array, boundary, library, path as wire, reference, structure  # noqa: E402
 
 TOOL = HERE / "densfill-array"
 
@@ -98,6 +102,12 @@ class Picking(unittest.TestCase):
                 self.assertLessEqual(needed[parts - 1], bound)
                 self.assertTrue(parts == 1 or needed[parts - 2] > bound)
 
+    def test_estimates_are_not_below_what_was_measured(self) -> None:
+        chip, million = Chip(40, 50, 40_000, 3_000), 10**6
+        for does, size_of_file, copies, megabytes in (("check", 100_000, 3_900_000, 122), ("check", 239 * million, 3_900_000, 600),
+                                                      ("fill", 100_000, 3_900_000, 537)):
+            self.assertGreater(Work(does, chip, size_of_file, copies).memory(1), megabytes * million)
+
     def test_no_more_parts_than_rows(self) -> None:
         with self.assertRaisesRegex(NoParts, "reads the whole file"):
             parts_for(Work("fill", Chip(40, 50, 40_000, 3_000), 1 << 30, 1000), 1 << 30)
@@ -105,7 +115,7 @@ class Picking(unittest.TestCase):
             parts_for(Work("fill", Chip(40, 50, 40_000, 3_000), 1 << 20, 100_000_000), 64 << 30)
 
     def test_copies_that_one_run_does_not_take(self) -> None:
-        cell = structure("CELL", boundary(31, 0, 0, 4, 4), boundary(31, 5, 0, 9, 4), boundary(30, 0, 0, 1, 1), path(31, 2, 0, 0, 0, 9))
+        cell = structure("CELL", boundary(31, 0, 0, 4, 4), boundary(31, 5, 0, 9, 4), boundary(30, 0, 0, 1, 1), wire(31, 2, 0, 0, 0, 9))
         row = structure("ROW", *[reference("CELL", x, 0) for x in range(5)], array("CELL", 1000, 3, (0, 0, 10_000, 0, 0, 30)))
         top = structure("TOP", array("ROW", 2, 200, (0, 0, 20_000, 0, 0, 2000)), boundary(31, 0, 0, 1, 1), reference("NONE", 0, 0))
         for structures in ((cell, row, top), (top, row, cell)):
@@ -183,7 +193,7 @@ class Runs(Case):
     """Arrays by processes on this machine."""
 
     def test_the_bytes_are_those_of_one_run(self) -> None:
-        for does in ("check", "fill"):
+        for does in ("check", "fill"):   # in this order: a check takes no fill away
             for parts in 1, 2, 5, 17:
                 self.assert_whole(does, self.array(does, "--parts", parts))
                 self.assertEqual(len(list((self.out / "parts").glob(f"*-of-{parts}.report.csv"))), parts)
@@ -223,6 +233,7 @@ class Runs(Case):
             ended = self.array("fill", "--parts", 4, "--resume")
             self.assertNotIn("kept", ended.stdout)
             self.assert_whole("fill", ended)
+        (self.out / "fill.gds").unlink()
         self.assertNotIn("kept", self.array("check", "--parts", 4, "--resume").stdout)
 
     def test_a_part_that_is_refused_ends_no_other(self) -> None:
@@ -230,7 +241,7 @@ class Runs(Case):
         ended = self.array("fill", "--parts", 4, program=program)
         self.assert_not_joined(ended, "2")
         self.assertEqual(self.tries(2, 4), 1)
-        self.assertRegex((self.out / "summary.txt").read_text(), r"\n +2 +missing +1  densfill: design: 18 TooManyShapes in part 2 of 4\n")
+        self.assertRegex((self.out / "summary.txt").read_text(), r"\n +2 +failed +1  densfill: design: 18 TooManyShapes in part 2 of 4\n")
         self.assertIn("3 of 4 parts are whole", ended.stdout)
 
     def test_a_part_that_fails_is_tried_again(self) -> None:
@@ -250,7 +261,7 @@ class Runs(Case):
         self.assert_not_joined(self.array("check", "--resume", "--tries", 2, program=program), "3")
 
     def slow(self) -> Path:
-        return self.wrapped('case "${*: -1}" in 2/*) [ -e $seen ] || { touch $seen; echo half; sleep 30; };; esac')
+        return self.wrapped('case "${*: -1}" in 2/*) [ -e $seen ] || { echo >> $seen; echo half; sleep 30; };; esac')
 
     def wait_for(self, path: Path) -> None:
         for _ in range(400):
@@ -265,7 +276,8 @@ class Runs(Case):
         child = subprocess.Popen(self.words("check", "--parts", 3, "--jobs", 1, program=program), cwd=self.folder,
                                  stdout=subprocess.DEVNULL, stderr=subprocess.PIPE, text=True)
         noted = self.out / "parts/2-of-3.tries"
-        self.wait_for(noted)
+        for path in (noted, self.folder / "seen"):
+            self.wait_for(path)
         pid = json.loads(noted.read_text())["pid"]
         job = int(re.search(r"PPid:\s*(\d+)", Path(f"/proc/{pid}/status").read_text()).group(1))
         os.kill(job, signal.SIGKILL)
@@ -283,7 +295,8 @@ class Runs(Case):
         program = self.slow()
         child = subprocess.Popen(self.words("fill", "--parts", 3, "--jobs", 1, program=program), cwd=self.folder,
                                  stdout=subprocess.DEVNULL, stderr=subprocess.DEVNULL, preexec_fn=interruptible)
-        self.wait_for(self.out / "parts/2-of-3.tries")
+        for path in (self.out / "parts/2-of-3.tries", self.folder / "seen"):
+            self.wait_for(path)
         child.send_signal(signal.SIGINT)
         self.assertEqual(child.wait(20), 130)
         self.assertEqual([path.name for path in (self.out / "parts").glob("*.json")], ["1-of-3.json"])
@@ -320,7 +333,7 @@ class Runs(Case):
         self.assertIn("design.gds was written anew since the array was submitted", ended.stderr)
 
     def test_usage(self) -> None:
-        for words in (("--parts", 0), ("--parts", 4097), ("--parts", "two"), ("--parts", 2, "--memory", "1G"), ("--memory", "much"),
+        for words in (("--parts", 0), ("--parts", 4097), ("--parts", "two"), ("--memory", "much"),
                       ("--engine", "none"), ("--what",)):
             self.assertEqual(self.array("check", *words).returncode, 1, words)
             self.assertFalse(self.out.exists())
@@ -332,6 +345,14 @@ class Runs(Case):
         self.assertEqual((ended.returncode, "of no array" in ended.stderr), (2, True))
         self.assertEqual((self.folder / "fill.gds").read_bytes(), b"mine")
         self.assertFalse((self.folder / "parts").exists())
+
+    def test_a_check_takes_no_fill_away(self) -> None:
+        self.array("fill", "--parts", 2)
+        ended = self.array("check", "--parts", 2)
+        self.assertEqual((ended.returncode, ended.stdout), (2, ""))
+        self.assertIn("has the fill of an earlier array, which a check would take away: another --out", ended.stderr)
+        self.assertEqual(self.joined("fill"), self.one_run("fill"))
+        self.assertEqual(self.array("check", "--parts", 2, "--out", "other").returncode, 0)
 
     def test_a_missing_input(self) -> None:
         (self.folder / "design.gds").unlink()
@@ -353,10 +374,8 @@ class Batch(Case):
 
     def test_scripts_are_shown_and_nothing_is_written(self) -> None:
         for engine, (parts, commands) in self.WANTED.items():
-            # A bound of 4 GB asks for one part of so small a file, and eight are asked for by number in the other runs.
-            ended = self.array("fill", "--parts", 8, "--engine", engine, "--dry-run", "--wait", "--submit=-p long")
-            by_memory = self.array("fill", "--memory", "4G", "--engine", engine, "--dry-run", "--wait", "--submit=-p long")
-            shown = ended.stdout + "".join(line + "\n" for line in by_memory.stdout.splitlines() if "4096M" in line)
+            ended = self.array("fill", "--parts", 8, "--memory", "4G", "--engine", engine, "--dry-run", "--wait", "--submit=-p long")
+            shown = ended.stdout
             for line in parts:
                 self.assertIn(line, shown, engine)
             for line in commands:
@@ -421,6 +440,92 @@ class Batch(Case):
         (self.out / "report.csv").unlink()
         self.assert_whole("fill", self.batch("slurm", "--resume"))
         self.assertEqual(len(self.submitted()), 4)
+
+    def left_behind(self, queue: str, engine: str = "slurm") -> list[str]:
+        """The table of five parts: one runs, one waits, one is whole, one failed and one was killed with its job, as a batch system tells."""
+        self.array("check", "--parts", 5)
+        parts = [Part(self.out, number, 5) for number in range(1, 6)]
+        for part in parts[:2] + parts[3:]:
+            part.path("json").unlink()
+            part.path("tries").unlink()
+        begun = {"round": 1, "begun": "2026-01-01T00:00:00+00:00", "host": "node7", "job": "77", "pid": 1}
+        for part in (parts[0], parts[3], parts[4]):
+            part.note(begun)
+        parts[3].note({"round": 1, "ended": 2, "told": "densfill: design: 18 TooManyShapes in part 4 of 5"})
+        note(self.out, engine, "77")
+        system = self.folder / "system"
+        system.mkdir(exist_ok=True)
+        for name in ("squeue", "bjobs", "qstat"):
+            (system / name).write_text(f"#!/bin/sh\nprintf '{queue}'\n")
+            (system / name).chmod(0o755)
+        ended = subprocess.run([*self.tool, "table", "out"], cwd=self.folder, capture_output=True, text=True, check=True,
+                               env=os.environ | {"PATH": f"{system}:{os.environ['PATH']}"})
+        return ended.stdout.splitlines()
+
+    def test_the_table_of_an_array_that_runs(self) -> None:
+        line = "     77 0.5 densfill-out joe {state} 01/01/2026 00:00:00 {where} 1 {part}\\n"
+        for engine, queue in (("slurm", "1 R\\n2 PD\\n3 CD\\n"), ("lsf", "1 RUN\\n2 PEND\\n4 EXIT\\n"),
+                              ("sge", line.format(state="r", where="all.q@n", part=1) + line.format(state="qw", where="", part=2))):
+            rows = self.left_behind(queue, engine)
+            self.assertRegex(rows[1], r"^ +1 +running +0  since 2026-01-01T00:00:00\+00:00 on node7$", engine)
+            self.assertRegex(rows[2], r"^ +2 +waiting +0$")
+            self.assertRegex(rows[3], r"^ +3 +\d+\.\d\d ")
+            self.assertRegex(rows[4], r"^ +4 +failed +1  densfill: design: 18 TooManyShapes in part 4 of 5$")
+            self.assertRegex(rows[5], r"^ +5 +missing +1  killed with its job$")
+            self.assertTrue(rows[6].endswith("1 of 5 parts are whole, 1 running, 1 waiting, 1 failed, 1 missing"), rows[6])
+        (self.folder / "system/squeue").unlink()
+        asked = read_asked(self.out)
+        with mock.patch.dict(os.environ, {"PATH": "/nowhere"}):
+            note(self.out, "slurm", "77")
+            self.assertEqual([state.name for state in states(self.out, asked)], ["unknown", "unknown", "whole", "failed", "unknown"])
+
+    def test_the_table_of_processes_that_run(self) -> None:
+        program = self.wrapped('case "${*: -1}" in 2/*) sleep 30;; esac')
+        child = subprocess.Popen(self.words("check", "--parts", 3, "--jobs", 1, program=program), cwd=self.folder,
+                                 stdout=subprocess.DEVNULL, stderr=subprocess.DEVNULL, preexec_fn=interruptible)
+        for _ in range(400):
+            if (self.out / "parts/2-of-3.tries").exists() and (self.out / "parts/2-of-3.tries").stat().st_size:
+                break
+            time.sleep(0.02)
+        rows = self.job("table", "out").stdout.splitlines()
+        child.send_signal(signal.SIGINT)
+        child.wait(20)
+        self.assertRegex(rows[2], r"^ +2 +running +0  since .* on ")
+        self.assertRegex(rows[3], r"^ +3 +waiting +0$")
+        self.assertTrue(rows[4].endswith("1 of 3 parts are whole, 1 running, 1 waiting"))
+        self.assertTrue(self.job("table", "out").stdout.splitlines()[-1].endswith("1 of 3 parts are whole, 2 missing"))
+
+    def test_how_far_an_array_is(self) -> None:
+        self.array("check", "--parts", 4)
+        of = states(self.out, read_asked(self.out))
+        self.assertEqual(progress(of, 30.0), "4 of 4 parts done, 0 running, 30 s")
+        Part(self.out, 4, 4).forget()
+        of = states(self.out, read_asked(self.out), over=True)
+        self.assertEqual(progress(of, 30.0), "3 of 4 parts done, 0 running, 30 s, some 10 s left")
+        self.assertEqual(progress(of, 30.0, 3), "3 of 4 parts done, 0 running, 30 s")
+        with mock.patch("densfill_array.main.EVERY", 0.01), mock.patch("sys.stderr", io.StringIO()) as err:
+            with Teller(self.out, read_asked(self.out)):
+                time.sleep(0.3)
+        self.assertIn("3 of 4 parts done, 0 running, 0 s\n", err.getvalue())
+        with mock.patch("densfill_array.main.EVERY", 0.0), mock.patch("sys.stderr", io.StringIO()) as err:
+            Teller(self.out, read_asked(self.out)).tell_if_due()
+        self.assertEqual(err.getvalue(), "3 of 4 parts done, 0 running, 0 s\n")
+
+    def test_what_is_asked_for_each_part(self) -> None:
+        more = ("--processors", 4, "--time", "2:05", "--at-once", 3, "--module", "densfill/1", "--module", "python/3.11", "--submit=-p long",
+                "--submit-join=-p short")
+        for engine, wanted, commands in (
+                ("slurm", ["--array=1-8%3", "--cpus-per-task=4", "--time=2:05:00"], ["-p long OUT/array.sh", "-p short OUT/join.sh"]),
+                ("lsf", ['[1-8]%3"', "-n 4", '-R "span[hosts=1]"', "-W 2:05"], ["bsub -p long < ", "-p short < OUT/join.sh"]),
+                ("sge", ["-tc 3", "-pe smp 4", "-l h_rt=2:05:00"], ["qsub -p long OUT/array.sh", "-p short OUT/join.sh"])):
+            shown = self.array("check", "--parts", 8, "--engine", engine, "--dry-run", *more).stdout
+            for line in (*wanted, "module load densfill/1 python/3.11 || exit 2", *(command.replace("OUT", str(self.out)) for command in commands)):
+                self.assertIn(line, shown, engine)
+            self.assertEqual(shown.count("module load"), 2)
+            self.assertNotIn(sys.executable, shown)
+            self.assertIn("python3 -IS ", shown)
+        for words in (("--time", "90"), ("--time", "0:00"), ("--at-once", 0), ("--processors", 0)):
+            self.assertEqual(self.array("check", "--parts", 2, *words).returncode, 1, words)
 
     def test_no_batch_system(self) -> None:
         ended = self.array("check", "--engine", "lsf", "--parts", 2, env=os.environ | {"PATH": "/nowhere"})

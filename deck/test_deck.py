@@ -3,9 +3,11 @@
 
 usage: test_deck.py [PROGRAM]     (by default bin/densfill, else what the gate left in crates/densfill/out)
 """
+import base64
 import csv
 import json
 import os
+import re
 import shutil
 import signal
 import struct
@@ -17,18 +19,23 @@ import xml.etree.ElementTree as ET
 from decimal import Decimal
 from fractions import Fraction
 from pathlib import Path
+from unittest import mock
 
 DECK = Path(__file__).resolve().parent
 ROOT = DECK.parent
 sys.path[:0] = [str(DECK), str(ROOT / "tools")]
 
 from built import FolderCase, interruptible, run_tests  # noqa: E402
-from densfill_deck.deck import Refused, read_deck  # noqa: E402
+from densfill_deck.contents import contents_of  # noqa: E402
+from densfill_deck.deck import read_deck  # noqa: E402
 from densfill_deck.gds import boxes, database_unit, real  # noqa: E402
 from densfill_deck.lengths import Unfit, in_millionths, in_units, metres  # noqa: E402
+from densfill_deck.page import Section, page as whole_page  # noqa: E402
 from densfill_deck.pictures import density_map  # noqa: E402
 from densfill_deck.reports import Limits, Window, figures, histogram, worst  # noqa: E402
-from stream import boundary, library, structure  # noqa: E402
+from densfill_deck.runs import jobs_for, memory_for  # noqa: E402
+from densfill_deck.tables import Refused  # noqa: E402
+from stream import END, array, boundary, library, path as wire, points, record, reference, structure, text as string, words as two_bytes  # noqa: E402
 
 NM = Fraction(1, 10**9)
 LAYERS = range(1, 9)
@@ -59,6 +66,11 @@ class Folder(FolderCase):
     def deck(self, text: str) -> Path:
         path = self.folder / "deck.toml"
         path.write_text(text)
+        return path
+
+    def design(self, *structures: bytes) -> Path:
+        path = self.folder / "design.gds"
+        path.write_bytes(library("D", *structures))
         return path
 
 
@@ -96,10 +108,10 @@ class Conversions(unittest.TestCase):
 class Faults(Folder):
     """What is wrong with a deck is told at once, with its place and what would be right."""
 
-    def faults(self, text: str) -> list[str]:
+    def faults(self, text: str, design: Path | None = None, only: tuple[str, ...] = ()) -> list[str]:
         with self.assertRaises(Refused) as caught:
-            read_deck(self.deck(text))
-        return [str(fault).split("deck.toml", 1)[1] for fault in caught.exception.faults]
+            read_deck(self.deck(text), design, only)
+        return [str(fault).replace(f"{self.folder}/", "").removeprefix("deck.toml") for fault in caught.exception.faults]
 
     def test_each_fault(self) -> None:
         for more, want in (('spaceing = 1\n', ':20: layer M1, spaceing: is no key of a deck: write "spacing"'),
@@ -124,7 +136,107 @@ class Faults(Folder):
             self.assertIn(want, found)
 
     def test_two_layers_of_one_name(self) -> None:
-        self.assertEqual(self.faults(GOOD + layer(1) + layer(1)), [": layer M1: two layers have this name"])
+        self.assertEqual(self.faults(GOOD + layer(1) + layer(1)), [":22: layer M1, name: two layers have the name M1"])
+
+    def test_values_that_do_not_go_together(self) -> None:
+        for more, want in (('max = "20 %"\n', ":20: layer M1, max: 20 % is below min, 30 %"),
+                           ('frame = ["40 um", 0, 0, "40 um"]\n', ":20: layer M1, frame: its left edge is not left of its right one"),
+                           ('frame = [0, 40, "40 um", 3]\n', ":20: layer M1, frame: its lower edge is not below its upper one"),
+                           ('pitch = "1.5 um"\n', ":20: layer M1, pitch: 1.5 um is less than box and fill_spacing together: write 2 um or more"),
+                           ('spacing = -1\n', ":20: layer M1, spacing: -1000 database units: write 0 to 1048576"),
+                           ('window = 0\n', ":20: layer M1, window: 0 database units: write 1 to 1048576"),
+                           ('frame = [0, 0, "4 m", 5]\n', ":20: layer M1, frame: 4000000000 database units: write -1073741824 to 1073741824"),
+                           ('tile = 5000\n', ":20: layer M1, tile: 5000: write 1 to 4096"),
+                           ('step = "10 nm"\n', ":20: layer M1, step: 2001 by 2001 windows are more than 1048576"),
+                           ('windows = 200000\nstep = 100\n', ":20: layer M1, windows: 200000 by 200000 windows are more than 1048576"),
+                           ('windows = [100000, 1]\nstep = 100\n', ":20: layer M1, windows: the last window ends beyond 1073741824 database units"),
+                           ('box = "1 nm"\npitch = "2 nm"\nfill_spacing = 0\n', ":21: layer M1, pitch: some 400000000 places for a box"),
+                           ('fill_layer = "1/0"\n', ":20: layer M1, fill_layer: 1/0 is the layer of the metal: write one of the boxes' own"),
+                           ('top_cell = "M1_BOX"\n', ":20: layer M1, top_cell: M1_BOX is the name of cell too: write another one"),
+                           ('empty = "yes"\n', ":20: layer M1, empty: 'yes': write true or false")):
+            text = GOOD + layer(1, more) if "fill_layer" not in more else GOOD + layer(1, more).replace('fill_layer = "1/1"\n', "")
+            self.assertTrue(any(found.startswith(want.replace(":20", ":19") if "fill_layer" in more else want) for found in self.faults(text)),
+                            (more, self.faults(text)))
+
+    def test_layers_that_share_what_they_may_not(self) -> None:
+        self.assertEqual(self.faults(GOOD + layer(1) + layer(2).replace("2/1", "1/1")),
+                         [":24: layer M2, fill_layer: the boxes of M1 have the layer 1/1 too: write one for each metal"])
+        self.assertEqual(self.faults(GOOD + layer(1, 'top_cell = "T"\n') + layer(2, 'top_cell = "T"\n')),
+                         [":26: layer M2, top_cell: the library of M1 has the top T too: write one for each layer"])
+
+    def test_scripts(self) -> None:
+        script = self.folder / "late.csv"
+        more = 'script = "late.csv"\n'
+        self.assertEqual(self.faults(GOOD + layer(1, more)), [":20: layer M1, script: late.csv: No such file or directory"])
+        for line in ("add,1,1,1,1", "ad,1,1,2,2", "add,1,1,2", "cut,1,1,2,0.5", "keep,0,0,5,2000000000"):
+            script.write_text(f"add,0,0,5,5\n\n{line}\n")
+            self.assertEqual(self.faults(GOOD + layer(1, more))[0].split(": write")[0], f"late.csv:3: layer M1, script: {line!r} is no change")
+        script.write_text("add,0,0,5,5\n\ncut,-1,-1,2,2\n")
+        self.assertEqual(len(read_deck(self.deck(GOOD + layer(1, more))).layers), 1)
+        script.write_text("add,0,0,5,5\n" * 100_001)
+        self.assertIn("has 100001 changes, more than 100000", self.faults(GOOD + layer(1, more))[0])
+
+    def test_a_fault_of_the_defaults_is_told_once(self) -> None:
+        found = self.faults(GOOD.replace('min = "30 %"', 'min = "90 %"').replace('"1 um"\n', '"0.5 nm"\n') + layer(1) + layer(2) + layer(3))
+        self.assertEqual([fault.split(": ")[:2] for fault in found],
+                         [[":11", "[defaults], box"], [":14", "[defaults], fill_spacing"], [":10", "[defaults], max"]])
+
+    def test_a_share_below_one(self) -> None:
+        for value in ("0.3", '"0.3"'):
+            told = [str(warning).split("deck.toml")[1] for warning in read_deck(self.deck(GOOD + layer(1, f"min = {value}\n"))).warnings]
+            self.assertEqual(told, [':20: layer M1, min: warning: 0.3 is 0.3 %, as a number is one of percent: write "0.3 %", or "30 %"'])
+        self.assertEqual(read_deck(self.deck(GOOD + layer(1, 'min = "0.3 %"\n'))).warnings, [])
+
+    def test_tables_of_another_kind(self) -> None:
+        for text, want in ((GOOD + layer(1).replace("[[layer]]", "[layer]"), ":16: layer: write [[layer]] above its keys"),
+                           (GOOD.replace("[defaults]", "[[defaults]]") + layer(1), ":5: defaults: write [defaults] above its keys"),
+                           ("deck = 3\n", ": deck: write [deck] above its keys"),
+                           (GOOD + layer(1) + "\n[layers]\n", ': the deck, layers: is no key of a deck: write "layer"')):
+            self.assertIn(want, self.faults(text))
+
+    def test_a_layer_that_draws_nothing(self) -> None:
+        low = structure("LOW", boundary(2, 0, 0, 9, 9))
+        design = self.design(low, structure("TOP", boundary(1, 0, 0, 5, 5), reference("LOW", 0, 0)), structure("OTHER", boundary(3, 0, 0, 5, 5)))
+        text = GOOD + layer(1) + layer(2) + layer(3)
+        self.assertEqual(self.faults(text, design),
+                         [":28: layer M3, layer: the top TOP draws nothing on 3/0: it draws 1/0, 2/0; write empty = true where that is meant"])
+        self.assertEqual(self.faults(text.replace('"1/0"', '"1/7"') + "empty = true\n", design),
+                         [":18: layer M1, layer: the top TOP draws nothing on 1/7: it draws 1/0, 2/0; write empty = true where that is meant"])
+        self.assertEqual(len(read_deck(self.deck(text + "empty = true\n"), design).layers), 3)
+        self.assertEqual(len(read_deck(self.deck(text), design, ("M1", "M2")).layers), 3)
+        self.assertEqual(len(read_deck(self.deck(text)).layers), 3)
+        deck = read_deck(self.deck(GOOD + layer(1, 'keep_layer = "40/0"\n')), design)
+        self.assertIn("draws nothing on 40/0, so nothing is kept free of boxes", str(deck.warnings[0]))
+
+    def test_a_top_that_the_design_does_not_have(self) -> None:
+        design = self.design(structure("TOPS", boundary(1, 0, 0, 5, 5)), structure("LOW"))
+        self.assertEqual(self.faults(GOOD + layer(1), design), [":2: [deck], top: the design has no structure TOP: its tops are TOPS, LOW"])
+
+    def test_a_unit_that_is_not_the_designs(self) -> None:
+        design = self.design(structure("TOP", boundary(1, 0, 0, 5, 5)))
+        for unit in ("2 nm", "500 pm"):
+            found = self.faults(GOOD.replace('unit = "1 nm"', f'unit = "{unit}"') + layer(1), design)
+            self.assertEqual(found, [f':3: [deck], unit: {unit} is not the design\'s, 1 nm: write "file", or scale the design in the layout tool'])
+        self.assertEqual(read_deck(self.deck(GOOD.replace("1 nm", "file") + layer(1)), design).unit, NM)
+        self.assertIn("is no length above 0", self.faults(GOOD.replace('unit = "1 nm"', "unit = 0") + layer(1))[0])
+
+    def test_a_design_that_is_none(self) -> None:
+        design = self.folder / "design.gds"
+        for data, want in ((b"\x1f\x8b\x08", "is zipped: unzip it before, as gunzip does"), (b"%SEMI-OASIS\r\n", "is an OASIS file: write it"),
+                           (b"HEADER 600;\nBGNLIB", "is a text and no GDSII stream"), (b"", "is empty"), (b"\xff\xd8", "is no GDSII stream"),
+                           (library("D", structure("TOP"))[:-9], "the stream ends before ENDLIB: it was cut off")):
+            design.write_bytes(data)
+            self.assertTrue(self.faults(GOOD + layer(1), design)[0].startswith(f"design.gds: the design: {want}"), want)
+        design.unlink()
+        self.assertEqual(self.faults(GOOD + layer(1), design), ["design.gds: the design: No such file or directory"])
+
+    def test_the_frame_is_the_box_of_the_top(self) -> None:
+        text = GOOD.replace('frame = [0, 0, "40 um", "40 um"]', 'frame = "top"') + layer(1)
+        low = structure("LOW", boundary(1, 0, 0, 10, 30), wire(2, 4, 0, 0, 100, 0, 100, 50))
+        top = structure("TOP", reference("LOW", 7, 1, 1), array("LOW", 3, 2, (1000, 0, 1600, 0, 1000, 900)), boundary(3, -5, 2, 0, 3))
+        n = read_deck(self.deck(text), self.design(low, top)).layers[0].numbers
+        self.assertEqual([n[f"frame_{edge}"] for edge in ("x1", "y1", "x2", "y2")], [-43, -2, 1502, 500])
+        self.assertEqual(self.faults(text), [""":6: [defaults], frame: "top" is the box of a design's top: give a design too"""])
 
     def test_no_toml(self) -> None:
         self.assertRegex(self.faults("[deck\n")[0], r"^:1: the deck: ")
@@ -148,6 +260,146 @@ class Values(Folder):
         design = self.folder / "design.gds"
         design.write_bytes(library("D", structure("TOP")))
         self.assertEqual(database_unit(design), NM)
+
+
+def element(kind: int, *records: bytes) -> bytes:
+    """An element on layer 1/0, or a reference, of any records."""
+    on = two_bytes(0x0D, 1) + two_bytes(0x0E, 0) if kind in (0x08, 0x09) else b""
+    return record(kind, 0) + on + b"".join(records) + END
+
+
+def long(kind: int, number: int) -> bytes:
+    return record(kind, 3, struct.pack(">i", number))
+
+
+HALF, LOW, NOT_TURNED = bytes.fromhex("4080000000000000"), string(0x12, "LOW"), record(0x1A, 1, b"\0\0")
+SQUARE = (0, 0, 0, 8, 8, 8, 8, 0, 0, 0)
+# Elements that the program refuses, and its reason.
+REFUSED = [(element(0x08, points(0, 0, 0, 8, 9, 9, 8, 0, 0, 0)), "NotManhattan"), (element(0x08, points(*SQUARE[:8], 0, 4, 0, 5)), "NotClosed"),
+           (element(0x08, points(0, 0, 0, 8, 8, 0)), "BadXY"), (element(0x08, points(0, 0, 0, 8, 8, 8, 8, 0, 1, 0)), "NotClosed"),
+           (element(0x09, long(0x0F, 4), points(0, 0, 5, 9)), "NotManhattan"), (element(0x09, two_bytes(0x21, 1), long(0x0F, 4), points(0, 0, 5, 0)), "RoundEnd"),
+           (element(0x09, long(0x0F, 3), points(0, 0, 5, 0)), "OddWidth"), (element(0x09, long(0x0F, 4), points(0, 0, 9, 0, 9, 0, 5, 0)), "DoublesBack"),
+           (element(0x09, two_bytes(0x21, 4), long(0x0F, 4), long(0x30, -1), points(0, 0, 9, 0)), "BadExtension"),
+           (element(0x0A, LOW, NOT_TURNED, record(0x1B, 5, HALF), points(0, 0)), "BadTransform"),
+           (element(0x0A, LOW, record(0x1A, 1, b"\0\2"), points(0, 0)), "BadTransform"),
+           (element(0x0A, LOW, NOT_TURNED, record(0x1C, 5, HALF), points(0, 0)), "BadTransform"),
+           (element(0x0B, LOW, two_bytes(0x13, 2, 1), points(0, 0, 5, 0, 0, 4)), "BadArray"),
+           (element(0x0B, LOW, two_bytes(0x13, 0, 1), points(0, 0, 4, 0, 0, 4)), "BadArray")]
+TAKEN = [element(0x08, points(*SQUARE)), element(0x09, long(0x0F, 4), points(0, 0, 9, 0, 9, 0, 12, 0, 12, 7)), element(0x09, points(0, 0, 5, 9)),
+         element(0x0B, LOW, two_bytes(0x13, 2, 2), points(0, 0, 8, 2, 0, 4)), element(0x09, two_bytes(0x21, 1), long(0x0F, 3), points(4, 4, 4, 4))]
+
+
+class Installed(Folder):
+    """What `make install` puts where, and that it runs there."""
+
+    def test_manual_pages_and_documents(self) -> None:
+        (self.folder / "clone").mkdir()
+        for name in ("Makefile", "deck", "cluster", "docs"):
+            (self.folder / "clone" / name).symlink_to(ROOT / name)
+        (self.folder / "clone/bin").mkdir()
+        shutil.copy(self.program, self.folder / "clone/bin/densfill")
+        subprocess.run(["make", "install", f"PREFIX={self.folder}/there"], cwd=self.folder / "clone", check=True, capture_output=True)
+        there = self.folder / "there"
+        self.assertEqual({path.name for path in (there / "share/doc/densfill").iterdir()}, {"FORMATS.md", "DECK.md", "CLUSTER.md"})
+        for name, commands in (("deck", ("run", "check", "layers", "where", "explain", "merge")), ("array", ("check", "fill", "table"))):
+            page = (there / f"share/man/man1/densfill-{name}.1").read_text()
+            for command in commands:
+                self.assertIn(f".B densfill-{name} {command}\n", page)
+                told = subprocess.run([there / f"bin/densfill-{name}", command, "--help"], capture_output=True, text=True, check=True).stdout
+                for option in set(re.findall(r"--[a-z-]+", told)) - {"--help"}:
+                    self.assertIn(option.replace("-", "\\-"), page, (name, command))
+
+    @unittest.skipUnless(shutil.which("man"), "man isn't installed")
+    def test_manual_pages_are_well_formed(self) -> None:
+        for page in sorted((ROOT / "docs").glob("*.1")):
+            told = subprocess.run(["man", "--warnings", "-l", page], capture_output=True, text=True, check=True, env=os.environ | {"PAGER": "cat"})
+            self.assertEqual(told.stderr, "", page)
+
+
+class Designs(Folder):
+    """What a design has, and what of it the program refuses."""
+
+    def command(self, *given: object) -> subprocess.CompletedProcess[str]:
+        line = [sys.executable, str(DECK / "densfill-deck"), *map(str, given)]
+        return subprocess.run(line, cwd=self.folder, capture_output=True, text=True, check=False)
+
+    def test_layers(self) -> None:
+        low = structure("LOW", boundary(1, 0, 0, 10, 30), boundary(2, 0, 0, 1, 1), wire(2, 4, 0, 0, 100, 0, 100, 50))
+        top = structure("TOP", reference("LOW", 7, 1, 1), array("LOW", 3, 2, (1000, 0, 1600, 0, 1000, 900)), boundary(3, -5, 2, 0, 3))
+        note = record(0x0C, 0) + two_bytes(0x0D, 9) + two_bytes(0x16, 4) + points(0, 0) + string(0x19, "A") + END
+        ended = self.command("layers", self.design(low, top, structure("OTHER", note)))
+        self.assertEqual(ended.stdout.splitlines()[1:], [
+            "elements: 3 boundaries, 1 path, 1 reference, 1 array, 1 text", "", "top TOP: -0.043, -0.002 to 1.502, 0.5 um",
+            "         1/0           7 shapes  -0.023, 0 to 1.41, 0.48 um", "         2/0          14 shapes  -0.043, -0.002 to 1.502, 0.5 um",
+            "         3/0           1 shape   -0.005, 0.002 to 0, 0.003 um", "", "top OTHER: nothing", "  texts, nodes or boxes alone: 9/4"])
+
+    def test_boxes_of_shapes_in_every_orientation(self) -> None:
+        corners = [(k % 3 + 1, k * 7 % 50, k * 11 % 60, k * 7 % 50 + 3 + k, k * 11 % 60 + 9) for k in range(40)]
+        low = structure("LOW", *(boundary(*corner) for corner in corners))
+        for turns in range(4):
+            for reflected in (False, True):
+                drawn = contents_of(self.design(low, structure("TOP", reference("LOW", 300, -20, turns, reflected)))).drawn("TOP")
+                for k in (1, 2, 3):
+                    at = [(x, y) for on, x1, y1, x2, y2 in corners if on == k for x, y in ((x1, y1), (x2, y2))]
+                    for _ in range(reflected):
+                        at = [(x, -y) for x, y in at]
+                    for _ in range(turns):
+                        at = [(-y, x) for x, y in at]
+                    x, y = zip(*at)
+                    self.assertEqual(drawn[k, 0].box, (min(x) + 300, min(y) - 20, max(x) + 300, max(y) - 20), (turns, reflected, k))
+                    self.assertEqual(drawn[k, 0].count, sum(on == k for on, *_ in corners))
+
+    def test_where_finds_what_the_program_refuses(self) -> None:
+        low = structure("LOW", boundary(2, 0, 0, 5, 5))
+        (self.folder / "rules.csv").write_text(read_deck(self.deck(GOOD + layer(1))).layers[0].rules())
+        for bad, reason in REFUSED:
+            design = self.design(low, structure("TOP", *TAKEN, bad, *TAKEN))
+            told = subprocess.run([self.program, "check", self.folder / "rules.csv", design], capture_output=True, text=True, check=False)
+            self.assertIn(f" {reason}", told.stderr)
+            ended = self.command("where", design, "--layer", "1/0", "--top", "TOP", "--out", "found.lyrdb")
+            self.assertEqual((ended.returncode, ended.stderr), (2, ""))
+            self.assertTrue(ended.stdout.startswith(f"{reason}: cell TOP, element {len(TAKEN) + 1}: the "), ended.stdout)
+            self.assertEqual(len(ended.stdout.splitlines()), 2, ended.stdout)
+            self.assertEqual(len(ET.parse(self.folder / "found.lyrdb").getroot().find("items")), 1)
+        design = self.design(low, structure("TOP", *TAKEN), structure("OTHER", REFUSED[0][0], boundary(1, 0, 0, 3, 3)))
+        ended = self.command("where", design, "--layer", "1/0", "--top", "TOP")
+        self.assertEqual((ended.returncode, ended.stdout), (0, "nothing that the program refuses was found\n"))
+        self.assertIn("NotManhattan: cell OTHER, element 1: the boundary on 1/0 has a slanted edge: 0,0 0,8 9,9 8,0 0,0\n",
+                      self.command("where", design, "--layer", "1/0").stdout)
+        self.assertEqual(self.command("where", design, "--layer", "2/0").returncode, 0)
+
+    def test_where_tells_names(self) -> None:
+        low, metal = structure("LOW", reference("TOP", 0, 0)), boundary(1, 0, 0, 5, 5)
+        chain = [structure(f"C{k}", reference(f"C{k + 1}", 0, 0)) for k in range(1, 300)]
+        for structures, want in (((structure("TOP", reference("LOW", 0, 0), metal), low), "Cycle: TOP > LOW > TOP"),
+                                 ((structure("TOP", reference("LOT", 0, 0), metal), low), "MissingCell: TOP refers to LOT, which no structure is named"),
+                                 ((structure("TOP", metal), structure("TOP")), "DuplicateCell: 2 structures have the name TOP"),
+                                 ((structure("TOPS", metal),), "NoTop: no structure has the name TOP: the design's tops are TOPS"),
+                                 ((structure("TOP", reference("C1", 0, 0)), *chain, structure("C300", metal)), "TooDeep: below TOP cells are nested 301 deep")):
+            ended = self.command("where", self.design(*structures), "--layer", "1/0", "--top", "TOP")
+            self.assertEqual((ended.returncode, ended.stdout.startswith(want)), (2, True), ended.stdout)
+        design = self.design(structure("TOP", reference("LOW", 1 << 30, 0), metal), structure("LOW", metal))
+        self.assertIn("OutOfRange: below TOP shapes on 1/0 lie in 0,0,1073741829,5", self.command("where", design, "--layer", "1/0").stdout)
+
+    @unittest.skipUnless(shutil.which("klayout"), "KLayout isn't installed")
+    def test_klayout_reads_the_markers_of_where(self) -> None:
+        low = structure("LOW", *[bad for bad, _ in REFUSED[:1] + REFUSED[4:]], boundary(2, 0, 0, 5, 5))
+        self.command("where", self.design(low, structure("TOP", reference("LOW", 0, 0))), "--layer", "1/0")
+        script = self.folder / "count.py"
+        script.write_text("import pya\ndb = pya.ReportDatabase('m')\ndb.load('design.where.lyrdb')\n"
+                          "shown = [v for i in db.each_item() for v in i.each_value() if v.is_polygon() or v.is_path() or v.is_box()]\n"
+                          "print('items', db.num_items(), len(shown))\n")
+        done = subprocess.run(["klayout", "-b", "-r", script], capture_output=True, text=True, check=False, cwd=self.folder,
+                              env=os.environ | {"QT_QPA_PLATFORM": "offscreen"})
+        self.assertIn("items 11 11", done.stdout + done.stderr)
+
+    def test_no_design(self) -> None:
+        self.deck(GOOD)
+        for name, want in (("none.gds", "No such file"), ("deck.toml", "is a text and no GDSII stream")):
+            for command in ("layers", "where"):
+                ended = self.command(command, name)
+                self.assertEqual((ended.returncode, want in ended.stderr, ended.stderr.count("\n")), (2, True, 1), ended.stderr)
+        self.assertEqual(self.command("where", "none.gds", "--layer", "31").returncode, 1)
 
 
 def window(column: int, row: int, share: int, state: str) -> Window:
@@ -181,6 +433,33 @@ class Reports(unittest.TestCase):
         width, height, picture = density_map(self.WINDOWS, Limits(200_000, 800_000))
         self.assertEqual((width, height), (2, 2))
         self.assertEqual(struct.unpack(">II", picture[16:24]), (2, 2))
+
+
+class Pages(Folder):
+    """A page of many windows in a browser."""
+
+    @unittest.skipUnless(shutil.which("chromium"), "chromium isn't installed")
+    def test_twelve_layers_of_seventy_thousand_windows(self) -> None:
+        side, limits = 265, Limits(300_000, 700_000)
+        windows = [Window(k % side, k // side, k % side * 10, k // side * 10, k % side * 10 + 20, k // side * 10 + 20, 0, 0, 0, k * 7919 % 1_000_001, "LOW")
+                   for k in range(side * side)]
+        windows = [w._replace(state=limits.state(w.share, 10**6)) for w in windows]
+        sections = [Section(f"M{k}", "note", limits, windows, windows) for k in range(12)]
+        path = self.folder / "page.html"
+        probe = ("<script>var map = document.querySelectorAll('img[data-shares]')[23], box = map.getBoundingClientRect();"
+                 "map.dispatchEvent(new MouseEvent('mousemove', {clientX: box.left + box.width * 2.5 / 265, clientY: box.bottom - box.height * 1.5 / 265}));"
+                 "document.title = 'seen ' + Math.round(performance.now()) + ' ' + map.closest('figure').querySelector('.at').textContent;</script></body>")
+        text_of_page = whole_page("t", [], sections, NM)
+        path.write_text(text_of_page.replace("</body>", probe))
+        self.assertLess(len(text_of_page), 10_000_000)
+        done = subprocess.run(["chromium", "--headless", "--no-sandbox", "--disable-gpu", f"--user-data-dir={self.folder}/profile", "--dump-dom", path],
+                              capture_output=True, text=True, check=True, timeout=120)
+        seen = re.search(r"<title>seen (\d+) ([^<]*)</title>", done.stdout)
+        self.assertIsNotNone(seen)
+        share = windows[side + 2].share // 100 / 100
+        self.assertEqual(seen.group(2), f"column 2, row 1: {share:.2f} %, from 0.02, 0.01 um")
+        print(f"a page of twelve layers: {len(text_of_page) / 1e6:.1f} MB, {seen.group(1)} ms in a browser", flush=True)
+        self.assertLess(int(seen.group(1)), 2000 * max(1.0, os.getloadavg()[0] / (os.cpu_count() or 1)))
 
 
 class Runs(Folder):
@@ -226,20 +505,46 @@ class Runs(Folder):
         page = (self.out / "report.html").read_text()
         root = ET.fromstring(page.split(">", 1)[1])
         self.assertEqual([h.text for h in root.iter("h2")], ["M1", "M8"])
-        self.assertEqual(len(list(root.iter("img"))), 3)
+        images = list(root.iter("img"))
+        self.assertEqual(len(images), 3)
+        shares = base64.b64decode(images[1].get("data-shares"))
+        self.assertEqual([int.from_bytes(shares[k:k + 2], "big") for k in range(0, len(shares), 2)], [int(row[9]) // 100 for row in self.numbers("M1")])
+        self.assertEqual([images[1].get(f"data-{name}") for name in ("columns", "rows", "x", "y", "across", "up")], ["3", "3", "0", "0", "10", "10"])
+        self.assertEqual([span.text for span in root.iter("span")][:5], ["5", "12.5", "20", "27.5", "35"])
+        over = [[cell.text for cell in row] for row in root.findall(".//table")[1]]
+        self.assertEqual([cells[0] for cells in over], ["layer", "M1", "M8"])
+        self.assertEqual(over[1][3], str(sum(row[10] == "LOW" for row in self.numbers("M1"))))
+        self.assertEqual(over[2][1:3], ["9", None])
         items = ET.parse(self.out / "markers.lyrdb").getroot().find("items")
         missed = sum(row[10] != "OK" for name in ("M1", "M8") for row in self.numbers(name))
         self.assertEqual(len(items), missed)
         self.assertGreater(missed, 0)
 
     def test_a_layer_that_fails_ends_no_other(self) -> None:
-        self.path.write_text(GOOD + layer(1) + layer(2, 'script = "none.csv"\n') + layer(3))
-        (self.folder / "none.csv").write_text("add,1,1,1,1\n")
+        self.path.write_text(GOOD + layer(1) + layer(2) + layer(3))
+        self.design.write_bytes(library("D", structure("TOP", *(boundary(k, 0, 0, 900, 900) for k in (1, 3)), wire(2, 40, 0, 0, 100, 90))))
         ended = self.run_deck()
         self.assertEqual(ended.returncode, 2)
-        self.assertIn("M2              failed: an input is refused: densfill: script: 21 BadRow line 1", ended.stdout)
+        self.assertIn("M2              failed: an input is refused: densfill: design: 9 NotManhattan", ended.stdout)
         self.assertTrue((self.out / "M1.fill.gds").exists() and (self.out / "M3.fill.gds").exists())
         self.assertFalse((self.out / "M2.fill.gds").exists())
+
+    def test_a_second_look_at_faults(self) -> None:
+        self.path.write_text(GOOD + layer(1))
+        low = structure("LOW", boundary(1, 0, 0, 9, 9), wire(1, 4, 0, 0, 7, 9))
+        all_of_it = f"all of it: densfill-deck where {self.design} --top TOP --layer 1/0"
+        for structures, want in (((structure("TOP", reference("LOW", 0, 0)), low),
+                                  ["an input is refused: densfill: design: 9 NotManhattan",
+                                   "NotManhattan: cell LOW, element 2: the path on 1/0 has a slanted edge: 0,0 7,9", all_of_it]),
+                                 ((structure("TOP", boundary(1, 0, 0, 9, 9), reference("LOT", 0, 0)),),
+                                  ["an input is refused: densfill: design: 15 MissingCell",
+                                   "MissingCell: TOP refers to LOT, which no structure is named", all_of_it])):
+            self.design.write_bytes(library("D", *structures))
+            self.assertEqual(self.run_deck("--quiet").stderr.splitlines(), [f"densfill-deck: M1: {line}" for line in want])
+        (self.folder / "failing").write_text("#!/bin/sh\nrm $3\necho 'densfill: design: 30 Device' >&2\nexit 4\n")
+        (self.folder / "failing").chmod(0o755)
+        self.assertIn(f"densfill-deck: M1: {self.design}: No such file or directory",
+                      self.run_deck("--quiet", "--program", str(self.folder / "failing")).stderr)
 
     def test_resume_runs_what_changed(self) -> None:
         self.run_deck()
@@ -251,6 +556,19 @@ class Runs(Folder):
         self.assertEqual([name for name, kept in told.items() if not kept], ["M3", "M5", "M6"])
         self.assertGreater(len(self.numbers("M5")), 0)
 
+    def test_layers_side_by_side_have_room(self) -> None:
+        low = structure("LOW", *[boundary(k, x, 0, x + 3, 9) for k in LAYERS for x in range(0, 1000, 5)])
+        self.design.write_bytes(library("D", low, structure("TOP", array("LOW", 100, 100, (0, 0, 100_000, 0, 0, 1000)))))
+        deck = read_deck(self.path, self.design)
+        self.assertEqual(deck.copies, {f"M{k}": 2_000_000 for k in LAYERS})
+        self.assertEqual(memory_for(0, 2_000_000, True), (64 << 20) + 300_000_000)
+        for free, want in ((10 << 30, 8), (1 << 30, 2), (1 << 20, 1)):
+            with mock.patch("densfill_deck.runs.free_memory", return_value=free), mock.patch("os.cpu_count", return_value=16):
+                self.assertEqual(jobs_for(self.design, deck.layers, deck.copies, None), want)
+                self.assertEqual(jobs_for(self.design, deck.layers, deck.copies, 5), 5)
+        for size, copies, fills, megabytes in ((100_000, 3_900_000, False, 122), (239_000_000, 3_900_000, False, 600), (100_000, 3_900_000, True, 537)):
+            self.assertGreater(memory_for(size, copies, fills), megabytes * 10**6)
+
     def test_limits_that_are_missed(self) -> None:
         self.path.write_text(GOOD + layer(1, 'min = "90 %"\nmax = "95 %"\n'))
         for words, status in (((), 0), (("--fail-on", "low"), 3), (("--fail-on", "high"), 0), (("--fail-on", "any"), 3)):
@@ -260,6 +578,95 @@ class Runs(Folder):
         for words in (("--jobs", "0"), ("--fail-on", "none"), ("--what",)):
             self.assertEqual(self.run_deck(*words).returncode, 1, words)
         self.assertEqual(self.run_deck("--only", "M9").returncode, 2)
+
+    def test_quiet_silences_progress_alone(self) -> None:
+        self.path.write_text(GOOD + layer(1) + layer(2))
+        self.design.write_bytes(library("D", structure("TOP", boundary(1, 0, 0, 900, 900), wire(2, 40, 0, 0, 100, 90))))
+        loud, quiet = self.run_deck(), self.run_deck("--quiet")
+        told = "densfill-deck: M2: an input is refused: densfill: design: 9 NotManhattan"
+        self.assertEqual((quiet.returncode, quiet.stderr.splitlines()[0], "layers done" in quiet.stderr), (2, told, False))
+        self.assertIn(told, loud.stderr)
+        self.assertIn("2 of 2 layers done", loud.stderr)
+        self.assertIn("M1 ", quiet.stdout)
+        self.path.write_text(GOOD + layer(1, "min = 0.3\n"))
+        self.assertIn("min: warning: 0.3 is 0.3 %", self.run_deck("--quiet").stderr)
+
+    def test_a_wrong_layer_runs_nothing(self) -> None:
+        self.path.write_text(GOOD + layer(1) + layer(2).replace('"2/0"', '"2/9"'))
+        ended = self.run_deck()
+        self.assertEqual((ended.returncode, ended.stdout), (2, ""))
+        self.assertIn("deck.toml:23: layer M2, layer: the top TOP draws nothing on 2/9: it draws 2/0, 1/0, 3/0", ended.stderr)
+        self.assertFalse(self.out.exists())
+        self.assertEqual(self.run_deck("--only", "M1").returncode, 0)
+
+    def test_a_check_fills_nothing(self) -> None:
+        self.assertEqual(self.run_deck("--no-fill", "--only", "1/0", "M2").returncode, 0)
+        self.assertEqual([path.name for path in self.out.glob("*.fill.gds")], [])
+        told = json.loads((self.out / "summary.json").read_text())["layers"]
+        self.assertEqual([(one["name"], one["fills"], one["boxes"]) for one in told], [("M1", False, 0), ("M2", False, 0)])
+        report = subprocess.run([self.program, "check", self.out / "M1.rules.csv", self.design], capture_output=True, text=True, check=True).stdout
+        self.assertEqual((self.out / "M1.report.csv").read_text(), report)
+        self.run_deck("--only", "M2")
+        ended = self.run_deck("--no-fill")
+        self.assertEqual(ended.returncode, 2)
+        self.assertIn("deck.out has fill of M2, which a check would leave beside another report: another --out", ended.stderr)
+
+    def test_one_layer_keeps_the_others_results(self) -> None:
+        self.run_deck("--only", "M1", "M2", "M3")
+        before = json.loads((self.out / "summary.json").read_text())["layers"]
+        self.path.write_text(self.path.read_text().replace('name = "M2"\n', 'name = "M2"\nmin = "20 %"\n'))
+        ended = self.run_deck("--only", "M3", "--fail-on", "low")
+        self.assertEqual(ended.returncode, 0 if all(row[10] != "LOW" for row in self.numbers("M3")) else 3)
+        told = json.loads((self.out / "summary.json").read_text())["layers"]
+        self.assertEqual([(one["name"], one["from_an_earlier_run"]) for one in told], [("M1", True), ("M3", False)])
+        self.assertEqual(told[0]["after"], before[0]["after"])
+        self.assertIn("M2: what ", ended.stderr)
+        self.assertIn(" of other inputs and isn't shown: run it anew", ended.stderr)
+        page = ET.fromstring((self.out / "report.html").read_text().split(">", 1)[1])
+        self.assertEqual([h.text for h in page.iter("h2")], ["M1", "M3"])
+        markers = ET.parse(self.out / "markers.lyrdb").getroot()
+        self.assertEqual(len(markers.find("items")), sum(row[10] != "OK" for name in ("M1", "M3") for row in self.numbers(name)))
+
+    def merge(self, *words: str) -> tuple[int, str]:
+        line = [sys.executable, str(DECK / "densfill-deck"), "merge", str(self.path), str(self.design), *words]
+        done = subprocess.run(line, capture_output=True, text=True, check=False, env=os.environ | {"QT_QPA_PLATFORM": "offscreen"})
+        return done.returncode, done.stderr
+
+    def test_stale_fill_is_not_merged(self) -> None:
+        self.path.write_text(GOOD + layer(1) + layer(2))
+        self.run_deck()
+        out, deck, design, fill = self.folder / "merged.gds", self.path.read_text(), self.design.read_bytes(), self.out / "M1.fill.gds"
+        for path, data, want in ((self.design, design.replace(b"\0\0\x9c\x40", b"\0\0\x9c\x3f", 1), "the design has changed since the fill"),
+                                 (self.path, deck.replace('"0.5 um"', '"0.6 um"').encode(), "M1: the deck asks for other fill; M2: the deck"),
+                                 (fill, (self.out / "M2.fill.gds").read_bytes(), "M1.fill.gds has changed since")):
+            before = path.read_bytes()
+            path.write_bytes(data)
+            status, err = self.merge(str(out))
+            self.assertEqual((status, out.exists()), (2, False))
+            self.assertIn(f"deck.out: {want}", err)
+            self.assertIn("--resume, or merge --stale", err)
+            path.write_bytes(before)
+        (self.out / "summary.json").unlink()
+        self.assertIn("there is no summary.json of the run", self.merge(str(out))[1])
+
+    def test_merged_files_of_other_formats(self) -> None:
+        self.path.write_text(GOOD + layer(1))
+        self.run_deck()
+        before = self.design.read_bytes()
+        for name in ("out.oas", "out.gds.gz", "OUT.OAS"):
+            status, err = self.merge(str(self.folder / name))
+            self.assertEqual((status, f"GDSII is written, not zipped: name it {name[:3]}.gds" in err), (2, True), err)
+        self.assertIn("is one of the files that are merged", self.merge(str(self.design))[1])
+        self.assertEqual(self.design.read_bytes(), before)
+
+    @unittest.skipUnless(shutil.which("klayout"), "KLayout isn't installed")
+    def test_stale_fill_is_merged_where_it_is_asked_for(self) -> None:
+        self.path.write_text(GOOD + layer(1))
+        self.run_deck()
+        self.design.write_bytes(self.design.read_bytes().replace(b"\0\0\x9c\x40", b"\0\0\x9c\x3f", 1))
+        self.assertEqual(self.merge(str(self.folder / "merged.gds"), "--stale"),
+                         (0, "densfill-deck: merged all the same: the design has changed since the fill\n"))
+        self.assertTrue((self.folder / "merged.gds").exists())
 
     def test_interruption_leaves_whole_files(self) -> None:
         slow = self.folder / "slow"

@@ -14,14 +14,26 @@ class NotSubmitted(Exception):
 
 
 @dataclass(frozen=True)
+class Limits:
+    """What is asked for each part, where it is: bytes of memory, processors, minutes; and how many parts run at once."""
+    memory: int | None = None
+    processors: int | None = None
+    minutes: int | None = None
+    at_once: int | None = None
+
+
+@dataclass(frozen=True)
 class Jobs:
-    """An array: its folder, the parts that it runs and of how many, the command that its jobs begin with, and what is asked for them."""
+    """An array: its folder, the parts that it runs and of how many, the command that its jobs begin with, what is asked for each, the modules
+    that it loads, and the options of the array and of the joining job."""
     folder: Path
     numbers: list[int]
     count: int
     command: list[str]
-    memory: int | None
+    limits: Limits
+    modules: list[str]
     options: list[str]
+    joining: list[str]
     wait: bool
 
     @property
@@ -30,7 +42,22 @@ class Jobs:
 
     @property
     def megabytes(self) -> int:
-        return -(-(self.memory or 0) // (1 << 20))
+        return -(-(self.limits.memory or 0) // (1 << 20))
+
+    @property
+    def time(self) -> str:
+        """The longest time as hours and minutes."""
+        return f"{(self.limits.minutes or 0) // 60}:{(self.limits.minutes or 0) % 60:02}"
+
+    def at_once(self, mark: str) -> str:
+        return f"{mark}{self.limits.at_once}" if self.limits.at_once else ""
+
+    def asked(self, memory: list[str], processors: list[str], minutes: list[str]) -> list[str]:
+        """Options for what is asked for, of those that a batch system has."""
+        return memory * bool(self.limits.memory) + processors * bool(self.limits.processors) + minutes * bool(self.limits.minutes)
+
+    def loading(self) -> list[str]:
+        return [f"module load {' '.join(self.modules)} || exit 2"] if self.modules else []
 
     def log(self, index: str) -> str:
         return str(self.folder / f"parts/{index}-of-{self.count}.job")
@@ -56,9 +83,9 @@ def script(marker: str, options: list[str], *lines: str) -> str:
 
 
 def slurm_array(jobs: Jobs) -> str:
-    options = [f"--job-name={jobs.name}", f"--array={ranges(jobs.numbers)}", "--requeue", "--open-mode=append", f"--output={jobs.log('%a')}"]
-    return script("#SBATCH", options + ([f"--mem={jobs.megabytes}M"] if jobs.memory else []),
-                  jobs.line("part") + ' "$SLURM_ARRAY_TASK_ID"',
+    options = [f"--job-name={jobs.name}", f"--array={ranges(jobs.numbers)}{jobs.at_once('%')}", "--requeue", "--open-mode=append", f"--output={jobs.log('%a')}"]
+    more = jobs.asked([f"--mem={jobs.megabytes}M"], [f"--cpus-per-task={jobs.limits.processors}"], [f"--time={jobs.time}:00"])
+    return script("#SBATCH", options + more, *jobs.loading(), jobs.line("part") + ' "$SLURM_ARRAY_TASK_ID"',
                   "status=$?",
                   f'if [ "$status" -eq {AGAIN} ]; then scontrol requeue "${{SLURM_ARRAY_JOB_ID}}_$SLURM_ARRAY_TASK_ID" && sleep 60; fi',
                   'exit "$status"')
@@ -66,42 +93,45 @@ def slurm_array(jobs: Jobs) -> str:
 
 def slurm_joining(jobs: Jobs) -> str:
     options = [f"--job-name={jobs.name}-join", "--open-mode=append", f"--output={jobs.folder / 'join.job'}", "--kill-on-invalid-dep=yes"]
-    return script("#SBATCH", options, "exec " + jobs.line("join"))
+    return script("#SBATCH", options, *jobs.loading(), "exec " + jobs.line("join"))
 
 
 def lsf_array(jobs: Jobs) -> str:
-    options = [f'-J "{jobs.name}[{ranges(jobs.numbers)}]"', "-r", f'-Q "{AGAIN}"', f"-o {jobs.log('%I')}"]
-    memory = [f"-M {jobs.megabytes}MB", f'-R "rusage[mem={jobs.megabytes}MB]"'] if jobs.memory else []
-    return script("#BSUB", options + memory, "exec " + jobs.line("part") + ' "$LSB_JOBINDEX"')
+    options = [f'-J "{jobs.name}[{ranges(jobs.numbers)}]{jobs.at_once("%")}"', "-r", f'-Q "{AGAIN}"', f"-o {jobs.log('%I')}"]
+    more = jobs.asked([f"-M {jobs.megabytes}MB", f'-R "rusage[mem={jobs.megabytes}MB]"'],
+                      [f"-n {jobs.limits.processors}", '-R "span[hosts=1]"'], [f"-W {jobs.time}"])
+    return script("#BSUB", options + more, *jobs.loading(), "exec " + jobs.line("part") + ' "$LSB_JOBINDEX"')
 
 
 def lsf_joining(jobs: Jobs) -> str:
-    return script("#BSUB", [f"-J {jobs.name}-join", "-ti", f"-o {jobs.folder / 'join.job'}"], "exec " + jobs.line("join"))
+    return script("#BSUB", [f"-J {jobs.name}-join", "-ti", f"-o {jobs.folder / 'join.job'}"], *jobs.loading(), "exec " + jobs.line("join"))
 
 
 def sge_array(jobs: Jobs) -> str:
     """Grid Engine takes no list of numbers: parts between that are whole end at once."""
     options = [f"-N {jobs.name}", "-S /bin/bash", f"-t {jobs.numbers[0]}-{jobs.numbers[-1]}", "-r y", "-j y", "-terse",
                f"-o {jobs.log('$TASK_ID')}"]
-    return script("#$", options + ([f"-l mem_free={jobs.megabytes}M"] if jobs.memory else []), "exec " + jobs.line("part") + ' "$SGE_TASK_ID"')
+    more = jobs.asked([f"-l mem_free={jobs.megabytes}M"], [f"-pe smp {jobs.limits.processors}"], [f"-l h_rt={jobs.time}:00"])
+    more += [f"-tc {jobs.limits.at_once}"] if jobs.limits.at_once else []
+    return script("#$", options + more, *jobs.loading(), "exec " + jobs.line("part") + ' "$SGE_TASK_ID"')
 
 
 def sge_joining(jobs: Jobs) -> str:
-    return script("#$", [f"-N {jobs.name}-join", "-S /bin/bash", "-j y", f"-o {jobs.folder / 'join.job'}"], "exec " + jobs.line("join"))
+    return script("#$", [f"-N {jobs.name}-join", "-S /bin/bash", "-j y", f"-o {jobs.folder / 'join.job'}"], *jobs.loading(), "exec " + jobs.line("join"))
 
 
 ENGINES = {
     "slurm": Engine(slurm_array, slurm_joining,
                     lambda jobs: ["sbatch", "--parsable", *jobs.options],
-                    lambda jobs, number: ["sbatch", "--parsable", f"--dependency=afterok:{number}", *jobs.options, *["--wait"] * jobs.wait],
+                    lambda jobs, number: ["sbatch", "--parsable", f"--dependency=afterok:{number}", *jobs.joining, *["--wait"] * jobs.wait],
                     False, re.compile(r"^(\d+)")),
     "lsf": Engine(lsf_array, lsf_joining,
                   lambda jobs: ["bsub", *jobs.options],
-                  lambda jobs, number: ["bsub", "-w", f"done({number})", *jobs.options, *["-K"] * jobs.wait],
+                  lambda jobs, number: ["bsub", "-w", f"done({number})", *jobs.joining, *["-K"] * jobs.wait],
                   True, re.compile(r"<(\d+)>")),
     "sge": Engine(sge_array, sge_joining,
                   lambda jobs: ["qsub", *jobs.options],
-                  lambda jobs, number: ["qsub", "-hold_jid", number, *jobs.options, *["-sync", "y"] * jobs.wait],
+                  lambda jobs, number: ["qsub", "-hold_jid", number, *jobs.joining, *["-sync", "y"] * jobs.wait],
                   False, re.compile(r"^(\d+)")),
 }
 
@@ -133,15 +163,18 @@ def send(words: list[str], path: Path, by_input: bool, may_fail: bool = False) -
     return done.stdout
 
 
-def submit(jobs: Jobs, engine: Engine) -> str:
-    """Submits the array and the joining job behind it, and gives the array's number. With `wait` it comes back when the latter has ended."""
+def submit_array(jobs: Jobs, engine: Engine) -> str:
+    """Writes both scripts, submits the array, and gives its number."""
     texts = scripts(jobs, engine)
     for path, text in texts.items():
         path.write_text(text)
-    array, joining = texts
-    printed = send(engine.submit(jobs), array, engine.by_input)
+    printed = send(engine.submit(jobs), next(iter(texts)), engine.by_input)
     number = engine.number.search(printed)
     if not number:
         raise NotSubmitted(f"no number of a job in what {engine.submit(jobs)[0]} printed: {printed.strip()}")
-    send(engine.behind(jobs, number.group(1)), joining, engine.by_input, may_fail=jobs.wait)
     return number.group(1)
+
+
+def submit_joining(jobs: Jobs, engine: Engine, number: str) -> None:
+    """Submits the joining job behind an array. With `wait` it comes back when that has ended."""
+    send(engine.behind(jobs, number), jobs.folder / "join.sh", engine.by_input, may_fail=jobs.wait)

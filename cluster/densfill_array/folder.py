@@ -99,7 +99,8 @@ class Part:
     def record(self) -> dict[str, Any]:
         """What the run that made the part's files noted, or nothing."""
         try:
-            return json.loads(self.path("json").read_text())
+            told: dict[str, Any] = json.loads(self.path("json").read_text())
+            return told
         except (OSError, ValueError):
             return {}
 

@@ -3,6 +3,7 @@ import os
 import signal
 import sys
 import traceback
+from collections.abc import Callable
 from contextlib import suppress
 from pathlib import Path
 
@@ -17,7 +18,7 @@ def work(folder: Path, number: int) -> int:
     try:
         return run_part(folder, number)
     except Stopped as stopped:
-        return 128 + stopped.args[0]
+        return 128 + int(stopped.args[0])
     except (OSError, ValueError, Changed) as error:
         print(f"densfill-array: part {number}: {error}", file=sys.stderr, flush=True)
     except BaseException:
@@ -28,8 +29,9 @@ def work(folder: Path, number: int) -> int:
 class Pool:
     """Processes that run parts, each again as long as it asks for it, and that end when this one is interrupted."""
 
-    def __init__(self, folder: Path, numbers: list[int]) -> None:
+    def __init__(self, folder: Path, numbers: list[int], ended: Callable[[], None]) -> None:
         self.folder = folder
+        self.ended = ended
         self.waiting = numbers[::-1]
         self.running: dict[int, int] = {}
 
@@ -63,6 +65,7 @@ class Pool:
                     self.start()
                 else:
                     self.wait()
+                    self.ended()
         except KeyboardInterrupt:
             self.stop()
             raise

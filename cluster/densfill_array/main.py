@@ -5,17 +5,23 @@ import re
 import shlex
 import shutil
 import sys
+import threading
+import time
+from contextlib import AbstractContextManager, nullcontext
 from pathlib import Path
+from typing import NoReturn
 
-from .engines import ENGINES, Jobs, NotSubmitted, shown, submit
+from .engines import ENGINES, Jobs, Limits, NotSubmitted, shown, submit_array, submit_joining
 from .folder import Asked, Changed, Part, missing, read_asked, stamp, write_aside, write_asked
 from .local import Pool
 from .part import NotJoined, Stopped, join, ranges, run_part
 from .rules import MOST_PARTS, NoParts, parts_for, read_work
-from .table import short, table
+from .queue import note
+from .table import progress, states, table
 
 DONE, USAGE, FAILED, INTERRUPTED = 0, 1, 2, 130
 ALL_MEMORY = 4 << 30
+EVERY, EVERY_ON_A_TERMINAL = 60.0, 2.0   # seconds from a line of progress to the next
 RESULTS = ("report.csv", "fill.gds", "summary.txt")
 PLAIN = re.compile(r"[A-Za-z0-9_./+@,-]+\Z")
 SIZE = re.compile(r"(\d+(?:\.\d+)?)([KMGT])B?\Z", re.IGNORECASE)
@@ -24,7 +30,7 @@ SIZE = re.compile(r"(\d+(?:\.\d+)?)([KMGT])B?\Z", re.IGNORECASE)
 class Parser(argparse.ArgumentParser):
     """A command line whose faults end with status 1."""
 
-    def error(self, message: str):
+    def error(self, message: str) -> NoReturn:
         self.print_usage(sys.stderr)
         self.exit(USAGE, f"{self.prog}: {message}\n")
 
@@ -41,6 +47,14 @@ def count(word: str) -> int:
     if number > MOST_PARTS:
         raise argparse.ArgumentTypeError(f"1 to {MOST_PARTS}")
     return number
+
+
+def duration(word: str) -> int:
+    """Minutes of a time as 2:30."""
+    found = re.fullmatch(r"(\d{1,4}):([0-5]\d)", word)
+    if not found or word.strip("0:") == "":
+        raise argparse.ArgumentTypeError("hours and minutes as 2:30")
+    return int(found.group(1)) * 60 + int(found.group(2))
 
 
 def size(word: str) -> int:
@@ -60,9 +74,9 @@ def parser() -> Parser:
         if name == "fill":
             one.add_argument("script", type=Path, nargs="?", default=Path(os.devnull), help="late changes (by default none)")
         one.add_argument("--out", type=Path, required=True, help="the folder of the parts and of what they come to, on a shared file system")
-        cut = one.add_mutually_exclusive_group()
-        cut.add_argument("--parts", type=count, help="how many parts")
-        cut.add_argument("--memory", type=size, help="bytes that a part may take, as 4G: as few parts as stay below (by default 4G)")
+        one.add_argument("--parts", type=count, help="how many parts")
+        one.add_argument("--memory", type=size, help="bytes that a part may take, as 4G: as few parts as stay below (by default 4G), or "
+                                                     "with --parts what batch systems are asked for")
         one.add_argument("--engine", choices=(*ENGINES, "local"), default="local", help="who runs the jobs (by default this machine)")
         one.add_argument("--dry-run", action="store_true", help="print scripts and commands, and write nothing")
         one.add_argument("--wait", action="store_true", help="come back when all is joined; missing parts are submitted anew")
@@ -70,6 +84,11 @@ def parser() -> Parser:
         one.add_argument("--tries", type=positive, default=3, help="how often a part is tried (by default 3)")
         one.add_argument("--jobs", type=positive, help="local: how many parts side by side (by default as many as processors)")
         one.add_argument("--submit", type=shlex.split, default=[], metavar="OPTIONS", help="more options for the batch system, in one word")
+        one.add_argument("--submit-join", type=shlex.split, metavar="OPTIONS", help="those of the joining job (by default the same)")
+        one.add_argument("--processors", type=positive, help="batch systems: processors of a part")
+        one.add_argument("--time", type=duration, metavar="H:MM", help="batch systems: the longest time of a part, in hours and minutes")
+        one.add_argument("--at-once", type=positive, metavar="N", help="batch systems: no more than so many parts at once")
+        one.add_argument("--module", action="append", default=[], help="batch systems: a module that each job loads before it begins")
         one.add_argument("--program", type=Path, help="the program densfill (by default beside this one, else on the path)")
     part = commands.add_parser("part", help="what a job of the array runs")
     part.add_argument("folder", type=Path)
@@ -98,7 +117,7 @@ def inputs_of(given: argparse.Namespace) -> dict[str, str]:
 def picked(given: argparse.Namespace, earlier: Asked | None) -> int:
     """How many parts: as many as asked for, as the array that goes on has, or by a bound of memory."""
     if given.parts:
-        return given.parts
+        return int(given.parts)
     if earlier and not given.memory:
         return earlier.parts
     work = read_work(given.rules, given.design, given.command)
@@ -124,16 +143,21 @@ def asked_of(given: argparse.Namespace) -> Asked:
 
 
 def jobs_of(given: argparse.Namespace, folder: Path, parts: int, numbers: list[int]) -> Jobs:
-    command = [sys.executable, "-IS", os.path.abspath(sys.argv[0])]
-    if given.engine in ENGINES and not all(PLAIN.match(word) for word in (*command, str(folder))):
-        raise NotSubmitted(f"{folder}: a batch system's scripts take letters, digits and _ . / + - @ , in paths")
-    return Jobs(folder, numbers, parts, command, given.memory, given.submit, given.wait)
+    command = ["python3", "-IS", os.path.abspath(sys.argv[0])]
+    if given.engine in ENGINES and not all(PLAIN.match(word) for word in (*command, str(folder), *given.module)):
+        raise NotSubmitted(f"{folder}: a batch system's scripts take letters, digits and _ . / + - @ , in paths and modules")
+    joining = given.submit if given.submit_join is None else given.submit_join
+    limits = Limits(given.memory, given.processors, given.time, given.at_once)
+    return Jobs(folder, numbers, parts, command, limits, given.module, given.submit, joining, given.wait)
 
 
 def prepare(given: argparse.Namespace, folder: Path) -> Asked:
     """Writes the array's folder, and takes away what an earlier one left there and isn't kept; files of others it leaves alone."""
     if not (folder / "array.json").exists() and any((folder / name).exists() for name in RESULTS):
         raise NoParts(f"{folder} has files of the names {', '.join(RESULTS)} that are of no array: another --out")
+    earlier = earlier_of(folder)
+    if earlier and earlier.does == "fill" and given.command == "check" and (folder / "fill.gds").exists():
+        raise NoParts(f"{folder} has the fill of an earlier array, which a check would take away: another --out")
     asked = asked_of(given)
     (folder / "parts").mkdir(parents=True, exist_ok=True)
     write_asked(folder, asked)
@@ -154,15 +178,57 @@ def finish(folder: Path) -> int:
         join(folder)
         return DONE
     finally:
-        write_aside(folder / "summary.txt", table(folder, asked))
+        write_aside(folder / "summary.txt", table(states(folder, asked, over=True)))
 
 
 def run_local(given: argparse.Namespace, folder: Path, asked: Asked) -> None:
     side_by_side = os.cpu_count() or 1
     if given.memory:
         side_by_side = max(1, min(side_by_side, free_memory() // given.memory))
-    Pool(folder, missing(folder, asked)).run_all(given.jobs or side_by_side)
+    note(folder, "local", str(os.getpid()))
+    teller = Teller(folder, asked)
+    Pool(folder, missing(folder, asked), teller.tell_if_due).run_all(given.jobs or side_by_side)
+    teller.end()
     finish(folder)
+
+
+class Teller(AbstractContextManager[None]):
+    """Tells how far an array is while it runs: on a terminal a line that changes, else a line each minute. Beside a batch system it does so by
+    a thread, and between processes that are forked, where no thread may be, whenever one of them has ended."""
+
+    def __init__(self, folder: Path, asked: Asked) -> None:
+        self.folder, self.asked = folder, asked
+        self.over = threading.Event()
+        self.thread = threading.Thread(target=self.tell_all, daemon=True)
+        self.begun = self.last = time.monotonic()
+        self.before = asked.parts - len(missing(folder, asked))
+        self.terminal = sys.stderr.isatty()
+        self.every = EVERY_ON_A_TERMINAL if self.terminal else EVERY
+
+    def tell(self) -> None:
+        line = progress(states(self.folder, self.asked), time.monotonic() - self.begun, self.before)
+        print(f"\r\x1b[K{line}" if self.terminal else line, end="" if self.terminal else "\n", file=sys.stderr, flush=True)
+        self.last = time.monotonic()
+
+    def tell_if_due(self) -> None:
+        if time.monotonic() - self.last >= self.every:
+            self.tell()
+
+    def tell_all(self) -> None:
+        while not self.over.wait(self.every):
+            self.tell()
+
+    def end(self) -> None:
+        if self.terminal:
+            print("\r\x1b[K", end="", file=sys.stderr, flush=True)
+
+    def __enter__(self) -> None:
+        self.thread.start()
+
+    def __exit__(self, *_: object) -> None:
+        self.over.set()
+        self.thread.join()
+        self.end()
 
 
 def free_memory() -> int:
@@ -181,7 +247,12 @@ def run_batch(given: argparse.Namespace, folder: Path, asked: Asked) -> bool:
     for _ in range(asked.tries):
         if not numbers:
             break
-        number = submit(jobs_of(given, folder, asked.parts, numbers), ENGINES[given.engine])
+        jobs, engine = jobs_of(given, folder, asked.parts, numbers), ENGINES[given.engine]
+        number = submit_array(jobs, engine)
+        note(folder, given.engine, number)
+        telling: AbstractContextManager[None] = Teller(folder, asked) if given.wait else nullcontext()
+        with telling:
+            submit_joining(jobs, engine, number)
         print(f"submitted: parts {ranges(numbers)} of {asked.parts} as job {number}, and the joining job behind it", flush=True)
         if not given.wait:
             return False
@@ -201,7 +272,7 @@ def run(given: argparse.Namespace) -> int:
         return DONE
     asked = prepare(given, folder)
     results = f"{folder}/report.csv" + (", fill.gds" if asked.does == "fill" else "") + ", summary.txt"
-    ended = True
+    ended = given.engine == "local" or given.wait
     try:
         if given.engine == "local":
             run_local(given, folder, asked)
@@ -209,7 +280,7 @@ def run(given: argparse.Namespace) -> int:
             ended = run_batch(given, folder, asked)
     finally:
         if ended:
-            print(short(table(folder, asked)), end="")
+            print(table(states(folder, asked, over=True), short=True), end="")
     print(f"results: {results}" if ended else f"once the joining job has ended: {results}")
     return DONE
 
@@ -223,7 +294,7 @@ def do_join(given: argparse.Namespace) -> int:
 
 
 def do_table(given: argparse.Namespace) -> int:
-    print(short(table(given.folder, read_asked(given.folder))), end="")
+    print(table(states(given.folder, read_asked(given.folder)), short=True), end="")
     return DONE
 
 
@@ -232,7 +303,7 @@ def main() -> int:
     try:
         return {"check": run, "fill": run, "part": do_part, "join": do_join, "table": do_table}[given.command](given)
     except Stopped as stopped:
-        return 128 + stopped.args[0]
+        return 128 + int(stopped.args[0])
     except (OSError, ValueError, Changed, NoParts, NotJoined, NotSubmitted) as error:
         print(f"densfill-array: {error}", file=sys.stderr)
     except KeyboardInterrupt:

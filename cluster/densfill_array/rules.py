@@ -11,8 +11,8 @@ MOST_PARTS = 4096
 # What a part takes in bytes, by measured runs (docs/CLUSTER.md): the program itself, each byte of the design's file whatever the part
 # is, and each copy of a shape that meets what the part looks at.
 PROGRAM = 24 << 20
-FOR_THE_FILE = 1.8
-FOR_A_COPY = {"check": 25, "fill": 110}
+FOR_THE_FILE = 2.0
+FOR_A_COPY = {"check": 40, "fill": 150}
 # A part takes 4,000,000 copies; some of a chip is denser than the rest.
 MOST_COPIES = 3_000_000
 

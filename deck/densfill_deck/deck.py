@@ -2,108 +2,27 @@
 import difflib
 import re
 import tomllib
-from dataclasses import dataclass, field
+from collections.abc import Iterable
 from decimal import Decimal
 from fractions import Fraction
 from pathlib import Path
 
+from .contents import Contents, Table as Shapes, contents_of
 from .gds import NoStream, database_unit
-from .lengths import Unfit, in_millionths, in_units, metres
+from .judge import judge_metal, judge_script, judge_table, judge_together, judge_top
+from .lengths import Unfit, in_millionths, metres, told
+from .tables import Deck, Fault, Layer, Refused, Table, Text
 
 NAME = re.compile(r"[A-Za-z0-9_.+-]{1,64}\Z")
 LAYER = re.compile(r"\s*(\d{1,5})\s*/\s*(\d{1,5})\s*\Z")
 FILL_NAME = re.compile(r"[A-Za-z0-9_?$]{1,32}\Z")
 DECK_KEYS = ("unit", "top", "design")
 LAYER_KEYS = ("name", "layer", "fill", "frame", "window", "step", "first", "windows", "min", "max", "padding", "box", "pitch", "origin",
-              "spacing", "fill_spacing", "tile", "fill_layer", "keep_layer", "script", "library", "cell", "top_cell")
+              "spacing", "fill_spacing", "tile", "fill_layer", "keep_layer", "script", "library", "cell", "top_cell", "empty")
 REQUIRED = ("name", "layer", "frame", "window", "min")
 REQUIRED_OF_FILL = ("box", "pitch", "spacing", "fill_spacing", "fill_layer")
 ONE_LAYER = ("one layer and data type is checked exactly: metal that is drawn on two of them, or drawn and dummy metal, is to be merged "
              "onto one before")
-
-
-@dataclass(frozen=True)
-class Fault:
-    """What is wrong with a deck, where, and what would be right."""
-    path: Path
-    line: int | None
-    where: str
-    text: str
-
-    def __str__(self) -> str:
-        place = f"{self.path}:{self.line}" if self.line else str(self.path)
-        return f"{place}: {self.where}: {self.text}"
-
-
-class Refused(Exception):
-    """A deck with faults: all that were found."""
-
-    def __init__(self, faults: list[Fault]) -> None:
-        super().__init__("\n".join(map(str, faults)))
-        self.faults = faults
-
-
-@dataclass(frozen=True)
-class Layer:
-    """A layer of a deck: the rule file's numbers in database units, its texts, and what is done with it."""
-    name: str
-    fills: bool
-    numbers: dict[str, int]
-    texts: dict[str, str]
-    script: Path | None
-
-    def rules(self) -> str:
-        """The rule file for densfill."""
-        return "".join(f"{key},{value}\n" for key, value in (self.numbers | self.texts).items())
-
-
-@dataclass(frozen=True)
-class Deck:
-    """A deck that can be run."""
-    path: Path
-    unit: Fraction
-    of_the_file: bool
-    top: str
-    layers: list[Layer]
-
-
-@dataclass
-class Table:
-    """The values of a layer with those that all layers share, and the faults that are found in them."""
-    path: Path
-    text: str
-    where: str
-    header: int
-    own: dict[str, object]
-    shared: dict[str, object]
-    unit: Fraction
-    faults: list[Fault]
-    numbers: dict[str, int] = field(default_factory=dict)
-
-    def get(self, key: str, otherwise: object = None) -> object:
-        return self.own.get(key, self.shared.get(key, otherwise))
-
-    def fault(self, key: str, text: str) -> None:
-        where = f"{self.where}, {key}" if key else self.where
-        self.faults.append(Fault(self.path, line_of(self.text, self.header, key) if key else self.header or None, where, text))
-
-    def put(self, key: str, names: tuple[str, ...], convert, otherwise: object = None) -> None:
-        """Takes one value for each name: a single one stands for all."""
-        value = self.get(key, otherwise)
-        if value is None:
-            return
-        values = value if isinstance(value, list) else [value] * len(names)
-        if len(values) != len(names):
-            self.fault(key, f"{len(values)} values: write {len(names)}, or one for all")
-            return
-        for name, one in zip(names, values):
-            try:
-                self.numbers[name] = convert(one)
-            except Unfit as unfit:
-                self.fault(key, str(unfit))
-
-    def length(self, value: object) -> int:
-        return in_units(value, self.unit)
 
 
 def whole(value: object) -> int:
@@ -123,24 +42,8 @@ def layer_of(value: object) -> tuple[int, int]:
     return int(found.group(1)), int(found.group(2))
 
 
-def line_of(text: str, header: int, key: str) -> int | None:
-    """The line of a key behind a table's header, or in the defaults before it, if it can be had."""
-    lines = text.splitlines()
-    pattern = re.compile(rf"\s*[\"']?{re.escape(key)}[\"']?\s*[=.]")
-    behind = next((i for i in range(header, len(lines)) if lines[i].lstrip().startswith("[")), len(lines))
-    own = next((i for i in range(header, behind) if pattern.match(lines[i])), None)
-    shared = next((i for i in range(min(header, len(lines))) if pattern.match(lines[i])), None)
-    found = own if own is not None else shared
-    return None if found is None else found + 1
-
-
-def headers_of(text: str) -> list[int]:
-    """The lines of the headers of all layers, from 1 on."""
-    return [i for i, line in enumerate(text.splitlines(), 1) if re.match(r"\s*\[\[\s*layer\s*\]\]", line)]
-
-
-def unknown_keys(table: Table, keys: tuple[str, ...], given: dict[str, object]) -> None:
-    for key in given:
+def unknown_keys(table: Table, keys: tuple[str, ...]) -> None:
+    for key in table.own:
         if key not in keys:
             near = difflib.get_close_matches(key, keys, 1)
             table.fault(key, "is no key of a deck" + (f': write "{near[0]}"' if near else f": the keys are {', '.join(keys)}"))
@@ -169,7 +72,8 @@ def put_layers(table: Table) -> None:
 
 def put_lengths(table: Table) -> None:
     pairs = (("window", "win_w", "win_h"), ("box", "box_w", "box_h"), ("pitch", "step_x", "step_y"))
-    table.put("frame", ("frame_x1", "frame_y1", "frame_x2", "frame_y2"), table.length)
+    if table.get("frame") != "top":
+        table.put("frame", ("frame_x1", "frame_y1", "frame_x2", "frame_y2"), table.length)
     for key, across, up in pairs:
         table.put(key, (across, up), table.length)
     table.put("step", ("win_step_x", "win_step_y"), table.length, table.get("window"))
@@ -215,66 +119,139 @@ def texts_of(table: Table, name: str, top: object) -> dict[str, str]:
     return texts | {"padding": str(padding)}
 
 
-def read_layer(table: Table, top: object) -> Layer | None:
+def put_frame_of_the_top(table: Table, top: object, contents: Contents | None) -> None:
+    """The frame that is the box of all shapes that the top draws."""
+    if contents is None:
+        table.fault("frame", '"top" is the box of a design\'s top: give a design too')
+    elif box := contents.drawn(str(top)).box:
+        table.numbers |= dict(zip(("frame_x1", "frame_y1", "frame_x2", "frame_y2"), box))
+    else:
+        table.fault("frame", f"the top {top} draws no shape at all")
+
+
+def read_layer(table: Table, top: object, contents: Contents | None) -> Layer | None:
     """A layer, where nothing is wrong with it."""
-    before = len(table.faults)
-    unknown_keys(table, LAYER_KEYS, table.own)
+    before = len(table.text.faults)
+    unknown_keys(table, LAYER_KEYS)
     missing_keys(table)
     name, fills, script = table.get("name"), table.get("fill", True), table.get("script")
     if name is not None and not (isinstance(name, str) and NAME.match(name)):
         table.fault("name", f"{name!r} names the layer's files: write letters, digits, _, ., + or -")
-    if not isinstance(fills, bool):
-        table.fault("fill", f"{fills!r}: write true or false")
-    if script is not None and not isinstance(script, str):
-        table.fault("script", f"{script!r} is no path")
+    for key in ("fill", "empty"):
+        if not isinstance(table.get(key, True), bool):
+            table.fault(key, f"{table.get(key)!r}: write true or false")
     put_layers(table)
+    if table.get("frame") == "top":
+        put_frame_of_the_top(table, top, contents)
     put_lengths(table)
     put_counts(table)
     if fills is False:
         put_without_fill(table)
     texts = texts_of(table, str(name), top)
-    if len(table.faults) > before:
-        return None
-    return Layer(str(name), bool(fills), table.numbers, texts, table.path.parent / str(script) if script else None)
+    judge_table(table)
+    path = table.text.path.parent / script if isinstance(script, str) else None
+    if path is not None:
+        judge_script(table, path)
+    elif script is not None:
+        table.fault("script", f"{script!r} is no path")
+    return Layer(str(name), bool(fills), table.numbers, texts, path) if len(table.text.faults) == before else None
 
 
-def unit_of(table: Table, deck: dict[str, object], design: Path | None) -> Fraction:
-    """The database unit in metres: that of the deck, or the one that the design tells."""
-    value = deck.get("unit", "file")
+def unit_of(table: Table, design: Path | None) -> Fraction:
+    """The database unit in metres: that of the deck, which must be the design's, or the one that the design tells."""
+    value = table.get("unit", "file")
+    own = designs = None
     try:
-        if value != "file":
-            return metres(value)
-        if design is not None:
-            return database_unit(design)
-        return metres("1 nm")
-    except (Unfit, NoStream, OSError) as error:
+        own = None if value == "file" else metres(value)
+        if own is not None and own <= 0:
+            raise Unfit(f"{value!r} is no length above 0")
+    except Unfit as error:
         table.fault("unit", str(error))
-        return metres("1 nm")
+    try:
+        designs = database_unit(design) if design is not None else None
+    except (NoStream, OSError):
+        pass   # told of the design itself
+    if own is not None and designs is not None and own != designs:
+        table.fault("unit", f'{told(own)} is not the design\'s, {told(designs)}: write "file", or scale the design in the layout tool')
+    return own or designs or metres("1 nm")
 
 
-def read_deck(path: Path, design: Path | None = None) -> Deck:
-    """The deck of a file, for a design from which the database unit is taken where the deck has none."""
+def sections(text: Text, values: dict[str, object]) -> tuple[dict[str, object], dict[str, object], list[dict[str, object]]]:
+    """The three parts of a deck, each of its kind, or nothing in its place."""
+    deck, shared, layers = values.get("deck", {}), values.get("defaults", {}), values.get("layer", [])
+    kinds = {"deck": (deck, isinstance(deck, dict), "[deck]"), "defaults": (shared, isinstance(shared, dict), "[defaults]"),
+             "layer": (layers, isinstance(layers, list) and all(isinstance(one, dict) for one in layers), "[[layer]]")}
+    for name, (_, fits, words) in kinds.items():
+        if not fits:
+            header = next(iter(text.headers(name)), 0)
+            text.faults.append(Fault(text.path, header or None, name, f"write {words} above its keys"))
+    unknown_keys(Table(text, "the deck", 0, dict.fromkeys(values)), tuple(kinds))
+    (deck, one, _), (shared, other, _), (layers, third, _) = kinds.values()
+    return (deck if one else {}), (shared if other else {}), (layers if third else [])   # type: ignore[return-value]
+
+
+def text_of(path: Path) -> tuple[Text, dict[str, object]]:
+    """The text of a deck with its values."""
     try:
         text = path.read_text(encoding="utf-8")
-        values = tomllib.loads(text, parse_float=Decimal)
-    except (OSError, UnicodeDecodeError, tomllib.TOMLDecodeError) as error:
+        return Text(path, text.splitlines()), tomllib.loads(text, parse_float=Decimal)
+    except OSError as error:
+        raise Refused([Fault(path, None, "the deck", error.strerror or str(error))]) from error
+    except (UnicodeDecodeError, tomllib.TOMLDecodeError) as error:
         line = re.search(r"at line (\d+)", str(error))
         raise Refused([Fault(path, int(line.group(1)) if line else None, "the deck", str(error))]) from error
-    faults: list[Fault] = []
-    deck, shared, layers = values.get("deck", {}), values.get("defaults", {}), values.get("layer", [])
-    whole_deck = Table(path, text, "[deck]", 0, deck, {}, Fraction(1), faults)
-    unknown_keys(whole_deck, DECK_KEYS, deck)
-    unknown_keys(Table(path, text, "the deck", 0, {}, {}, Fraction(1), faults), ("deck", "defaults", "layer"), values)
-    unknown_keys(Table(path, text, "[defaults]", 0, {}, {}, Fraction(1), faults), LAYER_KEYS, shared)
-    if not isinstance(deck.get("top"), str):
+
+
+def contents_or_fault(text: Text, design: Path | None) -> Contents | None:
+    """What a design has; a fault where it can't be read."""
+    if design is None:
+        return None
+    try:
+        return contents_of(design)
+    except NoStream as error:
+        text.faults.append(Fault(design, None, "the design", str(error)))
+    except OSError as error:
+        text.faults.append(Fault(design, None, "the design", error.strerror or str(error)))
+    return None
+
+
+def layer_tables(text: Text, layers: list[dict[str, object]], shared: dict[str, object], unit: Fraction) -> list[Table]:
+    headers = text.headers("layer")
+    if len(headers) != len(layers):
+        headers = [0] * len(layers)
+    return [Table(text, f"layer {own.get('name', k)!s}", header, own, shared, unit) for k, (own, header) in enumerate(zip(layers, headers), 1)]
+
+
+def copies_of(layers: list[Layer], drawn: Shapes) -> dict[str, int]:
+    """How many copies of shapes a run of each layer flattens, those of its keep-outs among them."""
+    of = {layer.name: [(layer.numbers["layer"], layer.numbers["datatype"])] for layer in layers}
+    for layer in layers:
+        if layer.fills and "keep_layer" in layer.numbers:
+            of[layer.name].append((layer.numbers["keep_layer"], layer.numbers["keep_datatype"]))
+    return {name: sum(drawn[on].count for on in all_of if on in drawn) for name, all_of in of.items()}
+
+
+def read_deck(path: Path, design: Path | None = None, only: Iterable[str] = ()) -> Deck:
+    """The deck of a file, judged with a design where one is given: its unit, its top, and that it draws on the layers, or on those alone that
+    are named. All faults are told at once."""
+    text, values = text_of(path)
+    deck, shared, layers = sections(text, values)
+    whole_deck = Table(text, "[deck]", next(iter(text.headers("deck")), 0), deck)
+    unknown_keys(whole_deck, DECK_KEYS)
+    unknown_keys(Table(text, "[defaults]", next(iter(text.headers("defaults")), 0), shared), LAYER_KEYS)
+    top = deck.get("top")
+    if not isinstance(top, str) or not top:
         whole_deck.fault("", 'the key "top" is missing: the name of the design\'s top structure')
     if not layers:
         whole_deck.fault("", "no [[layer]] stands in the deck")
-    unit = unit_of(whole_deck, deck, design)
-    read = [read_layer(Table(path, text, f"layer {own.get('name', k)!s}", header, own, shared, unit, faults), deck.get("top"))
-            for k, (own, header) in enumerate(zip(layers, headers_of(text) or [0] * len(layers)), 1)]
-    doubled = {layer.name for layer in read if layer and sum(other is not None and other.name == layer.name for other in read) > 1}
-    faults += [Fault(path, None, f"layer {name}", "two layers have this name") for name in sorted(doubled)]
-    if faults:
-        raise Refused(faults)
-    return Deck(path, unit, deck.get("unit", "file") == "file", str(deck["top"]), [layer for layer in read if layer])
+    contents = contents_or_fault(text, design)
+    unit = unit_of(whole_deck, design)
+    there = contents is None or not isinstance(top, str) or judge_top(whole_deck, top, contents)
+    read = [(table, layer) for table in layer_tables(text, layers, shared, unit) if (layer := read_layer(table, top, contents if there else None))]
+    judge_together(read)
+    if contents is not None and isinstance(top, str) and there:
+        judge_metal([(table, layer) for table, layer in read if not only or layer.name in only or layer.metal in only], top, contents)
+    if text.faults:
+        raise Refused(text.faults)
+    copies = copies_of([layer for _, layer in read], contents.drawn(str(top))) if contents is not None else {}
+    return Deck(path, unit, deck.get("unit", "file") == "file", str(top), [layer for _, layer in read], text.warnings, copies)

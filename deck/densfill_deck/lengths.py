@@ -49,6 +49,14 @@ def in_millionths(value: object) -> int:
     return int(share)
 
 
+def share_of(value: object) -> Decimal | None:
+    """The number of percent of a share, or nothing where it is none."""
+    found = SHARE.match(value) if isinstance(value, str) else None
+    if found:
+        return Decimal(found.group(1))
+    return Decimal(value) if isinstance(value, (int, Decimal)) and not isinstance(value, bool) else None
+
+
 def told(unit: Fraction) -> str:
     """A length for people: 1 nm, 0.5 nm, 1 um."""
     for name in ("um", "nm", "pm"):

@@ -5,17 +5,22 @@ import json
 import os
 import shutil
 import sys
+from dataclasses import replace
 from fractions import Fraction
 from pathlib import Path
+from typing import NoReturn
 
-from .deck import Deck, Layer, Refused, read_deck
-from .lengths import metres, told
+from .deck import layer_of, read_deck
+from .lengths import Unfit, metres, told
+from .listing import list_faults, list_layers
+from .look import SecondLook
 from .markers import database
-from .merge import NotMerged, merge
+from .merge import NotMerged, assert_fit, changes, merge
 from .page import Section, page
 from .reports import Limits, NoReport, figures, read_report
-from .runs import Inputs, Ran, Runner, jobs_for
-from .summary import STATUS, Outcome, outcome_of, summary, text, write_lines
+from .runs import Files, Inputs, Ran, Runner, jobs_for
+from .summary import Outcome, failure, outcome_of, summary, text, write_lines
+from .tables import Deck, Layer, Refused
 
 DONE, USAGE, FAILED, MISSED, INTERRUPTED = 0, 1, 2, 3, 130
 
@@ -23,7 +28,7 @@ DONE, USAGE, FAILED, MISSED, INTERRUPTED = 0, 1, 2, 3, 130
 class Parser(argparse.ArgumentParser):
     """A command line whose faults end with status 1."""
 
-    def error(self, message: str):
+    def error(self, message: str) -> NoReturn:
         self.print_usage(sys.stderr)
         self.exit(USAGE, f"{self.prog}: {message}\n")
 
@@ -35,6 +40,13 @@ def positive(word: str) -> int:
     return number
 
 
+def on(word: str) -> tuple[int, int]:
+    try:
+        return layer_of(word)
+    except Unfit as unfit:
+        raise argparse.ArgumentTypeError(str(unfit)) from unfit
+
+
 def parser() -> Parser:
     whole = Parser(prog="densfill-deck", description=__doc__)
     commands = whole.add_subparsers(dest="command", required=True, parser_class=Parser)
@@ -43,23 +55,32 @@ def parser() -> Parser:
     run.add_argument("design", type=Path)
     run.add_argument("--out", type=Path, help="the folder of results (by default DECK.out beside the deck)")
     run.add_argument("--jobs", type=positive, help="how many layers run side by side (by default by processors and memory)")
-    run.add_argument("--only", nargs="+", metavar="LAYER", help="these layers alone")
+    run.add_argument("--only", nargs="+", metavar="LAYER", help="these layers alone, by their names or as 31/0")
+    run.add_argument("--no-fill", action="store_true", help="check all layers, and fill none")
     run.add_argument("--resume", action="store_true", help="keep what an earlier run left of the same inputs")
     run.add_argument("--fail-on", choices=("low", "high", "any"), help="status 3 where a window stays so")
-    run.add_argument("--quiet", action="store_true", help="no progress and no summary on the terminal")
+    run.add_argument("--quiet", action="store_true", help="no progress on the terminal")
     run.add_argument("--program", type=Path, help="the program densfill (by default beside this one, else on the path)")
     check = commands.add_parser("check", help="tell all faults of a deck at once")
     check.add_argument("deck", type=Path)
-    check.add_argument("design", type=Path, nargs="?", help="a design to take the database unit from")
+    check.add_argument("design", type=Path, nargs="?", help="the design that it is for: its unit, its top, and what that draws")
     explain = commands.add_parser("explain", help="summary and map of one report")
     explain.add_argument("report", type=Path)
     explain.add_argument("--out", type=Path, help="the page (by default REPORT.html)")
     explain.add_argument("--unit", default="1 nm", help="the database unit")
+    listing = commands.add_parser("layers", help="what a design has: tops, layers with shapes and boxes, kinds of elements")
+    listing.add_argument("design", type=Path)
+    look = commands.add_parser("where", help="each shape of a design that the program refuses, and names that lead nowhere")
+    look.add_argument("design", type=Path)
+    look.add_argument("--layer", type=on, nargs="+", default=[], help="layers and data types that are to be checked, as 31/0")
+    look.add_argument("--top", help="the top structure (by default each of the design's)")
+    look.add_argument("--out", type=Path, help="a marker file for KLayout (by default DESIGN.where.lyrdb, where shapes are found)")
     joined = commands.add_parser("merge", help="the design and its fill in one file, by KLayout")
     joined.add_argument("deck", type=Path)
     joined.add_argument("design", type=Path)
     joined.add_argument("out", type=Path)
     joined.add_argument("--results", type=Path, help="the folder of results (by default DECK.out beside the deck)")
+    joined.add_argument("--stale", action="store_true", help="merge fill of a design or a deck that has changed since all the same")
     return whole
 
 
@@ -78,17 +99,24 @@ def program_of(given: Path | None) -> Path:
 
 def chosen(deck: Deck, only: list[str] | None) -> list[Layer]:
     """The layers that are asked for, in the deck's order."""
-    names = {layer.name for layer in deck.layers}
-    unknown = sorted(set(only or ()) - names)
+    unknown = sorted(set(only or ()) - {name for layer in deck.layers for name in (layer.name, layer.metal)})
     if unknown:
-        raise KeyError(f"no layer {', '.join(unknown)} in the deck: it has {', '.join(sorted(names))}")
-    return [layer for layer in deck.layers if not only or layer.name in only]
+        raise KeyError(f"no layer {', '.join(unknown)} in the deck: it has {', '.join(f'{layer.name} ({layer.metal})' for layer in deck.layers)}")
+    return [layer for layer in deck.layers if not only or layer.name in only or layer.metal in only]
+
+
+def checked_alone(layers: list[Layer], folder: Path) -> list[Layer]:
+    """Layers that are checked and not filled, in a folder without fill of them."""
+    filled = [layer.name for layer in layers if Files.of(folder, layer).library.exists()]
+    if filled:
+        raise ValueError(f"{folder} has fill of {', '.join(filled)}, which a check would leave beside another report: another --out")
+    return [replace(layer, fills=False) for layer in layers]
 
 
 def section_of(outcome: Outcome) -> Section:
     layer, ran = outcome.layer, outcome.ran
     if not outcome.is_whole:
-        note = f"failed: {STATUS.get(ran.status, f'status {ran.status}')}: {ran.told}"
+        note = f"failed: {failure(ran)}"
         return Section(layer.name, note, outcome.limits, None, [])
     note = (f"layer {layer.numbers['layer']}/{layer.numbers['datatype']}, {len(outcome.after)} windows, "
             + (f"{outcome.boxes} boxes, " if layer.fills else "checked alone, ") + f"{ran.seconds:.2f} s, {ran.memory / 2**20:.0f} MB")
@@ -110,26 +138,58 @@ def write_results(inputs: Inputs, deck: Deck, outcomes: list[Outcome]) -> str:
     return words
 
 
+def tell(words: object) -> None:
+    """A fault, or what else is not to be missed."""
+    print(words, file=sys.stderr, flush=True)
+
+
+def kept(runner: Runner, deck: Deck, layers: list[Layer]) -> dict[str, Ran]:
+    """The runs that are shown: those of the other layers that the folder has of the same inputs. What it has of other inputs is told."""
+    found: dict[str, Ran] = {}
+    names = {layer.name for layer in layers}
+    for layer in deck.layers:
+        if layer.name in names:
+            continue
+        if earlier := runner.earlier(layer):
+            found[layer.name] = earlier
+        elif Files.of(runner.inputs.folder, layer).record.exists():
+            tell(f"densfill-deck: {layer.name}: what {runner.inputs.folder} has of it is of other inputs and isn't shown: run it anew")
+    return found
+
+
 def run(given: argparse.Namespace) -> int:
     gc.disable()   # hundreds of thousands of windows are kept to the end, none of them in a cycle
-    deck = read_deck(given.deck, given.design)
+    deck = read_deck(given.deck, given.design, given.only or ())
     layers = chosen(deck, given.only)
+    for warning in deck.warnings:
+        tell(warning)
     folder = results_of(given.deck, given.out)
+    if given.no_fill:
+        layers = checked_alone(layers, folder)
     folder.mkdir(parents=True, exist_ok=True)
     inputs = Inputs(program_of(given.program), given.design.resolve(), folder)
-    ran: list[Ran] = Runner(inputs, given.quiet).run_all(layers, jobs_for(given.design, len(layers), given.jobs), given.resume)
-    outcomes = [outcome_of(inputs, layer, one) for layer, one in zip(layers, ran)]
-    words = write_results(inputs, deck, outcomes)
-    if not given.quiet:
-        print(words, end="")
-        print(f"results: {folder}/report.html, summary.json, markers.lyrdb")
-    if not all(outcome.is_whole for outcome in outcomes):
+    runner = Runner(inputs, given.quiet)
+    done = runner.run_all(layers, jobs_for(given.design, layers, deck.copies, given.jobs), given.resume)
+    ran = kept(runner, deck, layers) | {one.layer: one for one in done}
+    as_run = {layer.name: layer for layer in layers}
+    outcomes = [outcome_of(inputs, as_run.get(layer.name, layer), ran[layer.name]) for layer in deck.layers if layer.name in ran]
+    print(write_results(inputs, deck, outcomes), end="")
+    print(f"results: {folder}/report.html, summary.json, markers.lyrdb", flush=True)
+    look = SecondLook(inputs.design, deck.top)
+    for outcome in outcomes:
+        if not outcome.is_whole:
+            for line in (failure(outcome.ran), *look.at(outcome.ran.told, outcome.layer, outcome.files)):
+                tell(f"densfill-deck: {outcome.layer.name}: {line}")
+    if any(one.status != 0 for one in done):
         return FAILED
-    return MISSED if given.fail_on and any(outcome.misses(given.fail_on) for outcome in outcomes) else DONE
+    asked = [outcome for outcome in outcomes if outcome.layer.name in as_run]
+    return MISSED if given.fail_on and any(outcome.misses(given.fail_on) for outcome in asked) else DONE
 
 
 def check(given: argparse.Namespace) -> int:
     deck = read_deck(given.deck, given.design)
+    for warning in deck.warnings:
+        tell(warning)
     print(f"database unit {told(deck.unit)}" + (", unless the design has another one" if given.design is None and deck.of_the_file else ""))
     for layer in deck.layers:
         n = layer.numbers
@@ -158,17 +218,31 @@ def merged(given: argparse.Namespace) -> int:
     deck = read_deck(given.deck, given.design)
     folder = results_of(given.deck, given.results)
     libraries = {layer.texts["fill_top"]: folder / f"{layer.name}.fill.gds" for layer in deck.layers if layer.fills}
+    assert_fit(given.out, [given.design, *libraries.values()])
     missing = [str(path) for path in libraries.values() if not path.exists()]
     if missing:
         raise NotMerged(f"{', '.join(missing)} is missing: densfill-deck run {given.deck} {given.design}")
+    if changed := changes(Inputs(Path(), given.design, folder), deck):
+        if not given.stale:
+            raise NotMerged(f"{folder}: {'; '.join(changed)}: densfill-deck run {given.deck} {given.design} --resume, or merge --stale")
+        tell(f"densfill-deck: merged all the same: {'; '.join(changed)}")
     merge(given.design, deck.top, libraries, given.out)
     return DONE
+
+
+def layers(given: argparse.Namespace) -> int:
+    list_layers(given.design)
+    return DONE
+
+
+def where(given: argparse.Namespace) -> int:
+    return FAILED if list_faults(given.design, set(given.layer), given.top, given.out) else DONE
 
 
 def main() -> int:
     given = parser().parse_args()
     try:
-        return {"run": run, "check": check, "explain": explain, "merge": merged}[given.command](given)
+        return {"run": run, "check": check, "explain": explain, "merge": merged, "layers": layers, "where": where}[given.command](given)
     except Refused as refused:
         print(refused, file=sys.stderr)
     except (OSError, KeyError, NoReport, NotMerged, ValueError) as error:

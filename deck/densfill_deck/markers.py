@@ -4,6 +4,7 @@ from fractions import Fraction
 from functools import cache
 from xml.sax.saxutils import escape
 
+from .look import Found
 from .reports import Window
 
 HEAD = """<?xml version="1.0" encoding="utf-8"?>
@@ -54,3 +55,25 @@ def database(title: str, top: str, layers: dict[str, list[Window]], unit: Fracti
     cells = f" <cells>\n  <cell>\n   <name>{escape(quoted(top))}</name>\n   <variant/>\n   <references/>\n  </cell>\n </cells>\n"
     missed = "".join("".join(items(name, top, windows, unit * 10**6)) for name, windows in layers.items())
     return HEAD.format(title=escape(title), top=escape(quoted(top))) + categories(layers) + cells + f" <items>\n{missed} </items>\n</report-database>\n"
+
+
+def shape(found: Found, scale: Fraction) -> str:
+    """The points of a faulty element as a value of KLayout's: a polygon, or for a path its middle line, or for a reference its place."""
+    pairs = [f"{number(x, scale)},{number(y, scale)}" for x, y in zip(found.points[::2], found.points[1::2])] or ["0,0"]
+    if found.kind == "boundary" and len(pairs) > 3:
+        return f"polygon: ({';'.join(pairs[:-1])})"
+    return f"path: ({';'.join(pairs)}) w=0 bx=0 ex=0 r=false" if found.kind == "path" else f"box: ({pairs[0]};{pairs[0]})"
+
+
+def faults_database(title: str, top: str, found: list[Found], unit: Fraction) -> str:
+    """The database of elements that the program refuses, each in its own cell: a category for each refusal."""
+    reasons, cells = sorted({one.reason for one in found}), list(dict.fromkeys([top, *(one.cell for one in found)]))
+    scale = unit * 10**6
+    kinds = "".join(f"  <category>\n   <name>{reason}</name>\n   <description>{reason}</description>\n  </category>\n" for reason in reasons)
+    places = "".join(f"  <cell>\n   <name>{escape(quoted(cell))}</name>\n   <variant/>\n   <references/>\n  </cell>\n" for cell in cells)
+    items_of = "".join(f"  <item>\n   <tags/>\n   <category>{one.reason}</category>\n   <cell>{escape(quoted(one.cell))}</cell>\n"
+                       "   <visited>false</visited>\n   <multiplicity>1</multiplicity>\n   <comment/>\n   <image/>\n   <values>\n"
+                       f"    <value>{shape(one, scale)}</value>\n    <value>text: {escape(quoted(f'element {one.number}'))}</value>\n"
+                       "   </values>\n  </item>\n" for one in found)
+    head = HEAD.format(title=escape(title), top=escape(quoted(top))).replace("Density of", "Refused elements of")
+    return f"{head} <categories>\n{kinds} </categories>\n <cells>\n{places} </cells>\n <items>\n{items_of} </items>\n</report-database>\n"

@@ -1,15 +1,51 @@
 """A design with its fill libraries in one file, by KLayout."""
+import json
 import shutil
 import subprocess
 from pathlib import Path
 
+from .runs import Files, Inputs, digest, fingerprint
+from .tables import Deck
+
 SCRIPT = Path(__file__).resolve().parent.parent / "klayout" / "merge_fill.py"
 NO_KLAYOUT = ("klayout is not on the path: install it (https://www.klayout.de, or your distribution's package), or merge in the layout tool "
               "of your flow: each fill library has one top structure, which goes below the design's top at 0, 0 with no rotation")
+OTHER_FORMATS = (".oas", ".oasis", ".gz", ".zip", ".bz2", ".xz", ".cif", ".dxf", ".lef", ".def")
 
 
 class NotMerged(Exception):
     """Why there is no merged file."""
+
+
+def assert_fit(out: Path, inputs: list[Path]) -> None:
+    """Refuses a merged file whose name says another format than GDSII, or that is one of those it is made of."""
+    if out.name.lower().endswith(OTHER_FORMATS):
+        raise NotMerged(f"{out}: GDSII is written, not zipped: name it {out.name.split('.')[0]}.gds")
+    if out.exists() and any(path.exists() and path.samefile(out) for path in inputs):
+        raise NotMerged(f"{out}: is one of the files that are merged: name another one")
+
+
+def changes(inputs: Inputs, deck: Deck) -> list[str]:
+    """What has changed since the results of a folder, by the hashes of its summary: the design, a layer's rules or script, or a library."""
+    try:
+        told = {layer["name"]: layer for layer in json.loads((inputs.folder / "summary.json").read_text())["layers"]}
+    except (OSError, ValueError, KeyError, TypeError):
+        return ["there is no summary.json of the run"]
+    words = {"design": "the design has changed since the fill", "rules": "the deck asks for other fill", "script": "another script"}
+    found: dict[str, None] = {}
+    for layer in deck.layers:
+        if not layer.fills:
+            continue
+        now, was, library = fingerprint(inputs, layer, ("design", "rules", "script")), told.get(layer.name, {}), Files.of(inputs.folder, layer).library
+        if not was:
+            found[f"{layer.name} has no run in its summary"] = None
+            continue
+        for key, value in now.items():
+            if was.get("inputs", {}).get(key) != value:
+                found[words[key] if key == "design" else f"{layer.name}: {words[key]}"] = None
+        if was.get("files", {}).get(library.name) != digest(library):
+            found[f"{library.name} has changed since"] = None
+    return list(found)
 
 
 def merge(design: Path, top: str, libraries: dict[str, Path], out: Path) -> None:

@@ -17,7 +17,8 @@ Colour = tuple[int, int, int]
 
 def blend(pair: tuple[Colour, Colour], part: float) -> Colour:
     part = min(max(part, 0.0), 1.0)
-    return tuple(round(a + (b - a) * part) for a, b in zip(*pair))
+    red, green, blue = (round(a + (b - a) * part) for a, b in zip(*pair))
+    return red, green, blue
 
 
 def shades(limits: Limits) -> dict[str, tuple[int, int, list[bytes]]]:

@@ -5,7 +5,7 @@ from heapq import nsmallest
 from pathlib import Path
 from typing import NamedTuple
 
-WORST = 20
+WORST = 100
 
 
 class Window(NamedTuple):
@@ -35,7 +35,7 @@ def read_report(path: Path) -> list[Window]:
         for number, line in enumerate(file, 1):
             words = line.rstrip("\n").split(",")
             try:
-                windows.append(Window(*map(int, words[:10]), words[10]))
+                windows.append(Window(*map(int, words[:10]), words[10]))  # type: ignore[arg-type, call-arg]
             except (ValueError, IndexError, TypeError) as error:
                 raise NoReport(f"{path}:{number}: no line of a density report") from error
     return windows

@@ -7,16 +7,18 @@ import subprocess
 import sys
 import threading
 import time
+from collections.abc import Callable
 from concurrent.futures import ThreadPoolExecutor, as_completed, wait
 from dataclasses import asdict, dataclass
 from functools import cache
 from pathlib import Path
 
-from .deck import Layer
+from .tables import Layer
 
-# What a run takes beside the bytes of its file, measured on flat designs: twice the file and a little more.
-MEMORY_FOR_A_BYTE = 2.5
+# What a run takes in bytes, by measured runs (docs/CLUSTER.md): at least so much, each byte of the design's file, and each copy of a shape.
 MEMORY_AT_LEAST = 64 << 20
+MEMORY_FOR_A_BYTE = 2.5
+MEMORY_FOR_A_COPY = {False: 40, True: 150}
 
 
 @dataclass(frozen=True)
@@ -51,6 +53,10 @@ class Files:
     def of(folder: Path, layer: Layer) -> "Files":
         return Files(*(folder / f"{layer.name}{ending}" for ending in (".rules.csv", ".report.csv", ".fill.gds", ".log", ".run.json")))
 
+    def left(self, fills: bool) -> list[Path]:
+        """Those that a run leaves, of which hashes are noted."""
+        return [self.rules, self.report, self.library] if fills else [self.rules, self.report]
+
 
 def digest(path: Path) -> str:
     with open(path, "rb") as file:
@@ -63,11 +69,13 @@ def input_digest(path: Path) -> str:
     return digest(path)
 
 
-def fingerprint(inputs: Inputs, layer: Layer) -> dict[str, str]:
-    """What a layer's results depend on: the rules, the design, the script, the program and what is run."""
-    return {"rules": hashlib.sha256(layer.rules().encode()).hexdigest(), "design": input_digest(inputs.design),
-            "program": input_digest(inputs.program), "script": input_digest(layer.script) if layer.script else "",
-            "does": "fill" if layer.fills else "check"}
+def fingerprint(inputs: Inputs, layer: Layer, of: tuple[str, ...] = ("rules", "design", "program", "script", "does")) -> dict[str, str]:
+    """What a layer's results depend on: the rules, the design, the program, the script and what is run; or some of it."""
+    ways: dict[str, Callable[[], str]] = {
+        "rules": lambda: hashlib.sha256(layer.rules().encode()).hexdigest(), "design": lambda: input_digest(inputs.design),
+        "program": lambda: input_digest(inputs.program), "script": lambda: input_digest(layer.script) if layer.script else "",
+        "does": lambda: "fill" if layer.fills else "check"}
+    return {name: ways[name]() for name in of}
 
 
 def words(inputs: Inputs, layer: Layer, files: Files, library: Path) -> list[str]:
@@ -159,7 +167,7 @@ class Runner:
         """Notes what a whole run was made of, and forgets an earlier one that is whole no more."""
         files = Files.of(self.inputs.folder, layer)
         if ran.status == 0:
-            outputs = {path.name: digest(path) for path in (files.report, files.library) if path.exists()}
+            outputs = {path.name: digest(path) for path in files.left(layer.fills)[1:]}
             record = {"inputs": fingerprint(self.inputs, layer), "outputs": outputs, "ran": asdict(ran)}
             part = files.record.with_name(files.record.name + ".part")
             part.write_text(json.dumps(record, indent=1) + "\n")
@@ -181,12 +189,19 @@ class Runner:
         return None
 
 
-def jobs_for(design: Path, layers: int, asked: int | None) -> int:
-    """How many layers run side by side: as many as asked for, else as there are processors and memory for."""
+def memory_for(size: int, copies: int, fills: bool) -> int:
+    """Bytes that a layer's run takes, about: of a file of so many bytes, of which it flattens so many copies."""
+    return MEMORY_AT_LEAST + int(size * MEMORY_FOR_A_BYTE) + copies * MEMORY_FOR_A_COPY[fills]
+
+
+def jobs_for(design: Path, layers: list[Layer], copies: dict[str, int], asked: int | None) -> int:
+    """How many layers run side by side: as many as asked for, else as there are processors and memory for those that take most."""
     if asked:
         return asked
-    each = max(MEMORY_AT_LEAST, int(design.stat().st_size * MEMORY_FOR_A_BYTE))
-    return max(1, min(layers, os.cpu_count() or 1, free_memory() // each))
+    size, free = design.stat().st_size, free_memory()
+    each = sorted((memory_for(size, copies.get(layer.name, 0), layer.fills) for layer in layers), reverse=True)
+    fit = next((k for k in range(len(each)) if sum(each[:k + 1]) > free), len(each))
+    return max(1, min(fit, os.cpu_count() or 1))
 
 
 def free_memory() -> int:

@@ -5,11 +5,11 @@ from fractions import Fraction
 from functools import cached_property
 from pathlib import Path
 
-from .deck import Deck, Layer
 from .gds import boxes
 from .lengths import told
 from .reports import Figures, Limits, Window, figures, read_report
-from .runs import Files, Inputs, Ran, digest, input_digest
+from .runs import Files, Inputs, Ran, digest, fingerprint, input_digest
+from .tables import Deck, Layer
 
 STATUS = {1: "usage", 2: "an input is refused", 3: "out of memory", 4: "a file could not be opened, read or written",
           5: "the fill is unfinished", 6: "the workers gave back other edits"}
@@ -69,18 +69,22 @@ def told_figures(of: Figures, unit: Fraction) -> dict[str, object]:
     return {"low": of.low, "high": of.high, "least": place(of.least, unit), "greatest": place(of.greatest, unit), "mean": of.mean / 10**6}
 
 
-def told_layer(outcome: Outcome, unit: Fraction) -> dict[str, object]:
+def failure(ran: Ran) -> str:
+    """Why a run failed: what its status means, and what the program told."""
+    return f"{STATUS.get(ran.status, f'status {ran.status}')}: {ran.told}"
+
+
+def told_layer(inputs: Inputs, outcome: Outcome, unit: Fraction) -> dict[str, object]:
     """A layer of the summary."""
     layer, ran = outcome.layer, outcome.ran
-    told: dict[str, object] = {"name": layer.name, "layer": f"{layer.numbers['layer']}/{layer.numbers['datatype']}", "fills": layer.fills,
-                               "status": ran.status, "told": ran.told, "seconds": round(ran.seconds, 3), "memory": ran.memory,
-                               "from_an_earlier_run": ran.taken}
+    told: dict[str, object] = {"name": layer.name, "layer": layer.metal, "fills": layer.fills, "status": ran.status, "told": ran.told,
+                               "seconds": round(ran.seconds, 3), "memory": ran.memory, "from_an_earlier_run": ran.taken,
+                               "inputs": fingerprint(inputs, layer)}
     if outcome.is_whole:
         told |= {"windows": len(outcome.after), "boxes": outcome.boxes, "min": layer.numbers["min"] / 10**6,
                  "max": layer.numbers["max"] / 10**6, "before": told_figures(outcome.figures[0], unit),
                  "after": told_figures(outcome.figures[1], unit),
-                 "files": {path.name: digest(path) for path in (outcome.files.rules, outcome.files.report, outcome.files.library)
-                           if path.exists()}}
+                 "files": {path.name: digest(path) for path in outcome.files.left(layer.fills)}}
     return told
 
 
@@ -89,7 +93,7 @@ def summary(inputs: Inputs, deck: Deck, outcomes: list[Outcome]) -> dict[str, ob
     return {"deck": str(deck.path), "design": str(inputs.design), "top": deck.top, "unit_m": float(deck.unit),
             "time": datetime.now(timezone.utc).isoformat(timespec="seconds"),
             "hashes": {"deck": digest(deck.path), "design": input_digest(inputs.design), "program": input_digest(inputs.program)},
-            "layers": [told_layer(outcome, deck.unit) for outcome in outcomes]}
+            "layers": [told_layer(inputs, outcome, deck.unit) for outcome in outcomes]}
 
 
 def percent(window: Window | None) -> str:
@@ -103,7 +107,7 @@ def text(deck: Deck, outcomes: list[Outcome]) -> str:
     for outcome in outcomes:
         ran = outcome.ran
         if not outcome.is_whole:
-            lines.append(f"{outcome.layer.name:<16}failed: {STATUS.get(ran.status, f'status {ran.status}')}: {ran.told}")
+            lines.append(f"{outcome.layer.name:<16}failed: {failure(ran)}")
             continue
         before, after = outcome.figures
         lines.append(f"{outcome.layer.name:<16}{after.windows:>9}{f'{before.low} > {after.low}':>14}{f'{before.high} > {after.high}':>14}"

@@ -1,0 +1,167 @@
+"""What is wrong with values of a deck that are each fit by themselves: with one another, with scripts, and with the design."""
+import difflib
+from collections.abc import Callable, Iterable, Iterator
+from pathlib import Path
+
+from .contents import Contents, On
+from .lengths import METRES, share_of
+from .tables import Fault, Layer, Table
+
+FAR, LONG, MOST_WINDOWS, MOST_PLACES, MOST_CHANGES = 1 << 30, 1 << 20, 1 << 20, 1 << 24, 100_000
+SHOWN = 12
+# The keys of a deck, what they are in a rule file, and the range of these (docs/FORMATS.md).
+RANGES = ((("frame", "first", "origin"), -FAR, FAR), (("window", "step", "box", "pitch", "windows"), 1, LONG), (("spacing", "fill_spacing"), 0, LONG),
+          (("tile",), 1, 4096))
+NAMES = {"frame": ("frame_x1", "frame_y1", "frame_x2", "frame_y2"), "first": ("win_x", "win_y"), "origin": ("origin_x", "origin_y"),
+         "window": ("win_w", "win_h"), "step": ("win_step_x", "win_step_y"), "box": ("box_w", "box_h"), "pitch": ("step_x", "step_y"),
+         "windows": ("win_nx", "win_ny"), "spacing": ("spacing",), "fill_spacing": ("fill_spacing",), "tile": ("tile_nx", "tile_ny")}
+KINDS = ("add", "cut", "keep")
+
+
+def judge_table(table: Table) -> None:
+    """What is wrong with a layer's numbers, as far as they could be read."""
+    judge_ranges(table)
+    judge_frame_and_limits(table)
+    judge_windows(table)
+    if table.get("fill", True) is not False:
+        judge_raster(table)
+        n = table.numbers
+        if table.has("layer", "datatype", "fill_layer", "fill_datatype") and n["layer"] == n["fill_layer"] and n["datatype"] == n["fill_datatype"]:
+            table.fault("fill_layer", f"{n['layer']}/{n['datatype']} is the layer of the metal: write one of the boxes' own")
+
+
+def judge_ranges(table: Table) -> None:
+    for keys, low, high in RANGES:
+        for key in keys:
+            for value in (table.numbers.get(name) for name in NAMES[key]):
+                if value is not None and not low <= value <= high and table.get(key) is not None:
+                    unit = "" if key in ("windows", "tile") else " database units"
+                    table.fault(key, f"{value}{unit}: write {low} to {high}")
+
+
+def judge_frame_and_limits(table: Table) -> None:
+    n = table.numbers
+    for low, high, words in (("frame_x1", "frame_x2", "left edge is not left of its right"), ("frame_y1", "frame_y2", "lower edge is not below its upper")):
+        if table.has(low, high) and n[low] >= n[high]:
+            table.fault("frame", f"its {words} one: write [left, lower, right, upper]")
+    if table.has("min", "max") and n["max"] < n["min"]:
+        table.fault("max", f"{n['max'] / 10**4:g} % is below min, {n['min'] / 10**4:g} %")
+    for key in ("min", "max"):
+        value = table.get(key)
+        share = share_of(value)
+        if share is not None and 0 < share < 1 and not (isinstance(value, str) and "%" in value):
+            table.warn(key, f'{value} is {share} %, as a number is one of percent: write "{share} %", or "{float(share * 100):g} %"')
+
+
+def judge_windows(table: Table) -> None:
+    n = table.numbers
+    if not table.has("win_nx", "win_ny", "win_x", "win_y", "win_w", "win_h", "win_step_x", "win_step_y"):
+        return
+    if n["win_nx"] * n["win_ny"] > MOST_WINDOWS:
+        key = "windows" if table.get("windows") is not None else "step" if table.get("step") is not None else "window"
+        table.fault(key, f"{n['win_nx']} by {n['win_ny']} windows are more than {MOST_WINDOWS}: write a longer step, or a smaller frame")
+    elif any(n[f"win_{a}"] + (n[f"win_n{a}"] - 1) * n[f"win_step_{a}"] + n[side] > FAR for a, side in (("x", "win_w"), ("y", "win_h"))):
+        table.fault("windows" if table.get("windows") is not None else "window", f"the last window ends beyond {FAR} database units")
+
+
+def judge_raster(table: Table) -> None:
+    n = table.numbers
+    for step, side in (("step_x", "box_w"), ("step_y", "box_h")):
+        if table.has(step, side, "fill_spacing") and n[step] < n[side] + n["fill_spacing"]:
+            least = n[side] + n["fill_spacing"]
+            table.fault("pitch", f"{told(n[step], table)} is less than box and fill_spacing together: write {told(least, table)} or more")
+    places = 1
+    for low, high, step, side in (("frame_x1", "frame_x2", "step_x", "box_w"), ("frame_y1", "frame_y2", "step_y", "box_h")):
+        if not table.has(low, high, step, side) or n[step] < 1:
+            return
+        places *= max(0, (n[high] - n[low] - n[side]) // n[step] + 1)
+    # The origin decides of a place more or less each way.
+    if places > MOST_PLACES:
+        table.fault("pitch", f"some {places} places for a box in the frame are more than {MOST_PLACES}: write a longer pitch, or a smaller frame")
+
+
+def told(units: int, table: Table) -> str:
+    return f"{float(units * table.unit / METRES['um']):g} um"
+
+
+def judge_script(table: Table, script: Path) -> None:
+    """The first fault of a script, as the program would refuse it."""
+    try:
+        lines = script.read_text(encoding="latin-1").splitlines()
+    except OSError as error:
+        table.fault("script", f"{script}: {error.strerror}")
+        return
+    rows = [(number, line) for number, line in enumerate(lines, 1) if line]
+    if len(rows) > MOST_CHANGES:
+        table.fault("script", f"{script} has {len(rows)} changes, more than {MOST_CHANGES}: draw them into the design")
+    bad = next((number for number, line in rows if not is_change(line)), None)
+    if bad is not None:
+        words = "write add, cut or keep with x1,y1,x2,y2 in database units, x1 below x2 and y1 below y2"
+        table.text.faults.append(Fault(script, bad, f"{table.where}, script", f"{lines[bad - 1][:60]!r} is no change: {words}"))
+
+
+def is_change(line: str) -> bool:
+    kind, *words = line.split(",")
+    if kind not in KINDS or len(words) != 4 or not all(word.removeprefix("-").isdecimal() and word.isascii() for word in words):
+        return False
+    x1, y1, x2, y2 = map(int, words)
+    return -FAR <= x1 < x2 <= FAR and -FAR <= y1 < y2 <= FAR
+
+
+def judge_together(read: list[tuple[Table, Layer]]) -> None:
+    """What no two layers may have in common: their names, the layers of their boxes, and the tops of their libraries."""
+    doubled = [again for _, again in of_one(read, lambda layer: layer.name)]
+    filled = [(table, layer) for table, layer in read if layer.fills and (table, layer) not in doubled]
+    for table, layer in doubled:
+        table.fault("name", f"two layers have the name {layer.name}")
+    for first, (table, layer) in of_one(filled, lambda layer: f"{layer.numbers['fill_layer']}/{layer.numbers['fill_datatype']}"):
+        table.fault("fill_layer", f"the boxes of {first.name} have the layer {layer.numbers['fill_layer']}/{layer.numbers['fill_datatype']} too: "
+                                  "write one for each metal")
+    for first, (table, layer) in of_one(filled, lambda layer: layer.texts["fill_top"]):
+        table.fault("top_cell", f"the library of {first.name} has the top {layer.texts['fill_top']} too: write one for each layer")
+    for table, layer in filled:
+        if layer.texts["fill_top"] == layer.texts["fill_cell"]:
+            table.fault("top_cell", f"{layer.texts['fill_top']} is the name of cell too: write another one")
+
+
+def of_one(read: list[tuple[Table, Layer]], key: Callable[[Layer], str]) -> Iterator[tuple[Layer, tuple[Table, Layer]]]:
+    """Each layer that has a key of one before, with the first of these."""
+    seen: dict[object, Layer] = {}
+    for table, layer in read:
+        first = seen.setdefault(key(layer), layer)
+        if first is not layer:
+            yield first, (table, layer)
+
+
+def judge_top(deck: Table, top: str, contents: Contents) -> bool:
+    """Whether the design has the top of the deck."""
+    if top in contents.structures:
+        return True
+    near = difflib.get_close_matches(top, list(contents.structures), 1, 0.5)
+    words = f'write "{near[0]}", or one of its tops, ' if near and near[0] not in contents.tops else "its tops are "
+    deck.fault("top", f'the design has no structure {top}: {words}{listed(contents.tops) or "none, as each is referred to"}')
+    return False
+
+
+def judge_metal(read: Iterable[tuple[Table, Layer]], top: str, contents: Contents) -> None:
+    """Layers of which the top draws nothing: mostly a wrong number, of which a fill would cover the whole frame."""
+    drawn = contents.layers(top)
+    for table, layer in read:
+        on = (layer.numbers["layer"], layer.numbers["datatype"])
+        if on not in drawn and table.get("empty") is not True:
+            words = f"the top {top} draws nothing on {layer.metal}: it draws {layers_told(drawn, on)}; write empty = true where that is meant"
+            table.fault("layer", words)
+        keep = (layer.numbers.get("keep_layer", -1), layer.numbers.get("keep_datatype", -1))
+        if keep[0] >= 0 and keep not in drawn:
+            table.warn("keep_layer", f"the top {top} draws nothing on {keep[0]}/{keep[1]}, so nothing is kept free of boxes")
+
+
+def layers_told(drawn: set[On], near: On) -> str:
+    """Layers and data types, those of the same layer first."""
+    of = sorted(drawn, key=lambda on: (on[0] != near[0], on))
+    return listed([f"{layer}/{datatype}" for layer, datatype in of]) or "no shape at all"
+
+
+def listed(words: list[str]) -> str:
+    return ", ".join(words[:SHOWN]) + (f" and {len(words) - SHOWN} more" if len(words) > SHOWN else "")
+
