@@ -31,7 +31,8 @@ def tell(line: str, counts: dict[str, int]) -> None:
         counts["refused" if refused else "through"] += 1
     if "NOT PROVED" in line or line.startswith("rt: FAILED"):
         counts["unproved"] += 1
-    if "proved" in line and line.startswith("rt:") or "trying its" in line or bug and not refused:
+    how_far = line.startswith("rt:") and not bug and any(word in line for word in ("proved", "PROVED", "trying its"))
+    if how_far or bug and not refused:
         print(line, end="", flush=True)
 
 
