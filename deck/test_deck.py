@@ -456,8 +456,9 @@ class Pages(Folder):
                               capture_output=True, text=True, check=True, timeout=120)
         seen = re.search(r"<title>seen (\d+) ([^<]*)</title>", done.stdout)
         self.assertIsNotNone(seen)
-        share = windows[side + 2].share // 100 / 100
-        self.assertEqual(seen.group(2), f"column 2, row 1: {share:.2f} %, from 0.02, 0.01 um")
+        column, row = 2, 1
+        share = windows[row * side + column].share // 100 / 100
+        self.assertEqual(seen.group(2), f"column {column}, row {row}: {share:.2f} %, from 0.02, 0.01 um")
         print(f"a page of twelve layers: {len(text_of_page) / 1e6:.1f} MB, {seen.group(1)} ms in a browser", flush=True)
         self.assertLess(int(seen.group(1)), 2000 * max(1.0, os.getloadavg()[0] / (os.cpu_count() or 1)))
 

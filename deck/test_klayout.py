@@ -124,6 +124,11 @@ json.dump(left, open(folder + "/left.json", "w"))
 """
 
 
+def at(column: int, row: int) -> str:
+    """How the comparison names a window."""
+    return f"column {column}, row {row}"
+
+
 class Klayout(FolderCase):
     """The example block, in a folder for each test."""
     deck: Path
@@ -248,7 +253,7 @@ class Klayout(FolderCase):
         state = rows[6].replace(",LOW", ",OK")
         self.assertNotEqual(state, rows[6])
         for text, want, count in (([rows[0], ",".join(areas), *rows[2:]], "4000,0 areas ", 1), ([*rows[:6], state, *rows[7:]], "LOW in KLayout alone", 1),
-                                  (rows[:-2], "column 10, row 7: missing in the report", 2), ([*rows, rows[3]], "column 3, row 0: twice in", 1)):
+                                  (rows[:-2], f"{at(10, 7)}: missing in the report", 2), ([*rows, rows[3]], f"{at(3, 0)}: twice in", 1)):
             report.write_text("".join(text))
             seen = self.klayout(compare, 1, design=design, rules=rules, report=report)
             self.assertIn(want, seen)
