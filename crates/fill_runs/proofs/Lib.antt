@@ -1,0 +1,14 @@
+pub mod Intervals
+pub mod Members
+pub mod Levels
+pub mod Cutting
+pub mod Searching
+pub mod Words
+pub mod Stacking
+pub mod Parting
+pub mod Joining
+pub mod Columns
+pub mod RowIntervals
+pub mod Rising
+pub mod Same
+pub mod Ordered

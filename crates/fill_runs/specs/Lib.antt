@@ -1,0 +1,4 @@
+pub mod Runs
+pub mod Laws
+pub mod Steps
+pub mod Operands
