@@ -157,8 +157,8 @@ class Case(FolderCase):
         program = how.pop("program", None)
         return subprocess.run(self.words(does, *more, program=program), cwd=self.folder, capture_output=True, text=True, check=False, **how)
 
-    def job(self, *words: object) -> subprocess.CompletedProcess[str]:
-        return subprocess.run([*self.tool, *map(str, words)], cwd=self.folder, capture_output=True, text=True, check=False)
+    def job(self, *words: object, **how: object) -> subprocess.CompletedProcess[str]:
+        return subprocess.run([*self.tool, *map(str, words)], cwd=self.folder, capture_output=True, text=True, check=False, **how)
 
     def wrapped(self, *lines: str) -> Path:
         """A program that does something else for some parts, and is densfill for the others: $* are the words, $seen a file of its own."""
@@ -331,6 +331,16 @@ class Runs(Case):
         ended = self.job("part", "out", 2)
         self.assertEqual(ended.returncode, 2)
         self.assertIn("design.gds was written anew since the array was submitted", ended.stderr)
+
+    def test_a_job_tells_how_many_processors_its_part_uses(self) -> None:
+        self.array("check", "--parts", 2)
+        uses, first = len(os.sched_getaffinity(0)), min(os.sched_getaffinity(0))
+        self.assertEqual(self.job("part", "out", 1).stdout, f"part 1: {uses} processors\n")
+        one = self.job("part", "out", 1, preexec_fn=lambda: os.sched_setaffinity(0, {first}), env=os.environ | {"NSLOTS": "1"})
+        self.assertEqual(one.stdout, "part 1: 1 processors\n")
+        if uses > 1:
+            told = self.job("part", "out", 1, env=os.environ | {"SLURM_CPUS_PER_TASK": "1"}).stdout
+            self.assertEqual(told, f"part 1: {uses} processors, though 1 were given to it: the batch system doesn't confine it to them\n")
 
     def test_usage(self) -> None:
         for words in (("--parts", 0), ("--parts", 4097), ("--parts", "two"), ("--memory", "much"),

@@ -564,7 +564,7 @@ class Runs(Folder):
         self.assertEqual(deck.copies, {f"M{k}": 2_000_000 for k in LAYERS})
         self.assertEqual(memory_for(0, 2_000_000, True), (64 << 20) + 300_000_000)
         for free, want in ((10 << 30, 8), (1 << 30, 2), (1 << 20, 1)):
-            with mock.patch("densfill_deck.runs.free_memory", return_value=free), mock.patch("os.cpu_count", return_value=16):
+            with mock.patch("densfill_deck.runs.free_memory", return_value=free), mock.patch("os.sched_getaffinity", return_value=range(16)):
                 self.assertEqual(jobs_for(self.design, deck.layers, deck.copies, None), want)
                 self.assertEqual(jobs_for(self.design, deck.layers, deck.copies, 5), 5)
         for size, copies, fills, megabytes in ((100_000, 3_900_000, False, 122), (239_000_000, 3_900_000, False, 600), (100_000, 3_900_000, True, 537)):

@@ -13,10 +13,11 @@ import subprocess
 import sys
 import unittest
 from dataclasses import dataclass
+from functools import partial
 from pathlib import Path
 
 sys.path.insert(0, str(Path(__file__).resolve().parent))
-from built import FolderCase, rule_file, run_tests  # noqa: E402
+from built import ROOT, FolderCase, rule_file, run_tests  # noqa: E402
 from stream import END, boundary, library, points, record, structure, text, words  # noqa: E402
 
 NOBODY = 65534
@@ -263,6 +264,17 @@ class Files(Case):
         self.assertEqual((done.returncode, done.stdout.decode()), (0, FILLED))
         calls = re.findall(r"(sync|rename)\w*\(", (self.folder / "calls").read_text())
         self.assertEqual(calls[-2:], ["sync", "rename"])
+
+    @unittest.skipUnless(shutil.which("strace") and len(os.sched_getaffinity(0)) > 1, "needs strace and two processors")
+    def test_threads_are_for_the_processors_that_it_may_use(self) -> None:
+        line: list[str | Path] = ["strace", "-f", "-e", "trace=clone,clone3", "-o", "calls", self.program, "check"]
+        line += [ROOT / "examples/block_rules.csv", ROOT / "examples/block.gds"]
+        begun = list[int]()
+        for processors in sorted(os.sched_getaffinity(0))[:1], sorted(os.sched_getaffinity(0))[:2]:
+            confined = partial(os.sched_setaffinity, 0, processors)
+            subprocess.run(line, cwd=self.folder, stdout=subprocess.DEVNULL, preexec_fn=confined, check=True)
+            begun.append(len(re.findall(r"clone3?\(", (self.folder / "calls").read_text())))
+        self.assertLess(begun[0], begun[1])
 
     def test_a_full_disk_leaves_the_old_library(self) -> None:
         (self.folder / "out.gds").write_bytes(b"before")

@@ -14,7 +14,7 @@ from typing import NoReturn
 from .engines import ENGINES, Jobs, Limits, NotSubmitted, shown, submit_array, submit_joining
 from .folder import Asked, Changed, Part, missing, read_asked, stamp, write_aside, write_asked
 from .local import Pool
-from .part import NotJoined, Stopped, join, ranges, run_part
+from .part import NotJoined, Stopped, join, ranges, run_part, told_processors
 from .rules import MOST_PARTS, NoParts, parts_for, read_work
 from .queue import note
 from .table import progress, states, table
@@ -182,7 +182,7 @@ def finish(folder: Path) -> int:
 
 
 def run_local(given: argparse.Namespace, folder: Path, asked: Asked) -> None:
-    side_by_side = os.cpu_count() or 1
+    side_by_side = len(os.sched_getaffinity(0))
     if given.memory:
         side_by_side = max(1, min(side_by_side, free_memory() // given.memory))
     note(folder, "local", str(os.getpid()))
@@ -286,6 +286,7 @@ def run(given: argparse.Namespace) -> int:
 
 
 def do_part(given: argparse.Namespace) -> int:
+    print(f"part {given.number}: {told_processors()}", flush=True)
     return run_part(given.folder, given.number)
 
 

@@ -195,13 +195,13 @@ def memory_for(size: int, copies: int, fills: bool) -> int:
 
 
 def jobs_for(design: Path, layers: list[Layer], copies: dict[str, int], asked: int | None) -> int:
-    """How many layers run side by side: as many as asked for, else as there are processors and memory for those that take most."""
+    """How many layers run side by side: as many as asked for, else as there are processors that it may use, and memory for those that take most."""
     if asked:
         return asked
     size, free = design.stat().st_size, free_memory()
     each = sorted((memory_for(size, copies.get(layer.name, 0), layer.fills) for layer in layers), reverse=True)
     fit = next((k for k in range(len(each)) if sum(each[:k + 1]) > free), len(each))
-    return max(1, min(fit, os.cpu_count() or 1))
+    return max(1, min(fit, len(os.sched_getaffinity(0))))
 
 
 def free_memory() -> int:
