@@ -311,6 +311,10 @@ class Refused(Case):
     def test_a_bad_line_is_told_with_its_reason(self) -> None:
         for line, want in (((), "error: 'densfill' requires a subcommand but one was not provided\n"),
                            (("--help",), "Checks the metal density of a layout\n"),
+                           (("chek", "rules.csv", "design.gds"), "error: unrecognized subcommand 'chek'\n\n  tip: a similar subcommand exists: 'check'\n"),
+                           (("fill", "rules.csv", "design.gds", "script.csv", "out.gds", "--worker", "2"),
+                            "error: unexpected argument '--worker' found\n\n  tip: a similar argument exists: '--workers'\n"),
+                           (("fill", "rules.csv", "design.gds", "out.gds"), "error: the following required arguments were not provided:\n  <OUT>\n"),
                            (("rects", "rules.csv"), "error: the following required arguments were not provided:\n")):
             ended = self.run_words(*line)
             self.assertEqual((ended.status, ended.out, ended.err[:len(want)]), (1, "", want))

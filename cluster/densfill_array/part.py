@@ -107,7 +107,9 @@ def join(folder: Path) -> None:
     asked = read_asked(folder)
     lacking = missing(folder, asked)
     if lacking:
-        raise NotJoined(f"{len(lacking)} of {asked.parts} parts are missing: {ranges(lacking)}; --resume runs them")
+        first = Part(folder, lacking[0], asked.parts)
+        why = f", the first as {told(first)}" if first.path("log").exists() and told(first) else ""
+        raise NotJoined(f"{len(lacking)} of {asked.parts} parts are missing: {ranges(lacking)}; --resume runs them{why}")
     parts = parts_of(folder, asked)
     if asked.does == "fill":
         join_libraries(asked, parts, folder / "fill.gds")
