@@ -84,7 +84,7 @@ class Picking(unittest.TestCase):
             return read_work(rules, design, does)
 
     def chip(self, does: str, **changes: object) -> Chip:
-        return self.work(does, **changes).chip
+        return self.work(does, structure("TOP"), **changes).chip
 
     def test_rows(self) -> None:
         self.assertEqual((self.chip("check").windows, self.chip("check").tiles), (10, 0))
@@ -170,8 +170,8 @@ class Case(FolderCase):
     def joined(self, does: str) -> tuple[bytes, bytes]:
         return (self.out / "report.csv").read_bytes(), (self.out / "fill.gds").read_bytes() if does == "fill" else b""
 
-    def assert_whole(self, does: str, ended: subprocess.CompletedProcess[str]) -> None:
-        self.assertEqual((ended.returncode, ended.stderr), (0, ""), ended.stdout)
+    def assert_whole(self, does: str, ended: subprocess.CompletedProcess[str], told: str = "") -> None:
+        self.assertEqual((ended.returncode, ended.stderr), (0, told), ended.stdout)
         self.assertEqual(self.joined(does), self.one_run(does))
 
     def assert_not_joined(self, ended: subprocess.CompletedProcess[str], lacking: str) -> None:
@@ -189,8 +189,10 @@ class Runs(Case):
 
     def test_the_bytes_are_those_of_one_run(self) -> None:
         for does in ("check", "fill"):   # in this order: a check takes no fill away
+            rows = {"check": 10, "fill": 14}[does]
             for parts in 1, 2, 5, 17:
-                self.assert_whole(does, self.array(does, "--parts", parts))
+                told = f"densfill-array: 17 parts are more than the {rows} rows of the chip: {17 - rows} have none\n" if parts > rows else ""
+                self.assert_whole(does, self.array(does, "--parts", parts), told)
                 self.assertEqual(len(list((self.out / "parts").glob(f"*-of-{parts}.report.csv"))), parts)
         self.assertFalse(list(self.out.rglob("*.aside*")))
 
