@@ -27,6 +27,7 @@ sys.path[:0] = [str(DECK), str(ROOT / "tools")]
 
 from built import FolderCase, interruptible, run_tests  # noqa: E402
 from densfill_deck.contents import contents_of  # noqa: E402
+from densfill_deck.costs import Load, load_of  # noqa: E402
 from densfill_deck.deck import read_deck  # noqa: E402
 from densfill_deck.gds import boxes, database_unit, real  # noqa: E402
 from densfill_deck.lengths import Unfit, in_millionths, in_units, metres  # noqa: E402
@@ -329,6 +330,38 @@ class Faults(Folder):
 
     def test_no_toml(self) -> None:
         self.assertRegex(self.faults("[deck\n")[0], r"^:1: the deck: ")
+
+
+class Costs(Folder):
+    """What runs take, by an estimate."""
+    # What was measured on the designs of bench/ (docs/PERFORMANCE.md, docs/CLUSTER.md): the most memory in units of 2^20 bytes.
+    MEASURED = (("check", Load(65_876_012, 1_029_311, 1_029_311, 10_000, 0, 0), 143), ("check", Load(63_724, 324, 1_029_311, 10_000, 0, 0), 26),
+                ("check", Load(239 << 20, 3_900_000, 3_900_000, 10_000, 0, 0), 600), ("check", Load(100_000, 324, 3_900_000, 10_000, 0, 0), 122),
+                ("check", Load(219 << 20, 325_000, 325_000, 10_000, 0, 0), 266), ("check", Load(36_000_000, 1_000_001, 4_000_000, 10_000, 0, 0), 251),
+                ("check", Load(100_000, 1000, 1000, 1 << 20, 0, 0), 108), ("check", Load(262_144 * 64, 262_144, 262_144, 1 << 20, 0, 0), 117),
+                ("fill", Load(65_876_012, 1_029_311, 1_029_311, 16_900, 940_032, 238), 194), ("fill", Load(63_724, 324, 3_900_000, 70_225, 3_600_000, 900), 420),
+                ("fill", Load(63_724, 324, 3_900_000, 6_241, 3_600_000, 14_000), 537), ("fill", Load(274, 0, 0, 1, 4_000_000, 1_000), 17),
+                ("fill", Load(1_000, 1, 1, 1, 1 << 24, 1 << 24), 2_692), ("fill", Load(1_000, 1, 1, 1 << 20, 262_144, 256), 92))
+
+    def test_memory_is_not_below_what_was_measured(self) -> None:
+        for does, load, megabytes in self.MEASURED:
+            self.assertGreater(load.memory(does), megabytes << 20, (does, load))
+            self.assertLess(load.memory(does), (64 + 3 * megabytes) << 20, (does, load))
+
+    def test_a_part_takes_the_file_and_its_share_of_the_rest(self) -> None:
+        load = Load(1 << 30, 1_000_000, 3_000_000, 10_000, 1_000_000, 250)
+        file = Load(1 << 30, 1_000_000, 0, 0, 0, 0)
+        for does in ("check", "fill"):
+            self.assertAlmostEqual(load.memory(does, 0.25), file.memory(does) + (load.memory(does) - file.memory(does)) / 4, delta=1)
+
+    def test_places_and_tiles_are_those_of_the_frame(self) -> None:
+        # Boxes of 6 at steps of 10 from 2 on: ten from 2 to 92 in a frame of 100, nine from 7 on or in one of 97; tiles of 3 by 4.
+        numbers = dict(frame_x1=0, frame_x2=100, frame_y1=0, frame_y2=300, box_w=6, box_h=6, step_x=10, step_y=10, origin_x=2, origin_y=2,
+                       tile_nx=3, tile_ny=4, win_nx=3, win_ny=13)
+        self.assertEqual(load_of(numbers, "fill", 1, 2, 3), Load(1, 2, 3, 39, 300, 32))
+        self.assertEqual(load_of(numbers, "check", 1, 2, 3), Load(1, 2, 3, 39, 0, 0))
+        for changes, across in (({"origin_x": 7}, 9), ({"frame_x2": 97}, 9), ({"origin_x": -8}, 10), ({"origin_x": 502}, 10), ({"frame_x2": 5}, 0)):
+            self.assertEqual(load_of(numbers | changes, "fill", 1, 2, 3).places, across * 30, changes)
 
 
 class Values(Folder):

@@ -23,6 +23,7 @@ DONE, USAGE, FAILED, INTERRUPTED = 0, 1, 2, 130
 ALL_MEMORY = 4 << 30
 EVERY, EVERY_ON_A_TERMINAL = 60.0, 2.0   # seconds from a line of progress to the next
 RESULTS = ("report.csv", "fill.gds", "summary.txt")
+OF_BATCH_SYSTEMS = ("processors", "time", "at_once", "module", "submit", "submit_join")
 PLAIN = re.compile(r"[A-Za-z0-9_./+@,-]+\Z")
 SIZE = re.compile(r"(\d+(?:\.\d+)?)([KMGT])B?\Z", re.IGNORECASE)
 
@@ -321,12 +322,18 @@ def do_table(given: argparse.Namespace) -> int:
     return DONE
 
 
-def main() -> int:
+def read_line() -> argparse.Namespace:
+    """The command line. Parts on this machine take no options of batch systems."""
     whole = parser()
     given = whole.parse_args()
-    of_batch_systems = [f"--{name.replace('_', '-')}" for name in ("processors", "time", "at_once", "module", "submit", "submit_join") if getattr(given, name, None)]
-    if of_batch_systems and given.engine == "local":
-        whole.error(f"{', '.join(of_batch_systems)}: for a batch system alone, with --engine slurm, lsf or sge")
+    more = [f"--{name.replace('_', '-')}" for name in OF_BATCH_SYSTEMS if getattr(given, name, None)]
+    if more and given.engine == "local":
+        whole.error(f"{', '.join(more)}: for a batch system alone, with --engine slurm, lsf or sge")
+    return given
+
+
+def main() -> int:
+    given = read_line()
     try:
         return {"check": run, "fill": run, "part": do_part, "join": do_join, "table": do_table}[given.command](given)
     except Stopped as stopped:
