@@ -2,10 +2,13 @@
 from collections.abc import Mapping
 from dataclasses import dataclass
 
-# Of any run, and for one of each: no less than was measured on designs whose shapes lie, or stand in rows (docs/PERFORMANCE.md).
+# Of any run, and for one of each: no less than was measured (docs/PERFORMANCE.md).
 AT_LEAST = 16 << 20
 BYTES = {"check": {"size": 1.05, "elements": 84, "copies": 32, "windows": 110, "places": 0, "tiles": 0},
-         "fill": {"size": 1.05, "elements": 84, "copies": 150, "windows": 200, "places": 20, "tiles": 400}}
+         "fill": {"size": 1.05, "elements": 84, "copies": 110, "windows": 200, "places": 10, "tiles": 170}}
+# A fill cuts each shape at the heights at which shapes beside it begin or end: as many as there are across the chip where blocks stand at any
+# heights, which is by the square root of all copies, and few where they stand in rows.
+BYTES_OF_CUTS = {"check": 0.0, "fill": 0.55}
 # Seconds of a processor for one of each, about.
 SECONDS = {"check": {"size": 3e-9, "copies": 1.2e-7, "windows": 5e-7},
            "fill": {"size": 3e-9, "copies": 5e-7, "windows": 1e-6, "places": 8e-8, "tiles": 1.2e-6}}
@@ -25,7 +28,8 @@ class Load:
 
     def memory(self, does: str, share: float = 1.0) -> int:
         """Bytes that a check or a fill takes at most, or a part that looks at this share of the chip."""
-        return AT_LEAST + int(sum(each * getattr(self, name) * (1.0 if name in WHOLE else share) for name, each in BYTES[does].items()))
+        cuts = BYTES_OF_CUTS[does] * self.copies**1.5 * share
+        return AT_LEAST + int(cuts + sum(each * getattr(self, name) * (1.0 if name in WHOLE else share) for name, each in BYTES[does].items()))
 
     def seconds(self, does: str) -> float:
         """Seconds of a processor that a check or a fill takes, about."""
