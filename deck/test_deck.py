@@ -897,7 +897,8 @@ class Runs(Folder):
         out = self.folder / "merged.gds"
         line = [sys.executable, str(DECK / "densfill-deck"), "merge", str(self.path), str(self.design), str(out)]
         done = subprocess.run(line, capture_output=True, text=True, check=False, env=os.environ | {"QT_QPA_PLATFORM": "offscreen"})
-        self.assertEqual((done.returncode, done.stderr), (0, ""))
+        filled = ", ".join(f"M{k}" for k in LAYERS if k != 8)
+        self.assertEqual((done.returncode, done.stdout, done.stderr), (0, f"{out}: {self.design} with the fill of {filled} below TOP\n", ""))
         rules = (self.out / "M1.rules.csv").read_text().replace("datatype,0\n", "datatype,1\n", 1)
         (self.folder / "boxes.csv").write_text(rules)
         seen = subprocess.run([self.program, "check", self.folder / "boxes.csv", out], capture_output=True, text=True, check=True)
