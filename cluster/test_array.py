@@ -18,9 +18,10 @@ from unittest import mock
 
 HERE = Path(__file__).resolve().parent
 ROOT = HERE.parent
-sys.path[:0] = [str(HERE), str(ROOT / "tools")]
+sys.path[:0] = [str(HERE), str(ROOT / "deck"), str(ROOT / "tools")]
 
 from built import FolderCase, interruptible, rule_file, run_tests  # noqa: E402
+from densfill_deck.costs import Load  # noqa: E402
 from densfill_array.folder import Part, read_asked  # noqa: E402
 from densfill_array.main import Teller, size  # noqa: E402
 from densfill_array.part import ranges  # noqa: E402
@@ -61,7 +62,7 @@ if numbers:
             env = os.environ | more | {{name: str(k)}}
             status = 99
             while status == 99:
-                status = subprocess.run(["bash", "-c", text.replace("sleep 60", "true")], env=env).returncode
+                status = subprocess.run(["bash", "-c", text.replace("sleep 60", "true")], env=env, stdout=subprocess.DEVNULL).returncode
             statuses.append(status)
     ended.write_text(str(max(map(abs, statuses))))
     print(dict(sbatch="77", bsub="Job <77> is submitted to queue <normal>.", qsub="77.1-8:1")[kind])
@@ -83,7 +84,7 @@ class Picking(unittest.TestCase):
             return read_work(rules, design, does)
 
     def chip(self, does: str, **changes: object) -> Chip:
-        return self.work(does, **changes).chip
+        return self.work(does, structure("TOP"), **changes).chip
 
     def test_rows(self) -> None:
         self.assertEqual((self.chip("check").windows, self.chip("check").tiles), (10, 0))
@@ -94,7 +95,7 @@ class Picking(unittest.TestCase):
 
     def test_few_parts_where_memory_is_ample(self) -> None:
         for does in "check", "fill":
-            work = Work(does, Chip(40, 50, 40_000, 3_000), 1 << 30, 3_000_000)
+            work = Work(does, Chip(40, 50, 40_000, 3_000), Load(1 << 30, 1000, 3_000_000, 1600, 4_000_000, 2500))
             needed = [work.memory(parts) for parts in range(1, 42)]
             self.assertEqual(needed, sorted(needed, reverse=True))
             for bound in (needed[0], needed[3], needed[20] + 1):
@@ -102,17 +103,11 @@ class Picking(unittest.TestCase):
                 self.assertLessEqual(needed[parts - 1], bound)
                 self.assertTrue(parts == 1 or needed[parts - 2] > bound)
 
-    def test_estimates_are_not_below_what_was_measured(self) -> None:
-        chip, million = Chip(40, 50, 40_000, 3_000), 10**6
-        for does, size_of_file, copies, megabytes in (("check", 100_000, 3_900_000, 122), ("check", 239 * million, 3_900_000, 600),
-                                                      ("fill", 100_000, 3_900_000, 537)):
-            self.assertGreater(Work(does, chip, size_of_file, copies).memory(1), megabytes * million)
-
     def test_no_more_parts_than_rows(self) -> None:
         with self.assertRaisesRegex(NoParts, "reads the whole file"):
-            parts_for(Work("fill", Chip(40, 50, 40_000, 3_000), 1 << 30, 1000), 1 << 30)
+            parts_for(Work("fill", Chip(40, 50, 40_000, 3_000), Load(1 << 30, 9, 1000, 9, 9, 9)), 1 << 30)
         with self.assertRaisesRegex(NoParts, "copies of shapes, in however many parts"):
-            parts_for(Work("fill", Chip(40, 50, 40_000, 3_000), 1 << 20, 100_000_000), 64 << 30)
+            parts_for(Work("fill", Chip(40, 50, 40_000, 3_000), Load(1 << 20, 9, 100_000_000, 9, 9, 9)), 64 << 30)
 
     def test_copies_that_one_run_does_not_take(self) -> None:
         cell = structure("CELL", boundary(31, 0, 0, 4, 4), boundary(31, 5, 0, 9, 4), boundary(30, 0, 0, 1, 1), wire(31, 2, 0, 0, 0, 9))
@@ -120,9 +115,9 @@ class Picking(unittest.TestCase):
         top = structure("TOP", array("ROW", 2, 200, (0, 0, 20_000, 0, 0, 2000)), boundary(31, 0, 0, 1, 1), reference("NONE", 0, 0))
         for structures in ((cell, row, top), (top, row, cell)):
             work = self.work("check", *structures)
-            self.assertEqual(work.copies, 400 * 3005 * 3 + 1)
-            self.assertEqual([parts for parts in range(1, 9) if work.copies * work.chip.share(parts) <= 3_000_000][0], parts_for(work, 4 << 30))
-        self.assertEqual(self.work("check", top, structure("ROW", reference("TOP", 0, 0))).copies, 1)
+            self.assertEqual((work.load.elements, work.load.copies), (4 + 6 + 2, 400 * 3005 * 3 + 1))
+            self.assertEqual([parts for parts in range(1, 9) if work.copies(parts) <= 3_000_000][0], parts_for(work, 4 << 30))
+        self.assertEqual(self.work("check", top, structure("ROW", reference("TOP", 0, 0))).load.copies, 1)
 
     def test_no_rule_file(self) -> None:
         with self.assertRaisesRegex(NoParts, "no rule file"):
@@ -157,8 +152,8 @@ class Case(FolderCase):
         program = how.pop("program", None)
         return subprocess.run(self.words(does, *more, program=program), cwd=self.folder, capture_output=True, text=True, check=False, **how)
 
-    def job(self, *words: object) -> subprocess.CompletedProcess[str]:
-        return subprocess.run([*self.tool, *map(str, words)], cwd=self.folder, capture_output=True, text=True, check=False)
+    def job(self, *words: object, **how: object) -> subprocess.CompletedProcess[str]:
+        return subprocess.run([*self.tool, *map(str, words)], cwd=self.folder, capture_output=True, text=True, check=False, **how)
 
     def wrapped(self, *lines: str) -> Path:
         """A program that does something else for some parts, and is densfill for the others: $* are the words, $seen a file of its own."""
@@ -175,8 +170,8 @@ class Case(FolderCase):
     def joined(self, does: str) -> tuple[bytes, bytes]:
         return (self.out / "report.csv").read_bytes(), (self.out / "fill.gds").read_bytes() if does == "fill" else b""
 
-    def assert_whole(self, does: str, ended: subprocess.CompletedProcess[str]) -> None:
-        self.assertEqual((ended.returncode, ended.stderr), (0, ""), ended.stdout)
+    def assert_whole(self, does: str, ended: subprocess.CompletedProcess[str], told: str = "") -> None:
+        self.assertEqual((ended.returncode, ended.stderr), (0, told), ended.stdout)
         self.assertEqual(self.joined(does), self.one_run(does))
 
     def assert_not_joined(self, ended: subprocess.CompletedProcess[str], lacking: str) -> None:
@@ -194,8 +189,10 @@ class Runs(Case):
 
     def test_the_bytes_are_those_of_one_run(self) -> None:
         for does in ("check", "fill"):   # in this order: a check takes no fill away
+            rows = {"check": 10, "fill": 14}[does]
             for parts in 1, 2, 5, 17:
-                self.assert_whole(does, self.array(does, "--parts", parts))
+                told = f"densfill-array: 17 parts are more than the {rows} rows of the chip: {17 - rows} have none\n" if parts > rows else ""
+                self.assert_whole(does, self.array(does, "--parts", parts), told)
                 self.assertEqual(len(list((self.out / "parts").glob(f"*-of-{parts}.report.csv"))), parts)
         self.assertFalse(list(self.out.rglob("*.aside*")))
 
@@ -332,12 +329,63 @@ class Runs(Case):
         self.assertEqual(ended.returncode, 2)
         self.assertIn("design.gds was written anew since the array was submitted", ended.stderr)
 
+    def test_a_job_tells_how_many_processors_its_part_uses(self) -> None:
+        self.array("check", "--parts", 2)
+        uses, first = len(os.sched_getaffinity(0)), min(os.sched_getaffinity(0))
+        self.assertEqual(self.job("part", "out", 1).stdout, f"part 1: {uses} processors\n")
+        one = self.job("part", "out", 1, preexec_fn=lambda: os.sched_setaffinity(0, {first}), env=os.environ | {"NSLOTS": "1"})
+        self.assertEqual(one.stdout, "part 1: 1 processors\n")
+        if uses > 1:
+            told = self.job("part", "out", 1, env=os.environ | {"SLURM_CPUS_PER_TASK": "1"}).stdout
+            self.assertEqual(told, f"part 1: {uses} processors, though 1 were given to it: the batch system doesn't confine it to them\n")
+
     def test_usage(self) -> None:
         for words in (("--parts", 0), ("--parts", 4097), ("--parts", "two"), ("--memory", "much"),
                       ("--engine", "none"), ("--what",)):
             self.assertEqual(self.array("check", *words).returncode, 1, words)
             self.assertFalse(self.out.exists())
         self.assertEqual(self.job("check", "rules.csv", "design.gds").returncode, 1)
+
+    MISTAKES = (("", 1, "the following arguments are required: command"),
+                ("check rules.csv design.gds", 1, "the following arguments are required: --out"),
+                ("check design.gds rules.csv --out o", 2, "rules.csv: is a text and no GDSII stream"),
+                ("check none.csv design.gds --out o", 2, "none.csv: No such file or directory"),
+                ("check rules.csv none.gds --out o", 2, "none.gds: No such file or directory"),
+                ("fill rules.csv design.gds none.csv --out o", 2, "none.csv: No such file or directory"),
+                ("check script.csv design.gds --out o", 2, "script.csv: the key 'win_ny' has no fit value: this is no rule file, which stands before"),
+                ("check rules.csv zipped.gds --out o --parts 2", 2, "zipped.gds: is zipped: unzip it before, as gunzip does"),
+                ("check other.csv design.gds --out o --parts 2", 2, "design.gds: it has no structure TOPS, which the rules name as its top"),
+                ("check rules.csv design.gds script.csv --out o", 1, "unrecognized arguments: script.csv"),
+                ("check rules.csv design.gds --out rules.csv", 2, "rules.csv: is a file: --out names a folder"),
+                ("check rules.csv design.gds --out o --parts 1/4", 1, "--parts: '1/4' is no whole number from 1 on"),
+                ("check rules.csv design.gds --out o --parts 5000", 1, "--parts: 5000 is more than 4096"),
+                ("check rules.csv design.gds --out o --memory 4", 1, "--memory: '4' is no size: write it as 4G or 512M"),
+                ("check rules.csv design.gds --out o --time 90", 1, "--time: '90' is no time: write hours and minutes as 2:30"),
+                ("check rules.csv design.gds --out o --engine pbs", 1, "--engine: invalid choice: 'pbs' (choose from 'slurm', 'lsf', 'sge', 'local')"),
+                ("check rules.csv design.gds --out o --processors 2", 1, "--processors: for a batch system alone, with --engine slurm, lsf or sge"),
+                ("check rules.csv design.gds --out o --time 1:00 --submit=-x", 1, "--time, --submit: for a batch system alone"),
+                ("check rules.csv design.gds --out o --tries 0", 1, "--tries: '0' is no whole number from 1 on"),
+                ("check rules.csv design.gds --out o --program none", 2, "--program none: no program that can be run is there"),
+                ("table none", 2, "none: no array is there, as there is no array.json in it"),
+                ("join none", 2, "none: no array is there"), ("part none 1", 2, "none: no array is there"),
+                ("part none one", 1, "'one' is no whole number from 1 on"))
+
+    def test_mistakes(self) -> None:
+        (self.folder / "zipped.gds").write_bytes(b"\x1f\x8b\x08")
+        (self.folder / "other.csv").write_text((self.folder / "rules.csv").read_text().replace("top,TOP", "top,TOPS"))
+        before = sorted(self.folder.iterdir())
+        for line, status, want in self.MISTAKES:
+            words = line.split()
+            more = ["--program", self.program] if words[:1] in (["check"], ["fill"]) and "--program" not in words else []
+            ended = self.job(*words, *more)
+            self.assertEqual((ended.returncode, want in ended.stderr, ended.stdout), (status, True, ""), (line, ended.stderr))
+            self.assertEqual(sorted(self.folder.iterdir()), before, line)
+
+    def test_more_parts_or_memory_than_there_are(self) -> None:
+        self.assertIn("30 parts are more than the 10 rows of the chip: 20 have none", self.array("check", "--parts", 30).stderr)
+        told = self.array("check", "--parts", 3, "--memory", "1M")
+        self.assertRegex(told.stderr, r"each of 3 parts may take \d+ MB, more than --memory: more --parts, or more memory")
+        self.assertEqual(told.returncode, 0)
 
     def test_files_of_others_are_left(self) -> None:
         (self.folder / "fill.gds").write_bytes(b"mine")

@@ -27,13 +27,15 @@ sys.path[:0] = [str(DECK), str(ROOT / "tools")]
 
 from built import FolderCase, interruptible, run_tests  # noqa: E402
 from densfill_deck.contents import contents_of  # noqa: E402
+from densfill_deck.costs import Load, load_of  # noqa: E402
 from densfill_deck.deck import read_deck  # noqa: E402
 from densfill_deck.gds import boxes, database_unit, real  # noqa: E402
 from densfill_deck.lengths import Unfit, in_millionths, in_units, metres  # noqa: E402
 from densfill_deck.page import Section, page as whole_page  # noqa: E402
 from densfill_deck.pictures import density_map  # noqa: E402
 from densfill_deck.reports import Limits, Window, figures, histogram, worst  # noqa: E402
-from densfill_deck.runs import jobs_for, memory_for  # noqa: E402
+from densfill_deck.progress import Progress  # noqa: E402
+from densfill_deck.runs import jobs_for  # noqa: E402
 from densfill_deck.tables import Refused  # noqa: E402
 from stream import END, array, boundary, library, path as wire, points, record, reference, structure, text as string, words as two_bytes  # noqa: E402
 
@@ -50,9 +52,9 @@ step = "10 um"
 min = "30 %"
 max = "80 %"
 box = "1 um"
-pitch = "2 um"
+pitch = "1.8 um"
 spacing = "0.5 um"
-fill_spacing = "1 um"
+fill_spacing = "0.8 um"
 """
 
 
@@ -116,12 +118,93 @@ class Faults(Folder):
     def test_each_fault(self) -> None:
         for more, want in (('spaceing = 1\n', ':20: layer M1, spaceing: is no key of a deck: write "spacing"'),
                            ('box = "0.3 nm"\n', ':20: layer M1, box: 0.3 nm is 0.3 database units of 1 nm: write a whole number of them'),
-                           ('min = "300 %"\n', ":20: layer M1, min: 300 % is no whole number of parts of a million from 0 % to 100 %"),
+                           ('min = "300 %"\n', ":20: layer M1, min: 300 % is no share: write 0 % to 100 %, with up to four decimals"),
                            ('frame = [1, 2, 3]\n', ":20: layer M1, frame: 3 values: write 4, or one for all"),
                            ('padding = "none"\n', """:20: layer M1, padding: 'none': write "zero" or "ignore\""""),
                            ('cell = "a b"\n', ":20: layer M1, cell: 'a b' is no name: write 1 to 32 letters, digits, _, ? or $"),
                            ('windows = [0, 3]\n', ":20: layer M1, windows: 0 is no whole number from 1 on")):
             self.assertIn(want, self.faults(GOOD + layer(1, more)), more)
+
+    def test_values_of_another_form(self) -> None:
+        for more, want in (('layer = 31\n', 'layer: 31 is no layer: write "31/0", each from 0 to 65535'),
+                           ('layer = "31"\n', """layer: '31' is no layer: write "31/0", each from 0 to 65535"""),
+                           ('layer = "31:0"\n', """layer: '31:0' is no layer"""), ('layer = 31.0\n', "layer: 31.0 is no layer"),
+                           ('layer = "M1"\n', """layer: 'M1' is no layer"""), ('layer = "70000/0"\n', """layer: '70000/0' is no layer"""),
+                           ('min = "30 percent"\n', 'min: "30 percent" is no share: write "25 %" or a number of percent'),
+                           ('min = -5\n', "min: -5 is no share: write 0 % to 100 %, with up to four decimals"),
+                           ('box = "1,5 um"\n', 'box: "1,5 um" has a comma: write "1.5 um"'),
+                           ('box = "1 micron"\n', 'box: "1 micron" has the unit "micron": write um, nm, mm, pm or m'),
+                           ('box = true\n', 'box: True is no length: write "0.5 um", "120 nm" or a number of micrometres'),
+                           ('box = ["1 um", "1 um", 1]\n', "box: 3 values: write 2, or one for all"), ('box = -1\n', "box: -1000 database units: write 1 to"),
+                           ('frame = "0,0,40,40"\n', """frame: '0,0,40,40' is no frame: write "top", or [left, lower, right, upper]"""),
+                           ('frame = "bbox"\n', """frame: 'bbox' is no frame: write "top", or"""), ('frame = 40\n', 'frame: 40 is no frame: write "top", or'),
+                           ('windows = 8.5\n', "windows: 8.5 is no whole number from 1 on"), ('tile = "20 um"\n', "tile: '20 um' is no whole number from 1 on"),
+                           ('padding = true\n', 'padding: True: write "zero" or "ignore"'), ('fill = "no"\n', "fill: 'no': write true or false"),
+                           ('script = 3\n', "script: 3 is no path"), ('name = "M/1"\n', "name: 'M/1' names the layer's files: write letters"),
+                           ('Window = 4\n', 'Window: is no key of a deck: write "window"'), ('fill_spaceing = 1\n', 'write "fill_spacing"')):
+            key = more.split(" = ")[0]
+            text = GOOD + re.sub(rf"(?m)^{key} = .*\n", "", layer(1)) + more
+            self.assertTrue(any(want in found for found in self.faults(text)), (want, self.faults(text)))
+
+    def test_texts_that_are_no_deck(self) -> None:
+        for text, want in ((GOOD.replace('"TOP"', "TOP"), ':2: the deck: Invalid value (at line 2, column 7): a text stands in quotes, as "uart", and a number is as 0.5'),
+                           (GOOD + 'box = "2 um"\n', "the key stands twice in this table"), ("layer,31\ndatatype,0\n", "a deck is TOML, with lines as key = value"),
+                           ("[deck]\n" + GOOD, "the table stands twice: write [[layer]] above each layer"),
+                           ("", ': [deck]: the key "top" is missing'), ('include = "other.toml"\n' + GOOD, "include: is no key of a deck: the keys are deck, defaults, layer"),
+                           (GOOD.replace("[defaults]", "[default]") + layer(1), ': the deck, default: is no key of a deck: write "defaults"')):
+            self.assertTrue(any(want in found for found in self.faults(text)), (want, self.faults(text)))
+        path = self.design(structure("TOP"))
+        with self.assertRaisesRegex(Refused, "design.gds: the deck: is a GDSII stream: the deck stands before the design"):
+            read_deck(path, path)
+        path.write_bytes(b"[deck]\ntop = \"\xff\"\n")
+        with self.assertRaisesRegex(Refused, "the deck: is no text in UTF-8"):
+            read_deck(path)
+
+    def test_a_key_that_is_missing_is_told_alone(self) -> None:
+        for key in ("min", "window", "frame", "box", "pitch", "spacing", "fill_spacing"):
+            text = re.sub(rf"(?m)^{key} = .*\n", "", GOOD) + layer(1)
+            self.assertEqual(self.faults(text), [f':15: layer M1: the key "{key}" is missing, here and in [defaults]'], key)
+        for key in ("layer", "fill_layer"):
+            text = GOOD + re.sub(rf"(?m)^{key} = .*\n", "", layer(1))
+            self.assertEqual(self.faults(text), [f':16: layer M1: the key "{key}" is missing, here and in [defaults]'], key)
+
+    def test_a_fault_of_the_design_is_told_alone(self) -> None:
+        text = GOOD.replace('frame = [0, 0, "40 um", "40 um"]', 'frame = "top"') + layer(1)
+        design = self.design(structure("TOPS", boundary(1, 0, 0, 5, 5)))
+        self.assertEqual(self.faults(text, design), [":2: [deck], top: the design has no structure TOP: its tops are TOPS"])
+        for other in ("", 'top = ""\n'):
+            self.assertEqual(self.faults(text.replace('top = "TOP"\n', other), design), [""":1: [deck]: the key "top" is missing: the name of the design's top structure"""])
+        design.write_bytes(b"")
+        self.assertEqual(self.faults(text, design), ["design.gds: the design: is empty"])
+
+    def test_what_boxes_may_not_meet(self) -> None:
+        self.assertIn(":24: layer M2, layer: M1 fills 1/0 too, and boxes of both would lie over one another: write fill = false in one of them",
+                      self.faults(GOOD + layer(1) + layer(2).replace("2/0", "1/0").replace('name = "M2"\nlayer', 'name = "M2"\n\nlayer')))
+        self.assertEqual(self.faults(GOOD + layer(1) + layer(2).replace("2/1", "1/0")),
+                         [":24: layer M2, fill_layer: 1/0 is the metal of M1: write one of the boxes' own"])
+        design = self.design(structure("TOP", boundary(1, 0, 0, 5, 5)))
+        self.assertEqual(self.faults(GOOD.replace('[0, 0, "40 um", "40 um"]', "[100, 100, 200, 200]") + layer(1), design),
+                         [":6: [defaults], frame: lies beside all that the top TOP draws, [0, 0, 0.005, 0.005] in micrometres"])
+
+    def warnings(self, text: str, *structures: bytes) -> list[str]:
+        found = read_deck(self.deck(text), self.design(*structures) if structures else None).warnings
+        return [str(warning).replace(f"{self.folder}/deck.toml", "") for warning in found]
+
+    def test_what_is_odd_but_may_be_meant(self) -> None:
+        wide = boundary(1, 0, 0, 40_000, 40_000)
+        for more, want in (('pitch = "4 um"\n', ":20: layer M1, pitch: warning: boxes take 6.250% of an empty window, less than min: write a shorter pitch or a larger box"),
+                           ('step = "15 um"\n', ":20: layer M1, step: warning: a window lies to 25.0% in the frame and counts as empty beside it, so fill brings it to "
+                                               'no more than 7.7%: write padding = "ignore", or other windows'),
+                           ('step = "30 um"\npadding = "ignore"\n', ":20: layer M1, step: warning: is longer than the window: what lies between two windows isn't checked"),
+                           ('keep_layer = "9/0"\n', ":20: layer M1, keep_layer: warning: the top TOP draws nothing on 9/0, so nothing is kept free of boxes"),
+                           ('cell = "LOW"\n', ":20: layer M1, cell: warning: the design has a structure LOW already: write another name"),
+                           ("", "")):
+            found = self.warnings(GOOD + layer(1, more), structure("LOW"), structure("TOP", wide))
+            self.assertEqual([warning.startswith(want) for warning in found], [True] * bool(want), (more, found))
+        self.assertEqual(self.warnings(GOOD + layer(1).replace("1/1", "2/0"), structure("TOP", wide, boundary(2, 0, 0, 5, 5), boundary(2, 7, 0, 9, 5))),
+                         [":19: layer M1, fill_layer: warning: the top TOP draws 2 shapes on 2/0: boxes keep no spacing to them"])
+        self.assertEqual(self.warnings(GOOD + layer(1), structure("TOP", boundary(1, 0, 0, 5, 5))),
+                         [":6: [defaults], frame: warning: is more than ten times as wide or high as all that the top TOP draws, [0, 0, 0.005, 0.005] in micrometres"])
 
     def test_several_datatypes_are_refused_with_the_reason(self) -> None:
         found = self.faults(GOOD + '\n[[layer]]\nname = "M1"\nfill_layer = "1/1"\nlayer = ["1/0", "1/5"]\n')
@@ -142,7 +225,7 @@ class Faults(Folder):
         for more, want in (('max = "20 %"\n', ":20: layer M1, max: 20 % is below min, 30 %"),
                            ('frame = ["40 um", 0, 0, "40 um"]\n', ":20: layer M1, frame: its left edge is not left of its right one"),
                            ('frame = [0, 40, "40 um", 3]\n', ":20: layer M1, frame: its lower edge is not below its upper one"),
-                           ('pitch = "1.5 um"\n', ":20: layer M1, pitch: 1.5 um is less than box and fill_spacing together: write 2 um or more"),
+                           ('pitch = "1.5 um"\n', ":20: layer M1, pitch: 1.5 um is less than box and fill_spacing together: write 1.8 um or more"),
                            ('spacing = -1\n', ":20: layer M1, spacing: -1000 database units: write 0 to 1048576"),
                            ('window = 0\n', ":20: layer M1, window: 0 database units: write 1 to 1048576"),
                            ('frame = [0, 0, "4 m", 5]\n', ":20: layer M1, frame: 4000000000 database units: write -1073741824 to 1073741824"),
@@ -177,7 +260,7 @@ class Faults(Folder):
         self.assertIn("has 100001 changes, more than 100000", self.faults(GOOD + layer(1, more))[0])
 
     def test_a_fault_of_the_defaults_is_told_once(self) -> None:
-        found = self.faults(GOOD.replace('min = "30 %"', 'min = "90 %"').replace('"1 um"\n', '"0.5 nm"\n') + layer(1) + layer(2) + layer(3))
+        found = self.faults(GOOD.replace('min = "30 %"', 'min = "90 %"').replace('"1 um"\n', '"0.5 nm"\n').replace('"0.8 um"', '"0.5 nm"') + layer(1) + layer(2) + layer(3))
         self.assertEqual([fault.split(": ")[:2] for fault in found],
                          [[":11", "[defaults], box"], [":14", "[defaults], fill_spacing"], [":10", "[defaults], max"]])
 
@@ -238,8 +321,56 @@ class Faults(Folder):
         self.assertEqual([n[f"frame_{edge}"] for edge in ("x1", "y1", "x2", "y2")], [-43, -2, 1502, 500])
         self.assertEqual(self.faults(text), [""":6: [defaults], frame: "top" is the box of a design's top: give a design too"""])
 
+    def test_the_deck_of_the_document(self) -> None:
+        document = (ROOT / "docs/DECK.md").read_text().split("## The deck\n")[1].split("\nFrom a design")[0]
+        text = "".join(line.removeprefix("    ") + "\n" for line in document.splitlines())
+        design = self.design(structure("BLOCK", boundary(31, 0, 0, 100_000, 100_000), boundary(32, 0, 0, 9, 9)))
+        deck = read_deck(self.deck(text), design)
+        self.assertEqual(([layer.name for layer in deck.layers], deck.warnings), (["M1", "M2"], []))
+
     def test_no_toml(self) -> None:
         self.assertRegex(self.faults("[deck\n")[0], r"^:1: the deck: ")
+
+
+class Costs(Folder):
+    """What runs take, by an estimate."""
+    # The most memory that was measured, in units of 2^20 bytes: on designs of bench/ (docs/PERFORMANCE.md, docs/CLUSTER.md), and on a routed block of
+    # 12,519 shapes of the first metal and 4,028 of the second, 16, 64 and 256 times at irregular places. The last two are a fill of lying wires.
+    MEASURED = (("check", Load(65_876_012, 1_029_311, 1_029_311, 10_000, 0, 0), 144), ("check", Load(63_724, 324, 1_029_311, 10_000, 0, 0), 27),
+                ("check", Load(239 << 20, 3_921_576, 3_921_576, 10_000, 0, 0), 600), ("check", Load(100_000, 324, 3_921_576, 10_000, 0, 0), 122),
+                ("check", Load(219 << 20, 325_000, 325_000, 10_000, 0, 0), 266), ("check", Load(36_000_000, 1_000_001, 4_000_000, 10_000, 0, 0), 251),
+                ("check", Load(100_000, 1000, 1000, 1 << 20, 0, 0), 108), ("check", Load(262_144 * 64, 262_144, 262_144, 1 << 20, 0, 0), 117),
+                ("check", Load(724_284, 2_054, 3_204_864, 55_521, 0, 0), 74), ("check", Load(70_077_738, 1_094_963, 1_094_963, 39_601, 0, 0), 153),
+                ("fill", Load(6_091_884, 95_184, 95_184, 1_000_000, 87_040, 25), 108), ("fill", Load(65_876_012, 1_029_311, 1_029_311, 1_000_000, 940_032, 238), 213),
+                ("fill", Load(63_724, 324, 3_921_576, 70_225, 3_581_952, 891), 425), ("fill", Load(63_724, 324, 3_921_576, 6_241, 3_581_952, 13_992), 544),
+                ("fill", Load(239 << 20, 3_921_576, 3_921_576, 10_000, 3_581_952, 891), 766), ("fill", Load(274, 0, 0, 1, 4_000_000, 1_000), 17),
+                ("fill", Load(1_000, 1, 1, 1, 1 << 24, 1 << 24), 2_692),
+                ("fill", Load(1_000, 1, 1, 1 << 20, 262_144, 256), 92), ("fill", Load(724_284, 204, 52_224, 55_521, 8_774_016, 8_690), 81),
+                ("fill", Load(717_564, 2_054, 200_304, 3_381, 552_891, 560), 45), ("fill", Load(718_908, 2_054, 801_216, 13_761, 2_199_516, 2_200), 270),
+                ("fill", Load(724_284, 2_054, 3_204_864, 55_521, 8_774_016, 8_690), 1_628), ("fill", Load(724_284, 2_054, 3_204_864, 55_521, 548_376, 8_690), 1_589),
+                ("fill", Load(717_564, 3_800, 64_448, 3_381, 552_891, 560), 19), ("fill", Load(718_908, 3_800, 257_792, 13_761, 2_199_516, 2_200), 104),
+                ("fill", Load(724_284, 3_800, 1_031_168, 55_521, 8_774_016, 8_690), 639),
+                ("fill", Load(17_570_026, 274_530, 274_530, 9_801, 1_562_500, 1_600), 46), ("fill", Load(70_077_738, 1_094_963, 1_094_963, 39_601, 6_250_000, 6_241), 179))
+
+    def test_memory_is_not_below_what_was_measured(self) -> None:
+        for does, load, megabytes in self.MEASURED:
+            self.assertGreater(load.memory(does), megabytes << 20, (does, load))
+            self.assertLess(load.memory(does), (64 + {"check": 3, "fill": 12}[does] * megabytes) << 20, (does, load))
+
+    def test_a_part_takes_the_file_and_its_share_of_the_rest(self) -> None:
+        load = Load(1 << 30, 1_000_000, 3_000_000, 10_000, 1_000_000, 250)
+        file = Load(1 << 30, 1_000_000, 0, 0, 0, 0)
+        for does in ("check", "fill"):
+            self.assertAlmostEqual(load.memory(does, 0.25), file.memory(does) + (load.memory(does) - file.memory(does)) / 4, delta=1)
+
+    def test_places_and_tiles_are_those_of_the_frame(self) -> None:
+        # Boxes of 6 at steps of 10 from 2 on: ten from 2 to 92 in a frame of 100, nine from 7 on or in one of 97; tiles of 3 by 4.
+        numbers = dict(frame_x1=0, frame_x2=100, frame_y1=0, frame_y2=300, box_w=6, box_h=6, step_x=10, step_y=10, origin_x=2, origin_y=2,
+                       tile_nx=3, tile_ny=4, win_nx=3, win_ny=13)
+        self.assertEqual(load_of(numbers, "fill", 1, 2, 3), Load(1, 2, 3, 39, 300, 32))
+        self.assertEqual(load_of(numbers, "check", 1, 2, 3), Load(1, 2, 3, 39, 0, 0))
+        for changes, across in (({"origin_x": 7}, 9), ({"frame_x2": 97}, 9), ({"origin_x": -8}, 10), ({"origin_x": 502}, 10), ({"frame_x2": 5}, 0)):
+            self.assertEqual(load_of(numbers | changes, "fill", 1, 2, 3).places, across * 30, changes)
 
 
 class Values(Folder):
@@ -463,6 +594,54 @@ class Pages(Folder):
         self.assertLess(int(seen.group(1)), 2000 * max(1.0, os.getloadavg()[0] / (os.cpu_count() or 1)))
 
 
+class Lines(Folder):
+    """Command lines with a mistake: each message names what to mend, and nothing is run."""
+    MISTAKES = (("", 1, "the following arguments are required: command"),
+                ("deck.toml design.gds", 1, "invalid choice: 'deck.toml' (choose from 'run', 'check', 'explain', 'layers', 'where', 'merge')"),
+                ("run deck.toml", 1, "the following arguments are required: design"),
+                ("run design.gds deck.toml", 2, "design.gds: the deck: is a GDSII stream: the deck stands before the design"),
+                ("run none.toml design.gds", 2, "none.toml: the deck: No such file or directory"),
+                ("run deck.toml none.gds", 2, "none.gds: the design: No such file or directory"),
+                ("run deck.toml design.gds.gz", 2, "design.gds.gz: the design: is zipped: unzip it before, as gunzip does"),
+                ("check deck.toml .", 2, ".: the design: Is a directory"),
+                ("run deck.toml design.gds --only M7", 2, "no layer M7 in the deck: it has M1 (1/0)"),
+                ("run deck.toml design.gds --jobs 0", 1, "--jobs: 1 or more"),
+                ("run deck.toml design.gds --fail-on LOW", 1, "--fail-on: invalid choice: 'LOW' (choose from 'low', 'high', 'any')"),
+                ("run deck.toml design.gds --out deck.toml", 2, "deck.toml: is a file: --out names a folder"),
+                ("run deck.toml design.gds --out there --program none", 2, "--program none: no program that can be run is there"),
+                ("run deck.toml design.gds --program deck.toml", 2, "--program deck.toml: no program that can be run is there"),
+                ("merge deck.toml design.gds out.gds", 2, "deck.out/M1.fill.gds is missing: densfill-deck run deck.toml design.gds"),
+                ("merge deck.toml design.gds out.oas", 2, "out.oas: GDSII is written, not zipped: name it out.gds"),
+                ("merge deck.toml design.gds design.gds", 2, "design.gds: is one of the files that are merged: name another one"),
+                ("explain none.csv", 2, "none.csv: No such file or directory"),
+                ("explain deck.toml", 2, "deck.toml:1: no line of a density report"),
+                ("layers deck.toml", 2, "deck.toml: is a text and no GDSII stream"),
+                ("layers design.gds.gz", 2, "design.gds.gz: is zipped: unzip it before, as gunzip does"),
+                ("where design.gds --layer 49", 1, """'49' is no layer: write "31/0", each from 0 to 65535"""))
+
+    def command(self, *words: str) -> subprocess.CompletedProcess[str]:
+        return subprocess.run([sys.executable, str(DECK / "densfill-deck"), *words], cwd=self.folder, capture_output=True, text=True, check=False)
+
+    def test_mistakes(self) -> None:
+        self.deck(GOOD + layer(1))
+        self.design(structure("TOP", boundary(1, 0, 0, 40_000, 40_000)))
+        (self.folder / "design.gds.gz").write_bytes(b"\x1f\x8b\x08")
+        before = sorted(self.folder.iterdir())
+        for line, status, want in self.MISTAKES:
+            words = line.split()
+            more = ["--program", "none"] if words[:1] == ["run"] and "--program" not in words else []
+            ended = self.command(*words, *more)
+            self.assertEqual((ended.returncode, want in ended.stderr, ended.stdout), (status, True, ""), (line, ended.stderr))
+            self.assertEqual(sorted(self.folder.iterdir()), before, line)
+
+    def test_where_nothing_is_drawn(self) -> None:
+        self.design(structure("TOP", boundary(1, 0, 0, 9, 9)))
+        self.assertEqual(self.command("where", "design.gds", "--layer", "1/0", "9/0").stdout.splitlines(),
+                         ["TOP: nothing is drawn on 9/0: densfill-deck layers design.gds", "nothing that the program refuses was found"])
+        told = self.command("where", "design.gds", "--layer", "1/0", "--top", "TOPS")
+        self.assertEqual((told.returncode, told.stdout.splitlines()[0]), (2, "NoTop: no structure has the name TOPS: the design's tops are TOP"))
+
+
 class Runs(Folder):
     """Whole runs of eight layers on a generated design."""
 
@@ -541,7 +720,8 @@ class Runs(Folder):
                                   ["an input is refused: densfill: design: 15 MissingCell",
                                    "MissingCell: TOP refers to LOT, which no structure is named", all_of_it])):
             self.design.write_bytes(library("D", *structures))
-            self.assertEqual(self.run_deck("--quiet").stderr.splitlines(), [f"densfill-deck: M1: {line}" for line in want])
+            told = [line for line in self.run_deck("--quiet").stderr.splitlines() if ": warning: " not in line]
+            self.assertEqual(told, [f"densfill-deck: M1: {line}" for line in want])
         (self.folder / "failing").write_text("#!/bin/sh\nrm $3\necho 'densfill: design: 30 Device' >&2\nexit 4\n")
         (self.folder / "failing").chmod(0o755)
         self.assertIn(f"densfill-deck: M1: {self.design}: No such file or directory",
@@ -561,14 +741,22 @@ class Runs(Folder):
         low = structure("LOW", *[boundary(k, x, 0, x + 3, 9) for k in LAYERS for x in range(0, 1000, 5)])
         self.design.write_bytes(library("D", low, structure("TOP", array("LOW", 100, 100, (0, 0, 100_000, 0, 0, 1000)))))
         deck = read_deck(self.path, self.design)
-        self.assertEqual(deck.copies, {f"M{k}": 2_000_000 for k in LAYERS})
-        self.assertEqual(memory_for(0, 2_000_000, True), (64 << 20) + 300_000_000)
-        for free, want in ((10 << 30, 8), (1 << 30, 2), (1 << 20, 1)):
-            with mock.patch("densfill_deck.runs.free_memory", return_value=free), mock.patch("os.cpu_count", return_value=16):
-                self.assertEqual(jobs_for(self.design, deck.layers, deck.copies, None), want)
-                self.assertEqual(jobs_for(self.design, deck.layers, deck.copies, 5), 5)
-        for size, copies, fills, megabytes in ((100_000, 3_900_000, False, 122), (239_000_000, 3_900_000, False, 600), (100_000, 3_900_000, True, 537)):
-            self.assertGreater(memory_for(size, copies, fills), megabytes * 10**6)
+        self.assertEqual({(load.elements, load.copies) for load in deck.loads.values()}, {(201, 2_000_000)})
+        for free, want in ((16 << 30, 8), (6 << 30, 3), (1 << 20, 1)):
+            with mock.patch("densfill_deck.runs.free_memory", return_value=free), mock.patch("os.sched_getaffinity", return_value=range(16)):
+                self.assertEqual(jobs_for(deck.layers, deck.loads, None), want)
+                self.assertEqual(jobs_for(deck.layers, deck.loads, 5), 5)
+
+    def test_progress(self) -> None:
+        told = Progress({"M1": 1.0, "M2": 1.0, "M3": 2.0}, True, {"M1": 100.0, "M2": 100.0}, start=100.0)
+        self.assertEqual(told.line(104.0), "0 of 3 layers done, 4 s, running M1 for 4 s, M2 for 4 s")
+        # M1 took ten seconds: M2 should be done, and is taken as 95 hundredths; M3, twice as large, has a quarter: 2.45 of 4.
+        told.began, told.took = {"M2": 100.0, "M3": 110.0}, {"M1": 10.0}
+        self.assertEqual(told.line(115.0), "1 of 3 layers done (61% by size), 15 s, some 9 s left, running M2 for 15 s, M3 for 5 s")
+        told.began, told.took, told.kept = {"M3": 100.0}, {"M2": 5.0}, {"M1"}
+        self.assertEqual(told.line(104.0), "2 of 3 layers done (60% by size), 4 s, some 3 s left, running M3 for 4 s")
+        told.began, told.took = {}, {"M2": 5.0, "M3": 6.0}
+        self.assertEqual(told.line(107.0), "3 of 3 layers done, 7 s")
 
     def test_limits_that_are_missed(self) -> None:
         self.path.write_text(GOOD + layer(1, 'min = "90 %"\nmax = "95 %"\n'))
@@ -582,7 +770,7 @@ class Runs(Folder):
 
     def test_quiet_silences_progress_alone(self) -> None:
         self.path.write_text(GOOD + layer(1) + layer(2))
-        self.design.write_bytes(library("D", structure("TOP", boundary(1, 0, 0, 900, 900), wire(2, 40, 0, 0, 100, 90))))
+        self.design.write_bytes(library("D", structure("TOP", boundary(1, 0, 0, 40_000, 40_000), wire(2, 40, 0, 0, 100, 90))))
         loud, quiet = self.run_deck(), self.run_deck("--quiet")
         told = "densfill-deck: M2: an input is refused: densfill: design: 9 NotManhattan"
         self.assertEqual((quiet.returncode, quiet.stderr.splitlines()[0], "layers done" in quiet.stderr), (2, told, False))
@@ -710,7 +898,8 @@ class Runs(Folder):
         out = self.folder / "merged.gds"
         line = [sys.executable, str(DECK / "densfill-deck"), "merge", str(self.path), str(self.design), str(out)]
         done = subprocess.run(line, capture_output=True, text=True, check=False, env=os.environ | {"QT_QPA_PLATFORM": "offscreen"})
-        self.assertEqual((done.returncode, done.stderr), (0, ""))
+        filled = ", ".join(f"M{k}" for k in LAYERS if k != 8)
+        self.assertEqual((done.returncode, done.stdout, done.stderr), (0, f"{out}: {self.design} with the fill of {filled} below TOP\n", ""))
         rules = (self.out / "M1.rules.csv").read_text().replace("datatype,0\n", "datatype,1\n", 1)
         (self.folder / "boxes.csv").write_text(rules)
         seen = subprocess.run([self.program, "check", self.folder / "boxes.csv", out], capture_output=True, text=True, check=True)

@@ -66,7 +66,7 @@ def run(step: Step) -> Done:
 
 def main() -> int:
     parser = argparse.ArgumentParser(description=__doc__, formatter_class=argparse.RawDescriptionHelpFormatter)
-    parser.add_argument("--jobs", type=int, default=os.cpu_count(), help="how many run side by side")
+    parser.add_argument("--jobs", type=int, default=len(os.sched_getaffinity(0)), help="how many run side by side")
     begun, failed, count = time.monotonic(), 0, 0
     with ThreadPoolExecutor(parser.parse_args().jobs) as pool:
         for ended in as_completed([pool.submit(run, step) for step in steps()]):

@@ -16,6 +16,7 @@ import sys
 import tempfile
 from collections.abc import Iterable, Sequence
 from concurrent.futures import ThreadPoolExecutor
+from contextlib import nullcontext
 from dataclasses import dataclass, field
 from functools import cached_property
 from itertools import islice
@@ -24,6 +25,7 @@ from pathlib import Path
 sys.path.insert(0, str(Path(__file__).resolve().parent))
 from built import ROOT, built  # noqa: E402
 from designs import design, named, spread, told  # noqa: E402
+from unproved import NotBuilt, unproved  # noqa: E402
 
 CASES = ROOT / "cases"
 SHARED = CASES / "rules"
@@ -190,21 +192,17 @@ class Run:
         except MISSPELLED as fault:
             self.faults.append(f"its files can't be written: {fault!r}")
 
-    def absolute(self) -> list[str]:
-        """The line with the paths of its files."""
-        return [f"{self.folder}/{word}" if word.endswith((".csv", ".gds")) else word for word in self.case.words]
-
     def end(self, status: int, out: bytes, err: bytes) -> None:
         """Takes what came of the run."""
         library = self.folder / OUT
         told_err = err.replace(f"{self.folder}/".encode(), b"")
         self.ended = Ended(status, out, told_err, library.read_bytes() if library.exists() else None)
 
-    def run(self, program: Path) -> None:
-        """Runs the program."""
+    def run(self, program: list[str]) -> None:
+        """Runs the program, by the words that it is started with."""
         try:
             done = subprocess.run(
-                [program, *self.case.words], cwd=self.folder, capture_output=True, stdin=subprocess.DEVNULL, timeout=SECONDS
+                [*program, *self.case.words], cwd=self.folder, capture_output=True, stdin=subprocess.DEVNULL, timeout=SECONDS
             )
             self.end(done.returncode, done.stdout, done.stderr)
         except subprocess.TimeoutExpired:
@@ -254,42 +252,15 @@ def libraries(wanted: bytes, got: bytes | None) -> list[str]:
     return [] if wanted == got else differences("fill", told(wanted), told(got)) or ["fill: other bytes"]
 
 
-def run_built(runs: list[Run], program: Path) -> None:
+def run_all(runs: list[Run], program: list[str]) -> None:
     """Runs all on a program, as many side by side as there are processors."""
 
     def one(run: Run) -> None:
         run.prepare()
         run.run(program)
 
-    with ThreadPoolExecutor(os.cpu_count()) as pool:
+    with ThreadPoolExecutor(len(os.sched_getaffinity(0))) as pool:
         list(pool.map(one, runs))
-
-
-def try_cases(runs: list[Run], folder: Path) -> str:
-    """Runs some by one build without proofs, and answers what it told where a run had no answer. A case of `rt try` is an empty
-    standard input and its words; texts come under the case's name, and a line on standard error tells its status."""
-    folder.mkdir()
-    for number, run in enumerate(runs):
-        run.prepare()
-        (folder / f"{number:05}").touch()
-        (folder / f"{number:05}.args").write_text("".join(f"{word}\n" for word in run.absolute()))
-    command = ["rt", "try", "--seconds", str(SECONDS), "--cases", str(folder)]
-    done = subprocess.run(command, cwd=ROOT / "crates/densfill", capture_output=True, check=False)
-    outs = dict(re.findall(rb"^== (\d+)\n((?:(?!== ).*\n)*)", done.stdout, flags=re.M))
-    ends = re.findall(rb"((?:.*\n)*?)case=(\d+) run=(\S+)(?: status=(\d+))?.*\n", done.stderr)
-    for err, number, how, status in ends:
-        if how == b"ended":
-            runs[int(number)].end(int(status), outs.get(number, b""), err)
-        else:
-            runs[int(number)].faults.append(f"run={how.decode()}")
-    return "" if len(ends) == len(runs) else done.stderr.decode(errors="replace")[-2000:]
-
-
-def run_unproved(runs: list[Run], folder: Path) -> str:
-    """Runs all without proofs, by a build for every second processor: `rt try` takes a second for each case, one after another."""
-    shares = max(1, (os.cpu_count() or 1) // 2)
-    with ThreadPoolExecutor(shares) as pool:
-        return "".join(pool.map(lambda share: try_cases(runs[share::shares], folder / f"try{share}"), range(shares)))
 
 
 def cases_of(only: str, are_slow_ones_left_out: bool) -> list[Case]:
@@ -322,10 +293,11 @@ def main() -> int:
     with tempfile.TemporaryDirectory() as path:
         folder = Path(path).resolve()
         runs = [Run(case, folder / f"{number:05}") for number, case in enumerate(cases_of(given.only, given.unproved))]
-        if given.unproved:
-            print(run_unproved(runs, folder), end="")
-        else:
-            run_built(runs, given.program.resolve())
+        try:
+            with unproved() if given.unproved else nullcontext([str(given.program.resolve())]) as program:
+                run_all(runs, program)
+        except NotBuilt as error:
+            sys.exit(f"rt try built no program: {error}")
         return tell(runs)
 
 

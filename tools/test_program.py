@@ -13,10 +13,11 @@ import subprocess
 import sys
 import unittest
 from dataclasses import dataclass
+from functools import partial
 from pathlib import Path
 
 sys.path.insert(0, str(Path(__file__).resolve().parent))
-from built import FolderCase, rule_file, run_tests  # noqa: E402
+from built import ROOT, FolderCase, rule_file, run_tests  # noqa: E402
 from stream import END, boundary, library, points, record, structure, text, words  # noqa: E402
 
 NOBODY = 65534
@@ -264,6 +265,17 @@ class Files(Case):
         calls = re.findall(r"(sync|rename)\w*\(", (self.folder / "calls").read_text())
         self.assertEqual(calls[-2:], ["sync", "rename"])
 
+    @unittest.skipUnless(shutil.which("strace") and len(os.sched_getaffinity(0)) > 1, "needs strace and two processors")
+    def test_threads_are_for_the_processors_that_it_may_use(self) -> None:
+        line: list[str | Path] = ["strace", "-f", "-e", "trace=clone,clone3", "-o", "calls", self.program, "check"]
+        line += [ROOT / "examples/block_rules.csv", ROOT / "examples/block.gds"]
+        begun = list[int]()
+        for processors in sorted(os.sched_getaffinity(0))[:1], sorted(os.sched_getaffinity(0))[:2]:
+            confined = partial(os.sched_setaffinity, 0, processors)
+            subprocess.run(line, cwd=self.folder, stdout=subprocess.DEVNULL, preexec_fn=confined, check=True)
+            begun.append(len(re.findall(r"clone3?\(", (self.folder / "calls").read_text())))
+        self.assertLess(begun[0], begun[1])
+
     def test_a_full_disk_leaves_the_old_library(self) -> None:
         (self.folder / "out.gds").write_bytes(b"before")
         (self.folder / "out.gds").chmod(0o666)
@@ -299,6 +311,10 @@ class Refused(Case):
     def test_a_bad_line_is_told_with_its_reason(self) -> None:
         for line, want in (((), "error: 'densfill' requires a subcommand but one was not provided\n"),
                            (("--help",), "Checks the metal density of a layout\n"),
+                           (("chek", "rules.csv", "design.gds"), "error: unrecognized subcommand 'chek'\n\n  tip: a similar subcommand exists: 'check'\n"),
+                           (("fill", "rules.csv", "design.gds", "script.csv", "out.gds", "--worker", "2"),
+                            "error: unexpected argument '--worker' found\n\n  tip: a similar argument exists: '--workers'\n"),
+                           (("fill", "rules.csv", "design.gds", "out.gds"), "error: the following required arguments were not provided:\n  <OUT>\n"),
                            (("rects", "rules.csv"), "error: the following required arguments were not provided:\n")):
             ended = self.run_words(*line)
             self.assertEqual((ended.status, ended.out, ended.err[:len(want)]), (1, "", want))

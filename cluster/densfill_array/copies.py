@@ -1,4 +1,4 @@
-"""About how many copies of shapes a design draws on a layer: counted where the file is small, else by its bytes."""
+"""About how many elements and copies of shapes a design has on a layer: counted where the file is small, else by its bytes."""
 import struct
 from collections.abc import Iterator
 from pathlib import Path
@@ -59,13 +59,18 @@ def drawn(of: Structures, name: bytes, known: dict[bytes, int]) -> int:
     return known[name]
 
 
-def copies_of(design: Path, rules: dict[str, int], top: str) -> int:
-    """About how many copies of shapes the top draws on the layer of the rules. The program counts for itself."""
+def elements_and_copies(design: Path, rules: dict[str, int], top: str) -> tuple[int, int]:
+    """About how many references and shapes of the layer of the rules there are, and how many copies of shapes the top draws. The program counts
+    for itself."""
     size = design.stat().st_size
+    as_if_flat = size // FOR_A_SHAPE, size // FOR_A_SHAPE
     if size > COUNTED:
-        return size // FOR_A_SHAPE
+        return as_if_flat
     layer, datatype = (struct.pack(">H", rules[key] & 0xFFFF) for key in ("layer", "datatype"))
     try:
-        return drawn(structures(design.read_bytes(), layer, datatype), top.encode("latin-1"), {})
+        of = structures(design.read_bytes(), layer, datatype)
+        if top.encode("latin-1") not in of:
+            raise ValueError(f"{design}: it has no structure {top}, which the rules name as its top")
+        return sum(shapes + len(references) for shapes, references in of.values()), drawn(of, top.encode("latin-1"), {})
     except RecursionError:
-        return size // FOR_A_SHAPE
+        return as_if_flat

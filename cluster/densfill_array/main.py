@@ -14,8 +14,8 @@ from typing import NoReturn
 from .engines import ENGINES, Jobs, Limits, NotSubmitted, shown, submit_array, submit_joining
 from .folder import Asked, Changed, Part, missing, read_asked, stamp, write_aside, write_asked
 from .local import Pool
-from .part import NotJoined, Stopped, join, ranges, run_part
-from .rules import MOST_PARTS, NoParts, parts_for, read_work
+from .part import NotJoined, Stopped, join, ranges, run_part, told_processors
+from .rules import MOST_PARTS, NoParts, Work, parts_for, read_work
 from .queue import note
 from .table import progress, states, table
 
@@ -23,6 +23,7 @@ DONE, USAGE, FAILED, INTERRUPTED = 0, 1, 2, 130
 ALL_MEMORY = 4 << 30
 EVERY, EVERY_ON_A_TERMINAL = 60.0, 2.0   # seconds from a line of progress to the next
 RESULTS = ("report.csv", "fill.gds", "summary.txt")
+OF_BATCH_SYSTEMS = ("processors", "time", "at_once", "module", "submit", "submit_join")
 PLAIN = re.compile(r"[A-Za-z0-9_./+@,-]+\Z")
 SIZE = re.compile(r"(\d+(?:\.\d+)?)([KMGT])B?\Z", re.IGNORECASE)
 
@@ -36,16 +37,16 @@ class Parser(argparse.ArgumentParser):
 
 
 def positive(word: str) -> int:
-    number = int(word)
+    number = int(word) if word.isascii() and word.isdigit() else 0
     if number < 1:
-        raise argparse.ArgumentTypeError("1 or more")
+        raise argparse.ArgumentTypeError(f"{word!r} is no whole number from 1 on")
     return number
 
 
 def count(word: str) -> int:
     number = positive(word)
     if number > MOST_PARTS:
-        raise argparse.ArgumentTypeError(f"1 to {MOST_PARTS}")
+        raise argparse.ArgumentTypeError(f"{number} is more than {MOST_PARTS}")
     return number
 
 
@@ -53,14 +54,14 @@ def duration(word: str) -> int:
     """Minutes of a time as 2:30."""
     found = re.fullmatch(r"(\d{1,4}):([0-5]\d)", word)
     if not found or word.strip("0:") == "":
-        raise argparse.ArgumentTypeError("hours and minutes as 2:30")
+        raise argparse.ArgumentTypeError(f"{word!r} is no time: write hours and minutes as 2:30")
     return int(found.group(1)) * 60 + int(found.group(2))
 
 
 def size(word: str) -> int:
     found = SIZE.match(word)
     if not found:
-        raise argparse.ArgumentTypeError("a size as 4G or 512M")
+        raise argparse.ArgumentTypeError(f"{word!r} is no size: write it as 4G or 512M")
     return int(float(found.group(1)) * 1024 ** (1 + "KMGT".index(found.group(2).upper())))
 
 
@@ -101,9 +102,11 @@ def parser() -> Parser:
 def program_of(given: Path | None) -> Path:
     """The program densfill: the one given, the one beside this, or the one on the path."""
     beside = Path(sys.argv[0]).resolve().parent
-    for path in (given, beside / "densfill", beside.parent / "bin/densfill", shutil.which("densfill")):
-        if path and os.access(path, os.X_OK):
+    for path in (given,) if given else (beside / "densfill", beside.parent / "bin/densfill", shutil.which("densfill")):
+        if path and os.access(path, os.X_OK) and Path(path).is_file():
             return Path(path).resolve()
+    if given:
+        raise NoParts(f"--program {given}: no program that can be run is there")
     raise FileNotFoundError("densfill is not on the path: make build, make install, or --program PATH")
 
 
@@ -114,16 +117,26 @@ def inputs_of(given: argparse.Namespace) -> dict[str, str]:
     return {name: os.path.abspath(path) for name, path in paths.items()}
 
 
+def warn(work: Work, parts: int, memory: int | None) -> None:
+    """Tells where so many parts may take more than they are asked to stay below, or are more than the chip has rows."""
+    needed = work.memory(parts)
+    if memory and needed > memory:
+        print(f"densfill-array: each of {parts} parts may take {needed >> 20} MB, more than --memory: more --parts, or more memory", file=sys.stderr)
+    if parts > work.chip.rows:
+        print(f"densfill-array: {parts} parts are more than the {work.chip.rows} rows of the chip: {parts - work.chip.rows} have none", file=sys.stderr)
+
+
 def picked(given: argparse.Namespace, earlier: Asked | None) -> int:
     """How many parts: as many as asked for, as the array that goes on has, or by a bound of memory."""
-    if given.parts:
-        return int(given.parts)
-    if earlier and not given.memory:
+    if not given.parts and earlier and not given.memory:
         return earlier.parts
     work = read_work(given.rules, given.design, given.command)
+    if given.parts:
+        warn(work, given.parts, given.memory)
+        return int(given.parts)
     parts = parts_for(work, given.memory or ALL_MEMORY)
     rows = f"{work.chip.windows} rows of windows" + (f" and {work.chip.tiles} of tiles" if work.chip.tiles else "")
-    print(f"parts: {parts}, of {rows} and some {work.copies:,} copies of shapes, some {work.memory(parts) >> 20} MB each", file=sys.stderr)
+    print(f"parts: {parts}, of {rows} and some {work.load.copies:,} copies of shapes, some {work.memory(parts) >> 20} MB each", file=sys.stderr)
     return parts
 
 
@@ -153,6 +166,8 @@ def jobs_of(given: argparse.Namespace, folder: Path, parts: int, numbers: list[i
 
 def prepare(given: argparse.Namespace, folder: Path) -> Asked:
     """Writes the array's folder, and takes away what an earlier one left there and isn't kept; files of others it leaves alone."""
+    if folder.exists() and not folder.is_dir():
+        raise NoParts(f"{folder}: is a file: --out names a folder")
     if not (folder / "array.json").exists() and any((folder / name).exists() for name in RESULTS):
         raise NoParts(f"{folder} has files of the names {', '.join(RESULTS)} that are of no array: another --out")
     earlier = earlier_of(folder)
@@ -182,7 +197,7 @@ def finish(folder: Path) -> int:
 
 
 def run_local(given: argparse.Namespace, folder: Path, asked: Asked) -> None:
-    side_by_side = os.cpu_count() or 1
+    side_by_side = len(os.sched_getaffinity(0))
     if given.memory:
         side_by_side = max(1, min(side_by_side, free_memory() // given.memory))
     note(folder, "local", str(os.getpid()))
@@ -285,26 +300,47 @@ def run(given: argparse.Namespace) -> int:
     return DONE
 
 
+def assert_array(folder: Path) -> None:
+    if not (folder / "array.json").exists():
+        raise NoParts(f"{folder}: no array is there, as there is no array.json in it")
+
+
 def do_part(given: argparse.Namespace) -> int:
+    assert_array(given.folder)
+    print(f"part {given.number}: {told_processors()}", flush=True)
     return run_part(given.folder, given.number)
 
 
 def do_join(given: argparse.Namespace) -> int:
+    assert_array(given.folder)
     return finish(given.folder)
 
 
 def do_table(given: argparse.Namespace) -> int:
+    assert_array(given.folder)
     print(table(states(given.folder, read_asked(given.folder)), short=True), end="")
     return DONE
 
 
+def read_line() -> argparse.Namespace:
+    """The command line. Parts on this machine take no options of batch systems."""
+    whole = parser()
+    given = whole.parse_args()
+    more = [f"--{name.replace('_', '-')}" for name in OF_BATCH_SYSTEMS if getattr(given, name, None)]
+    if more and given.engine == "local":
+        whole.error(f"{', '.join(more)}: for a batch system alone, with --engine slurm, lsf or sge")
+    return given
+
+
 def main() -> int:
-    given = parser().parse_args()
+    given = read_line()
     try:
         return {"check": run, "fill": run, "part": do_part, "join": do_join, "table": do_table}[given.command](given)
     except Stopped as stopped:
         return 128 + int(stopped.args[0])
-    except (OSError, ValueError, Changed, NoParts, NotJoined, NotSubmitted) as error:
+    except OSError as error:
+        print(f"densfill-array: {error.filename}: {error.strerror}" if error.filename else f"densfill-array: {error}", file=sys.stderr)
+    except (ValueError, Changed, NoParts, NotJoined, NotSubmitted) as error:
         print(f"densfill-array: {error}", file=sys.stderr)
     except KeyboardInterrupt:
         print("densfill-array: " + ("waits no longer; the jobs go on" if getattr(given, "engine", "local") != "local"

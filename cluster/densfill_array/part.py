@@ -13,6 +13,7 @@ from .folder import Asked, Part, aside_of, missing, parts_of, read_asked
 AGAIN = 99            # the exit status of a job that is to be queued again, as LSF is told and Grid Engine takes it
 MEMORY, DEVICE = 3, 4   # the statuses of densfill that another try may do away with
 JOB_NAMES = ("SLURM_ARRAY_JOB_ID", "LSB_JOBID", "JOB_ID")
+GIVEN = ("SLURM_CPUS_PER_TASK", "LSB_DJOB_NUMPROC", "NSLOTS")   # how many processors a batch system says that it gave to a job
 
 
 class Stopped(Exception):
@@ -21,6 +22,13 @@ class Stopped(Exception):
 
 class NotJoined(Exception):
     """Why there is no joined result."""
+
+
+def told_processors() -> str:
+    """How many processors the program uses here, which is as many as it may, and whether the batch system gave the job fewer."""
+    uses = len(os.sched_getaffinity(0))
+    given = next((int(os.environ[name]) for name in GIVEN if os.environ.get(name, "").isdigit()), uses)
+    return f"{uses} processors" + (f", though {given} were given to it: the batch system doesn't confine it to them" if given < uses else "")
 
 
 def words(asked: Asked, part: Part, library: Path) -> list[str]:
@@ -99,7 +107,9 @@ def join(folder: Path) -> None:
     asked = read_asked(folder)
     lacking = missing(folder, asked)
     if lacking:
-        raise NotJoined(f"{len(lacking)} of {asked.parts} parts are missing: {ranges(lacking)}; --resume runs them")
+        first = Part(folder, lacking[0], asked.parts)
+        why = f", the first as {told(first)}" if first.path("log").exists() and told(first) else ""
+        raise NotJoined(f"{len(lacking)} of {asked.parts} parts are missing: {ranges(lacking)}; --resume runs them{why}")
     parts = parts_of(folder, asked)
     if asked.does == "fill":
         join_libraries(asked, parts, folder / "fill.gds")

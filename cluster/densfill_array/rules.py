@@ -4,17 +4,15 @@ import math
 from dataclasses import dataclass
 from pathlib import Path
 
-from .copies import copies_of
+from densfill_deck.costs import Load, load_of, places_on
+from densfill_deck.gds import NoStream, opened
+
+from .copies import elements_and_copies
 
 MOST_PARTS = 4096
-
-# What a part takes in bytes, by measured runs (docs/CLUSTER.md): the program itself, each byte of the design's file whatever the part
-# is, and each copy of a shape that meets what the part looks at.
-PROGRAM = 24 << 20
-FOR_THE_FILE = 2.0
-FOR_A_COPY = {"check": 40, "fill": 150}
 # A part takes 4,000,000 copies; some of a chip is denser than the rest.
 MOST_COPIES = 3_000_000
+NO_RULES = "this is no rule file, which stands before the design (of a deck's layer it is M1.rules.csv in the results)"
 
 
 class NoParts(ValueError):
@@ -52,9 +50,7 @@ def numbers_of(keys: dict[str, str]) -> dict[str, int]:
 
 def tile_rows(n: dict[str, int]) -> int:
     """How many rows of tiles the raster has: its places are those whose box lies in the frame."""
-    low = math.ceil((n["frame_y1"] - n["origin_y"]) / n["step_y"])
-    high = (n["frame_y2"] - n["box_h"] - n["origin_y"]) // n["step_y"]
-    return max(0, math.ceil((high - low + 1) / n["tile_ny"]))
+    return math.ceil(places_on(n, "y", "h") / n["tile_ny"])
 
 
 def chip_of(n: dict[str, int], does: str) -> Chip:
@@ -70,36 +66,43 @@ def chip_of(n: dict[str, int], does: str) -> Chip:
 
 @dataclass(frozen=True)
 class Work:
-    """What is to be cut: the command, the chip, the bytes of the design's file, and about how many copies of shapes it draws."""
+    """What is to be cut: the command, the chip, and what one run would have to do with, as far as it is counted."""
     does: str
     chip: Chip
-    size: int
-    copies: int
+    load: Load
 
     def memory(self, parts: int) -> int:
         """Bytes that a part takes, about."""
-        return int(PROGRAM + self.size * FOR_THE_FILE + self.copies * self.chip.share(parts) * FOR_A_COPY[self.does])
+        return self.load.memory(self.does, self.chip.share(parts))
+
+    def copies(self, parts: int) -> float:
+        """Copies of shapes that a part looks at, about."""
+        return self.load.copies * self.chip.share(parts)
 
 
 def read_work(rules: Path, design: Path, does: str) -> Work:
     keys = read_keys(rules)
     try:
+        opened(design)
+    except NoStream as error:
+        raise NoParts(f"{design}: {error}") from error
+    try:
         n = numbers_of(keys)
-        return Work(does, chip_of(n, does), design.stat().st_size, copies_of(design, n, keys["top"]))
+        return Work(does, chip_of(n, does), load_of(n, does, design.stat().st_size, *elements_and_copies(design, n, keys["top"])))
     except KeyError as error:
-        raise NoParts(f"{rules}: the key {error} has no fit value: this is no rule file") from error
+        raise NoParts(f"{rules}: the key {error} has no fit value: {NO_RULES}") from error
     except ZeroDivisionError as error:
-        raise NoParts(f"{rules}: a step of 0: this is no rule file") from error
+        raise NoParts(f"{rules}: a step of 0: {NO_RULES}") from error
 
 
 def parts_for(work: Work, memory: int) -> int:
     """The fewest parts of which each stays below a bound of memory and well below the limit of copies."""
     most = max(1, min(MOST_PARTS, work.chip.rows))
     for parts in range(1, most + 1):
-        if work.memory(parts) <= memory and work.copies * work.chip.share(parts) <= MOST_COPIES:
+        if work.memory(parts) <= memory and work.copies(parts) <= MOST_COPIES:
             return parts
     if work.memory(most) > memory:
         raise NoParts(f"each part reads the whole file and takes some {work.memory(most) >> 20} MB, in however many parts: "
                       "a greater --memory, or --parts")
-    raise NoParts(f"each part looks at some {work.copies * work.chip.share(most):,.0f} copies of shapes, in however many parts: lower windows, "
+    raise NoParts(f"each part looks at some {work.copies(most):,.0f} copies of shapes, in however many parts: lower windows, "
                   "lower tiles, or --parts")

@@ -7,9 +7,10 @@ from decimal import Decimal
 from fractions import Fraction
 from pathlib import Path
 
-from .contents import Contents, Table as Shapes, contents_of
+from .contents import Contents, contents_of
+from .costs import Load, load_of
 from .gds import NoStream, database_unit
-from .judge import judge_metal, judge_script, judge_table, judge_together, judge_top
+from .judge import judge_boxes, judge_metal, judge_script, judge_table, judge_together, judge_top
 from .lengths import Unfit, in_millionths, metres, told
 from .tables import Deck, Fault, Layer, Refused, Table, Text
 
@@ -21,14 +22,22 @@ LAYER_KEYS = ("name", "layer", "fill", "frame", "window", "step", "first", "wind
               "spacing", "fill_spacing", "tile", "fill_layer", "keep_layer", "script", "library", "cell", "top_cell", "empty")
 REQUIRED = ("name", "layer", "frame", "window", "min")
 REQUIRED_OF_FILL = ("box", "pitch", "spacing", "fill_spacing", "fill_layer")
+# What a text that is no TOML mostly lacks, by how the reason begins.
+HINTS = {"Invalid value": 'a text stands in quotes, as "uart", and a number is as 0.5', "Cannot overwrite a value": "the key stands twice in this table",
+         "Cannot declare": "the table stands twice: write [[layer]] above each layer", "Expected '='": "a deck is TOML, with lines as key = value"}
 ONE_LAYER = ("one layer and data type is checked exactly: metal that is drawn on two of them, or drawn and dummy metal, is to be merged "
              "onto one before")
+
+
+def shown(value: object) -> str:
+    """A value as a deck has it: a text in quotes, any other as it is."""
+    return repr(value) if isinstance(value, str) else str(value)
 
 
 def whole(value: object) -> int:
     """A whole number of things."""
     if isinstance(value, bool) or not isinstance(value, int) or value < 1:
-        raise Unfit(f"{value!r} is no whole number from 1 on")
+        raise Unfit(f"{shown(value)} is no whole number from 1 on")
     return value
 
 
@@ -38,7 +47,7 @@ def layer_of(value: object) -> tuple[int, int]:
         raise Unfit(ONE_LAYER)
     found = LAYER.match(value) if isinstance(value, str) else None
     if not found or max(map(int, found.groups())) > 65535:
-        raise Unfit(f'{value!r} is no layer: write "31/0", each from 0 to 65535')
+        raise Unfit(f'{shown(value)} is no layer: write "31/0", each from 0 to 65535')
     return int(found.group(1)), int(found.group(2))
 
 
@@ -66,13 +75,16 @@ def put_layers(table: Table) -> None:
             table.numbers |= dict(zip(names, layer_of(value)))
         except Unfit as unfit:
             table.fault(key, str(unfit))
-    if table.get("fill_layer") is None and "layer" in table.numbers:
+    if table.get("fill") is False and table.get("fill_layer") is None and "layer" in table.numbers:
         table.numbers |= {"fill_layer": table.numbers["layer"], "fill_datatype": table.numbers["datatype"]}
 
 
 def put_lengths(table: Table) -> None:
     pairs = (("window", "win_w", "win_h"), ("box", "box_w", "box_h"), ("pitch", "step_x", "step_y"))
-    if table.get("frame") != "top":
+    frame = table.get("frame")
+    if frame is not None and frame != "top" and not isinstance(frame, list):
+        table.fault("frame", f'{shown(frame)} is no frame: write "top", or [left, lower, right, upper]')
+    elif frame != "top":
         table.put("frame", ("frame_x1", "frame_y1", "frame_x2", "frame_y2"), table.length)
     for key, across, up in pairs:
         table.put(key, (across, up), table.length)
@@ -125,12 +137,12 @@ def put_frame_of_the_top(table: Table, top: object, contents: Contents | None) -
         table.fault("frame", '"top" is the box of a design\'s top: give a design too')
     elif box := contents.drawn(str(top)).box:
         table.numbers |= dict(zip(("frame_x1", "frame_y1", "frame_x2", "frame_y2"), box))
-    else:
+    elif top in contents.structures:
         table.fault("frame", f"the top {top} draws no shape at all")
 
 
-def read_layer(table: Table, top: object, contents: Contents | None) -> Layer | None:
-    """A layer, where nothing is wrong with it."""
+def read_layer(table: Table, top: object, contents: Contents | None, is_design_faulty: bool) -> Layer | None:
+    """A layer, where nothing is wrong with it. What it has of a design that can't be read isn't told again."""
     before = len(table.text.faults)
     unknown_keys(table, LAYER_KEYS)
     missing_keys(table)
@@ -141,7 +153,7 @@ def read_layer(table: Table, top: object, contents: Contents | None) -> Layer | 
         if not isinstance(table.get(key, True), bool):
             table.fault(key, f"{table.get(key)!r}: write true or false")
     put_layers(table)
-    if table.get("frame") == "top":
+    if table.get("frame") == "top" and not is_design_faulty:
         put_frame_of_the_top(table, top, contents)
     put_lengths(table)
     put_counts(table)
@@ -197,9 +209,13 @@ def text_of(path: Path) -> tuple[Text, dict[str, object]]:
         return Text(path, text.splitlines()), tomllib.loads(text, parse_float=Decimal)
     except OSError as error:
         raise Refused([Fault(path, None, "the deck", error.strerror or str(error))]) from error
-    except (UnicodeDecodeError, tomllib.TOMLDecodeError) as error:
+    except UnicodeDecodeError as error:
+        words = "is a GDSII stream: the deck stands before the design" if path.read_bytes()[:4] == b"\0\6\0\2" else f"is no text in UTF-8: {error}"
+        raise Refused([Fault(path, None, "the deck", words)]) from error
+    except tomllib.TOMLDecodeError as error:
         line = re.search(r"at line (\d+)", str(error))
-        raise Refused([Fault(path, int(line.group(1)) if line else None, "the deck", str(error))]) from error
+        words = str(error) + next((f": {hint}" for begin, hint in HINTS.items() if str(error).startswith(begin)), "")
+        raise Refused([Fault(path, int(line.group(1)) if line else None, "the deck", words)]) from error
 
 
 def contents_or_fault(text: Text, design: Path | None) -> Contents | None:
@@ -222,13 +238,17 @@ def layer_tables(text: Text, layers: list[dict[str, object]], shared: dict[str, 
     return [Table(text, f"layer {own.get('name', k)!s}", header, own, shared, unit) for k, (own, header) in enumerate(zip(layers, headers), 1)]
 
 
-def copies_of(layers: list[Layer], drawn: Shapes) -> dict[str, int]:
-    """How many copies of shapes a run of each layer flattens, those of its keep-outs among them."""
-    of = {layer.name: [(layer.numbers["layer"], layer.numbers["datatype"])] for layer in layers}
+def loads_of(layers: list[Layer], contents: Contents, top: str, size: int) -> dict[str, Load]:
+    """What a run of each layer has to do with, keep-outs among it."""
+    drawn, reached = contents.drawn(top), contents.reached(top)
+    references = sum(structure.kinds["reference"] + structure.kinds["array"] for structure in reached)
+    loads: dict[str, Load] = {}
     for layer in layers:
-        if layer.fills and "keep_layer" in layer.numbers:
-            of[layer.name].append((layer.numbers["keep_layer"], layer.numbers["keep_datatype"]))
-    return {name: sum(drawn[on].count for on in all_of if on in drawn) for name, all_of in of.items()}
+        n = layer.numbers
+        of = [(n["layer"], n["datatype"])] + ([(n["keep_layer"], n["keep_datatype"])] if layer.fills and "keep_layer" in n else [])
+        shapes = sum(structure.shapes[on].count for structure in reached for on in of if on in structure.shapes)
+        loads[layer.name] = load_of(n, layer.does, size, shapes + references, sum(drawn[on].count for on in of if on in drawn))
+    return loads
 
 
 def read_deck(path: Path, design: Path | None = None, only: Iterable[str] = ()) -> Deck:
@@ -246,12 +266,16 @@ def read_deck(path: Path, design: Path | None = None, only: Iterable[str] = ()) 
         whole_deck.fault("", "no [[layer]] stands in the deck")
     contents = contents_or_fault(text, design)
     unit = unit_of(whole_deck, design)
-    there = contents is None or not isinstance(top, str) or judge_top(whole_deck, top, contents)
-    read = [(table, layer) for table in layer_tables(text, layers, shared, unit) if (layer := read_layer(table, top, contents if there else None))]
+    there = contents is None or not isinstance(top, str) or not top or judge_top(whole_deck, top, contents)
+    is_faulty = design is not None and (contents is None or not there or not top)
+    read = [(table, layer) for table in layer_tables(text, layers, shared, unit) if (layer := read_layer(table, top, contents, is_faulty))]
     judge_together(read)
-    if contents is not None and isinstance(top, str) and there:
-        judge_metal([(table, layer) for table, layer in read if not only or layer.name in only or layer.metal in only], top, contents)
+    if contents is not None and isinstance(top, str) and not is_faulty:
+        asked = [(table, layer) for table, layer in read if not only or layer.name in only or layer.metal in only]
+        judge_metal(asked, top, contents)
+        judge_boxes(asked, top, contents)
     if text.faults:
         raise Refused(text.faults)
-    copies = copies_of([layer for _, layer in read], contents.drawn(str(top))) if contents is not None else {}
-    return Deck(path, unit, deck.get("unit", "file") == "file", str(top), [layer for _, layer in read], text.warnings, copies)
+    whole = [layer for _, layer in read]
+    loads = loads_of(whole, contents, str(top), design.stat().st_size) if contents is not None and design is not None else {}
+    return Deck(path, unit, deck.get("unit", "file") == "file", str(top), whole, text.warnings, loads)

@@ -1,9 +1,9 @@
 """What is wrong with values of a deck that are each fit by themselves: with one another, with scripts, and with the design."""
 import difflib
-from collections.abc import Callable, Iterable, Iterator
+from collections.abc import Callable, Iterable, Iterator, Mapping
 from pathlib import Path
 
-from .contents import Contents, On
+from .contents import Box, Contents, On
 from .lengths import METRES, share_of
 from .tables import Fault, Layer, Table
 
@@ -25,6 +25,7 @@ def judge_table(table: Table) -> None:
     judge_windows(table)
     if table.get("fill", True) is not False:
         judge_raster(table)
+        judge_reach(table)
         n = table.numbers
         if table.has("layer", "datatype", "fill_layer", "fill_datatype") and n["layer"] == n["fill_layer"] and n["datatype"] == n["fill_datatype"]:
             table.fault("fill_layer", f"{n['layer']}/{n['datatype']} is the layer of the metal: write one of the boxes' own")
@@ -57,6 +58,8 @@ def judge_windows(table: Table) -> None:
     n = table.numbers
     if not table.has("win_nx", "win_ny", "win_x", "win_y", "win_w", "win_h", "win_step_x", "win_step_y"):
         return
+    if n["win_step_x"] > n["win_w"] or n["win_step_y"] > n["win_h"]:
+        table.warn("step", "is longer than the window: what lies between two windows isn't checked")
     if n["win_nx"] * n["win_ny"] > MOST_WINDOWS:
         key = "windows" if table.get("windows") is not None else "step" if table.get("step") is not None else "window"
         table.fault(key, f"{n['win_nx']} by {n['win_ny']} windows are more than {MOST_WINDOWS}: write a longer step, or a smaller frame")
@@ -78,6 +81,32 @@ def judge_raster(table: Table) -> None:
     # The origin decides of a place more or less each way.
     if places > MOST_PLACES:
         table.fault("pitch", f"some {places} places for a box in the frame are more than {MOST_PLACES}: write a longer pitch, or a smaller frame")
+
+
+def judge_reach(table: Table) -> None:
+    """Whether an empty window can reach `min` by fill: by the share that boxes take of their pitch, and of the window that lies least in the
+    frame, where what lies beside it counts as empty."""
+    n = table.numbers
+    if not table.has("box_w", "box_h", "step_x", "step_y", "min") or n["step_x"] < 1 or n["step_y"] < 1:
+        return
+    dense = min(1.0, n["box_w"] * n["box_h"] / (n["step_x"] * n["step_y"]))
+    if dense * 10**6 < n["min"]:
+        table.warn("pitch", f"boxes take {dense:.3%} of an empty window, less than min: write a shorter pitch or a larger box")
+        return
+    if not table.has("frame_x1", "frame_y1", "frame_x2", "frame_y2", "win_nx", "win_ny") or table.get("padding") == "ignore":
+        return
+    inside = within(n, "x", "w") * within(n, "y", "h")
+    if 0 < inside * dense * 10**6 < n["min"]:
+        words = f"a window lies to {inside:.1%} in the frame and counts as empty beside it, so fill brings it to no more than {inside * dense:.1%}"
+        table.warn("step" if table.get("windows") is None else "windows", f'{words}: write padding = "ignore", or other windows')
+
+
+def within(numbers: Mapping[str, int], axis: str, side: str) -> float:
+    """The share of the first or the last window that lies in the frame, across or up, whichever is less."""
+    size, low, high = (numbers[name] for name in (f"win_{side}", f"frame_{axis}1", f"frame_{axis}2"))
+    first = numbers[f"win_{axis}"]
+    last = first + (numbers[f"win_n{axis}"] - 1) * numbers[f"win_step_{axis}"]
+    return min(max(0, min(high, at + size) - max(low, at)) / max(1, size) for at in (first, last))
 
 
 def told(units: int, table: Table) -> str:
@@ -117,6 +146,11 @@ def judge_together(read: list[tuple[Table, Layer]]) -> None:
     for first, (table, layer) in of_one(filled, lambda layer: f"{layer.numbers['fill_layer']}/{layer.numbers['fill_datatype']}"):
         table.fault("fill_layer", f"the boxes of {first.name} have the layer {layer.numbers['fill_layer']}/{layer.numbers['fill_datatype']} too: "
                                   "write one for each metal")
+    for first, (table, layer) in of_one(filled, lambda layer: layer.metal):
+        table.fault("layer", f"{first.name} fills {layer.metal} too, and boxes of both would lie over one another: write fill = false in one of them")
+    for first, (table, layer) in ((metal, one) for one in filled for _, metal in read):
+        if first is not layer and first.metal == f"{layer.numbers['fill_layer']}/{layer.numbers['fill_datatype']}":
+            table.fault("fill_layer", f"{first.metal} is the metal of {first.name}: write one of the boxes' own")
     for first, (table, layer) in of_one(filled, lambda layer: layer.texts["fill_top"]):
         table.fault("top_cell", f"the library of {first.name} has the top {layer.texts['fill_top']} too: write one for each layer")
     for table, layer in filled:
@@ -131,6 +165,34 @@ def of_one(read: list[tuple[Table, Layer]], key: Callable[[Layer], str]) -> Iter
         first = seen.setdefault(key(layer), layer)
         if first is not layer:
             yield first, (table, layer)
+
+
+def judge_boxes(read: Iterable[tuple[Table, Layer]], top: str, contents: Contents) -> None:
+    """Where boxes come: their layer, their cells and the frame, beside what the top draws."""
+    drawn = contents.drawn(top)
+    for table, layer in read:
+        judge_frame(table, layer, drawn.box, top)
+        if not layer.fills:
+            continue
+        fill = (layer.numbers["fill_layer"], layer.numbers["fill_datatype"])
+        if fill in drawn:
+            table.warn("fill_layer", f"the top {top} draws {drawn[fill].count} shapes on {fill[0]}/{fill[1]}: boxes keep no spacing to them")
+        for key, rule in (("cell", "fill_cell"), ("top_cell", "fill_top")):
+            if layer.texts[rule] in contents.structures:
+                table.warn(key, f"the design has a structure {layer.texts[rule]} already: write another name, or merge the fill into a design without it")
+
+
+def judge_frame(table: Table, layer: Layer, box: Box | None, top: str) -> None:
+    """A frame that lies beside the box of all that the top draws, or is ten times as wide or high."""
+    n = layer.numbers
+    frame = (n["frame_x1"], n["frame_y1"], n["frame_x2"], n["frame_y2"])
+    if box is None:
+        return
+    edges = ", ".join(f"{float(edge * table.unit / METRES['um']):g}" for edge in box)
+    if any(frame[k] >= box[k + 2] or frame[k + 2] <= box[k] for k in (0, 1)):
+        table.fault("frame", f"lies beside all that the top {top} draws, [{edges}] in micrometres")
+    elif any(frame[k + 2] - frame[k] > 10 * max(1, box[k + 2] - box[k]) for k in (0, 1)):
+        table.warn("frame", f"is more than ten times as wide or high as all that the top {top} draws, [{edges}] in micrometres")
 
 
 def judge_top(deck: Table, top: str, contents: Contents) -> bool:

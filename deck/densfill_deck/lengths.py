@@ -19,7 +19,9 @@ def metres(value: object) -> Fraction:
         raise Unfit(f'{value!r} is no length: write "0.5 um", "120 nm" or a number of micrometres')
     if not isinstance(value, str):
         return Fraction(value) * METRES["um"]
-    found = LENGTH.match(value)
+    found = LENGTH.match(value.replace(",", ".") if value.count(",") == 1 and "." not in value else value)
+    if found and "," in value:
+        raise Unfit(f'"{value}" has a comma: write "{value.replace(",", ".")}"')
     if not found:
         raise Unfit(f'"{value}" is no length: write "0.5 um", "120 nm" or a number of micrometres')
     number, unit = found.groups()
@@ -45,7 +47,7 @@ def in_millionths(value: object) -> int:
         raise Unfit(f'"{value}" is no share: write "25 %" or a number of percent')
     share = Fraction(found.group(1) if found else value) * 10**4
     if share.denominator != 1 or not 0 <= share <= 10**6:
-        raise Unfit(f"{value} is no whole number of parts of a million from 0 % to 100 %")
+        raise Unfit(f"{value} is no share: write 0 % to 100 %, with up to four decimals")
     return int(share)
 
 

@@ -63,6 +63,10 @@ def list_faults(design: Path, of: set[tuple[int, int]], top: str | None, out: Pa
         out = out or design.with_suffix(".where.lyrdb")
         write_lines(out, faults_database(design.name, top or [*contents.tops, kept[0].cell][0], kept, database_unit(design)))
         print(f"markers: {out}")
+    tops = [top] if top else contents.tops
+    undrawn = sorted(of - {on for name in tops for on in contents.layers(name)})
+    for layer, datatype in undrawn:
+        print(f"{', '.join(tops)}: nothing is drawn on {layer}/{datatype}: densfill-deck layers {design}")
     if not kept and not lines:
         print("nothing that the program refuses was found" + ("" if of else "; --layer 31/0 looks at the shapes of a layer too"))
     return bool(kept or lines)

@@ -11,12 +11,14 @@ from pathlib import Path
 from typing import NoReturn
 
 from .deck import layer_of, read_deck
+from .gds import NoStream
 from .lengths import Unfit, metres, told
 from .listing import list_faults, list_layers
 from .look import SecondLook
 from .markers import database
 from .merge import NotMerged, assert_fit, changes, merge
 from .page import Section, page
+from .progress import Progress
 from .reports import Limits, NoReport, figures, read_report
 from .runs import Files, Inputs, Ran, Runner, jobs_for
 from .summary import Outcome, failure, outcome_of, summary, text, write_lines
@@ -91,9 +93,11 @@ def results_of(deck: Path, given: Path | None) -> Path:
 def program_of(given: Path | None) -> Path:
     """The program densfill: the one given, the one beside this, or the one on the path."""
     beside = Path(sys.argv[0]).resolve().parent
-    for path in (given, beside / "densfill", beside.parent / "bin/densfill", shutil.which("densfill")):
-        if path and os.access(path, os.X_OK):
+    for path in (given,) if given else (beside / "densfill", beside.parent / "bin/densfill", shutil.which("densfill")):
+        if path and os.access(path, os.X_OK) and Path(path).is_file():
             return Path(path).resolve()
+    if given:
+        raise ValueError(f"--program {given}: no program that can be run is there")
     raise FileNotFoundError("densfill is not on the path: make build, make install, or --program PATH")
 
 
@@ -166,10 +170,12 @@ def run(given: argparse.Namespace) -> int:
     folder = results_of(given.deck, given.out)
     if given.no_fill:
         layers = checked_alone(layers, folder)
-    folder.mkdir(parents=True, exist_ok=True)
+    if folder.exists() and not folder.is_dir():
+        raise ValueError(f"{folder}: is a file: --out names a folder")
     inputs = Inputs(program_of(given.program), given.design.resolve(), folder)
-    runner = Runner(inputs, given.quiet)
-    done = runner.run_all(layers, jobs_for(given.design, layers, deck.copies, given.jobs), given.resume)
+    folder.mkdir(parents=True, exist_ok=True)
+    runner = Runner(inputs, Progress({layer.name: deck.loads[layer.name].seconds(layer.does) for layer in layers}, given.quiet))
+    done = runner.run_all(layers, jobs_for(layers, deck.loads, given.jobs), given.resume)
     ran = kept(runner, deck, layers) | {one.layer: one for one in done}
     as_run = {layer.name: layer for layer in layers}
     outcomes = [outcome_of(inputs, as_run.get(layer.name, layer), ran[layer.name]) for layer in deck.layers if layer.name in ran]
@@ -227,16 +233,23 @@ def merged(given: argparse.Namespace) -> int:
             raise NotMerged(f"{folder}: {'; '.join(changed)}: densfill-deck run {given.deck} {given.design} --resume, or merge --stale")
         tell(f"densfill-deck: merged all the same: {'; '.join(changed)}")
     merge(given.design, deck.top, libraries, given.out)
+    print(f"{given.out}: {given.design} with the fill of {', '.join(layer.name for layer in deck.layers if layer.fills)} below {deck.top}")
     return DONE
 
 
 def layers(given: argparse.Namespace) -> int:
-    list_layers(given.design)
-    return DONE
+    try:
+        list_layers(given.design)
+        return DONE
+    except NoStream as error:
+        raise ValueError(f"{given.design}: {error}") from error
 
 
 def where(given: argparse.Namespace) -> int:
-    return FAILED if list_faults(given.design, set(given.layer), given.top, given.out) else DONE
+    try:
+        return FAILED if list_faults(given.design, set(given.layer), given.top, given.out) else DONE
+    except NoStream as error:
+        raise ValueError(f"{given.design}: {error}") from error
 
 
 def main() -> int:
@@ -245,7 +258,9 @@ def main() -> int:
         return {"run": run, "check": check, "explain": explain, "merge": merged, "layers": layers, "where": where}[given.command](given)
     except Refused as refused:
         print(refused, file=sys.stderr)
-    except (OSError, KeyError, NoReport, NotMerged, ValueError) as error:
+    except OSError as error:
+        print(f"densfill-deck: {error.filename}: {error.strerror}" if error.filename else f"densfill-deck: {error}", file=sys.stderr)
+    except (KeyError, NoReport, NotMerged, ValueError) as error:
         print(f"densfill-deck: {error.args[0] if isinstance(error, KeyError) else error}", file=sys.stderr)
     except KeyboardInterrupt:
         print("densfill-deck: interrupted; whole files are kept, --resume goes on", file=sys.stderr)

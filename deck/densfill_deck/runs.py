@@ -4,21 +4,17 @@ import json
 import os
 import signal
 import subprocess
-import sys
 import threading
 import time
 from collections.abc import Callable
-from concurrent.futures import ThreadPoolExecutor, as_completed, wait
+from concurrent.futures import FIRST_COMPLETED, ThreadPoolExecutor, wait
 from dataclasses import asdict, dataclass
 from functools import cache
 from pathlib import Path
 
+from .costs import Load
+from .progress import Progress
 from .tables import Layer
-
-# What a run takes in bytes, by measured runs (docs/CLUSTER.md): at least so much, each byte of the design's file, and each copy of a shape.
-MEMORY_AT_LEAST = 64 << 20
-MEMORY_FOR_A_BYTE = 2.5
-MEMORY_FOR_A_COPY = {False: 40, True: 150}
 
 
 @dataclass(frozen=True)
@@ -74,7 +70,7 @@ def fingerprint(inputs: Inputs, layer: Layer, of: tuple[str, ...] = ("rules", "d
     ways: dict[str, Callable[[], str]] = {
         "rules": lambda: hashlib.sha256(layer.rules().encode()).hexdigest(), "design": lambda: input_digest(inputs.design),
         "program": lambda: input_digest(inputs.program), "script": lambda: input_digest(layer.script) if layer.script else "",
-        "does": lambda: "fill" if layer.fills else "check"}
+        "does": lambda: layer.does}
     return {name: ways[name]() for name in of}
 
 
@@ -87,23 +83,12 @@ def words(inputs: Inputs, layer: Layer, files: Files, library: Path) -> list[str
 class Runner:
     """Runs layers, keeps whole files alone, and ends its children when it is interrupted."""
 
-    def __init__(self, inputs: Inputs, quiet: bool) -> None:
+    def __init__(self, inputs: Inputs, progress: Progress) -> None:
         self.inputs = inputs
-        self.quiet = quiet
+        self.progress = progress
         self.children: set[subprocess.Popen[bytes]] = set()
         self.lock = threading.Lock()
         self.stopped = False
-        self.begun = time.monotonic()
-
-    def tell(self, done: int, of: int, running: list[str]) -> None:
-        """Progress: one line that changes on a terminal, else a line each time."""
-        if self.quiet:
-            return
-        line = f"{done} of {of} layers done, {time.monotonic() - self.begun:.0f} s" + (f", running {', '.join(running)}" if running else "")
-        if sys.stderr.isatty():
-            print(f"\r\x1b[K{line}", end="\n" if done == of else "", file=sys.stderr, flush=True)
-        else:
-            print(line, file=sys.stderr, flush=True)
 
     def stop(self) -> None:
         with self.lock:
@@ -126,6 +111,7 @@ class Runner:
         report, library = (path.with_name(path.name + ".part") for path in (files.report, files.library))
         files.rules.write_text(layer.rules())
         begun = time.monotonic()
+        self.progress.begin(layer.name)
         child = self.start(words(self.inputs, layer, files, library), report, files.log)
         if child is None:
             return Ran(layer.name, -signal.SIGTERM, "not begun", 0.0, 0)
@@ -148,19 +134,23 @@ class Runner:
         waiting = [layer for layer in layers if layer.name not in ran]
         with ThreadPoolExecutor(jobs) as pool, ThreadPoolExecutor(1) as beside:
             hashed = beside.submit(input_digest, self.inputs.design)
-            futures = {pool.submit(self.run, layer): layer for layer in waiting}
-            self.tell(len(ran), len(layers), [layer.name for layer in waiting[:jobs]])
+            left = {pool.submit(self.run, layer): layer for layer in waiting}
+            self.progress.kept = set(ran)
             try:
-                for future in as_completed(futures):
-                    done = future.result()
-                    ran[done.layer] = done
-                    wait([hashed])
-                    self.keep(futures[future], done)
-                    self.tell(len(ran), len(layers), [layer.name for f, layer in futures.items() if f.running()])
+                while left:
+                    for future in wait(left, self.progress.pause, FIRST_COMPLETED).done:
+                        done, layer = future.result(), left.pop(future)
+                        ran[done.layer] = done
+                        wait([hashed])
+                        self.keep(layer, done)
+                        self.progress.end(done.layer)
+                    self.progress.tell()
             except KeyboardInterrupt:
                 self.stop()
                 pool.shutdown(cancel_futures=True)
                 raise
+        if not waiting:
+            self.progress.tell()
         return [ran[layer.name] for layer in layers]
 
     def keep(self, layer: Layer, ran: Ran) -> None:
@@ -189,19 +179,14 @@ class Runner:
         return None
 
 
-def memory_for(size: int, copies: int, fills: bool) -> int:
-    """Bytes that a layer's run takes, about: of a file of so many bytes, of which it flattens so many copies."""
-    return MEMORY_AT_LEAST + int(size * MEMORY_FOR_A_BYTE) + copies * MEMORY_FOR_A_COPY[fills]
-
-
-def jobs_for(design: Path, layers: list[Layer], copies: dict[str, int], asked: int | None) -> int:
-    """How many layers run side by side: as many as asked for, else as there are processors and memory for those that take most."""
+def jobs_for(layers: list[Layer], loads: dict[str, Load], asked: int | None) -> int:
+    """How many layers run side by side: as many as asked for, else as there are processors that it may use, and memory for those that take most."""
     if asked:
         return asked
-    size, free = design.stat().st_size, free_memory()
-    each = sorted((memory_for(size, copies.get(layer.name, 0), layer.fills) for layer in layers), reverse=True)
+    free = free_memory()
+    each = sorted((loads[layer.name].memory(layer.does) for layer in layers), reverse=True)
     fit = next((k for k in range(len(each)) if sum(each[:k + 1]) > free), len(each))
-    return max(1, min(fit, os.cpu_count() or 1))
+    return max(1, min(fit, len(os.sched_getaffinity(0))))
 
 
 def free_memory() -> int:

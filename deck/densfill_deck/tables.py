@@ -5,6 +5,7 @@ from dataclasses import dataclass, field
 from fractions import Fraction
 from pathlib import Path
 
+from .costs import Load
 from .lengths import Unfit, in_units
 
 
@@ -42,6 +43,11 @@ class Layer:
     def metal(self) -> str:
         return f"{self.numbers['layer']}/{self.numbers['datatype']}"
 
+    @property
+    def does(self) -> str:
+        """The program's command."""
+        return "fill" if self.fills else "check"
+
     def rules(self) -> str:
         """The rule file for densfill."""
         return "".join(f"{key},{value}\n" for key, value in (self.numbers | self.texts).items())
@@ -49,14 +55,14 @@ class Layer:
 
 @dataclass(frozen=True)
 class Deck:
-    """A deck that can be run, what is odd about it, and how many copies of shapes the design has of each layer."""
+    """A deck that can be run, what is odd about it, and what a run of each layer has to do with in the design."""
     path: Path
     unit: Fraction
     of_the_file: bool
     top: str
     layers: list[Layer]
     warnings: list[Fault]
-    copies: dict[str, int] = field(default_factory=dict)
+    loads: dict[str, Load] = field(default_factory=dict)
 
 
 @dataclass(frozen=True)

@@ -1,0 +1,51 @@
+"""What a run of densfill takes of memory and about of time, by what it has to do with. Decks and arrays both ask it."""
+from collections.abc import Mapping
+from dataclasses import dataclass
+
+# Of any run, and for one of each: no less than was measured (docs/PERFORMANCE.md).
+AT_LEAST = 16 << 20
+BYTES = {"check": {"size": 1.05, "elements": 84, "copies": 32, "windows": 110, "places": 0, "tiles": 0},
+         "fill": {"size": 1.05, "elements": 84, "copies": 110, "windows": 200, "places": 10, "tiles": 170}}
+# A fill cuts each shape at the heights at which shapes beside it begin or end: as many as there are across the chip where blocks stand at any
+# heights, which is by the square root of all copies, and few where they stand in rows.
+BYTES_OF_CUTS = {"check": 0.0, "fill": 0.55}
+# Seconds of a processor for one of each, about.
+SECONDS = {"check": {"size": 3e-9, "copies": 1.2e-7, "windows": 5e-7},
+           "fill": {"size": 3e-9, "copies": 5e-7, "windows": 1e-6, "places": 8e-8, "tiles": 1.2e-6}}
+WHOLE = ("size", "elements")   # what each part of a chip reads and keeps, whatever part it is
+
+
+@dataclass(frozen=True)
+class Load:
+    """What a run has to do with: bytes of the design's file, references and shapes of the layer in it, copies of these shapes, windows, places for
+    boxes, tiles of places."""
+    size: int
+    elements: int
+    copies: int
+    windows: int
+    places: int
+    tiles: int
+
+    def memory(self, does: str, share: float = 1.0) -> int:
+        """Bytes that a check or a fill takes at most, or a part that looks at this share of the chip."""
+        cuts = BYTES_OF_CUTS[does] * self.copies**1.5 * share
+        return AT_LEAST + int(cuts + sum(each * getattr(self, name) * (1.0 if name in WHOLE else share) for name, each in BYTES[does].items()))
+
+    def seconds(self, does: str) -> float:
+        """Seconds of a processor that a check or a fill takes, about."""
+        return 0.01 + float(sum(each * getattr(self, name) for name, each in SECONDS[does].items()))
+
+
+def places_on(numbers: Mapping[str, int], axis: str, side: str) -> int:
+    """How many places for a box the frame has across (`x`, `w`) or up (`y`, `h`)."""
+    origin, step = numbers[f"origin_{axis}"], numbers[f"step_{axis}"]
+    first = -((origin - numbers[f"frame_{axis}1"]) // step)
+    last = (numbers[f"frame_{axis}2"] - numbers[f"box_{side}"] - origin) // step
+    return max(0, last - first + 1)
+
+
+def load_of(numbers: Mapping[str, int], does: str, size: int, elements: int, copies: int) -> Load:
+    """That of a rule file's numbers and of a design that has so many bytes, elements and copies. A check has no places."""
+    across, up = (places_on(numbers, axis, side) if does == "fill" else 0 for axis, side in (("x", "w"), ("y", "h")))
+    tiles = -(-across // numbers["tile_nx"]) * -(-up // numbers["tile_ny"])
+    return Load(size, elements, copies, numbers["win_nx"] * numbers["win_ny"], across * up, tiles)
