@@ -117,6 +117,37 @@ class Done(Case):
         self.assertTrue((self.folder / "out.gds").is_symlink())
         self.assertEqual(there.read_bytes(), FILL)
 
+    def test_out_may_be_a_link_to_nothing(self) -> None:
+        (self.folder / "there").mkdir()
+        (self.folder / "there").chmod(0o777)
+        (self.folder / "middle").symlink_to("there/fill.gds")
+        (self.folder / "out.gds").symlink_to(self.folder / "middle")
+        self.assertEqual(self.fill().status, 0)
+        self.assertTrue((self.folder / "out.gds").is_symlink())
+        self.assertEqual([name.name for name in (self.folder / "there").iterdir()], ["fill.gds"])
+        self.assertEqual((self.folder / "there/fill.gds").read_bytes(), FILL)
+
+    def test_a_link_where_out_is_written_is_not_followed(self) -> None:
+        other = self.folder / "other"
+        other.write_bytes(b"before")
+        other.chmod(0o666)
+        (self.folder / "out.gds.unfinished").symlink_to(other)
+        self.assertEqual(self.fill().status, 0)
+        self.assertEqual(other.read_bytes(), b"before")
+        self.assertFalse((self.folder / "out.gds").is_symlink())
+        self.assertEqual((self.folder / "out.gds").read_bytes(), FILL)
+
+    @unittest.skipIf(os.geteuid(), "only root may give a file away")
+    def test_out_keeps_its_owner_and_its_group(self) -> None:
+        out = self.folder / "out.gds"
+        out.write_bytes(b"before")
+        os.chown(out, NOBODY, 1)
+        out.chmod(0o660)
+        line = ["./densfill", "fill", "rules.csv", "design.gds", "script.csv", "out.gds"]
+        self.assertEqual(subprocess.run(line, cwd=self.folder, capture_output=True, check=False).returncode, 0)
+        kept = out.stat()
+        self.assertEqual((kept.st_uid, kept.st_gid, kept.st_mode & 0o777, out.read_bytes()), (NOBODY, 1, 0o660, FILL))
+
     def test_out_may_be_a_device_or_a_pipe(self) -> None:
         self.assertEqual(self.run_words("fill", "rules.csv", "design.gds", "script.csv", "/dev/null"), Ended(0, FILLED, ""))
         os.mkfifo(self.folder / "pipe", 0o666)
@@ -241,6 +272,21 @@ class Files(Case):
         self.assert_fault(ended, 4, "out: 30 Device")
         self.assertEqual((self.folder / "out.gds.unfinished").read_bytes(), DESIGN)
         self.assert_no_out()
+
+    @unittest.skipIf(os.geteuid(), "only root may give a file away")
+    def test_a_file_of_another_user_where_out_is_written(self) -> None:
+        unfinished = self.folder / "out.gds.unfinished"
+        unfinished.write_bytes(b"before")
+        unfinished.chmod(0o666)
+        self.folder.chmod(0o1777)
+        self.assert_fault(self.fill(), 4, "out: 30 Device")
+        self.assertEqual(unfinished.read_bytes(), b"before")
+        self.assert_no_out()
+
+    def test_out_is_the_empty_word(self) -> None:
+        before = sorted(os.listdir(self.folder))
+        self.assert_fault(self.run_words("fill", "rules.csv", "design.gds", "script.csv", ""), 4, "out: 30 Device")
+        self.assertEqual(sorted(os.listdir(self.folder)), before)
 
     def test_out_is_where_standard_output_goes(self) -> None:
         with open(self.folder / "both", "wb") as both:

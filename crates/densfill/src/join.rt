@@ -66,7 +66,9 @@ fn inputs_of<'a>(
     alloc: Global,
     rules: &'a str,
     parts: &[&'a str],
-) -> Result<Vec<&'a str>, AllocError> {
+) -> Result<Vec<&'a str>, AllocError>
+    ensures { IfOk result (λ v. v.items ≡ parts.now ++ rules.entry ∷ []) }
+{
     let mut inputs = parts.to_vec(alloc)?;
     inputs.push(rules)?;
     Ok(inputs)

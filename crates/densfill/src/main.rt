@@ -309,7 +309,7 @@ fn status_of<R: AllocGlobal + Files + Threads + Wait + Sync, S: AsStr, W: Write 
     requires out { has_failed out.old ≡ false }
     requires err { has_failed err.old ≡ false }
 
-    // Status 0: clap finds no fault in the words, and the report of the line that they make, of two opened files, is written whole.
+    // Status 0: clap finds no fault in the words, and the report of the line that they make, of the opened files, is written whole.
     ensures faultless { exit_status result ≡ 0 → IsFaultless (map S.text words.now) }
     ensures done { exit_status result ≡ 0 → IsReport R.File.remaining R.File.contents (said_in (map S.text words.now)) (W.contents (under out.old)) (W.contents (under out.new)) }
 

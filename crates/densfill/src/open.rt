@@ -1,5 +1,5 @@
 //! The files that a line names, opened and created.
-ghost use Rattle.std.specs.Prelude.{◌≡◌, ◌⊎◌, ◌↔◌, false, IfErr, IfOk};
+ghost use Rattle.std.specs.Prelude.{◌≡◌, ◌⊎◌, ◌↔◌, [], ◌∷◌, false, IfErr, IfOk};
 ghost use Rattle.std.specs.IoError.{error_kind};
 ghost use Rattle.densfill_io.specs.Taps.{has_failed};
 ghost use Rattle.densfill.specs.Outcomes.{IsUnopened, IsUnopenedPart, of_design, of_rules, of_script};
@@ -84,7 +84,9 @@ pub(crate) struct Paths<'a> {
 
 impl<'a> Paths<'a> {
     /// Those of the three inputs.
-    pub(crate) fn inputs(&self) -> [&'a str; 3] {
+    pub(crate) fn inputs(&self) -> [&'a str; 3]
+        ensures { result ≡ self.now.rules ∷ self.now.design ∷ self.now.script ∷ [] }
+    {
         [self.rules, self.design, self.script]
     }
 }
@@ -109,6 +111,13 @@ pub(crate) fn opened_inputs<R: Files>(
     })
 }
 
+/// What is told of a part's library that could not be opened.
+fn part_fault(number: u32, error: InputError) -> Refusal
+    ensures { result ≡ Refusal.Part number (InputFault.Unread error) }
+{
+    Refusal::Part(number, InputFault::Unread(error))
+}
+
 /// The library of a part, opened.
 pub(crate) fn opened_part<R: Files>(
     rt: &R,
@@ -120,7 +129,7 @@ pub(crate) fn opened_part<R: Files>(
 {
     match opened(rt, path) {
         Ok(tap) => Ok(tap),
-        Err(error) => Err(Refusal::Part(number, InputFault::Unread(error))),
+        Err(error) => Err(part_fault(number, error)),
     }
 }
 

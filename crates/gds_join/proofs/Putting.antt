@@ -1,5 +1,5 @@
 -- A place is put among others.
-use Rattle.std.proofs.Common.{◌≡◌, refl, sym, ap, ◌∙◌, ℕ, ◌+◌, ◌<◌, arith, inl, inr, ℤ, pos, ◌+ℤ◌, ◌≤ℤ◌, ◌<ℤ◌, Bool, true, false, ◌&&◌, ◌||◌}
+use Rattle.std.proofs.Common.{◌≡◌, ◌⊎◌, refl, sym, ap, ◌∙◌, ℕ, ◌+◌, ◌<◌, arith, inl, inr, ℤ, pos, ◌+ℤ◌, ◌≤ℤ◌, ◌<ℤ◌, Bool, true, false, ◌&&◌, ◌||◌}
 use Rattle.std.specs.Ordering.{int_eq}
 use Rattle.std.proofs.lemmas.Bool.{and_from, and_parts, or_cases}
 use Rattle.std.specs.Prelude.{nat_lt, ◌==◌}
@@ -13,6 +13,7 @@ use Rattle.fill_raster.specs.Marks.{Marked, count_marked, is_marked}
 use Rattle.fill_raster.proofs.RasterLaws.{place_has_a_tile}
 use Rattle.fill_job.proofs.Marking.{between_all}
 use Rattle.gds_out.specs.Places.{PlaceSet}
+use Rattle.gds_join.specs.Joins.{comes_before, is_lower}
 use Rattle.gds_join.specs.declared.error.PartError.{PartError}
 use Rattle.gds_join.specs.declared.error.PartError.TheVariants.{OtherRows, PlaceTwice}
 use Rattle.gds_join.specs.steps.Putting.{IsHindered, IsPut, in_row, in_rows, in_tiles, one_place}
@@ -52,11 +53,15 @@ put_one old new fill own i j has free mine set = record {
 self_place : (i j : ℤ) → one_place i j i j ≡ true
 self_place i j = and_from _ _ ((Decides-int_eq i i).1 refl) ((Decides-int_eq j j).1 refl)
 
-pub twice_there : (old fill own : PlaceSet) (i j : ℤ) → fill i j ≡ true → old i j ≡ true → IsHindered old fill own (one_place i j) PlaceTwice
-twice_there old fill own i j has there = record { i = i; j = j; at = self_place i j; has = has; why = inl (refl, there) }
+-- no place comes before itself
+not_lower : (i j k l : ℤ) → one_place i j k l ≡ true → is_lower k l i j ≡ true → ⊥
+not_lower i j k l at less = grind (arith, ints)
 
-pub other_there : (old fill own : PlaceSet) (i j : ℤ) → fill i j ≡ true → own i j ≡ false → IsHindered old fill own (one_place i j) OtherRows
-other_there old fill own i j has other = record { i = i; j = j; at = self_place i j; has = has; why = inr (refl, other) }
+pub twice_there : (old fill own : PlaceSet) (i j : ℤ) → fill i j ≡ true → old i j ≡ true → IsHindered old fill own (one_place i j) is_lower PlaceTwice
+twice_there old fill own i j has there = record { i = i; j = j; at = self_place i j; has = has; first = λ k l at h less. absurd (not_lower i j k l at less); why = inl (refl, there) }
+
+pub other_there : (old fill own : PlaceSet) (i j : ℤ) → fill i j ≡ true → old i j ≡ false → own i j ≡ false → IsHindered old fill own (one_place i j) is_lower OtherRows
+other_there old fill own i j has free other = record { i = i; j = j; at = self_place i j; has = has; first = λ k l at h less. absurd (not_lower i j k l at less); why = inr (refl, free, other) }
 
 -- ---- some places, and then some others
 
@@ -88,18 +93,53 @@ without true f w h k = refl
 without false true w h k = absurd (let e : false ≡ true = sym h ∙ k in cc)
 without false false w h k = k
 
--- what hinders later places hinders all
-pub hindered_later : (old cur fill own w v u : PlaceSet) (e : PartError) → IsPut old cur fill own w → IsHindered cur fill own v e → ((k l : ℤ) → v k l ≡ true → w k l ≡ false) → ((k l : ℤ) → v k l ≡ true → u k l ≡ true) → IsHindered old fill own u e
-hindered_later old cur fill own w v u e a h apart within = record {
+-- what hinders later places hinders all, where what comes before one of them was put, or comes before it among them
+pub hindered_later : (old cur fill own w v u : PlaceSet) (p q : ℤ → ℤ → ℤ → ℤ → Bool) (e : PartError) → IsPut old cur fill own w → IsHindered cur fill own v p e → ((k l : ℤ) → v k l ≡ true → w k l ≡ false) → ((k l : ℤ) → v k l ≡ true → u k l ≡ true)
+    → ((k l i j : ℤ) → v i j ≡ true → u k l ≡ true → q k l i j ≡ true → (w k l ≡ true) ⊎ ((v k l ≡ true) × (p k l i j ≡ true))) → IsHindered old fill own u q e
+hindered_later old cur fill own w v u p q e a h apart within earlier = record {
   i = h.i;
   j = h.j;
   at = within h.i h.j h.at;
   has = h.has;
   why = elim h.why [
     | inl twice ↦ inl (twice.0, without (old h.i h.j) (fill h.i h.j) (w h.i h.j) (apart h.i h.j h.at) (sym (a.filled h.i h.j) ∙ twice.1))
-    | inr other ↦ inr other
+    | inr other ↦ inr (other.0, old_free (old h.i h.j) (fill h.i h.j && w h.i h.j) (sym (a.filled h.i h.j) ∙ other.1), other.2)
+  ];
+  first = λ k l at has less. elim (earlier k l h.i h.j h.at at less) [
+    | inl put ↦ (a.apart k l put has, a.is_own k l put has)
+    | inr here ↦ let f = h.first k l here.0 has here.1 in (old_free (old k l) (fill k l && w k l) (sym (a.filled k l) ∙ f.0), f.1)
   ];
 }
+
+-- ---- what comes before a place
+
+yes_or_no : (b : Bool) → (b ≡ true) ⊎ (b ≡ false)
+yes_or_no true = inl refl
+yes_or_no false = inr refl
+
+pub row_earlier : (left right i j k l a b : ℤ) → one_place i j a b ≡ true → in_row left right j k l ≡ true → is_lower k l a b ≡ true → (in_row left i j k l ≡ true) ⊎ ((one_place i j k l ≡ true) × (is_lower k l a b ≡ true))
+row_earlier left right i j k l a b at in_it less = inl (grind (arith, ints))
+
+pub rows_earlier : (left right bottom top j k l a b : ℤ) → in_row left right j a b ≡ true → in_rows left right bottom top k l ≡ true → is_lower k l a b ≡ true
+    → (in_rows left right bottom j k l ≡ true) ⊎ ((in_row left right j k l ≡ true) × (is_lower k l a b ≡ true))
+rows_earlier left right bottom top j k l a b at in_it less = elim (yes_or_no (int_eq l j)) [
+  | inl same ↦ inr (grind (arith, ints), less)
+  | inr other ↦ inl (grind (arith, ints))
+]
+
+tile_is : (t n : ℕ) → (t == n) ≡ true → t ≡ n
+tile_is t n h = grind (arith, nat_tests)
+
+pub tiles_earlier : (r : Lattice) (n : ℕ) (k l a b : ℤ) → in_tile r n a b ≡ true → in_raster r k l ≡ true → comes_before r k l a b ≡ true
+    → (in_tiles r n k l ≡ true) ⊎ ((in_tile r n k l ≡ true) × (is_lower k l a b ≡ true))
+tiles_earlier r n k l a b at on before =
+    let same : tile_of r a b ≡ n = tile_is (tile_of r a b) n (and_parts (in_raster r a b) (tile_of r a b == n) at).1 in
+    elim (or_cases (nat_lt (tile_of r k l) (tile_of r a b)) ((tile_of r k l == tile_of r a b) && is_lower k l a b) before) [
+      | inl lower ↦ inl (and_from (in_raster r k l) (nat_lt (tile_of r k l) n) on (rw same at lower))
+      | inr level ↦
+          let parts = and_parts (tile_of r k l == tile_of r a b) (is_lower k l a b) level in
+          inr (and_from (in_raster r k l) (tile_of r k l == n) on (rw same at parts.0), parts.1)
+    ]
 
 -- ---- columns of a row
 
@@ -214,8 +254,8 @@ put_same old new fill own w u same is = record {
   is_own = λ k l at h. is.is_own k l (same k l ∙ at) h;
 }
 
-pub hindered_same : (old fill own w u : PlaceSet) (e : PartError) → ((k l : ℤ) → w k l ≡ u k l) → IsHindered old fill own w e → IsHindered old fill own u e
-hindered_same old fill own w u e same h = record { i = h.i; j = h.j; at = sym (same h.i h.j) ∙ h.at; has = h.has; why = h.why }
+pub hindered_same : (old fill own w u : PlaceSet) (before : ℤ → ℤ → ℤ → ℤ → Bool) (e : PartError) → ((k l : ℤ) → w k l ≡ u k l) → IsHindered old fill own w before e → IsHindered old fill own u before e
+hindered_same old fill own w u before e same h = record { i = h.i; j = h.j; at = sym (same h.i h.j) ∙ h.at; has = h.has; first = λ k l at has less. h.first k l (same k l ∙ at) has less; why = h.why }
 
 pub rows_end : (left right bottom top j k l : ℤ) → bottom ≤ℤ j → j ≤ℤ int_max bottom top → top ≤ℤ j → in_rows left right bottom j k l ≡ in_rows left right bottom top k l
 rows_end left right bottom top j k l low high past = ap (λ b. b && is_between left right k) (between_all bottom top j l low high past)

@@ -3,6 +3,7 @@ ghost use Rattle.std.specs.Prelude.{◌≡◌, ◌&&◌, ◌<◌, ℤ, true, IfE
 ghost use Rattle.fill_base.specs.Counts.{is_between};
 ghost use Rattle.fill_state.specs.Filling.{is_filled};
 ghost use Rattle.fill_raster.specs.Lattice.{in_raster, in_tile, tiles};
+ghost use Rattle.gds_join.specs.Joins.{comes_before, is_lower};
 ghost use Rattle.gds_join.specs.steps.Putting.{IsHindered, IsPut, in_row, in_rows, is_own, one_place};
 
 use crate::error::PartError;
@@ -19,7 +20,7 @@ fn join_place(filled: &mut Filled, fill: &Filled, part: Part, place: Place) -> R
     requires place { in_raster filled.old.raster place.i place.j ≡ true }
     ensures raster { filled.new.raster ≡ filled.old.raster }
     ensures ok { OnOk result (IsPut (is_filled filled.old) (is_filled filled.new) (is_filled fill.now) (is_own filled.old.raster part) (one_place place.i place.j)) }
-    ensures refused { IfErr result (λ e. IsHindered (is_filled filled.old) (is_filled fill.now) (is_own filled.old.raster part) (one_place place.i place.j) e) }
+    ensures refused { IfErr result (λ e. IsHindered (is_filled filled.old) (is_filled fill.now) (is_own filled.old.raster part) (one_place place.i place.j) is_lower e) }
 {
     if !fill.has(place) {
         return Ok(());
@@ -49,7 +50,7 @@ fn join_row(
     requires places { (i : ℤ) → is_between left right i ≡ true → in_raster filled.old.raster i j ≡ true }
     ensures raster { OnOk result (filled.new.raster ≡ filled.old.raster) }
     ensures ok { OnOk result (IsPut (is_filled filled.old) (is_filled filled.new) (is_filled fill.now) (is_own filled.old.raster part) (in_row left right j)) }
-    ensures refused { IfErr result (λ e. IsHindered (is_filled filled.old) (is_filled fill.now) (is_own filled.old.raster part) (in_row left right j) e) }
+    ensures refused { IfErr result (λ e. IsHindered (is_filled filled.old) (is_filled fill.now) (is_own filled.old.raster part) (in_row left right j) is_lower e) }
 {
     for i in left..right {
         match join_place(filled, fill, part, Place { i, j }) {
@@ -74,7 +75,7 @@ fn join_rows(
     requires places { (i j : ℤ) → (is_between left right i && is_between bottom top j) ≡ true → in_raster filled.old.raster i j ≡ true }
     ensures raster { OnOk result (filled.new.raster ≡ filled.old.raster) }
     ensures ok { OnOk result (IsPut (is_filled filled.old) (is_filled filled.new) (is_filled fill.now) (is_own filled.old.raster part) (in_rows left right bottom top)) }
-    ensures refused { IfErr result (λ e. IsHindered (is_filled filled.old) (is_filled fill.now) (is_own filled.old.raster part) (in_rows left right bottom top) e) }
+    ensures refused { IfErr result (λ e. IsHindered (is_filled filled.old) (is_filled fill.now) (is_own filled.old.raster part) (in_rows left right bottom top) is_lower e) }
 {
     for j in bottom..top {
         match join_row(filled, fill, part, left, right, j) {
@@ -91,7 +92,7 @@ fn join_tile(filled: &mut Filled, fill: &Filled, part: Part, tile: u32) -> Resul
     requires tile { tile < tiles filled.old.raster }
     ensures raster { OnOk result (filled.new.raster ≡ filled.old.raster) }
     ensures ok { OnOk result (IsPut (is_filled filled.old) (is_filled filled.new) (is_filled fill.now) (is_own filled.old.raster part) (in_tile filled.old.raster tile)) }
-    ensures refused { IfErr result (λ e. IsHindered (is_filled filled.old) (is_filled fill.now) (is_own filled.old.raster part) (in_tile filled.old.raster tile) e) }
+    ensures refused { IfErr result (λ e. IsHindered (is_filled filled.old) (is_filled fill.now) (is_own filled.old.raster part) (in_tile filled.old.raster tile) is_lower e) }
 {
     if fill.marks(tile).count() == 0 {
         return Ok(());
@@ -116,7 +117,7 @@ pub(crate) fn join_fill(filled: &mut Filled, fill: &Filled, part: Part) -> Resul
     requires { fill.now.raster ≡ filled.old.raster }
     ensures raster { OnOk result (filled.new.raster ≡ filled.old.raster) }
     ensures ok { OnOk result (IsPut (is_filled filled.old) (is_filled filled.new) (is_filled fill.now) (is_own filled.old.raster part) (in_raster filled.old.raster)) }
-    ensures refused { IfErr result (λ e. IsHindered (is_filled filled.old) (is_filled fill.now) (is_own filled.old.raster part) (in_raster filled.old.raster) e) }
+    ensures refused { IfErr result (λ e. IsHindered (is_filled filled.old) (is_filled fill.now) (is_own filled.old.raster part) (in_raster filled.old.raster) (comes_before filled.old.raster) e) }
 {
     for tile in 0..filled.raster().tiles() {
         match join_tile(filled, fill, part, tile) {

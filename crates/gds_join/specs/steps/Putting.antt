@@ -1,5 +1,5 @@
 -- Places of a part, put among others one after another.
-use Rattle.std.specs.Prelude.{◌≡◌, ◌⊎◌, ℕ, ℤ, true, false, ◌&&◌, ◌||◌, nat_lt}
+use Rattle.std.specs.Prelude.{◌≡◌, ◌⊎◌, ℕ, ℤ, Bool, true, false, ◌&&◌, ◌||◌, nat_lt}
 use Rattle.std.specs.Ordering.{int_eq}
 use Rattle.fill_base.specs.Counts.{is_between}
 use Rattle.fill_raster.specs.Axes.{bands}
@@ -20,13 +20,15 @@ pub record IsPut (old new fill own where_at : PlaceSet) : Type 0 where
   pub apart : (k l : ℤ) → where_at k l ≡ true → fill k l ≡ true → old k l ≡ false
   pub is_own : (k l : ℤ) → where_at k l ≡ true → fill k l ≡ true → own k l ≡ true
 
--- a place of the fill that passes the test is there already, or isn't the part's
-pub record IsHindered (old fill own where_at : PlaceSet) (e : PartError) : Type 0 where
+-- Of the places of the fill that pass the test the first one, in an order, that doesn't fit: it is there already, or else it isn't the
+-- part's.
+pub record IsHindered (old fill own where_at : PlaceSet) (before : ℤ → ℤ → ℤ → ℤ → Bool) (e : PartError) : Type 0 where
   pub i : ℤ
   pub j : ℤ
   pub at : where_at i j ≡ true
   pub has : fill i j ≡ true
-  pub why : ((e ≡ PlaceTwice) × (old i j ≡ true)) ⊎ ((e ≡ OtherRows) × (own i j ≡ false))
+  pub first : (k l : ℤ) → where_at k l ≡ true → fill k l ≡ true → before k l i j ≡ true → (old k l ≡ false) × (own k l ≡ true)
+  pub why : ((e ≡ PlaceTwice) × (old i j ≡ true)) ⊎ ((e ≡ OtherRows) × (old i j ≡ false) × (own i j ≡ false))
 
 -- one place; some of a row; some of some rows
 abbrev pub one_place : ℤ → ℤ → PlaceSet

@@ -1,8 +1,9 @@
 use Rattle.std.proofs.Common.{◌≡◌, refl, ap, ◌∙◌, ℕ, ◌+◌, ◌≤◌, subst, arith, rules}
 use Rattle.fill_state.specs.Filling.{is_filled}
 use Rattle.fill_raster.specs.Lattice.{Lattice, IsLattice, in_raster, in_tile, tiles}
+use Rattle.gds_join.specs.Joins.{comes_before, is_lower}
 use Rattle.gds_join.specs.steps.Putting.{IsHindered, IsPut, in_tiles, is_own}
-use Rattle.gds_join.proofs.Putting.{hindered_later, put_both, put_same, tile_within, tiles_all, tiles_apart, tiles_more, tiles_none}
+use Rattle.gds_join.proofs.Putting.{hindered_later, put_both, put_same, tile_within, tiles_all, tiles_apart, tiles_earlier, tiles_more, tiles_none}
 use Rattle.gds_join.proofs.join.join_fill.Goals as goal
 
 pub loop-tile-init : goal.loop-tile-init
@@ -11,9 +12,10 @@ loop-tile-init c = record { raster = refl; put = tiles_none c.args.filled.now.ra
 pub returns-in-Err-clause-refused : goal.returns-in-Err-clause-refused
 returns-in-Err-clause-refused c =
     let r = c.args.filled.now.raster in
-    let found = subst (λ (q : Lattice). IsHindered (is_filled c.loop-tile.filled) (is_filled c.args.fill.now) (is_own q c.args.part) (in_tile q c.loop-tile.tile) c.in-Err.error) c.loop-tile.invariant.raster c.in-Err.ensures.refused in
-    hindered_later (is_filled c.args.filled.now) (is_filled c.loop-tile.filled) (is_filled c.args.fill.now) (is_own r c.args.part) (in_tiles r c.loop-tile.tile) (in_tile r c.loop-tile.tile) (in_raster r) c.in-Err.error
+    let found = subst (λ (q : Lattice). IsHindered (is_filled c.loop-tile.filled) (is_filled c.args.fill.now) (is_own q c.args.part) (in_tile q c.loop-tile.tile) is_lower c.in-Err.error) c.loop-tile.invariant.raster c.in-Err.ensures.refused in
+    hindered_later (is_filled c.args.filled.now) (is_filled c.loop-tile.filled) (is_filled c.args.fill.now) (is_own r c.args.part) (in_tiles r c.loop-tile.tile) (in_tile r c.loop-tile.tile) (in_raster r) is_lower (comes_before r) c.in-Err.error
     c.loop-tile.invariant.put found (λ k l h. tiles_apart r c.loop-tile.tile k l h) (λ k l h. tile_within r c.loop-tile.tile k l h)
+    (λ k l a b at on before. tiles_earlier r c.loop-tile.tile k l a b at on before)
 
 pub loop-tile-preserved : goal.loop-tile-preserved
 loop-tile-preserved c =

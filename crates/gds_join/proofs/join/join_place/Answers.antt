@@ -23,7 +23,7 @@ pub returns-then-not-has_row-clause-refused : goal.returns-then-not-has_row-clau
 returns-then-not-has_row-clause-refused c =
     let r = c.args.filled.now.raster in
     let mine = owned r c.raster-raster.result c.args.part c.tile_rows.result c.tile_row.result c.tile_of-tile.result c.args.place.i c.args.place.j c.has_row.result c.raster-raster.ensures c.tile_rows.ensures c.tile_row.ensures.row c.tile_of-tile.ensures.tile c.has_row.ensures in
-    other_there (is_filled c.args.filled.now) (is_filled c.args.fill.now) (is_own r c.args.part) c.args.place.i c.args.place.j (sym c.has.ensures ∙ c.if-not-has.false) (sym mine ∙ c.if-not-has_row.true)
+    other_there (is_filled c.args.filled.now) (is_filled c.args.fill.now) (is_own r c.args.part) c.args.place.i c.args.place.j (sym c.has.ensures ∙ c.if-not-has.false) (sym c.has-2.ensures ∙ c.if-has.false) (sym mine ∙ c.if-not-has_row.true)
 
 pub returns-clause-ok : goal.returns-clause-ok
 returns-clause-ok c =

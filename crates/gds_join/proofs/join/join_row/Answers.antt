@@ -4,8 +4,9 @@ use Rattle.fill_base.proofs.Between.{is_between_true}
 use Rattle.fill_base.proofs.Signed.{read, read_is, is_lt}
 use Rattle.fill_state.specs.Filling.{is_filled}
 use Rattle.fill_job.proofs.Marking.{next_within, first_within, next_fits, not_lt}
+use Rattle.gds_join.specs.Joins.{is_lower}
 use Rattle.gds_join.specs.steps.Putting.{IsHindered, IsPut, in_row, is_own, one_place}
-use Rattle.gds_join.proofs.Putting.{hindered_later, put_both, row_apart, row_end, row_more, row_none, row_within}
+use Rattle.gds_join.proofs.Putting.{hindered_later, put_both, row_apart, row_earlier, row_end, row_more, row_none, row_within}
 use Rattle.gds_join.proofs.join.join_row.Goals as goal
 
 pub loop-i-init : goal.loop-i-init
@@ -33,9 +34,9 @@ returns-in-Err-clause-refused c =
     let i = c.loop-i.i in
     let inv = rw (c.loop-i.i-is, read_is c.args.left c.ranges.left, read_is c.args.right c.ranges.right, read_is c.args.j c.ranges.j) at c.loop-i.invariant in
     let lt = is_lt i c.args.right (rw (c.loop-i.i-is, read_is c.args.right c.ranges.right) at c.loop-i-test.true) in
-    let found = subst (λ (q : Lattice). IsHindered (is_filled c.loop-i.filled) (is_filled c.args.fill.now) (is_own q c.args.part) (one_place i c.args.j) c.in-Err.error) c.loop-i.invariant.raster (rw (c.loop-i.i-is, read_is c.args.j c.ranges.j) at c.in-Err.ensures.refused) in
-    hindered_later (is_filled c.args.filled.now) (is_filled c.loop-i.filled) (is_filled c.args.fill.now) (is_own c.args.filled.now.raster c.args.part) (in_row c.args.left i c.args.j) (one_place i c.args.j) (in_row c.args.left c.args.right c.args.j) c.in-Err.error
-    inv.put found (λ k l h. row_apart c.args.left i c.args.j k l h) (λ k l h. row_within c.args.left c.args.right i c.args.j k l inv.from lt h)
+    let found = subst (λ (q : Lattice). IsHindered (is_filled c.loop-i.filled) (is_filled c.args.fill.now) (is_own q c.args.part) (one_place i c.args.j) is_lower c.in-Err.error) c.loop-i.invariant.raster (rw (c.loop-i.i-is, read_is c.args.j c.ranges.j) at c.in-Err.ensures.refused) in
+    hindered_later (is_filled c.args.filled.now) (is_filled c.loop-i.filled) (is_filled c.args.fill.now) (is_own c.args.filled.now.raster c.args.part) (in_row c.args.left i c.args.j) (one_place i c.args.j) (in_row c.args.left c.args.right c.args.j) is_lower is_lower c.in-Err.error
+    inv.put found (λ k l h. row_apart c.args.left i c.args.j k l h) (λ k l h. row_within c.args.left c.args.right i c.args.j k l inv.from lt h) (λ k l a b at in_it less. row_earlier c.args.left c.args.right i c.args.j k l a b at in_it less)
 
 pub loop-i-preserved : goal.loop-i-preserved
 loop-i-preserved c =

@@ -6,8 +6,9 @@ use Rattle.fill_base.proofs.Between.{is_between_true}
 use Rattle.fill_base.proofs.Signed.{read, read_is, is_lt}
 use Rattle.fill_state.specs.Filling.{is_filled}
 use Rattle.fill_job.proofs.Marking.{next_within, first_within, next_fits, not_lt}
+use Rattle.gds_join.specs.Joins.{is_lower}
 use Rattle.gds_join.specs.steps.Putting.{IsHindered, IsPut, in_row, in_rows, is_own}
-use Rattle.gds_join.proofs.Putting.{hindered_later, put_both, put_same, rows_apart, rows_end, rows_more, rows_none, rows_within}
+use Rattle.gds_join.proofs.Putting.{hindered_later, put_both, put_same, rows_apart, rows_earlier, rows_end, rows_more, rows_none, rows_within}
 use Rattle.gds_join.proofs.join.join_rows.Goals as goal
 
 pub loop-j-init : goal.loop-j-init
@@ -36,10 +37,11 @@ returns-in-Err-clause-refused c =
     let j = c.loop-j.j in
     let inv = rw (c.loop-j.j-is, read_is c.args.left c.ranges.left, read_is c.args.right c.ranges.right, read_is c.args.bottom c.ranges.bottom, read_is c.args.top c.ranges.top) at c.loop-j.invariant in
     let lt = is_lt j c.args.top (rw (c.loop-j.j-is, read_is c.args.top c.ranges.top) at c.loop-j-test.true) in
-    let found = subst (λ (q : Lattice). IsHindered (is_filled c.loop-j.filled) (is_filled c.args.fill.now) (is_own q c.args.part) (in_row c.args.left c.args.right j) c.in-Err.error) c.loop-j.invariant.raster
+    let found = subst (λ (q : Lattice). IsHindered (is_filled c.loop-j.filled) (is_filled c.args.fill.now) (is_own q c.args.part) (in_row c.args.left c.args.right j) is_lower c.in-Err.error) c.loop-j.invariant.raster
     (rw (c.loop-j.j-is, read_is c.args.left c.ranges.left, read_is c.args.right c.ranges.right) at c.in-Err.ensures.refused) in
-    hindered_later (is_filled c.args.filled.now) (is_filled c.loop-j.filled) (is_filled c.args.fill.now) (is_own c.args.filled.now.raster c.args.part) (in_rows c.args.left c.args.right c.args.bottom j) (in_row c.args.left c.args.right j) (in_rows c.args.left c.args.right c.args.bottom c.args.top) c.in-Err.error
+    hindered_later (is_filled c.args.filled.now) (is_filled c.loop-j.filled) (is_filled c.args.fill.now) (is_own c.args.filled.now.raster c.args.part) (in_rows c.args.left c.args.right c.args.bottom j) (in_row c.args.left c.args.right j) (in_rows c.args.left c.args.right c.args.bottom c.args.top) is_lower is_lower c.in-Err.error
     inv.put found (λ k l h. rows_apart c.args.left c.args.right c.args.bottom j k l h) (λ k l h. rows_within c.args.left c.args.right c.args.bottom c.args.top j k l inv.from lt h)
+    (λ k l a b at in_it less. rows_earlier c.args.left c.args.right c.args.bottom c.args.top j k l a b at in_it less)
 
 pub loop-j-preserved : goal.loop-j-preserved
 loop-j-preserved c =

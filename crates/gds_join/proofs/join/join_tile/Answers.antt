@@ -4,6 +4,7 @@ use Rattle.fill_base.specs.Counts.{is_between}
 use Rattle.fill_base.proofs.Signed.{read, read_is}
 use Rattle.fill_state.specs.Filling.{is_filled}
 use Rattle.fill_raster.specs.Lattice.{Lattice, in_tile}
+use Rattle.gds_join.specs.Joins.{is_lower}
 use Rattle.gds_join.specs.steps.Putting.{IsHindered, in_rows, is_own}
 use Rattle.gds_join.proofs.Putting.{hindered_same, put_same, tile_none, tile_rows, tile_within}
 use Rattle.gds_join.proofs.join.join_tile.Goals as goal
@@ -50,7 +51,7 @@ returns-clause-refused c =
     let inside = in_rows (read c.places.result.0.start) (read c.places.result.0.end) (read c.places.result.1.start) (read c.places.result.1.end) in
     let own = is_own c.args.filled.now.raster c.args.part in
     IfErr-weaker c.join_rows.result
-    (λ f. IsHindered (is_filled c.args.filled.now) (is_filled c.args.fill.now) own inside f)
-    (λ f. IsHindered (is_filled c.args.filled.now) (is_filled c.args.fill.now) own (in_tile c.args.filled.now.raster c.args.tile) f)
-    (λ f. hindered_same (is_filled c.args.filled.now) (is_filled c.args.fill.now) own inside (in_tile c.args.filled.now.raster c.args.tile) f at)
+    (λ f. IsHindered (is_filled c.args.filled.now) (is_filled c.args.fill.now) own inside is_lower f)
+    (λ f. IsHindered (is_filled c.args.filled.now) (is_filled c.args.fill.now) own (in_tile c.args.filled.now.raster c.args.tile) is_lower f)
+    (λ f. hindered_same (is_filled c.args.filled.now) (is_filled c.args.fill.now) own inside (in_tile c.args.filled.now.raster c.args.tile) is_lower f at)
     c.join_rows.ensures.refused
