@@ -196,6 +196,7 @@ class Faults(Folder):
                            ('step = "15 um"\n', ":20: layer M1, step: warning: a window lies to 25.0% in the frame and counts as empty beside it, so fill brings it to "
                                                'no more than 7.7%: write padding = "ignore", or other windows'),
                            ('step = "30 um"\npadding = "ignore"\n', ":20: layer M1, step: warning: is longer than the window: what lies between two windows isn't checked"),
+                           ('spacing = "40 um"\n', ":20: layer M1, spacing: warning: 40 um is as wide as a window: next to any metal no box has room"),
                            ('keep_layer = "9/0"\n', ":20: layer M1, keep_layer: warning: the top TOP draws nothing on 9/0, so nothing is kept free of boxes"),
                            ('cell = "LOW"\n', ":20: layer M1, cell: warning: the design has a structure LOW already: write another name"),
                            ("", "")):

@@ -238,6 +238,11 @@ class Klayout(FolderCase):
         given = {"design": design, "rules": rules}
         self.assertIn("windows that differ: 0 of 88", self.klayout(compare, report=self.folder / "check.csv", **given))
         self.assertIn("windows that differ: 0 of 88", self.klayout(compare, report=self.folder / "fill.csv", fill=fill, **given))
+        none = self.folder / "none.csv"
+        none.write_text(rules.read_text().replace("\nspacing,300\n", "\nspacing,48000\n"))
+        (self.folder / "none_report.csv").write_text(self.densfill("fill", none, design, "/dev/null", fill))
+        seen = self.klayout(compare, design=design, rules=none, report=self.folder / "none_report.csv", fill=fill)
+        self.assertIn("windows that differ: 0 of 88", seen)
         ignored = self.folder / "ignored.csv"
         ignored.write_text(rules.read_text() + "padding,ignore\n")
         (self.folder / "ignored_report.csv").write_text(self.densfill("check", ignored, design))

@@ -73,6 +73,8 @@ def judge_raster(table: Table) -> None:
         if table.has(step, side, "fill_spacing") and n[step] < n[side] + n["fill_spacing"]:
             least = n[side] + n["fill_spacing"]
             table.fault("pitch", f"{told(n[step], table)} is less than box and fill_spacing together: write {told(least, table)} or more")
+    if table.has("spacing", "win_w", "win_h") and n["spacing"] >= max(n["win_w"], n["win_h"]):
+        table.warn("spacing", f"{told(n['spacing'], table)} is as wide as a window: next to any metal no box has room")
     places = 1
     for low, high, step, side in (("frame_x1", "frame_x2", "step_x", "box_w"), ("frame_y1", "frame_y2", "step_y", "box_h")):
         if not table.has(low, high, step, side) or n[step] < 1:

@@ -9,7 +9,7 @@ from .tables import Deck
 
 SCRIPT = Path(__file__).resolve().parent.parent / "klayout" / "merge_fill.py"
 NO_KLAYOUT = ("klayout is not on the path: install it (https://www.klayout.de, or your distribution's package), or merge in the layout tool "
-              "of your flow: each fill library has one top structure, which goes below the design's top at 0, 0 with no rotation")
+              "of your flow: the structure top_cell (fill_top of the rules) of each fill library goes below the design's top, at 0, 0 with no rotation")
 OTHER_FORMATS = (".oas", ".oasis", ".gz", ".zip", ".bz2", ".xz", ".cif", ".dxf", ".lef", ".def")
 
 
