@@ -15,8 +15,6 @@ mod raster;
 #[cfg(test)]
 mod region;
 #[cfg(test)]
-mod runs;
-#[cfg(test)]
 mod size;
 #[cfg(test)]
 mod spans;

@@ -56,8 +56,10 @@ fn a_mesh_has_a_run_for_each_lying_wire_and_each_piece(rt: HostRuntime) -> Resul
     let alloc = rt.alloc();
     let mut rects = Vec::new(alloc);
     for k in 0..100i64 {
-        rects.push(Rect::new(4 * k, 0, 4 * k + 1, 400)?)?;
-        rects.push(Rect::new(0, 4 * k + 1, 400, 4 * k + 2)?)?;
+        let at = k.wrapping_mul(4);
+        let (next, after) = (at.wrapping_add(1), at.wrapping_add(2));
+        rects.push(Rect::new(at, 0, next, 400)?)?;
+        rects.push(Rect::new(0, next, 400, after)?)?;
     }
     let mesh = Runs::from_rects(&rt, alloc, &rects)?;
     assert!(rt; mesh.runs().len() == 10_200);
@@ -98,7 +100,8 @@ fn every_operation_keeps_its_squares(rt: HostRuntime) -> Result<(), Fail> {
         let b = Runs::from_rects(&rt, alloc, &second)?;
         for operation in [Operation::Union, Operation::Minus, Operation::Meet] {
             let made = a.combined(&rt, alloc, operation, &b)?;
-            for y in (0..140i64).step_by(3) {
+            for row in 0..47i64 {
+                let y = row.wrapping_mul(3);
                 for x in 0..144i64 {
                     let wanted = operation.apply(
                         some_holds(&first, x, y),
