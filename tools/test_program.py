@@ -469,6 +469,9 @@ class Parts(Case):
         self.assert_fault(self.run_words("join", "none.csv", "out.gds", "none/1.gds"), 4, "rules: 30 Device")
         self.assert_no_out()
 
+    def test_a_path_is_told_in_one_line(self) -> None:
+        self.assert_fault(self.run_words("join", "rules.csv", "out.gds", "a\nb\x7f.gds"), 4, "part 1: 30 Device in a?b?.gds")
+
     def test_out_is_a_part(self) -> None:
         (self.folder / "1.gds").write_bytes(FILL)
         (self.folder / "1.gds").chmod(0o666)

@@ -218,7 +218,7 @@ fn told<E: Write>(alloc: Global, err: &mut Tap<E>, refusal: Refusal, path: Optio
     ensures status { 1 < exit_status result }
 {
     match refusal.line(alloc, path) {
-        Ok(line) => written(err, line.as_bytes(), refusal),
+        Ok(line) => written(err, &line, refusal),
         Err(_) => written(err, b"densfill: run: 31 Memory\n", OUT_OF_MEMORY),
     }
 }

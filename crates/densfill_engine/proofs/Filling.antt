@@ -1,26 +1,30 @@
 -- A book that is opened, edited and filled gives the texts of a fill, or was given too few turns or too little history.
-use Rattle.std.proofs.Common.{◌≡◌, refl, ap, ap₂, sym, subst, ◌∙◌, ℕ, ◌+◌, ◌*◌, ◌^◌, ◌≤◌, ◌<◌, arith, inl, inr, List, [], length, map, Option}
+use Rattle.std.proofs.Common.{◌≡◌, refl, ap, ap₂, sym, subst, ◌∙◌, ℕ, ◌+◌, ◌*◌, ◌^◌, ◌≤◌, ◌<◌, ◌&&◌, ◌||◌, arith, inl, inr, List, [], length, map, Option}
 use Rattle.std.proofs.lemmas.List.{length-map}
 use Rattle.fill_region.specs.Bands.{Band}
 use Rattle.fill_text.specs.Rules.{Values}
 use Rattle.fill_text.specs.Script.{change_of}
 use Rattle.fill_text.specs.declared.script.Edit.{Edit}
-use Rattle.fill_job.specs.Plans.{IsPlan, Layers, PointSet, plan_of}
+use Rattle.fill_job.specs.Plans.{IsPlan, Layers, Plan, PointSet, WindowSet, allowed, in_window_of, plan_of}
 use Rattle.fill_core.specs.Accounts.{Account, state_of, terms_of}
 use Rattle.fill_core.specs.Histories.{edits_in, events_in}
 use Rattle.fill_core.specs.Machine.{IsComplete, State, opening as start, replay, replay_from}
-use Rattle.fill_core.specs.Shares.{Held}
+use Rattle.fill_core.specs.Shares.{Held, nothing_with}
 use Rattle.fill_core.specs.Terms.{Terms, layers_at}
 use Rattle.fill_core.specs.declared.event.Entry.{Entry}
+use Rattle.fill_core.specs.declared.event.Event.{Event}
 use Rattle.fill_parts.specs.PartFill.{layers_by}
 use Rattle.fill_report.specs.BookReport.{fill_report}
 use Rattle.gds_out.specs.FillText.{fill_text}
 use Rattle.gds_out.specs.Places.{PlaceSet}
+use Rattle.fill_core.proofs.Replays.{complete_fill, low_of_opening}
+use Rattle.fill_core.proofs.Sound.{low_sound, replay_sound}
 use Rattle.fill_core.proofs.Unedited.{complete_unedited}
+use Rattle.fill_shared.specs.Rounds.{HasRun}
 use Rattle.fill_shared.specs.Runs.{IsFinished, changes_in}
 use Rattle.fill_shared.proofs.Edited.{layers_stay, no_change}
-use Rattle.densfill_engine.specs.Fills.{IsFillOf, IsOnlyFillOf}
-use Rattle.densfill_engine.specs.Runs.{IsFresh, IsRun, IsTooShort, most_commits, most_turns, tile_count}
+use Rattle.densfill_engine.specs.Fills.{IsAllWanted, IsFillOf, IsOnlyFillOf}
+use Rattle.densfill_engine.specs.Runs.{IsBack, IsFresh, IsRun, IsTooShort, Leaves, most_commits, most_turns, tile_count}
 use Rattle.densfill_engine.proofs.TileTurns.{run_brief, run_unedited}
 
 -- what a fill opens its book with
@@ -46,7 +50,32 @@ only_fill t b units dates library report plan unedited l r complete =
     record {
       library_is = l ∙ ap (fill_text units dates t.rules) fill_is;
       report_is = r ∙ ap₂ (λ (l : Layers) (f : PointSet). fill_report t.rules l.metal f) layers_are fill_is;
+      sound = low_sound (plan_of t.rules) (layers_at t) plan;
     }
+
+-- where every tile is in, all that is wanted is filled
+all_wanted : (plan : Plan) (layers : Layers) (events : List Event) → IsPlan plan → IsComplete plan (replay plan layers events) → IsAllWanted plan (replay plan layers events)
+all_wanted plan layers events is complete i j =
+    let s = replay plan layers events in
+    ap (λ (f : PointSet). f i j) (complete_fill plan layers events is complete)
+    ∙ ap (λ (low : WindowSet). s.base i j || (allowed plan s.layers i j && in_window_of plan low i j)) (low_of_opening plan layers events)
+
+-- what came back of a book that was opened blank
+pub came_back : (Left : Leaves) (t : Terms) (a b : Account) (edits : List Edit) (pass after : Held) (workers : ℕ) (limit : Option ℕ) → t.most ≡ 2 ^ 32 → a ≡ blank t → pass ≡ nothing_with 1024
+    → Left (terms_of a) edits b after → HasRun (terms_of a) edits workers (most_turns a.rules limit) pass b after → IsBack Left t.rules (layers_at t) (map change_of edits) workers limit
+came_back Left t a b edits pass after workers limit room is fresh left rounds = record {
+  terms = t;
+  rules_are = refl;
+  opened_on = refl;
+  room = room;
+  edits = edits;
+  edits_are = refl;
+  book = b;
+  pass = after;
+  left = subst (λ (u : Terms). Left u edits b after) (ap terms_of is) left;
+  rounds = subst (λ (p : Held). HasRun t edits workers (most_turns t.rules limit) p b after) fresh
+      (subst (λ (x : Account). HasRun (terms_of x) edits workers (most_turns x.rules limit) pass b after) is rounds);
+}
 
 -- the texts of a book in which every tile is in, whose edits are these
 fill_by : (t : Terms) (b : Account) (edits : List Edit) (workers : ℕ) (limit : Option ℕ) (units dates library report : List ℕ) → IsPlan (plan_of t.rules) → terms_of b ≡ t
@@ -56,8 +85,9 @@ fill_by : (t : Terms) (b : Account) (edits : List Edit) (workers : ℕ) (limit :
     → library ≡ fill_text units dates t.rules (replay (plan_of t.rules) (layers_at t) (events_in b.history)).fill
     → report ≡ fill_report t.rules (replay (plan_of t.rules) (layers_at t) (events_in b.history)).layers.metal (replay (plan_of t.rules) (layers_at t) (events_in b.history)).fill
     → IsOnlyFillOf t.rules (layers_by (map change_of edits) (layers_at t)) units dates library report)
+    → (1 < workers → (back : IsBack IsFinished t.rules (layers_at t) (map change_of edits) workers limit) × (events_in back.book.history ≡ events_in b.history))
     → IsFillOf t.rules (layers_at t) units dates (map change_of edits) workers limit library report
-fill_by t b edits workers limit units dates library report plan under made brief complete library_is report_is alone =
+fill_by t b edits workers limit units dates library report plan under made brief complete library_is report_is alone together =
     let events = events_in b.history in let values = t.rules in
     let rules : b.rules ≡ values = ap (λ (u : Terms). u.rules) under in
     let state : state_of b ≡ replay (plan_of values) (layers_at t) events = ap (λ (u : Terms). replay (plan_of u.rules) (layers_at u) events) under in
@@ -69,23 +99,29 @@ fill_by t b edits workers limit units dates library report plan under made brief
       changed = made;
       brief = subst (λ n. n ≤ length (map change_of edits) + most_commits t.rules workers limit) (sym (length-map b.history (λ (x : Entry). x.event))) brief;
       complete = complete_then;
+      sound = replay_sound (plan_of values) (layers_at t) events plan;
+      whole = all_wanted (plan_of values) (layers_at t) events plan complete_then;
       library_is = library_then;
       report_is = report_then;
       unedited = λ none. only_fill t b units dates library report plan (no_change (edits_in events) (made ∙ none)) library_then report_then complete_then;
       alone = λ one. alone one complete_then library_then report_then;
+      together = together;
     }
 
 -- the texts of a book that many workers filled
-pub texts_of_run : (t : Terms) (a b : Account) (calls : ℕ) (edits : List Edit) (workers : ℕ) (limit : Option ℕ) (units dates library report : List ℕ) → IsPlan (plan_of t.rules)
-    → 1 < workers → a ≡ blank t → calls ≡ 0 → (after : Held) × IsFinished (terms_of a) edits b after × (after.calls ≤ calls + (length edits + 2 * (workers * most_turns a.rules limit)))
+pub texts_of_run : (t : Terms) (a b : Account) (pass : Held) (edits : List Edit) (workers : ℕ) (limit : Option ℕ) (units dates library report : List ℕ) → IsPlan (plan_of t.rules)
+    → 1 < workers → t.most ≡ 2 ^ 32 → a ≡ blank t → pass ≡ nothing_with 1024
+    → (after : Held) × IsFinished (terms_of a) edits b after × HasRun (terms_of a) edits workers (most_turns a.rules limit) pass b after × (after.calls ≤ pass.calls + (length edits + 2 * (workers * most_turns a.rules limit)))
     → library ≡ fill_text units dates b.rules (state_of b).fill → report ≡ fill_report b.rules (state_of b).layers.metal (state_of b).fill
     → IsFillOf t.rules (layers_at t) units dates (map change_of edits) workers limit library report
-texts_of_run t a b calls edits workers limit units dates library report plan many is zero (after, done, brief) library_is report_is =
+unfolding came_back
+texts_of_run t a b pass edits workers limit units dates library report plan many room is fresh (after, done, rounds, brief) library_is report_is =
     let left = done.left in
     let turns : 2 * (workers * most_turns a.rules limit) ≡ most_commits t.rules workers limit = ap (λ (x : Account). 2 * (workers * most_turns x.rules limit)) is in
     fill_by t b edits workers limit units dates library report plan (left.under ∙ ap terms_of is) left.edited
-    (few (length b.history) after.calls calls (length edits) (length (map change_of edits)) _ _ (sym left.counted.calls) brief zero (length-map edits change_of) turns) done.complete library_is report_is
+    (few (length b.history) after.calls pass.calls (length edits) (length (map change_of edits)) _ _ (sym left.counted.calls) brief (ap (λ (h : Held). h.calls) fresh) (length-map edits change_of) turns) done.complete library_is report_is
     (λ one complete l r. absurd (omega (arith, many, one)))
+    (λ _. (came_back IsFinished t a b edits pass after workers limit room is fresh done rounds, refl))
   where
     few : (n m c e f o u : ℕ) → n ≡ m → m ≤ c + (e + o) → c ≡ 0 → f ≡ e → o ≡ u → n ≤ f + u
     few n m c e f o u same le zero lengths turns = omega (arith, same, le, zero, lengths, turns)
@@ -103,6 +139,7 @@ module _ (t : Terms) (a : Account) (limit : Option ℕ) (is : a ≡ blank t) whe
       fill_by t c [] 1 limit units dates library report plan under (ap (map change_of) unedited)
       (all (length c.history) (length a.history) _ _ (run_brief a c _ filled) (ap (λ (x : Account). length x.history) is) turns) complete library_is report_is
       (λ one whole l r. subst (λ (p : Layers). IsOnlyFillOf t.rules p units dates library report) (unmade (layers_at t)) (only_fill t c units dates library report plan unedited l r whole))
+      (λ many. absurd (omega (arith, many)))
     where
       same : terms_of c ≡ terms_of a
       same = λ k. record { rules = filled.rules k; opening = filled.opening k; keep = filled.keep k; most = filled.most k }

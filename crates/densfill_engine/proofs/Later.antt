@@ -11,6 +11,7 @@ use Rattle.fill_job.specs.Plans.{Layers, Plan, plan_of}
 use Rattle.fill_core.specs.Boxes.{no_places}
 use Rattle.fill_core.specs.Histories.{edits_by, edits_in}
 use Rattle.fill_core.specs.Machine.{State, fill_after, is_accepted, layers_after, opened, opening, replay, replay_from, step, with_tile}
+use Rattle.fill_core.specs.Soundness.{IsSound}
 use Rattle.fill_core.specs.declared.event.Event.{Event}
 use Rattle.fill_core.specs.declared.event.Event.TheVariants as event
 use Rattle.fill_core.proofs.Calling.{replay_from_append}
@@ -21,7 +22,7 @@ use Rattle.fill_parts.specs.PartFill.{layers_by, layers_with}
 use Rattle.fill_parts.specs.PartReport.{part_report}
 use Rattle.fill_report.specs.BookReport.{fill_report}
 use Rattle.gds_out.specs.FillText.{fill_text}
-use Rattle.densfill_engine.specs.Fills.{IsFillOf, IsOnlyFillOf}
+use Rattle.densfill_engine.specs.Fills.{IsAllWanted, IsFillOf, IsOnlyFillOf}
 use Rattle.densfill_engine.specs.PartFills.{IsNearFillOf}
 use Rattle.densfill_engine.specs.Runs.{most_commits}
 
@@ -112,10 +113,13 @@ behind_fill values layers after edits workers limit u units d dates library repo
       ∙ (ap (λ l. map change_of edits ++ l) fill.changed ∙ append-nil (map change_of edits)));
   brief = few _ _ _ _ _ _ (length_behind edits fill.events) (length-map edits change_of) fill.brief (ap (λ n. most_commits values n limit) one);
   complete = λ tile lt. ap (λ (s : State). s.tiles_in tile) run ∙ fill.complete tile lt;
+  sound = subst (λ (s : State). IsSound (plan_of values) s.layers s.fill) (sym run) fill.sound;
+  whole = subst (λ (s : State). IsAllWanted (plan_of values) s) (sym run) fill.whole;
   library_is = fill.library_is ∙ ap (λ (s : State). fill_text units dates values s.fill) (sym run);
   report_is = fill.report_is ∙ ap (λ (s : State). fill_report values s.layers.metal s.fill) (sym run);
   unedited = λ none. subst (λ (l : Layers). IsOnlyFillOf values l units dates library report) (ap (λ (c : List Change). layers_by c layers) none ∙ nothing_made layers) only;
   alone = λ _. only;
+  together = λ many. absurd (omega (arith, many, one));
 } where
   fill : IsFillOf values (layers_with edits layers) units dates [] 1 limit library report
   fill = subst (λ (l : Layers). IsFillOf values l units dates [] 1 limit library report) is

@@ -1,6 +1,6 @@
 -- The parts of a chip, joined, are one run.
-use Rattle.std.proofs.Common.{◌≡◌, refl, ap, sym, subst, ◌∙◌, ℕ, ◌<◌, ◌==◌, arith, true, false, List, [], ◌∷◌, ◌++◌, length, get_or, Option, Some, None, Result, Ok, Err}
-use Rattle.std.specs.Prelude.{slice_get}
+use Rattle.std.proofs.Common.{◌≡◌, refl, ap, sym, subst, ◌∙◌, ℕ, ◌<◌, ◌^◌, ◌==◌, arith, Bool, true, false, List, [], ◌∷◌, ◌++◌, length, get_or, Option, Some, None, Result, Ok, Err}
+use Rattle.std.specs.Prelude.{if◌then◌else◌, nat_lt, slice_get}
 use Rattle.std.specs.List.{AllByRecursion, concat, flat_map, range_with_len}
 use Rattle.std.proofs.Math.Path.{fun_ext}
 use Rattle.std.proofs.lemmas.Bool.Decides.{nat_tests}
@@ -9,11 +9,14 @@ use Rattle.std.proofs.lemmas.List.Folds.{flat_map-map}
 use Rattle.std.proofs.lemmas.List.FromFn.{fill_by_all}
 use Rattle.std.proofs.lemmas.Option.{slice_get-get_or}
 use Rattle.fill_base.specs.declared.layer.Layer.{Layer}
-use Rattle.fill_text.specs.Rules.{Values, keep_layer, metal_layer}
+use Rattle.fill_text.specs.Rules.{Values, keep_layer, metal_layer, rules_of}
 use Rattle.fill_text.specs.Script.{Change}
 use Rattle.fill_text.specs.ValuesOfRules.{values_of}
+use Rattle.fill_text.specs.declared.rule_error.RuleError.{RuleError}
+use Rattle.fill_job.specs.Laws.{AcceptedRulesMakeAPlan}
 use Rattle.fill_job.specs.Plans.{IsPlan, Layers, PointSet, plan_of}
 use Rattle.fill_core.specs.Boxes.{low_fill}
+use Rattle.fill_core.proofs.Sound.{low_sound}
 use Rattle.fill_report.specs.BookReport.{fill_report}
 use Rattle.fill_parts.specs.Laws.{part}
 use Rattle.fill_parts.specs.PartFill.{layers_by, part_fill}
@@ -31,11 +34,13 @@ use Rattle.gds_cells.specs.Copies.{drawn}
 use Rattle.gds_cells.specs.Designs.{copies_of}
 use Rattle.gds_out.specs.FillText.{fill_text}
 use Rattle.gds_join.proofs.Libraries.{parts_library}
+use Rattle.densfill_io.specs.declared.input.InputError.TheVariants.{TooLong}
 use Rattle.densfill_engine.specs.Designs.{IsDesign, IsKeptOut}
 use Rattle.densfill_engine.specs.Fills.{Inputs, IsFilled}
-use Rattle.densfill_engine.specs.Inputs.{rules_answer, script_answer}
+use Rattle.densfill_engine.specs.Inputs.{rules_answer, script_answer, told_by}
 use Rattle.densfill_engine.specs.Joiners.{IsJoinOf}
-use Rattle.densfill_engine.specs.OneRun.{AreParts, PartsAreOneRun}
+use Rattle.densfill_engine.specs.OneRun.{AreOneRun, AreParts, PartsAreOneRun}
+use Rattle.densfill_engine.specs.declared.refusal.InputFault.TheVariants.{Refused, Unread}
 use Rattle.densfill_engine.specs.PartFills.{IsPartFilled, IsWholeDesign, IsWholeKeptOut, WholeInputs}
 
 -- ---- a design has units of 16 bytes and dates of 24
@@ -235,12 +240,28 @@ module _ (rules design script : List ℕ) (libraries reports : List (List ℕ)) 
             ∙ ((λ t. fill_report (s.values_are t) (layers_by (s.changes_are t) (s.layers_are t)).metal (low_fill (plan_of (s.values_are t)) (layers_by (s.changes_are t) (s.layers_are t)))) ∙ sym only.report_is),
       )
 
-pub parts_are_one : PartsAreOneRun
-parts_are_one rules design script libraries reports library parts join plan = record {
-  inputs = inputs rules design script libraries reports library parts join plan;
-  fill = record {
-    library_is = whole_library rules design script libraries reports library parts join plan;
-    report_is = whole_report rules design script libraries reports library parts join plan;
-  };
-  run = of_run rules design script libraries reports library parts join plan;
-}
+-- rules that are answered are those of an accepted file
+accepted : (text : List ℕ) (values : Values) → rules_answer text ≡ Ok values → rules_of text ≡ Ok values
+accepted text values e = by (nat_lt (2 ^ 31) (length text)) (rules_of text) e
+  where
+    by : (long : Bool) (r : Result Values RuleError) → (if long then Err (Unread TooLong) else told_by Refused r) ≡ Ok values → r ≡ Ok values
+    by true r e = cc e
+    by false (Ok v) e = cc e
+    by false (Err x) e = cc e
+
+pub parts_are_one : AcceptedRulesMakeAPlan → PartsAreOneRun
+parts_are_one law rules design script libraries reports library parts join =
+    one (law rules (values_of join.accepted) (accepted rules (values_of join.accepted) join.said))
+  where
+    one : IsPlan (plan_of (values_of join.accepted)) → AreOneRun rules design script library (concat reports)
+    one plan =
+        let all = inputs rules design script libraries reports library parts join plan in
+        record {
+          inputs = all;
+          fill = record {
+            library_is = whole_library rules design script libraries reports library parts join plan;
+            report_is = whole_report rules design script libraries reports library parts join plan;
+            sound = low_sound (plan_of all.values) (layers_by all.changes all.layers) (law rules all.values (accepted rules all.values all.accepted));
+          };
+          run = of_run rules design script libraries reports library parts join plan;
+        }

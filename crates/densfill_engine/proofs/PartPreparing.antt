@@ -19,6 +19,7 @@ use Rattle.fill_text.specs.declared.script.Edit.{Edit}
 use Rattle.fill_text.specs.declared.script.ScriptError.{ScriptError}
 use Rattle.fill_text.specs.declared.script.ScriptError.TheVariants as script
 use Rattle.fill_job.specs.Plans.{IsPlan, Layers, plan_of}
+use Rattle.fill_core.proofs.Sound.{low_sound}
 use Rattle.fill_parts.specs.Cuts.{IsPart, Part}
 use Rattle.fill_parts.specs.Needs.{in_coordinates, is_inside, layers_met}
 use Rattle.fill_parts.specs.PartFill.{layers_by, rect_of}
@@ -122,6 +123,7 @@ module _ (rules design edits : Option (List ℕ)) (k : Part) where
             record {
               library_is = fill.library_is ∙ ap (fill_text units dates values) run.places;
               report_is = fill.report_is ∙ run.lines;
+              sound = low_sound (plan_of values) (layers_by (map change_of made) is.layers) plan;
             }
 
         pub part_filled : IsPlan (plan_of values) → IsPart k → HoldsNeeds values k frame → ClippedAgrees → PartRunIsThePart

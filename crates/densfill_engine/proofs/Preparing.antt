@@ -1,5 +1,5 @@
 -- What a rule file, a design and a script say together, once it is known what each says.
-use Rattle.std.proofs.Common.{◌≡◌, refl, subst, ℕ, List, Option, Some, None, Ok, IfSome, length}
+use Rattle.std.proofs.Common.{◌≡◌, refl, subst, ℕ, List, Option, Some, None, Ok, IfSome}
 use Rattle.fill_text.specs.Rules.{Values}
 use Rattle.fill_text.specs.Script.{Change}
 use Rattle.fill_text.specs.declared.rule_error.RuleError.{RuleError}
@@ -8,9 +8,8 @@ use Rattle.fill_text.specs.declared.script.ScriptError.{ScriptError}
 use Rattle.fill_text.specs.declared.script.ScriptError.TheVariants as script
 use Rattle.fill_job.specs.Plans.{Layers}
 use Rattle.densfill_engine.specs.Designs.{AreDrawn, IsDesign, IsDesignFault}
-use Rattle.densfill_engine.specs.Fills.{Inputs, IsFilled, IsFillOf, IsFillReason}
+use Rattle.densfill_engine.specs.Fills.{Inputs, IsFilled, IsFillOf, IsFillReason, IsLeftOpen, IsMixedUp}
 use Rattle.densfill_engine.specs.Inputs.{IsFaultOf, rules_answer, script_answer}
-use Rattle.densfill_engine.specs.Runs.{IsTooShort}
 use Rattle.densfill_engine.specs.declared.refusal.DesignError.{DesignError}
 use Rattle.densfill_engine.specs.declared.refusal.InputFault.{InputFault}
 use Rattle.densfill_engine.specs.declared.refusal.RunFault.{RunFault}
@@ -70,7 +69,7 @@ module _ (rules design edits : Option (List ℕ)) (workers : ℕ) (limit : Optio
         unfolding inputs
         filled library report fill = if_all rules design edits (λ r d s at_r at_d at_s. record { inputs = inputs r d s at_r at_d at_s; fill = fill })
 
-        pub run_refused : (f : RunFault) → (f ≡ run.Unfinished → workers ≡ 1 → IsTooShort values limit (length changes) 4294967296) → (f ≡ run.Mixed → workers ≡ 1 → ⊥)
+        pub run_refused : (f : RunFault) → (f ≡ run.Unfinished → IsLeftOpen values layers changes workers limit) → (f ≡ run.Mixed → IsMixedUp values layers changes workers limit)
             → IfSome rules (λ r. IfSome design (λ d. IfSome edits (λ s. IsFillReason r d s workers limit (Run f))))
         unfolding inputs
         run_refused run.Memory why own = if_all rules design edits (λ r d s at_r at_d at_s. inputs r d s at_r at_d at_s)

@@ -1,20 +1,22 @@
 -- What the program makes of a rule file, a design and a script: a fill library and a report.
-use Rattle.std.specs.Prelude.{◌≡◌, [], ℕ, ◌+◌, ◌^◌, ◌≤◌, List, length, map, Option, Ok}
+use Rattle.std.specs.Prelude.{◌≡◌, [], ℕ, ℤ, ◌+◌, ◌^◌, ◌<◌, ◌≤◌, ◌&&◌, ◌||◌, List, length, map, Option, Ok}
 use Rattle.fill_text.specs.Rules.{Values}
 use Rattle.fill_text.specs.Script.{Change, change_of}
 use Rattle.fill_text.specs.declared.rule_error.RuleError.TheVariants as rule
 use Rattle.fill_text.specs.declared.script.ScriptError.TheVariants as script
-use Rattle.fill_job.specs.Plans.{Layers, plan_of}
-use Rattle.fill_core.specs.Boxes.{low_fill}
-use Rattle.fill_core.specs.Histories.{edits_in}
-use Rattle.fill_core.specs.Machine.{IsComplete, replay}
+use Rattle.fill_job.specs.Plans.{Layers, Plan, allowed, in_window_of, low_windows, plan_of}
+use Rattle.fill_core.specs.Boxes.{low_fill, with_boxes}
+use Rattle.fill_core.specs.Histories.{edits_in, events_in}
+use Rattle.fill_core.specs.Machine.{IsComplete, State, replay}
+use Rattle.fill_core.specs.Soundness.{IsSound}
 use Rattle.fill_core.specs.declared.event.Event.{Event}
 use Rattle.fill_parts.specs.PartFill.{layers_by}
 use Rattle.fill_report.specs.BookReport.{fill_report}
+use Rattle.fill_shared.specs.Runs.{IsFinished, IsMixed, IsUnfinished}
 use Rattle.gds_out.specs.FillText.{fill_text}
 use Rattle.densfill_engine.specs.Designs.{AreDrawn, IsDesign, IsDesignFault}
 use Rattle.densfill_engine.specs.Inputs.{rules_answer, script_answer, IsFaultOf}
-use Rattle.densfill_engine.specs.Runs.{IsTooShort, most_commits}
+use Rattle.densfill_engine.specs.Runs.{IsBack, IsTooShort, most_commits}
 use Rattle.densfill_engine.specs.declared.refusal.RunFault.TheVariants as run
 use Rattle.densfill_engine.specs.declared.refusal.Refusal.{Refusal}
 use Rattle.densfill_engine.specs.declared.refusal.Refusal.TheVariants.{Rules, Design, Script, Part, Run, Out, Report}
@@ -31,31 +33,49 @@ pub record Inputs (rules design script : List ℕ) : Type 0 where
   pub edits : script_answer script ≡ Ok changes
 
 -- The texts are those of the metal as it is drawn and of all allowed places whose box lies wholly in a window that is low in it:
--- one pair of texts, whoever computed it.
+-- one pair of texts, whoever computed it. These places are a sound fill.
 pub record IsOnlyFillOf (values : Values) (layers : Layers) (units dates library report : List ℕ) : Type 0 where
   pub library_is : library ≡ fill_text units dates values (low_fill (plan_of values) layers)
   pub report_is : report ≡ fill_report values layers.metal (low_fill (plan_of values) layers)
+  pub sound : IsSound (plan_of values) layers (low_fill (plan_of values) layers)
+
+-- nothing is missing and nothing too much: the fill is what the last change left of it and all allowed places whose box lies wholly
+-- in a window that was low then, in metal and boxes together
+abbrev pub IsAllWanted : Plan → State → Type 0
+IsAllWanted plan s = (i j : ℤ) → s.fill i j ≡ s.base i j || (allowed plan s.layers i j && in_window_of plan (low_windows plan (with_boxes plan s.layers.metal s.base)) i j)
 
 -- The texts are those of a fill of the layers in which every tile is in: some events lead to it from the opening on them, among
--- them exactly these changes, in their order, and at most so many commits as the workers have turns. Without a change there is
--- one fill only, and one worker makes the changes first: that is the one fill of the layers after them.
+-- them exactly these changes, in their order, and at most so many commits as the workers have turns. It is sound, and has all that
+-- is wanted. Without a change there is one fill only, and one worker makes the changes first: that is the one fill of the layers
+-- after them. Of two workers or more it is that of the book that they gave back.
 pub record IsFillOf (values : Values) (layers : Layers) (units dates : List ℕ) (changes : List Change) (workers : ℕ) (limit : Option ℕ) (library report : List ℕ) : Type 0 where
   pub events : List Event
   pub changed : map change_of (edits_in events) ≡ changes
   pub brief : length events ≤ length changes + most_commits values workers limit
   pub complete : IsComplete (plan_of values) (replay (plan_of values) layers events)
+  pub sound : let s = replay (plan_of values) layers events in IsSound (plan_of values) s.layers s.fill
+  pub whole : IsAllWanted (plan_of values) (replay (plan_of values) layers events)
   pub library_is : let s = replay (plan_of values) layers events in library ≡ fill_text units dates values s.fill
   pub report_is : let s = replay (plan_of values) layers events in report ≡ fill_report values s.layers.metal s.fill
   pub unedited : changes ≡ [] → IsOnlyFillOf values layers units dates library report
   pub alone : workers ≡ 1 → IsOnlyFillOf values (layers_by changes layers) units dates library report
+  pub together : 1 < workers → (back : IsBack IsFinished values layers changes workers limit) × (events_in back.book.history ≡ events)
 
 -- the texts are those of a fill of what the three inputs say
 pub record IsFilled (rules design script : List ℕ) (workers : ℕ) (limit : Option ℕ) (library report : List ℕ) : Type 0 where
   pub inputs : Inputs rules design script
   pub fill : IsFillOf inputs.values inputs.layers inputs.units inputs.dates inputs.changes workers limit library report
 
--- Why there is no fill of inputs of these bytes. One worker leaves a tile only where turns or history are too few; when threads
--- stop each other no clause says.
+-- Why a tile or an edit is missing: one worker leaves a tile only where turns or history are too few, and two or more gave back a
+-- book of which that is so; when threads stop each other no clause says.
+abbrev pub IsLeftOpen : Values → Layers → List Change → ℕ → Option ℕ → Type 0
+IsLeftOpen values layers changes workers limit = (workers ≡ 1 → IsTooShort values limit (length changes) (2 ^ 32)) × (1 < workers → IsBack IsUnfinished values layers changes workers limit)
+
+-- why a book is mixed up: two workers or more gave it back with edits that don't begin those of the script
+abbrev pub IsMixedUp : Values → Layers → List Change → ℕ → Option ℕ → Type 0
+IsMixedUp values layers changes workers limit = (workers ≡ 1 → ⊥) × (1 < workers → IsBack IsMixed values layers changes workers limit)
+
+-- why there is no fill of inputs of these bytes
 abbrev pub IsFillReason : (rules design edits : List ℕ) → ℕ → Option ℕ → Refusal → Type 0
 IsFillReason rules design edits workers limit (Rules fault) = IsFaultOf rule.Memory (rules_answer rules) fault
 IsFillReason rules design edits workers limit (Design fault) = (values : Values) × (rules_answer rules ≡ Ok values) × IsDesignFault design values fault
@@ -64,7 +84,8 @@ IsFillReason rules design edits workers limit (Script fault) =
 IsFillReason rules design edits workers limit (Part number fault) = ⊥
 IsFillReason rules design edits workers limit (Run run.Memory) = Inputs rules design edits
 IsFillReason rules design edits workers limit (Run run.Unfinished) =
-    (inputs : Inputs rules design edits) × (workers ≡ 1 → IsTooShort inputs.values limit (length inputs.changes) (2 ^ 32))
-IsFillReason rules design edits workers limit (Run run.Mixed) = Inputs rules design edits × (workers ≡ 1 → ⊥)
+    (inputs : Inputs rules design edits) × IsLeftOpen inputs.values inputs.layers inputs.changes workers limit
+IsFillReason rules design edits workers limit (Run run.Mixed) =
+    (inputs : Inputs rules design edits) × IsMixedUp inputs.values inputs.layers inputs.changes workers limit
 IsFillReason rules design edits workers limit Out = ⊥
 IsFillReason rules design edits workers limit Report = ⊥

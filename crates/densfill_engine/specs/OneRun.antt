@@ -1,8 +1,6 @@
 -- The parts of a chip, joined, and one run.
 use Rattle.std.specs.Prelude.{◌≡◌, ℕ, List, length, slice_get, Option, Some}
 use Rattle.std.specs.List.{concat}
-use Rattle.fill_text.specs.ValuesOfRules.{values_of}
-use Rattle.fill_job.specs.Plans.{IsPlan, plan_of}
 use Rattle.fill_parts.specs.Laws.{part}
 use Rattle.fill_parts.specs.PartFill.{layers_by}
 use Rattle.densfill_engine.specs.Fills.{IsFilled, IsOnlyFillOf}
@@ -15,8 +13,8 @@ pub record AreParts (rules design script : List ℕ) (libraries reports : List (
   pub each : (k : ℕ) (library report : List ℕ) → slice_get libraries k ≡ Some library → slice_get reports k ≡ Some report
       → IsPartFilled rules design script (part k (length libraries)) library report
 
--- These are the texts of the one fill of what the inputs say, after the script's changes, however large the design is; and they are, byte
--- for byte, what one run of one worker gives.
+-- These are the texts of the one fill of what the inputs say, after the script's changes, however large the design is, which is sound;
+-- and they are, byte for byte, what one run of one worker gives.
 pub record AreOneRun (rules design script library report : List ℕ) : Type 0 where
   pub inputs : WholeInputs rules design script
   pub fill : IsOnlyFillOf inputs.values (layers_by inputs.changes inputs.layers) inputs.units inputs.dates library report
@@ -24,5 +22,5 @@ pub record AreOneRun (rules design script library report : List ℕ) : Type 0 wh
 
 -- so the libraries of all parts, joined, and their reports, one after another
 abbrev pub PartsAreOneRun : Type 0
-PartsAreOneRun = (rules design script : List ℕ) (libraries reports : List (List ℕ)) (library : List ℕ) → AreParts rules design script libraries reports → (join : IsJoinOf rules libraries library)
-    → IsPlan (plan_of (values_of join.accepted)) → AreOneRun rules design script library (concat reports)
+PartsAreOneRun = (rules design script : List ℕ) (libraries reports : List (List ℕ)) (library : List ℕ) → AreParts rules design script libraries reports → IsJoinOf rules libraries library
+    → AreOneRun rules design script library (concat reports)

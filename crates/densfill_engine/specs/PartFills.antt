@@ -14,6 +14,7 @@ use Rattle.fill_text.specs.declared.script.ScriptError.TheVariants as script
 use Rattle.fill_job.specs.Plans.{Layers, PointSet, plan_of}
 use Rattle.fill_core.specs.Boxes.{low_fill, no_places}
 use Rattle.fill_core.specs.Machine.{replay}
+use Rattle.fill_core.specs.Soundness.{IsSound}
 use Rattle.fill_core.specs.declared.event.Event.{Event}
 use Rattle.fill_parts.specs.Cuts.{Part}
 use Rattle.fill_parts.specs.Needs.{IsEnough, has_tile, in_coordinates, is_inside, needs_tile}
@@ -65,10 +66,12 @@ pub record WholeInputs (rules design script : List ℕ) : Type 0 where
 
 -- ---- the texts of a part
 
--- Of the fill of layers after changes, the library has the places in the part's tiles, and the report is that of its windows.
+-- Of the fill of layers after changes, which is sound, the library has the places in the part's tiles, and the report is that of its
+-- windows.
 pub record IsPartFillOf (values : Values) (layers : Layers) (units dates : List ℕ) (k : Part) (library report : List ℕ) : Type 0 where
   pub library_is : library ≡ fill_text units dates values (part_fill (plan_of values) layers k)
   pub report_is : report ≡ part_report values layers.metal (low_fill (plan_of values) layers) k
+  pub sound : IsSound (plan_of values) layers (low_fill (plan_of values) layers)
 
 -- the texts are those of the part, of what the three inputs say
 pub record IsPartFilled (rules design script : List ℕ) (k : Part) (library report : List ℕ) : Type 0 where

@@ -1,5 +1,5 @@
 -- Where the program gave up and why, and the line and the exit status that tell of it.
-use Rattle.std.specs.Prelude.{ℕ, List, [], ◌++◌, Option, Some, None, codes, decimal}
+use Rattle.std.specs.Prelude.{ℕ, ◌==◌, ◌||◌, List, [], ◌++◌, map, Option, Some, None, codes, decimal, nat_lt, if◌then◌else◌}
 use Rattle.densfill_engine.specs.Faults.{fault_ending, fault_name, fault_number, fault_status, flatten_fault, input_fault, library_fault, part_fault, rule_fault, script_fault}
 use Rattle.densfill_engine.specs.declared.fault.Fault.{Fault}
 use Rattle.densfill_engine.specs.declared.fault.Fault.TheVariants.{Device, Memory, Mixed, TooManyShapesIn, Unfinished}
@@ -46,10 +46,14 @@ refusal_words refusal =
     let fault = fault_of refusal in
     codes "densfill: " ++ part_name refusal ++ codes ": " ++ decimal (fault_number fault) ++ codes " " ++ fault_name fault ++ fault_ending fault
 
+-- a byte of a path as the line shows it: a question mark in place of a control character, so that a fault is one line
+abbrev pub shown_byte : ℕ → ℕ
+shown_byte byte = if nat_lt byte 32 || (byte == 127) then 63 else byte
+
 -- the path of a part's library behind it, if there is one
 abbrev pub path_ending : Option (List ℕ) → List ℕ
 path_ending None = []
-path_ending (Some path) = codes " in " ++ path
+path_ending (Some path) = codes " in " ++ map shown_byte path
 
 -- the line that tells of the refusal
 abbrev pub refusal_text : Refusal → Option (List ℕ) → List ℕ

@@ -1,12 +1,17 @@
 -- What a run does with a book, and when it can't end.
-use Rattle.std.specs.Prelude.{◌≡◌, ◌⊎◌, ℕ, ◌+◌, ◌*◌, ◌<◌, ◌≤◌, Bool, ◌||◌, false, List, [], ◌++◌, length, Option, Some, None}
+use Rattle.std.specs.Prelude.{◌≡◌, ◌⊎◌, ℕ, ◌+◌, ◌*◌, ◌^◌, ◌<◌, ◌≤◌, Bool, ◌||◌, false, List, [], ◌++◌, length, map, Option, Some, None}
 use Rattle.fill_raster.specs.Lattice.{tiles}
 use Rattle.fill_text.specs.Rules.{Values}
-use Rattle.fill_job.specs.Plans.{plan_of}
+use Rattle.fill_text.specs.Script.{Change, change_of}
+use Rattle.fill_text.specs.declared.script.Edit.{Edit}
+use Rattle.fill_job.specs.Plans.{Layers, plan_of}
 use Rattle.fill_core.specs.Accounts.{Account, state_of}
 use Rattle.fill_core.specs.Histories.{edits_in, events_in}
 use Rattle.fill_core.specs.Machine.{State}
+use Rattle.fill_core.specs.Shares.{Held, nothing_with}
+use Rattle.fill_core.specs.Terms.{Terms, layers_at}
 use Rattle.fill_core.specs.declared.event.Event.{Event}
+use Rattle.fill_shared.specs.Rounds.{HasRun}
 
 -- how many tiles the rules' raster has
 abbrev pub tile_count : Values → ℕ
@@ -46,3 +51,21 @@ pub record HasBrought (old new : Account) (came : ℕ → Bool) (turns : ℕ) : 
 -- one worker has fewer turns in two rounds than there are tiles, or there are more edits and tiles than a history of so many events has room for
 abbrev pub IsTooShort : Values → Option ℕ → ℕ → ℕ → Type 0
 IsTooShort values limit edits most = (2 * most_turns values limit < tile_count values) ⊎ (most < edits + tile_count values)
+
+-- how a run leaves a book that was opened on terms, with these edits, and the pass that comes back with it
+abbrev pub Leaves : Type 1
+Leaves = Terms → List Edit → Account → Held → Type 0
+
+-- What so many workers give back beside the editor of a script: a book that was opened on these rules and layers, with room for 2^32
+-- events, left so by their two rounds of as many turns as they may take.
+pub record IsBack (Left : Leaves) (values : Values) (layers : Layers) (changes : List Change) (workers : ℕ) (limit : Option ℕ) : Type 0 where
+  pub terms : Terms
+  pub rules_are : terms.rules ≡ values
+  pub opened_on : layers_at terms ≡ layers
+  pub room : terms.most ≡ 2 ^ 32
+  pub edits : List Edit
+  pub edits_are : map change_of edits ≡ changes
+  pub book : Account
+  pub pass : Held
+  pub left : Left terms edits book pass
+  pub rounds : HasRun terms edits workers (most_turns values limit) (nothing_with 1024) book pass

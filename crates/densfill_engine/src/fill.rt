@@ -1,5 +1,5 @@
 //! The fill of a design: from the bytes of three inputs to its texts, and these to two outputs.
-ghost use Rattle.std.specs.Prelude.{◌≡◌, ◌↔◌, ◌⊎◌, ◌+◌, ◌^◌, ◌<◌, ◌≤◌, ℕ, [], true, false, length, map, take, Ok, IfErr, IfOk, IfSome, IsOk, OnOk};
+ghost use Rattle.std.specs.Prelude.{◌≡◌, ◌↔◌, ◌⊎◌, ◌+◌, ◌^◌, ◌<◌, ◌≤◌, ℕ, [], true, false, map, take, Ok, IfErr, IfOk, IfSome, IsOk, OnOk};
 ghost use Rattle.std.specs.Io.KnownBytes.{Appends};
 ghost use Rattle.densfill_io.specs.Taps.{has_failed, under};
 ghost use Rattle.fill_text.specs.Rules.{Values};
@@ -10,8 +10,9 @@ ghost use Rattle.fill_job.specs.Basis.{layers_in};
 ghost use Rattle.fill_job.specs.Plans.{Layers};
 ghost use Rattle.densfill_engine.specs.Designs.{AreDrawn};
 ghost use Rattle.densfill_engine.specs.Inputs.{is_before_script, is_of_rules, rules_answer};
-ghost use Rattle.densfill_engine.specs.Fills.{IsFilled, IsFillOf, IsFillReason};
-ghost use Rattle.densfill_engine.specs.Runs.{IsTooShort};
+ghost use Rattle.fill_shared.specs.Runs.{IsMixed, IsUnfinished};
+ghost use Rattle.densfill_engine.specs.Fills.{IsFilled, IsFillOf, IsFillReason, IsLeftOpen, IsMixedUp};
+ghost use Rattle.densfill_engine.specs.Runs.{IsBack, IsTooShort};
 
 use crate::crew::{Crew, Ledgers};
 use crate::edited::edited;
@@ -49,7 +50,9 @@ fn fill_by_many<C: Opened + Send + Sync, P: Ledger + Send + Sync, W: Ledger + Se
     requires all { AllParts C.parts P.parts W.parts }
     requires terms { record { rules = values_of task.rules; opening = task.design.metal; keep = task.design.keep; most = 2 ^ 32 } ≡ C.terms }
     requires workers { (1 < crew.workers) × (crew.workers ≤ 64) }
-    ensures { IfOk result (λ f. IsFillOf (values_of task.rules) (layers_in task.design.metal task.design.keep) task.design.units task.design.dates (map change_of task.edits.items) crew.workers crew.limit f.library.items f.report.items) }
+    ensures filled { IfOk result (λ f. IsFillOf (values_of task.rules) (layers_in task.design.metal task.design.keep) task.design.units task.design.dates (map change_of task.edits.items) crew.workers crew.limit f.library.items f.report.items) }
+    ensures unfinished { result ≡ Err RunFault.Unfinished → IsBack IsUnfinished (values_of task.rules) (layers_in task.design.metal task.design.keep) (map change_of task.edits.items) crew.workers crew.limit }
+    ensures mixed { result ≡ Err RunFault.Mixed → IsBack IsMixed (values_of task.rules) (layers_in task.design.metal task.design.keep) (map change_of task.edits.items) crew.workers crew.limit }
 {
     let Task {
         rules,
@@ -137,8 +140,8 @@ fn fill_design(
 ) -> Result<Filled, RunFault>
     requires workers { (0 < crew.workers) × (crew.workers ≤ 64) }
     ensures filled { IfOk result (λ f. IsFillOf (values_of task.rules) (layers_in task.design.metal task.design.keep) task.design.units task.design.dates (map change_of task.edits.items) crew.workers crew.limit f.library.items f.report.items) }
-    ensures unfinished { result ≡ Err RunFault.Unfinished → crew.workers ≡ 1 → IsTooShort (values_of task.rules) crew.limit (length (map change_of task.edits.items)) (2 ^ 32) }
-    ensures mixed { result ≡ Err RunFault.Mixed → crew.workers ≡ 1 → ⊥ }
+    ensures unfinished { result ≡ Err RunFault.Unfinished → IsLeftOpen (values_of task.rules) (layers_in task.design.metal task.design.keep) (map change_of task.edits.items) crew.workers crew.limit }
+    ensures mixed { result ≡ Err RunFault.Mixed → IsMixedUp (values_of task.rules) (layers_in task.design.metal task.design.keep) (map change_of task.edits.items) crew.workers crew.limit }
 {
     if crew.workers > 1 {
         return fill_by_many::<Brand, Brand, Brand>(rt, alloc, Ledgers::blank(), task, crew);

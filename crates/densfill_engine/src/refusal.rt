@@ -1,12 +1,11 @@
 //! Why the program gave up, by the input, the run or the output at which it did, and the line that tells of it.
-ghost use Rattle.std.specs.Prelude.{◌≡◌, IfOk, option_map, string_bytes};
-ghost use Rattle.densfill_engine.specs.Refusals.{fault_of, part_name, refusal_status, refusal_text, refusal_words};
+ghost use Rattle.std.specs.Prelude.{◌≡◌, IfOk, map, option_map, string_bytes};
+ghost use Rattle.densfill_engine.specs.Refusals.{fault_of, part_name, path_ending, refusal_status, refusal_text, refusal_words, shown_byte};
 
 use crate::fault::Fault;
 use densfill_io::{DeviceError, InputError};
-use fill_core::{BookError, FillBook};
+use fill_core::BookError;
 use fill_report::OutOfMemory;
-use fill_shared::RunError;
 use fill_text::{RuleError, ScriptError};
 use gds_flatten::FlattenError;
 use gds_grammar::LibraryError;
@@ -50,7 +49,7 @@ pub enum RunFault {
     /// A tile is left that isn't in: the turns were used up, or the history is full.
     #[error("the fill is not complete")]
     Unfinished,
-    /// The book that came back from many workers has another opening, other rules or other edits than those handed in.
+    /// The edits of the book that came back from many workers do not begin those handed in.
     #[error("the book that came back is another one")]
     Mixed,
 }
@@ -227,22 +226,6 @@ impl From<BookError> for RunFault {
     }
 }
 
-impl<B: FillBook> From<RunError<B>> for RunFault {
-    ghost use Rattle.std.specs.Prelude.{◌≡◌};
-    ghost use Rattle.fill_shared.specs.declared.runs.RunError.TheVariants as error;
-    ghost use Rattle.densfill_engine.specs.declared.refusal.RunFault.TheVariants.{Memory, Mixed, Unfinished};
-
-    ghost from_gives = { λ e fault. (e ≡ error.Memory → fault ≡ Memory) × ((b : _) (p : _) → e ≡ error.Mixed b p → fault ≡ Mixed) × ((b : _) (p : _) → e ≡ error.Unfinished b p → fault ≡ Unfinished) };
-
-    fn from(error: RunError<B>) -> RunFault {
-        match error {
-            RunError::Memory => RunFault::Memory,
-            RunError::Mixed { .. } => RunFault::Mixed,
-            RunError::Unfinished { .. } => RunFault::Unfinished,
-        }
-    }
-}
-
 impl From<DeviceError> for Refusal {
     ghost use Rattle.densfill_engine.specs.declared.refusal.Refusal.TheVariants.{Report};
 
@@ -314,17 +297,50 @@ impl Refusal {
     }
 
     /// The line that tells of the refusal, with its line feed. Where a path is given, it is that of the part's library, and ` in ` and
-    /// the path stand at the end.
+    /// the path stand at the end, each control character of it as a question mark.
     ///
     /// # Errors
     /// `AllocError` where there is no memory for the line.
-    pub fn line(self, alloc: Global, path: Option<&str>) -> Result<String, AllocError>
-        ensures { IfOk result (λ s. string_bytes s ≡ refusal_text self (option_map (λ p. p.now) path.entry)) }
+    pub fn line(self, alloc: Global, path: Option<&str>) -> Result<Vec<u8>, AllocError>
+        ensures { IfOk result (λ v. v.items ≡ refusal_text self (option_map (λ p. p.now) path.entry)) }
     {
-        let words = self.words(alloc)?;
-        match path {
-            Some(path) => format!(in alloc; "{words} in {path}\n"),
-            None => format!(in alloc; "{words}\n"),
-        }
+        let mut line = self.words(alloc)?.into_bytes();
+        let ending = path_ending(alloc, path)?;
+        line.extend_from_slice(&ending)?;
+        line.push(b'\n')?;
+        Ok(line)
     }
+}
+
+/// What stands behind the words of a refusal: the path of a part's library, if there is one.
+fn path_ending(alloc: Global, path: Option<&str>) -> Result<Vec<u8>, AllocError>
+    ensures { IfOk result (λ v. v.items ≡ path_ending (option_map (λ p. p.now) path.entry)) }
+{
+    match path {
+        Some(path) => {
+            let mut ending = b" in ".to_vec(alloc)?;
+            let path = shown(alloc, path.as_bytes())?;
+            ending.extend_from_slice(&path)?;
+            Ok(ending)
+        }
+        None => Ok(Vec::new(alloc)),
+    }
+}
+
+/// A byte of a path as a line shows it: a question mark in place of a control character.
+fn shown_byte(byte: u8) -> u8
+    ensures { result ≡ shown_byte byte }
+{
+    if byte < 32 || byte == 127 { b'?' } else { byte }
+}
+
+/// The bytes of a path as a line shows them.
+fn shown(alloc: Global, path: &[u8]) -> Result<Vec<u8>, AllocError>
+    ensures { IfOk result (λ v. v.items ≡ map shown_byte path.now) }
+{
+    let mut bytes = Vec::new(alloc);
+    for byte in path {
+        bytes.push(shown_byte(*byte))?;
+    }
+    Ok(bytes)
 }

@@ -1,15 +1,16 @@
 //! What many workers do with a book beside the editor of a script.
 ghost use Rattle.std.specs.Prelude.{◌≡◌, ◌+◌, ◌*◌, ◌<◌, ◌≤◌, length, IfOk};
-ghost use Rattle.fill_core.specs.Accounts.{terms_of};
+ghost use Rattle.fill_core.specs.Accounts.{Account, terms_of};
 ghost use Rattle.fill_core.specs.Shares.{AllParts, Held};
-ghost use Rattle.fill_shared.specs.Runs.{IsFinished};
+ghost use Rattle.fill_shared.specs.Rounds.{HasRun};
+ghost use Rattle.fill_shared.specs.Runs.{IsFinished, IsMixed, IsUnfinished};
 ghost use Rattle.densfill_engine.specs.Runs as spec;
 
 use crate::crew::Crew;
 use crate::refusal::RunFault;
 use crate::turns::most_turns;
 use fill_core::FillBook;
-use fill_shared::{OpenGate, PassOf, run};
+use fill_shared::{OpenGate, PassOf, RunError, run};
 use fill_text::Edit;
 use std::alloc::Global;
 use std::sync::Wait;
@@ -33,9 +34,18 @@ pub fn fill_together<B: FillBook + Send, R: Threads + Wait + Sync>(
     requires pass { pass.parts ≡ 1024 }
     requires workers { (0 < crew.workers) × (crew.workers ≤ 64) }
     ensures finished { let a = B.account book in IfOk result (λ b. (after : Held) × IsFinished (terms_of a) edits.now (B.account b) after
+        × HasRun (terms_of a) edits.now crew.workers (spec.most_turns a.rules crew.limit) pass (B.account b) after
         × (after.calls ≤ pass.calls + (length edits.now + 2 * (crew.workers * spec.most_turns a.rules crew.limit)))) }
+    ensures unfinished { let a = B.account book in result ≡ Err RunFault.Unfinished → (b : Account) × (after : Held) × IsUnfinished (terms_of a) edits.now b after
+        × HasRun (terms_of a) edits.now crew.workers (spec.most_turns a.rules crew.limit) pass b after }
+    ensures mixed { let a = B.account book in result ≡ Err RunFault.Mixed → (b : Account) × (after : Held) × IsMixed (terms_of a) edits.now b after
+        × HasRun (terms_of a) edits.now crew.workers (spec.most_turns a.rules crew.limit) pass b after }
 {
     let turns = most_turns(&book, crew.limit);
-    let (book, _) = run(rt, alloc, book, pass, edits, crew.workers, &OpenGate, turns)?;
-    Ok(book)
+    match run(rt, alloc, book, pass, edits, crew.workers, &OpenGate, turns) {
+        Ok((book, _)) => Ok(book),
+        Err(RunError::Memory) => Err(RunFault::Memory),
+        Err(RunError::Mixed { .. }) => Err(RunFault::Mixed),
+        Err(RunError::Unfinished { .. }) => Err(RunFault::Unfinished),
+    }
 }

@@ -50,15 +50,12 @@ const LINES: &[(Refusal, &str, u8)] = &[
 fn a_line_tells_part_number_and_name(rt: HostRuntime) -> Result<(), Fail> {
     for (refusal, want, status) in LINES {
         let line = refusal.line(rt.alloc(), None)?;
-        assert_eq!(rt; line.as_str(), *want);
+        assert!(rt; line.as_slice() == want.as_bytes());
         assert_eq!(rt; refusal.status(), *status);
     }
     let refusal = Refusal::Part(3, InputFault::Refused(PartError::Memory));
-    let line = refusal.line(rt.alloc(), Some("fill/3.gds"))?;
-    assert_eq!(rt;
-        line.as_str(),
-        "densfill: part 3: 31 Memory in fill/3.gds\n"
-    );
+    let line = refusal.line(rt.alloc(), Some("fill/3\n.gds\x7f"))?;
+    assert!(rt; line.as_slice() == "densfill: part 3: 31 Memory in fill/3?.gds?\n".as_bytes());
     assert_eq!(rt; refusal.status(), 3);
     Ok(())
 }

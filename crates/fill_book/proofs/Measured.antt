@@ -17,7 +17,7 @@ use Rattle.fill_job.proofs.Conflicts.{some_within_decides}
 use Rattle.fill_raster.specs.Marks.{Marked, is_marked}
 use Rattle.fill_job.specs.ReadSets.{ReadSet, wanted_of}
 use Rattle.fill_core.specs.Accounts.{Account, IsSame, opening_of, state_of}
-use Rattle.fill_core.specs.Boxes.{no_places, total_in, with_boxes}
+use Rattle.fill_core.specs.Boxes.{no_places, with_boxes}
 use Rattle.fill_core.specs.Histories.{events_in}
 use Rattle.fill_core.specs.Machine.{State, fill_after, layers_after, metal_after, opening, replay, step, with_tile}
 use Rattle.fill_core.specs.Soundness.{IsSound}
@@ -64,8 +64,8 @@ pitch_kept plan is = (least plan.raster.across.length plan.fill_spacing plan.ras
 -- ---- boxes and metal
 
 -- a box that keeps the spacing shares no square with the metal
-pub keeps_clear : (plan : Plan) (layers : Layers) (fill : PointSet) (totals : ℕ → ℕ → ℕ) → IsPlan plan → IsSound plan layers fill totals → KeepsClear plan.raster fill layers.metal
-keeps_clear plan layers fill totals is sound x y drawn box =
+pub keeps_clear : (plan : Plan) (layers : Layers) (fill : PointSet) → IsPlan plan → IsSound plan layers fill → KeepsClear plan.raster fill layers.metal
+keeps_clear plan layers fill is sound x y drawn box =
     let r = plan.raster in
     let found = some_within_decides (λ i j. fill i j && box_squares r i j x y) (first r.across) (first r.up) (past r.across) (past r.up) (first_past r.across) (first_past r.up) in
     let f = found.0 box in
@@ -80,21 +80,21 @@ keeps_clear plan layers fill totals is sound x y drawn box =
     near : (x s : ℤ) → pos 0 ≤ℤ s → (x -ℤ x) ≤ℤ s
     near x s h = omega (arith, ints)
 
-sound_at : (plan : Plan) (s t : State) → s ≡ t → IsSound plan s.layers s.fill (total_in plan s.layers.metal s.fill) → IsSound plan t.layers t.fill (total_in plan t.layers.metal t.fill)
-sound_at plan s t e sound = subst (λ (q : State). IsSound plan q.layers q.fill (total_in plan q.layers.metal q.fill)) e sound
+sound_at : (plan : Plan) (s t : State) → s ≡ t → IsSound plan s.layers s.fill → IsSound plan t.layers t.fill
+sound_at plan s t e sound = subst (λ (q : State). IsSound plan q.layers q.fill) e sound
 
 -- so it is in a book, and in the book after an edit
 pub clear_now : (a : Account) (s : Stored) (base : PointSet) → IsPlan (plan_of a.rules) → state_of a ≡ state_by base s → KeepsClear (plan_of a.rules).raster (is_filled s.filled) (holds s.metal)
 clear_now a s base is state =
     let plan = plan_of a.rules in
-    keeps_clear plan (layers_in s.metal s.keep) (is_filled s.filled) _ is (sound_at plan (state_of a) (state_by base s) state (replay_sound plan (opening_of a) (events_in a.history) is))
+    keeps_clear plan (layers_in s.metal s.keep) (is_filled s.filled) is (sound_at plan (state_of a) (state_by base s) state (replay_sound plan (opening_of a) (events_in a.history) is))
 
 pub clear_after : (a : Account) (s : Stored) (base : PointSet) (edit : Edit) → IsPlan (plan_of a.rules) → state_of a ≡ state_by base s
     → KeepsClear (plan_of a.rules).raster (fill_after (plan_of a.rules) edit (is_filled s.filled)) (metal_after edit (holds s.metal))
 clear_after a s base edit is state =
     let plan = plan_of a.rules in let events = events_in a.history in
     let next : replay plan (opening_of a) (events ++ event.Edit edit ∷ []) ≡ step plan (state_by base s) (event.Edit edit) = replay_push plan (opening_of a) events (event.Edit edit) ∙ ap (λ (q : State). step plan q (event.Edit edit)) state in
-    keeps_clear plan (layers_after edit (layers_in s.metal s.keep)) (fill_after plan edit (is_filled s.filled)) _ is (sound_at plan _ (step plan (state_by base s) (event.Edit edit)) next (replay_sound plan (opening_of a) (events ++ event.Edit edit ∷ []) is))
+    keeps_clear plan (layers_after edit (layers_in s.metal s.keep)) (fill_after plan edit (is_filled s.filled)) is (sound_at plan _ (step plan (state_by base s) (event.Edit edit)) next (replay_sound plan (opening_of a) (events ++ event.Edit edit ∷ []) is))
 
 -- the same sets, told otherwise
 pub same_set : (p q : PointSet) → ((x y : ℤ) → p x y ≡ q x y) → p ≡ q
@@ -112,7 +112,7 @@ clear_commit a s base version tile read m is state same marked =
     let step_is : step plan (state_by base s) (event.Commit version tile true) ≡ after = rw (accepted a.rules base s version tile read true same) refl in
     let next : replay plan (opening_of a) (events ++ event.Commit version tile true ∷ []) ≡ after =
     replay_push plan (opening_of a) events (event.Commit version tile true) ∙ (ap (λ (q : State). step plan q (event.Commit version tile true)) state ∙ step_is) in
-    let wanted_clear = keeps_clear plan (layers_in s.metal s.keep) after.fill _ is (sound_at plan _ after next (replay_sound plan (opening_of a) (events ++ event.Commit version tile true ∷ []) is)) in
+    let wanted_clear = keeps_clear plan (layers_in s.metal s.keep) after.fill is (sound_at plan _ after next (replay_sound plan (opening_of a) (events ++ event.Commit version tile true ∷ []) is)) in
     clear_same plan.raster plan.raster after.fill (λ i j. is_filled s.filled i j || is_marked m i j) (holds s.metal) (holds s.metal) refl
     (λ i j. ap (λ b. is_filled s.filled i j || b) (wanted_marks a.rules base s version tile read m is same marked i j)) (λ x y. refl) wanted_clear
 

@@ -12,7 +12,6 @@ use Rattle.fill_job.specs.Plans.{Layers, Plan, plan_of}
 use Rattle.fill_job.specs.ReadSets.{ReadSet, read_set, wanted_of}
 use Rattle.fill_job.proofs.ReadSets.{same_wanted}
 use Rattle.fill_core.specs.Accounts.{state_of}
-use Rattle.fill_core.specs.Boxes.{total_in}
 use Rattle.fill_core.specs.Callers.{Job, Proposal, World, Step, IsMarked, Moves, Runs, commit_of, events_by, events_of, job_on, proposal_of, start}
 use Rattle.fill_core.specs.Callers.Step.{Look, Propose, Bring, Commit, Change, Ask}
 use Rattle.fill_core.specs.Machine.{State, is_accepted, opening, replay_from, step}
@@ -53,7 +52,7 @@ run_replay rules layers steps w r = run_from rules (start rules layers) w steps 
 pub run_sound : RunIsSound
 run_sound rules layers steps w is r =
     let plan = plan_of rules in
-    subst (λ (s : State). IsSound plan s.layers s.fill (total_in plan s.layers.metal s.fill)) (sym (run_replay rules layers steps w r)) (replay_sound plan layers (events_of steps) is)
+    subst (λ (s : State). IsSound plan s.layers s.fill) (sym (run_replay rules layers steps w r)) (replay_sound plan layers (events_of steps) is)
 
 -- ---- refused commits
 

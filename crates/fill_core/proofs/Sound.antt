@@ -11,11 +11,13 @@ use Rattle.fill_raster.specs.declared.axis.Axis.{Axis}
 use Rattle.fill_raster.proofs.RasterLaws.{places_range, spacing_kept}
 use Rattle.fill_raster.proofs.Ranges.{first_past}
 use Rattle.fill_size.specs.Distance.{IsNear}
-use Rattle.fill_job.specs.Plans.{blocked, conflicts, is_taken}
+use Rattle.fill_job.specs.Plans.{IsPlan, Layers, Plan, PointSet, allowed, blocked, conflicts, in_window_of, is_taken, low_windows}
 use Rattle.fill_job.specs.Searches.{some_within}
 use Rattle.fill_job.proofs.Conflicts.{blocked_sharing, conflict_of_squares, some_within_decides}
+use Rattle.fill_core.specs.Boxes.{low_fill}
 use Rattle.fill_core.specs.Laws.{BoxesKeepTheFillSpacing, BoxesAreOfPlaces, ReplayIsSound}
 use Rattle.fill_core.specs.Machine.{replay}
+use Rattle.fill_core.specs.Soundness.{IsSound}
 use Rattle.fill_core.proofs.Keeping.{kept_replay}
 
 -- ---- boxes keep the fill spacing
@@ -52,18 +54,24 @@ neither : (a b : Bool) → not (a || b) ≡ true → (not a ≡ true) × (not b 
 neither true b h = absurd (let e : false ≡ true = h in cc)
 neither false b h = (refl, h)
 
+-- places that may be filled are a sound fill
+pub allowed_sound : (plan : Plan) (layers : Layers) (fill : PointSet) → IsPlan plan → ((i j : ℤ) → fill i j ≡ true → allowed plan layers i j ≡ true) → IsSound plan layers fill
+allowed_sound plan layers fill is all =
+    let untaken = λ (i j : ℤ) (h : fill i j ≡ true). neither (conflicts plan layers.metal i j) (blocked plan layers.keep i j) (and_parts (in_raster plan.raster i j) (not (is_taken plan layers i j)) (all i j h)).1 in
+    record {
+      on_raster = λ i j h. (and_parts (in_raster plan.raster i j) (not (is_taken plan layers i j)) (all i j h)).0;
+      clear = λ i j h c. not_yes (conflicts plan layers.metal i j) (untaken i j h).0 ((conflict_of_squares plan layers.metal i j is).1 c);
+      free = λ i j h c. not_yes (blocked plan layers.keep i j) (untaken i j h).1 ((blocked_sharing plan layers.keep i j is).1 c);
+      apart = λ i j k l h g other. boxes_apart plan is i j k l other;
+    }
+
+pub low_sound : (plan : Plan) (layers : Layers) → IsPlan plan → IsSound plan layers (low_fill plan layers)
+low_sound plan layers is = allowed_sound plan layers (low_fill plan layers) is (λ i j h. (and_parts (allowed plan layers i j) (in_window_of plan (low_windows plan layers.metal) i j) h).0)
+
 pub replay_sound : ReplayIsSound
 replay_sound plan layers events is =
     let s = replay plan layers events in
-    let k = kept_replay plan layers events in
-    let untaken = λ (i j : ℤ) (h : s.fill i j ≡ true). neither (conflicts plan s.layers.metal i j) (blocked plan s.layers.keep i j) (and_parts (in_raster plan.raster i j) (not (is_taken plan s.layers i j)) (k.all_allowed i j h)).1 in
-    record {
-      on_raster = λ i j h. (and_parts (in_raster plan.raster i j) (not (is_taken plan s.layers i j)) (k.all_allowed i j h)).0;
-      clear = λ i j h c. not_yes (conflicts plan s.layers.metal i j) (untaken i j h).0 ((conflict_of_squares plan s.layers.metal i j is).1 c);
-      free = λ i j h c. not_yes (blocked plan s.layers.keep i j) (untaken i j h).1 ((blocked_sharing plan s.layers.keep i j is).1 c);
-      apart = λ i j k l h g other. boxes_apart plan is i j k l other;
-      exact = λ a b column row. refl;
-    }
+    allowed_sound plan s.layers s.fill is (kept_replay plan layers events).all_allowed
 
 -- ---- metal with boxes
 

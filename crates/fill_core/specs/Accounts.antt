@@ -6,7 +6,7 @@ use Rattle.fill_text.specs.declared.script.Edit.{Edit}
 use Rattle.fill_job.specs.Basis.{layers_in}
 use Rattle.fill_job.specs.Plans.{IsPlan, Layers, plan_of}
 use Rattle.fill_job.specs.ReadSets.{ReadSet, read_set}
-use Rattle.fill_core.specs.Boxes.{count_places, total_in}
+use Rattle.fill_core.specs.Boxes.{count_places}
 use Rattle.fill_core.specs.Histories.{events_in, replies_in}
 use Rattle.fill_core.specs.Machine.{State, replay, replies, reply_of}
 use Rattle.fill_core.specs.Shares.{Held, moved, totals_of}
@@ -64,7 +64,7 @@ IsEdited old new held after edit reply = Writes old new held after (event.Edit e
 -- what every book keeps
 pub record IsKeeping (a : Account) : Type 0 where
   pub plan : IsPlan (plan_of a.rules)
-  pub sound : IsSound (plan_of a.rules) (state_of a).layers (state_of a).fill (total_in (plan_of a.rules) (state_of a).layers.metal (state_of a).fill)
+  pub sound : IsSound (plan_of a.rules) (state_of a).layers (state_of a).fill
   pub legal : IsLegal a
   pub count : count_places (plan_of a.rules).raster (state_of a).fill + (totals_of a.history).withdrawn ≡ (totals_of a.history).placed
   pub room : length a.history ≤ a.most

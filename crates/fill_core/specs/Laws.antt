@@ -8,7 +8,7 @@ use Rattle.fill_raster.specs.declared.block.Block.{Block}
 use Rattle.fill_size.specs.Distance.{InConflict}
 use Rattle.fill_job.specs.Plans.{Plan, IsPlan, Layers, PointSet, allowed, in_window_of, low_windows, plan_of, wanted}
 use Rattle.fill_core.specs.Accounts.{Account, IsKeeping, IsLegal, state_of, with_entry}
-use Rattle.fill_core.specs.Boxes.{count_places, low_fill, total_in, with_boxes}
+use Rattle.fill_core.specs.Boxes.{count_places, low_fill, with_boxes}
 use Rattle.fill_core.specs.Histories.{edits_in, placed_in, withdrawn_in}
 use Rattle.fill_core.specs.Machine.{State, IsComplete, opening, step, reply_of, replay, replies}
 use Rattle.fill_core.specs.Soundness.{IsSound}
@@ -28,7 +28,7 @@ BoxesKeepTheFillSpacing = (plan : Plan) → IsPlan plan → (i j k l : ℤ) → 
 
 -- after any events the fill is sound
 abbrev pub ReplayIsSound : Type 0
-ReplayIsSound = (plan : Plan) (layers : Layers) (events : List Event) → IsPlan plan → let s = replay plan layers events in IsSound plan s.layers s.fill (total_in plan s.layers.metal s.fill)
+ReplayIsSound = (plan : Plan) (layers : Layers) (events : List Event) → IsPlan plan → let s = replay plan layers events in IsSound plan s.layers s.fill
 
 -- the replies that refuse
 abbrev pub IsRefusal : Reply → Type 0

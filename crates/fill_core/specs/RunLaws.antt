@@ -4,7 +4,6 @@ use Rattle.fill_text.specs.Rules.{Values}
 use Rattle.fill_text.specs.declared.script.Edit.{Edit}
 use Rattle.fill_job.specs.Plans.{IsPlan, Layers, plan_of, wanted}
 use Rattle.fill_core.specs.Accounts.{Account, IsCommitted, IsEdited, state_of, with_entry}
-use Rattle.fill_core.specs.Boxes.{total_in}
 use Rattle.fill_core.specs.Callers.{Job, Proposal, Step, World, Moves, Runs, start, commit_of, events_of}
 use Rattle.fill_core.specs.Callers.Step.{Commit, Change}
 use Rattle.fill_core.specs.Laws.{IsRefusal}
@@ -21,7 +20,7 @@ RunIsAReplay = (rules : Values) (layers : Layers) (steps : List Step) (w : World
 
 abbrev pub RunIsSound : Type 0
 RunIsSound = (rules : Values) (layers : Layers) (steps : List Step) (w : World) → IsPlan (plan_of rules) → Runs rules (start rules layers) steps w
-    → IsSound (plan_of rules) w.state.layers w.state.fill (total_in (plan_of rules) w.state.layers.metal w.state.fill)
+    → IsSound (plan_of rules) w.state.layers w.state.fill
 
 -- a proposal of another version is stale and changes nothing, whatever the callers hold
 abbrev pub StaleChangesNothing : Type 0

@@ -12,7 +12,7 @@ pub fn boxes_keep_the_fill_spacing()
     ensures { BoxesKeepTheFillSpacing }
 {}
 
-/// After any events the fill is sound, with the totals of the definition.
+/// After any events the fill is sound.
 pub fn replay_is_sound()
     ensures { ReplayIsSound }
 {}

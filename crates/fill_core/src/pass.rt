@@ -26,7 +26,8 @@ impl<C: Ledger, P: Ledger, W: Ledger> Model for Pass<C, P, W> {
     ghost invariant = { λ p. (0 < p.parts) × (p.parts ≤ 1024) × (p.call_share.parts ≡ p.parts) × (p.placed_share.parts ≡ p.parts) × (p.withdrawn_share.parts ≡ p.parts) × (p.call_share.amount ≡ p.calls) × (p.placed_share.amount ≡ p.placed) × (p.withdrawn_share.amount ≡ p.withdrawn) };
 }
 
-/// The numbers of a book, over all its callers. They take no bytes: the history has them.
+/// The numbers of a book, over all its callers. They take no bytes: the history has them. For those who write a book; who uses
+/// one has a pass.
 #[derive(Drop)]
 pub struct Books<C: Ledger, P: Ledger, W: Ledger> {
     calls: Book<C>,
@@ -71,7 +72,8 @@ impl<C: Ledger, P: Ledger, W: Ledger> Pass<C, P, W> {
         self.withdrawn
     }
 
-    /// Cuts off a pass of some of the parts, for another caller. This one keeps its numbers, the new one begins at 0.
+    /// Cuts off a pass of some of the parts, for another caller. This one keeps its numbers, the new one begins at 0. For
+    /// `fill_shared::Shared` alone, which hands passes out.
     pub fn split_off(&mut self, parts: u64) -> Pass<C, P, W>
         requires some { 0 < parts }
         requires left { parts < self.old.parts }
@@ -97,7 +99,7 @@ impl<C: Ledger, P: Ledger, W: Ledger> Pass<C, P, W> {
     }
 
     /// Takes over the parts and the numbers of another pass of the same book. That the sums fit is known by `FillBook::audit` of
-    /// both.
+    /// both. For `fill_shared::Shared` alone, which takes passes back.
     pub fn join(&mut self, other: Pass<C, P, W>)
         requires all { AllParts C.parts P.parts W.parts }
         requires room { (self.old.calls + other.calls < 2 ^ 64) × (self.old.placed + other.placed < 2 ^ 64) × (self.old.withdrawn + other.withdrawn < 2 ^ 64) }

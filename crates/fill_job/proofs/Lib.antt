@@ -1,4 +1,5 @@
 pub mod Searching
+pub mod Accepted
 pub mod ReadSets
 pub mod Conflicts
 pub mod Marking

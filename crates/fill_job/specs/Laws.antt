@@ -1,11 +1,15 @@
 -- What holds of wanted places and read sets.
-use Rattle.std.specs.Prelude.{◌≡◌, ◌↔◌, ℕ, ℤ, IsTrue}
+use Rattle.std.specs.Prelude.{◌≡◌, ◌↔◌, ℕ, ℤ, List, Ok, IsTrue}
 use Rattle.fill_raster.specs.Lattice.{box_squares}
 use Rattle.fill_area.specs.Sharing.{ShareASquare}
 use Rattle.fill_size.specs.Distance.{InConflict}
-use Rattle.fill_text.specs.Rules.{Values}
+use Rattle.fill_text.specs.Rules.{Values, rules_of}
 use Rattle.fill_job.specs.Plans.{Plan, IsPlan, Layers, PointSet, WindowSet, blocked, plan_of, conflicts, wanted}
 use Rattle.fill_job.specs.ReadSets.{read_set, wanted_of}
+
+-- the values of a rule file that is accepted make a plan: each number is in its range, and the steps keep the boxes apart
+abbrev pub AcceptedRulesMakeAPlan : Type 0
+AcceptedRulesMakeAPlan = (file : List ℕ) (values : Values) → rules_of file ≡ Ok values → IsPlan (plan_of values)
 
 -- the read set of a tile has all that its wanted places depend on
 abbrev pub WantedIsOfTheReadSet : Type 0

@@ -1,5 +1,5 @@
 //! What holds of wanted places and read sets, whatever the code does. Each function's contract is the law.
-ghost use Rattle.fill_job.specs.Laws.{BlockedIsSharing, ConflictsAreOfSquares, EqualReadSetsWantTheSame, WantedIsOfTheReadSet};
+ghost use Rattle.fill_job.specs.Laws.{AcceptedRulesMakeAPlan, BlockedIsSharing, ConflictsAreOfSquares, EqualReadSetsWantTheSame, WantedIsOfTheReadSet};
 ghost use Rattle.fill_job.specs.Plans.{IsPlan, plan_of};
 ghost use Rattle.fill_text.specs.ValuesOfRules.{values_of};
 
@@ -24,6 +24,11 @@ pub fn wanted_is_of_the_read_set()
 /// Wherever two designs have equal read sets of a tile, they want the same places of it.
 pub fn equal_read_sets_want_the_same()
     ensures { EqualReadSetsWantTheSame }
+{}
+
+/// Where a rule file is accepted, its values make a plan: what is said of plans holds of whatever is read from its bytes.
+pub fn accepted_rules_make_a_plan()
+    ensures { AcceptedRulesMakeAPlan }
 {}
 
 /// The rules of a rule file make a plan: all its numbers are in range, and its steps keep the boxes apart.

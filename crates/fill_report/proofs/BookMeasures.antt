@@ -27,9 +27,9 @@ near_itself : (d x : ℤ) → pos 0 ≤ℤ d → IsNear d x x
 near_itself d x some = record { above = omega (arith, ints, clamps, some); below = omega (arith, ints, clamps, some) }
 
 -- no square of a sound fill's boxes is metal
-no_shared : (plan : Plan) (layers : Layers) (fill : PointSet) (totals : ℕ → ℕ → ℕ) → IsPlan plan → IsSound plan layers fill totals
+no_shared : (plan : Plan) (layers : Layers) (fill : PointSet) → IsPlan plan → IsSound plan layers fill
     → (x y : ℤ) → layers.metal x y ≡ true → boxes_of plan fill x y ≡ true → ⊥
-no_shared plan layers fill totals is sound x y drawn boxed =
+no_shared plan layers fill is sound x y drawn boxed =
     elim ((boxes_of_places plan nothing fill is sound.on_raster x y).0 boxed) [
       | inl none ↦ let e : false ≡ true = none in cc
       | inr box ↦ sound.clear box.0 box.1 box.2 (record {
@@ -48,7 +48,7 @@ total_adds a column row is =
     let s = state_of a in
     let g = plan.windows in
     area_either s.layers.metal (boxes_of plan s.fill) (part_begin (parts_across g) column) (part_begin (parts_up g) row) (part_end (parts_across g) column) (part_end (parts_up g) row)
-    (no_shared plan s.layers s.fill (total_in plan s.layers.metal s.fill) is (replay_sound plan (opening_of a) (events_in a.history) is))
+    (no_shared plan s.layers s.fill is (replay_sound plan (opening_of a) (events_in a.history) is))
 
 -- ---- the numbers of a line
 

@@ -1,6 +1,6 @@
 //! A book that many threads share behind one lock, and runs of workers beside an editor. The layers above rely on this: each
-//! answer was given by the book at some point of its history, no earlier than the caller's own calls, and the callers' numbers
-//! taken together are the book's.
+//! answer is that of some book that was opened as this one, at a point of a legal history no earlier than the caller's own
+//! calls, and the callers' numbers taken together are those of the book that is taken back.
 #![tactic(auto)]
 
 mod gate;

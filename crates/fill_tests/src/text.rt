@@ -125,6 +125,8 @@ fn every_rule_has_its_value(rt: HostRuntime) -> Result<(), Fail> {
     assert_eq!(rt; windows, [-27, -28, 3, 2]);
     let rest = [rules.min(), rules.max(), rules.tile_nx(), rules.tile_ny()];
     assert_eq!(rt; rest, [310_000, 820_000, 7, 8]);
+    let layers = [rules.layer(), rules.datatype(), rules.fill_datatype()];
+    assert_eq!(rt; layers, [65_535, 1, 13]);
     let metal = Layer {
         layer: 65_535,
         data_type: 1,
@@ -240,6 +242,8 @@ fn optional_rules_have_their_values(rt: HostRuntime) -> Result<(), Fail> {
     let alloc = rt.alloc();
     let plain = read_rules(alloc, &rules_and(alloc, "")?)?;
     assert_eq!(rt; plain.keep_layer(), None);
+    assert_eq!(rt; plain.keep_datatype(), None);
+    assert!(rt; !plain.ignores_padding());
     let zero = read_rules(alloc, &rules_and(alloc, "padding,zero\n")?)?;
     assert!(rt; plain == zero);
     let keep = read_rules(
@@ -251,9 +255,11 @@ fn optional_rules_have_their_values(rt: HostRuntime) -> Result<(), Fail> {
         data_type: 65_535,
     };
     assert_eq!(rt; keep.keep_layer(), Some(layer));
+    assert_eq!(rt; keep.keep_datatype(), Some(65_535));
     assert!(rt; keep != plain && keep == keep.copy(alloc)?);
     let ignored = read_rules(alloc, &rules_and(alloc, "padding,ignore\n")?)?;
     assert!(rt; ignored != plain && ignored == ignored.copy(alloc)?);
+    assert!(rt; ignored.ignores_padding());
     Ok(())
 }
 

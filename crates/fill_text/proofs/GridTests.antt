@@ -72,7 +72,7 @@ is_axis_facts axis test =
 is_grid_true : (g : Grid) → IsGrid g → is_grid g ≡ true
 is_grid_true g h = rw (is_axis_true g.across h.across, is_axis_true g.up h.up, nat_le_true (g.across.count * g.up.count) 1048576 h.few) refl
 
-is_grid_facts : (g : Grid) → IsClip g.clip → is_grid g ≡ true → IsGrid g
+pub is_grid_facts : (g : Grid) → IsClip g.clip → is_grid g ≡ true → IsGrid g
 is_grid_facts g clip test =
     let (axes, few) = both _ _ test in
     let (across, up) = both _ _ axes in

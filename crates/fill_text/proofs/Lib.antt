@@ -13,6 +13,7 @@ pub mod SameRules
 pub mod GridTests
 pub mod RasterTests
 pub mod Standing
+pub mod Accepted
 pub mod Written
 pub mod Once
 pub mod WrittenEdits

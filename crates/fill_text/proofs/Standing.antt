@@ -1,5 +1,5 @@
 -- In a rule file that is accepted each key stands in a record that breaks no rule.
-use Rattle.std.proofs.Common.{◌≡◌, ◌∙◌, ◌+◌, ◌==◌, ℕ, ℤ, pos, Bool, true, false, List, [], ◌∷◌, ◌++◌, length, get_or, map, Option, Some, None, option_map, Ok, ap, sym, refl, arith}
+use Rattle.std.proofs.Common.{◌≡◌, ◌∙◌, ◌+◌, ◌==◌, ℕ, ℤ, pos, Bool, true, false, List, [], ◌∷◌, ◌++◌, length, get_or, map, Option, Some, None, option_map, Ok, ap, subst, sym, refl, arith}
 use Rattle.std.specs.Prelude.{⊤, bytes_eq, find, is_some, if◌then◌else◌}
 use Rattle.std.proofs.lemmas.Bool.Decides.{nat_tests}
 use Rattle.std.proofs.lemmas.List.{get_or-map}
@@ -71,12 +71,13 @@ key_there f none Padding is = absurd is
 pub value_listed : (f : NumberKey → ℤ) (key : NumberKey) → number_in (map f all_number_keys) key ≡ f key
 value_listed f key = get_or-map f all_number_keys (number_rule key).index FrameX1 (pos 0) (index_below key) ∙ ap f (key_at key)
 
--- an accepted file: no record breaks a rule, no key is missing, and the values are those of the records
+-- an accepted file: no record breaks a rule, no key is missing, the values are those of the records, and they fit one another
 pub record Accepted (file : List ℕ) (values : Values) : Type 0 where
   pub sound : first_some (each_fault record_fault [] (rows_of file)) ≡ None
   pub all : (key : Key) → IsRequired key → is_some (word_for key (rows_of file)) ≡ true
   pub paired : first_some (pair_faults (is_some (word_for (Optional KeepLayer) (rows_of file))) (is_some (word_for (Optional KeepDatatype) (rows_of file)))) ≡ None
   pub same : values_for (rows_of file) ≡ values
+  pub joint : first_some (joint_faults values) ≡ None
 
 pub accepted : (file : List ℕ) (values : Values) → rules_of file ≡ Ok values → Accepted file values
 unfolding rules_of
@@ -86,7 +87,7 @@ accepted file values e =
     let (front, joint) = none_in_both (each_fault record_fault [] rows ++ key_faults rows) (joint_faults (values_for rows)) none in
     let (sound, keys) = none_in_both (each_fault record_fault [] rows) (key_faults rows) front in
     let (all, paired) = none_in_both (map (missing rows) required_keys) (pair_faults (is_some (word_for (Optional KeepLayer) rows)) (is_some (word_for (Optional KeepDatatype) rows))) keys in
-    record { sound = sound; all = λ key is. unless_holds _ _ (key_there (missing rows) all key is); paired = paired; same = same }
+    record { sound = sound; all = λ key is. unless_holds _ _ (key_there (missing rows) all key is); paired = paired; same = same; joint = subst (λ (v : Values). first_some (joint_faults v) ≡ None) same joint }
 
 -- the record of a key
 pub stands : (rows : List (List (List ℕ))) (key : Key) → first_some (each_fault record_fault [] rows) ≡ None → is_some (word_for key rows) ≡ true

@@ -1,5 +1,5 @@
 //! The value of each rule. Lengths, gaps and coordinates are in database units.
-ghost use Rattle.std.specs.Prelude.{◌≡◌, true};
+ghost use Rattle.std.specs.Prelude.{◌≡◌, true, IfSome, option_map};
 ghost use Rattle.fill_base.specs.Sides.{sides_of};
 ghost use Rattle.fill_raster.specs.Lattice.{KeepsPitch};
 ghost use Rattle.fill_text.specs.Keys.{IsWithin};
@@ -239,6 +239,46 @@ impl Rules {
         ensures range { IsWithin NumberKey.TileNy result }
     {
         self.number(NumberKey::TileNy)
+    }
+
+    /// The number of the checked layer, 0 to 65,535.
+    pub fn layer(&self) -> i64
+        ensures value { result ≡ value_of (values_of self.now) NumberKey.Layer }
+        ensures range { IsWithin NumberKey.Layer result }
+    {
+        self.number(NumberKey::Layer)
+    }
+
+    /// The data type of the checked layer, 0 to 65,535.
+    pub fn datatype(&self) -> i64
+        ensures value { result ≡ value_of (values_of self.now) NumberKey.Datatype }
+        ensures range { IsWithin NumberKey.Datatype result }
+    {
+        self.number(NumberKey::Datatype)
+    }
+
+    /// The data type of the fill boxes, 0 to 65,535.
+    pub fn fill_datatype(&self) -> i64
+        ensures value { result ≡ value_of (values_of self.now) NumberKey.FillDatatype }
+        ensures range { IsWithin NumberKey.FillDatatype result }
+    {
+        self.number(NumberKey::FillDatatype)
+    }
+
+    /// The data type of the keep-outs, 0 to 65,535, if they have a layer.
+    pub fn keep_datatype(&self) -> Option<i64>
+        ensures value { result ≡ option_map (λ k. k.1) (values_of self.now).keep }
+        ensures range { IfSome result (λ n. spec.is_layer n ≡ true) }
+    {
+        let (_, data_type) = self.keep?;
+        Some(data_type)
+    }
+
+    /// Whether padding is ignored, so that what is out of the frame counts nothing; the key is `padding`.
+    pub fn ignores_padding(&self) -> bool
+        ensures { result ≡ (values_of self.now).ignores }
+    {
+        self.ignores
     }
 
     /// The checked layer.

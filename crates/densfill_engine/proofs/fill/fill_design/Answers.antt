@@ -1,4 +1,4 @@
-use Rattle.std.proofs.Common.{◌≡◌, ◌<◌, ℕ, List, arith, length, map, subst}
+use Rattle.std.proofs.Common.{◌≡◌, ◌<◌, ◌≤◌, ℕ, List, arith, length, map, subst}
 use Rattle.std.proofs.lemmas.Result.{IfOk-weaker}
 use Rattle.fill_job.specs.Basis.{layers_in}
 use Rattle.fill_text.specs.Script.{change_of}
@@ -12,11 +12,14 @@ use Rattle.densfill_engine.proofs.fill.fill_design.Goals as goal
 many : (workers : ℕ) → 1 < workers → workers ≡ 1 → ⊥
 many workers some one = omega (arith, some, one)
 
+few : (workers : ℕ) → workers ≤ 1 → 1 < workers → ⊥
+few workers most some = omega (arith, most, some)
+
 pub returns-then-crew-gt1-clause-unfinished : goal.returns-then-crew-gt1-clause-unfinished
-returns-then-crew-gt1-clause-unfinished g c = λ is one. absurd (many c.args.crew.workers c.if-crew-gt1.true one)
+returns-then-crew-gt1-clause-unfinished g c = λ is. ((λ one. absurd (many c.args.crew.workers c.if-crew-gt1.true one)), (λ _. c.fill_by_many.ensures.unfinished is))
 
 pub returns-then-crew-gt1-clause-mixed : goal.returns-then-crew-gt1-clause-mixed
-returns-then-crew-gt1-clause-mixed g c = λ is one. many c.args.crew.workers c.if-crew-gt1.true one
+returns-then-crew-gt1-clause-mixed g c = λ is. ((λ one. many c.args.crew.workers c.if-crew-gt1.true one), (λ _. c.fill_by_many.ensures.mixed is))
 
 pub returns-clause-filled : goal.returns-clause-filled
 returns-clause-filled g c =
@@ -31,4 +34,10 @@ returns-clause-filled g c =
     c.in_ok-design.ensures.dates (only_one crew.workers c.requires.workers.0 c.if-crew-gt1.false) given)) c.fill_alone.ensures.filled
 
 pub returns-clause-unfinished : goal.returns-clause-unfinished
-returns-clause-unfinished g c = λ is one. edits_short (values_of c.args.task.rules) c.args.crew.limit (length (map change_of c.args.task.edits.items)) 4294967296 (c.fill_alone.ensures.unfinished is)
+returns-clause-unfinished g c = λ is. (
+  (λ one. edits_short (values_of c.args.task.rules) c.args.crew.limit (length (map change_of c.args.task.edits.items)) 4294967296 (c.fill_alone.ensures.unfinished is)),
+  (λ some. absurd (few c.args.crew.workers c.if-crew-gt1.false some)),
+)
+
+pub returns-clause-mixed : goal.returns-clause-mixed
+returns-clause-mixed g c = λ is. absurd (c.fill_alone.ensures.mixed is)
