@@ -56,6 +56,11 @@ fn library_of(alloc: Global, elements: &[&[u8]]) -> Result<Vec<u8>, AllocError> 
     Ok(bytes)
 }
 
+/// The library of one wire, in a cell TOP.
+pub(crate) fn wire(alloc: Global) -> Result<Vec<u8>, AllocError> {
+    library_of(alloc, &[BOUNDARY, LAYER, DATATYPE, XY, ENDEL])
+}
+
 fn joined(alloc: Global, pieces: &[&[u8]]) -> Result<Vec<u8>, AllocError> {
     let mut bytes = Vec::new(alloc);
     for piece in pieces {
@@ -116,14 +121,14 @@ fn is_one_wire(rt: &impl Abort, alloc: Global, bytes: &[u8]) -> Result<(), Fail>
 
 #[test]
 fn one_wire(rt: HostRuntime) -> Result<(), Fail> {
-    let bytes = library_of(rt.alloc(), &[BOUNDARY, LAYER, DATATYPE, XY, ENDEL])?;
+    let bytes = wire(rt.alloc())?;
     assert_eq!(rt; bytes.len(), 170);
     is_one_wire(&rt, rt.alloc(), &bytes)
 }
 
 #[test]
 fn cut_anywhere(rt: HostRuntime) -> Result<(), Fail> {
-    let bytes = library_of(rt.alloc(), &[BOUNDARY, LAYER, DATATYPE, XY, ENDEL])?;
+    let bytes = wire(rt.alloc())?;
     for len in 0..bytes.len() {
         assert_eq!(rt;
             error_of(rt.alloc(), &bytes[..len]),
