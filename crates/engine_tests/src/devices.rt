@@ -9,11 +9,21 @@ use std::test::Fail;
 
 /// A device in memory that moves at most `step` bytes a call, and fails once so many calls have gone well.
 #[derive(Drop)]
-struct Slow<'a> {
+pub(crate) struct Slow<'a> {
     rest: &'a [u8],
     taken: Vec<u8>,
     step: usize,
     good_calls: Option<usize>,
+}
+
+/// A device that gives all of a text at its first call, and fails at the next.
+pub(crate) fn broken_off(alloc: Global, text: &[u8]) -> Slow<'_> {
+    Slow {
+        rest: text,
+        taken: Vec::new(alloc),
+        step: text.len(),
+        good_calls: Some(1),
+    }
 }
 
 impl Slow<'_> {

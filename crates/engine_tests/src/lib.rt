@@ -15,3 +15,5 @@ mod metal;
 mod parts;
 #[cfg(test)]
 mod reports;
+#[cfg(test)]
+mod wire;

@@ -3,7 +3,7 @@ ghost use Rattle.fill_text.specs.ValuesOfRules.{values_of};
 ghost use Rattle.fill_core.specs.Shares.{AllParts};
 
 use fill_base::Rect;
-use fill_book::PlainBook;
+use fill_book::{Book, PlainBook};
 use fill_core::{FillBook, Opened, Pass};
 use fill_region::Region;
 use fill_report::report;
@@ -100,7 +100,7 @@ fn report_twice<B: FillBook>(
     assert_report(rt, alloc, book, AFTER)
 }
 
-/// Asserts both reports of a book on this metal.
+/// Asserts both reports of a book on this metal, one with running sums or one that measures each window anew.
 fn open_and_report<C: Opened + Send + Sync, P: Ledger + Send + Sync, W: Ledger + Send + Sync>(
     rt: &(impl Abort + Threads + Sync),
     alloc: Global,
@@ -110,12 +110,19 @@ fn open_and_report<C: Opened + Send + Sync, P: Ledger + Send + Sync, W: Ledger +
     rules: Rules,
     metal: Region,
     keep: Region,
+    is_running: bool,
 ) -> Result<(), Fail>
     requires names { (calls.name ≡ C.name) × (placed.name ≡ P.name) × (withdrawn.name ≡ W.name) }
     requires parts { (calls.parts ≡ C.parts) × (placed.parts ≡ P.parts) × (withdrawn.parts ≡ W.parts) }
     requires all { AllParts C.parts P.parts W.parts }
     requires terms { record { rules = values_of rules; opening = metal; keep = keep; most = 100 } ≡ C.terms }
 {
+    if is_running {
+        let (mut book, mut pass) = Book::<C, P, W>::open(
+            rt, alloc, calls, placed, withdrawn, metal, keep, rules, 100,
+        )?;
+        return report_twice(rt, alloc, &mut book, &mut pass);
+    }
     let (mut book, mut pass) = PlainBook::<C, P, W>::open(
         rt, alloc, calls, placed, withdrawn, metal, keep, rules, 100,
     )?;
@@ -124,16 +131,18 @@ fn open_and_report<C: Opened + Send + Sync, P: Ledger + Send + Sync, W: Ledger +
 
 /// On the left, metal of 20 by 20 leaves 46 of 50 boxes, each of 16 squares; on the right, a fifth of the window is metal, which is not
 /// low.
-#[test]
-fn report_of_a_book(rt: HostRuntime) -> Result<(), Fail> {
-    let alloc = rt.alloc();
+fn report_of_a_book(
+    rt: &(impl Abort + Threads + Sync),
+    alloc: Global,
+    is_running: bool,
+) -> Result<(), Fail> {
     let rules = read_rules(alloc, format!(in alloc; "{RULES}")?.as_bytes())?;
     let metal = Region::from_rects(
         alloc,
         &[Rect::new(0, 0, 20, 20)?, Rect::new(90, 0, 100, 100)?],
     )?;
     open_and_report::<Brand, Brand, Brand>(
-        &rt,
+        rt,
         alloc,
         Blank::new(1024),
         Blank::new(1024),
@@ -141,5 +150,12 @@ fn report_of_a_book(rt: HostRuntime) -> Result<(), Fail> {
         rules,
         metal,
         Region::empty(alloc),
+        is_running,
     )
+}
+
+#[test]
+fn reports_of_both_books(rt: HostRuntime) -> Result<(), Fail> {
+    report_of_a_book(&rt, rt.alloc(), false)?;
+    report_of_a_book(&rt, rt.alloc(), true)
 }
