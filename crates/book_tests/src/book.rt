@@ -4,7 +4,7 @@ ghost use Rattle.fill_text.specs.ValuesOfRules.{values_of};
 ghost use Rattle.fill_core.specs.Shares.{AllParts};
 
 use crate::refused::{begin, committed, edited, end};
-use fill_base::Rect;
+use fill_base::{Place, Rect};
 use fill_book::{Book, PlainBook};
 use fill_core::{BookError, Edit, FillBook, Opened, Pass, Reply};
 use fill_job::Proposal;
@@ -146,6 +146,10 @@ pub(crate) enum Step {
     Total(u32, u32, i64),
     /// The total of each window is the same.
     Totals(i64),
+    /// The totals of three by three windows, row by row.
+    NineTotals([i64; 9]),
+    /// Just these of a hundred places are empty.
+    Empty(&'static [Place]),
     /// How many places are filled, and how many calls were answered.
     Counts(u32, u64),
     /// The version, and whether it is complete.
@@ -208,6 +212,28 @@ pub(crate) fn assert_totals<B: FillBook>(rt: &impl Abort, book: &B, want: i64) {
     }
 }
 
+/// Asserts that three by three windows have these totals, row by row.
+pub(crate) fn assert_nine_totals<B: FillBook>(rt: &impl Abort, book: &B, want: [i64; 9]) {
+    for k in 0..9u32 {
+        let total = total_of(rt, book, k % 3, k / 3);
+        assert_eq!(rt; want.get(k as usize).copied(), Some(total), "window {k}");
+    }
+}
+
+/// Asserts that just these of ten by ten places are empty.
+pub(crate) fn assert_empty<B: FillBook>(rt: &impl Abort, book: &B, empty: &[Place]) {
+    let raster = book.rules().raster();
+    for k in 0..100i64 {
+        let place = Place {
+            i: k % 10,
+            j: k / 10,
+        };
+        let filled = raster.has(place) && book.has(place);
+        let wanted = !empty.iter().any(|other| *other == place);
+        assert_eq!(rt; filled, wanted, "place {k}");
+    }
+}
+
 /// The proposal that was laid aside at `k`.
 pub(crate) fn held_at<'a>(rt: &impl Abort, held: &'a [Proposal], k: usize) -> &'a Proposal {
     match held.get(k) {
@@ -253,6 +279,8 @@ pub(crate) fn assert_told<B: FillBook>(rt: &impl Abort, book: &B, step: Step) {
     match step {
         Step::Total(a, b, want) => assert_eq!(rt; total_of(rt, book, a, b), want),
         Step::Totals(want) => assert_totals(rt, book, want),
+        Step::NineTotals(want) => assert_nine_totals(rt, book, want),
+        Step::Empty(places) => assert_empty(rt, book, places),
         Step::Version(version, complete) => {
             assert_eq!(rt; book.version(), version);
             assert_eq!(rt; book.is_complete(), complete);
@@ -349,7 +377,7 @@ pub(crate) fn take_all<B: FillBook>(
     Ok(())
 }
 
-/// Opens a book and takes the steps.
+/// Opens a book and takes the steps. Where memory for the opening is refused, says that it did not open.
 pub(crate) fn play<C: Opened + Send + Sync, P: Ledger + Send + Sync, W: Ledger + Send + Sync>(
     rt: &(impl Abort + Threads + Sync),
     alloc: Global,
@@ -359,7 +387,7 @@ pub(crate) fn play<C: Opened + Send + Sync, P: Ledger + Send + Sync, W: Ledger +
     kind: Kind,
     most: u64,
     case: Case<'_>,
-) -> Result<(), Fail>
+) -> Result<bool, Fail>
     requires names { (calls.name ≡ C.name) × (placed.name ≡ P.name) × (withdrawn.name ≡ W.name) }
     requires parts { (calls.parts ≡ C.parts) × (placed.parts ≡ P.parts) × (withdrawn.parts ≡ W.parts) }
     requires all { AllParts C.parts P.parts W.parts }
@@ -376,27 +404,34 @@ pub(crate) fn play<C: Opened + Send + Sync, P: Ledger + Send + Sync, W: Ledger +
     } = case;
     match kind {
         Kind::Plain => {
-            let (mut book, mut pass) = PlainBook::<C, P, W>::open(
+            let opened = PlainBook::<C, P, W>::open(
                 rt, alloc, calls, placed, withdrawn, metal, keep, rules, most,
-            )?;
-            take_all(rt, alloc, &mut book, &mut pass, &mut held, steps)
+            );
+            let Ok((mut book, mut pass)) = opened else {
+                return Ok(false);
+            };
+            take_all(rt, alloc, &mut book, &mut pass, &mut held, steps)?;
         }
         Kind::Running => {
-            let (mut book, mut pass) = Book::<C, P, W>::open(
+            let opened = Book::<C, P, W>::open(
                 rt, alloc, calls, placed, withdrawn, metal, keep, rules, most,
-            )?;
-            take_all(rt, alloc, &mut book, &mut pass, &mut held, steps)
+            );
+            let Ok((mut book, mut pass)) = opened else {
+                return Ok(false);
+            };
+            take_all(rt, alloc, &mut book, &mut pass, &mut held, steps)?;
         }
     }
+    Ok(true)
 }
 
-/// Plays a case in a book with ledgers of its own.
+/// Plays a case in a book with ledgers of its own, and says whether it opened.
 pub(crate) fn run(
     rt: &(impl Abort + Threads + Sync),
     alloc: Global,
     kind: Kind,
     case: Case<'_>,
-) -> Result<(), Fail> {
+) -> Result<bool, Fail> {
     play::<Brand, Brand, Brand>(
         rt,
         alloc,
@@ -447,7 +482,7 @@ pub(crate) fn run_in(
             held: Vec::new(alloc),
             steps,
         };
-        run(rt, alloc, kind, case)?;
+        assert!(rt; run(rt, alloc, kind, case)?);
     }
     Ok(())
 }
@@ -512,7 +547,7 @@ pub(crate) fn bring(
             held,
             steps,
         };
-        run(rt, alloc, kind, case)?;
+        assert!(rt; run(rt, alloc, kind, case)?);
     }
     Ok(())
 }

@@ -3,10 +3,14 @@
 ghost use Rattle.std.specs.Prelude.{◌≡◌};
 ghost use Rattle.fill_core.specs.Shares.{AllParts};
 
-use crate::book::{HUNDRED_PLACES, NINE_WINDOWS, Step, bring, offered, rules_of, run_in, total_of};
+use crate::book::{
+    Case, HUNDRED_PLACES, Kind, NINE_WINDOWS, Step, bring, offered, region_of, rules_of,
+    run as run_case, run_in, total_of, usual_rules,
+};
 use crate::cases::{added, close};
 use fill_core::{BookError, Edit, FillBook, Pass, Reply};
 use fill_job::Proposal;
+use fill_region::Region;
 use fill_shared::{Look, NotOpened, OpenGate, PassOf, RunError, Shared, WorkEnd, run, work};
 use std::alloc::Global;
 use std::process::Abort;
@@ -141,6 +145,40 @@ fn a_foreign_proposal_where_memory_is_refused(rt: HostRuntime) -> Result<(), Fai
         Step::Counts(16, 2),
     ];
     bring(&rt, rt.alloc(), &[[10, 10, 21, 20]], &[], &steps)
+}
+
+/// A book on some metal that brings a tile once it is open.
+const OPENED: &[Step] = &[
+    Step::End,
+    Step::NineTotals([110, 0, 0, 0, 0, 0, 0, 0, 0]),
+    Step::Commit(0, Reply::Placed(15)),
+    Step::NineTotals([350, 96, 0, 96, 36, 0, 0, 0, 0]),
+];
+
+/// The case of that book.
+fn opening(alloc: Global) -> Result<Case<'static>, Fail> {
+    Ok(Case {
+        rules: usual_rules(alloc, 300_000)?,
+        metal: region_of(alloc, &[[10, 10, 21, 20]])?,
+        keep: Region::empty(alloc),
+        max_events: 10,
+        held: Vec::new(alloc),
+        steps: OPENED,
+    })
+}
+
+/// Where memory is refused, the book is opened once more.
+#[test]
+fn a_book_opens_or_tells_of_want_of_memory(rt: HostRuntime) -> Result<(), Fail> {
+    let alloc = rt.alloc();
+    for kind in [Kind::Plain, Kind::Running] {
+        let case = opening(alloc)?;
+        begin(alloc);
+        let opened = run_case(&rt, alloc, kind, case)?;
+        end(alloc);
+        assert!(rt; opened || run_case(&rt, alloc, kind, opening(alloc)?)?);
+    }
+    Ok(())
 }
 
 /// Commits alone, of which a book with running sums meets a growth each at most. The first proposal is of other metal.

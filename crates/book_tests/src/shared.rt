@@ -179,13 +179,12 @@ fn fill_and_fill_again<B: FillBook>(
     );
     let edit = added()?;
     assert_edit(rt, alloc, &shared, &mut pass, edit, Ok(Reply::Withdrawn(1)));
-    assert_work(rt, alloc, &shared, &mut pass, 9, WorkEnd::Tired);
     assert_work(
         rt,
         alloc,
         &shared,
         &mut pass,
-        1,
+        10,
         WorkEnd::Done { version: 1 },
     );
     let book = close(rt, shared, Vec::new(alloc), pass, [19, 100, 1], 99)?;

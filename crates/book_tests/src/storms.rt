@@ -2,7 +2,7 @@
 ghost use Rattle.std.specs.Prelude.{◌≡◌, ◌<◌, ◌≤◌};
 ghost use Rattle.fill_core.specs.Shares.{AllParts};
 
-use crate::book::total_of;
+use crate::book::assert_totals;
 use crate::cases::{Count, added, assert_counts, assert_edit, close, finished};
 use fill_base::Rect;
 use fill_core::{Edit, Entry, Event, FillBook, Reply};
@@ -189,6 +189,40 @@ fn edited<B: FillBook>(
     pass
 }
 
+/// The entry of a tile that was brought for a version.
+fn brought(version: u64, tile: u32, same: bool, reply: Reply) -> Entry {
+    Entry {
+        event: Event::Commit {
+            version,
+            tile,
+            same,
+        },
+        reply,
+    }
+}
+
+/// What a history holds where an edit comes while a worker is at the first tile: its proposal is too late, and then come the other tiles,
+/// and that one at last.
+fn entries_beside(edit: Edit) -> [Entry; 11] {
+    let edited = Entry {
+        event: Event::Edit(edit),
+        reply: Reply::Withdrawn(0),
+    };
+    [
+        edited,
+        brought(0, 0, false, Reply::Stale { at: 1 }),
+        brought(1, 1, true, Reply::Placed(16)),
+        brought(1, 2, true, Reply::Placed(8)),
+        brought(1, 3, true, Reply::Placed(16)),
+        brought(1, 4, true, Reply::Placed(16)),
+        brought(1, 5, true, Reply::Placed(8)),
+        brought(1, 6, true, Reply::Placed(8)),
+        brought(1, 7, true, Reply::Placed(8)),
+        brought(1, 8, true, Reply::Placed(4)),
+        brought(1, 0, true, Reply::Placed(15)),
+    ]
+}
+
 /// A worker beside a caller that edits while the worker is at its first tile: one proposal is stale, and nine tiles come in.
 fn work_beside_an_edit<B: FillBook + Send>(
     rt: &(impl Abort + Threads + Wait + Sync),
@@ -223,7 +257,8 @@ fn work_beside_an_edit<B: FillBook + Send>(
     );
     assert!(rt; !gate.begun.is_late() && !gate.made.is_late());
     passes.push(worker)?;
-    close(rt, shared, passes, editor, [11, 99, 0], 99)?;
+    let book = close(rt, shared, passes, editor, [11, 99, 0], 99)?;
+    assert!(rt; book.history().entries() == entries_beside(edit).as_slice());
     Ok(())
 }
 
@@ -272,9 +307,7 @@ pub(crate) fn fifty_edits<B: FillBook + Send>(
     let (book, pass) = finished(rt, alloc, book, pass, &edits, 4, &OpenGate, 10);
     assert_eq!(rt; (book.version(), book.count()), (50, 100));
     assert_eq!(rt; pass.placed().wrapping_sub(pass.withdrawn()), 100);
-    for (column, row) in [(0, 0), (1, 1), (2, 2)] {
-        assert_eq!(rt; total_of(rt, &book, column, row), 400);
-    }
+    assert_totals(rt, &book, 400);
     Ok(())
 }
 

@@ -4,6 +4,7 @@ use crate::book::{
     Case, HUNDRED_PLACES, Kind, MILLION_PLACES, NINE_WINDOWS, NO_PLACES, ONE_WINDOW, Step,
     TOUCHING_BOXES, bring, rules_of, run, run_in, run_on, usual_rules,
 };
+use fill_base::Place;
 use fill_core::Reply;
 use fill_region::Region;
 use std::test::Fail;
@@ -66,14 +67,9 @@ fn a_late_proposal_is_stale(rt: HostRuntime) -> Result<(), Fail> {
             Step::Hold(0),
             Step::Add([10, 10, 21, 20], 0),
             Step::Late(0, Reply::Stale { at: 1 }),
-            Step::Total(0, 0, 110),
-            Step::Total(1, 1, 0),
+            Step::NineTotals([110, 0, 0, 0, 0, 0, 0, 0, 0]),
             Step::Commit(0, Reply::Placed(15)),
-            Step::Total(0, 0, 350),
-            Step::Total(1, 0, 96),
-            Step::Total(0, 1, 96),
-            Step::Total(1, 1, 36),
-            Step::Total(2, 2, 0),
+            Step::NineTotals([350, 96, 0, 96, 36, 0, 0, 0, 0]),
         ],
     )
 }
@@ -153,12 +149,16 @@ fn places_partly_in_a_low_window_stay_empty(rt: HostRuntime) -> Result<(), Fail>
             Step::Commit(2, Reply::Placed(0)),
             Step::Fill,
             Step::Counts(40, 9),
-            Step::Total(0, 0, 1060),
-            Step::Total(1, 1, 320),
-            Step::Total(2, 2, 1060),
+            Step::NineTotals([1060, 320, 1060, 1060, 320, 1060, 1060, 320, 1060]),
         ],
     )
 }
+
+/// The place beside the metal that is added.
+const ONE: &[Place] = &[Place { i: 1, j: 1 }];
+
+/// The places beside metal that is wider by one.
+const TWO: &[Place] = &[Place { i: 1, j: 1 }, Place { i: 2, j: 1 }];
 
 #[test]
 fn added_metal_takes_out_one_box(rt: HostRuntime) -> Result<(), Fail> {
@@ -172,9 +172,8 @@ fn added_metal_takes_out_one_box(rt: HostRuntime) -> Result<(), Fail> {
             Step::Fill,
             Step::Totals(400),
             Step::Add([10, 10, 21, 20], 1),
-            Step::Total(0, 0, 494),
-            Step::Total(1, 0, 400),
-            Step::Total(1, 1, 400),
+            Step::Empty(ONE),
+            Step::NineTotals([494, 400, 400, 400, 400, 400, 400, 400, 400]),
             Step::Counts(99, 10),
             Step::Version(1, false),
             Step::Fill,
@@ -184,6 +183,7 @@ fn added_metal_takes_out_one_box(rt: HostRuntime) -> Result<(), Fail> {
     )
 }
 
+/// The window at the corner loses both boxes and gains twelve columns of ten; its neighbour loses two columns of a box.
 #[test]
 fn wider_metal_takes_out_two_boxes(rt: HostRuntime) -> Result<(), Fail> {
     let rules = usual_rules(rt.alloc(), 300_000)?;
@@ -195,6 +195,8 @@ fn wider_metal_takes_out_two_boxes(rt: HostRuntime) -> Result<(), Fail> {
         &[
             Step::Fill,
             Step::Add([10, 10, 22, 20], 2),
+            Step::Empty(TWO),
+            Step::NineTotals([488, 392, 400, 400, 400, 400, 400, 400, 400]),
             Step::Counts(98, 10),
         ],
     )
@@ -245,7 +247,7 @@ fn a_full_history_takes_nothing(rt: HostRuntime) -> Result<(), Fail> {
                 Step::Total(0, 0, 256),
             ],
         };
-        run(&rt, alloc, kind, case)?;
+        assert!(rt; run(&rt, alloc, kind, case)?);
     }
     Ok(())
 }
