@@ -18,6 +18,7 @@ from pathlib import Path
 
 sys.path.insert(0, str(Path(__file__).resolve().parent))
 from built import ROOT, FolderCase, rule_file, run_tests  # noqa: E402
+from designs import design  # noqa: E402
 from stream import END, boundary, library, points, record, structure, text, words  # noqa: E402
 
 NOBODY = 65534
@@ -36,6 +37,9 @@ BOX = structure("BOX", boundary(131, 0, 0, 4, 4))
 ALONE = record(0x0A, 0) + text(0x12, "BOX") + points(10, 2) + END
 PAIR = record(0x0B, 0) + text(0x12, "BOX") + words(0x13, 2, 1) + points(2, 10, 18, 10, 2, 18) + END
 FILL = library("FILL", BOX, structure("ALL", ALONE, PAIR))
+# One wire of 11 by 20 squares, and the fill around it by the boxes of cases/.
+WIRE = design("cell TOP\nBOUNDARY 7/0 9,0 9,20 20,20 20,0\n")
+AROUND = design((ROOT / "cases/fills/wire/fill").read_text())
 
 
 @dataclass
@@ -199,6 +203,7 @@ class Files(Case):
     PARTS = {"rules": "rules.csv", "design": "design.gds", "script": "script.csv"}
 
     def test_an_input_is_missing(self) -> None:
+        (self.folder / "script.csv").write_text("add,0,0,10,10\nadd,5,5,15,15\ncut,0,0,5,5\n")
         for part, name in self.PARTS.items():
             (self.folder / name).rename(self.folder / "away")
             self.assert_fault(self.fill(), 4, f"{part}: 30 Device")
@@ -332,6 +337,13 @@ class Files(Case):
         self.assertEqual(self.fill().status, 0)
         self.assertEqual((self.folder / "out.gds").read_bytes(), FILL)
 
+    def test_a_full_disk_amid_the_fill_around_a_wire(self) -> None:
+        (self.folder / "rules.csv").write_bytes((ROOT / "cases/rules/boxes.csv").read_bytes())
+        (self.folder / "design.gds").write_bytes(WIRE)
+        self.assert_fault(self.fill(preexec_fn=lambda: file_size(100)), 4, "out: 30 Device")
+        self.assertEqual((self.folder / "out.gds.unfinished").read_bytes(), AROUND[:100])
+        self.assert_no_out()
+
     def test_out_takes_nothing(self) -> None:
         self.assert_fault(self.run_words("fill", "rules.csv", "design.gds", "script.csv", "/dev/full"), 4, "out: 30 Device")
 
@@ -377,8 +389,8 @@ class Refused(Case):
         self.assert_no_out()
 
     def test_a_design_cut_anywhere(self) -> None:
-        for length in range(len(DESIGN)):
-            (self.folder / "design.gds").write_bytes(DESIGN[:length])
+        for length in range(len(WIRE)):
+            (self.folder / "design.gds").write_bytes(WIRE[:length])
             self.assert_fault(self.run_words("check", "rules.csv", "design.gds"), 2, "design: 1 Truncated")
 
     def test_memory_is_refused(self) -> None:
