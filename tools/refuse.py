@@ -20,6 +20,7 @@ from pathlib import Path
 
 sys.path.insert(0, str(Path(__file__).resolve().parent))
 from built import ROOT, built  # noqa: E402
+from test_cases import CASES, OUT, Case, Run  # noqa: E402
 
 EXAMPLES = ROOT / "examples"
 TESTS = ROOT / "crates/book_tests/out/book_tests_tests"
@@ -104,10 +105,11 @@ class Ended:
 
 @dataclass(frozen=True)
 class Line:
-    """A command line over the examples, with the paths of OUT, of a script of late changes and of a fill library, and whether its texts may
-    vary."""
+    """A command line over the files of a folder, with the paths of OUT, of a script of late changes and of a fill library, and whether its
+    texts may vary."""
     words: tuple[str, ...]
     varies: bool = False
+    place: Path = EXAMPLES
     old: bytes = b"an old library"
 
     def run(self, program: Path, shim: Path, folder: Path, refused: int) -> tuple[Ended, bool]:
@@ -117,7 +119,7 @@ class Line:
         told.unlink(missing_ok=True)
         env = os.environ | {"LD_PRELOAD": str(shim), "REFUSED": str(refused), "REFUSED_TOLD": str(told)}
         words = [str(program), *(word.format(out=out, script=folder / "late.csv", part=folder / "part.gds") for word in self.words)]
-        done = subprocess.run(words, cwd=EXAMPLES, env=env, capture_output=True, check=False, timeout=60)
+        done = subprocess.run(words, cwd=self.place, env=env, capture_output=True, check=False, timeout=60)
         ended = Ended(done.returncode, done.stdout, done.stderr, out.read_bytes())
         out.unlink()
         (folder / f"{refused}.gds.unfinished").unlink(missing_ok=True)
@@ -143,19 +145,33 @@ LINES = (
 )
 
 
+# A case whose bytes are worked out by hand.
+BY_TWO_WORKERS = "fills/wire_by_2_workers"
+
+
 # What is wrong with a run in which the growth of this number is refused, if anything, and whether it came to it.
 Attempt = Callable[[int], tuple[str | None, bool]]
 
 
-def of_line(line: Line, program: Path, shim: Path, folder: Path) -> Attempt:
-    """Runs of a command line."""
-    whole, _ = line.run(program, shim, folder, 0)
+def of_line(line: Line, program: Path, shim: Path, folder: Path, wanted: Ended | None = None) -> Attempt:
+    """Runs of a command line, of which one without a refusal leaves what is wanted, if that is known."""
+    whole = wanted or line.run(program, shim, folder, 0)[0]
 
     def attempt(number: int) -> tuple[str | None, bool]:
         ended, came = line.run(program, shim, folder, number)
         is_right = whole.status == 0 and line.is_right(ended, whole)
         return None if is_right else f"growth {number}: {ended.told()}", came
     return attempt
+
+
+def of_case(name: str, program: Path, shim: Path, folder: Path) -> Attempt:
+    """Runs of a case of cases/ that writes a library."""
+    case = Case(CASES / name)
+    inputs = folder / "inputs"
+    Run(case, inputs).prepare()
+    line = Line(tuple("{out}" if word == OUT else word for word in case.words), place=inputs)
+    wanted = case.wanted()
+    return of_line(line, program, shim, folder, Ended(wanted.status, wanted.out, wanted.err, wanted.library or b""))
 
 
 def of_test(name: str, tests: Path, shim: Path, folder: Path) -> Attempt:
@@ -185,6 +201,7 @@ def sweep(attempt: Attempt, most: int) -> tuple[int, list[str]]:
 def attempts(program: Path, tests: Path | None, shim: Path, folder: Path) -> dict[str, Attempt]:
     """All that is swept, by its name."""
     found = {" ".join(line.words): of_line(line, program, shim, folder) for line in LINES}
+    found[BY_TWO_WORKERS] = of_case(BY_TWO_WORKERS, program, shim, folder)
     if tests:
         told = subprocess.run([str(tests), "--list"], capture_output=True, text=True, check=True).stdout
         found |= {name: of_test(name, tests, shim, folder) for name in REFUSED_CALLS.findall(told)}
