@@ -99,6 +99,22 @@ def edits(count: int) -> Case:
     return side, top(*bars(1000, lambda k: 1000)), "".join(f"{how},{x},{y},{x + w},{y + h}\n" for how, x, y, w, h in corners), "fill"
 
 
+def wires(side: int, upright: bool) -> Case:
+    """Wires on tracks of a square block, all upright or all lying, with ends at any height, over windows that overlap by half."""
+    draw, drawn, count = random.Random(3), list[bytes](), side // 10000 - 1
+    for track in range(60, side, 200):
+        at = draw.randrange(400) * 5
+        while at < side:
+            end = min(side, at + max(100, int(draw.expovariate(1 / 8000))) // 5 * 5)
+            if draw.random() < 0.55:
+                drawn.append(stream.boundary(7, track, at, track + 80, end) if upright else stream.boundary(7, at, track, end, track + 80))
+            at = end + draw.randrange(40, 800) * 5
+    raster = {"box_w": 400, "box_h": 400, "step_x": 800, "step_y": 800, "origin_x": 200, "origin_y": 200, "spacing": 200, "fill_spacing": 400}
+    across = {"frame_x2": side, "win_w": 20000, "win_step_x": 10000, "win_nx": count}
+    up = {"frame_y2": side, "win_h": 20000, "win_step_y": 10000, "win_ny": count}
+    return raster | across | up | {"min": 250000, "max": 900000}, top(*drawn), "", "fill"
+
+
 CASES: dict[str, Callable[[], Case]] = {
     "100 copies of a comb of 2,045 teeth": lambda: comb(100),
     "400 copies of a comb of 2,045 teeth": lambda: comb(400),
@@ -111,6 +127,10 @@ CASES: dict[str, Callable[[], Case]] = {
     "100 by 100 wide windows, 262,144 places, 100,000 shapes": lambda: wide(100, 100000),
     "1,024 by 1,024 wide windows, 262,144 places": lambda: wide(1024, 1),
     "20,000 bars of rising height": lambda: ({}, top(*bars(20000, lambda k: 100 + 10 * k)), "", "fill"),
+    "176,360 upright wires": lambda: wires(800000, True),
+    "176,360 lying wires": lambda: wires(800000, False),
+    "701,208 upright wires": lambda: wires(1600000, True),
+    "701,208 lying wires": lambda: wires(1600000, False),
     "4,000,000 copies below a chain of 254": lambda: chain(254),
     "2^24 tiles of one place": tiles,
     "10,000 late edits over 9,801 windows": lambda: edits(10000),

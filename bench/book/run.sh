@@ -8,10 +8,10 @@
 #   edit, add     adds a small square to the metal, when all tiles were in; how many boxes that takes out in all
 #   edit, cut     cuts one out
 #   all totals    asks for the total of metal and fill in each window, when all tiles were in; what comes out is how many windows have some, three times
-#   measure_region measures all windows of the metal; how many there are
+#   measure_all measures all windows of the metal; how many there are
 #   union         unites the metal with a small square
 # how often it was called, and how long all calls, one on average and the longest took. On one processor, and on all where a
-# call shares out its work (open and measure_region). Each number is the least of three processes; a peak is that of the whole
+# call shares out its work (open and measure_all). Each number is the least of three processes; a peak is that of the whole
 # process, the reading of the layer included. Where two processes differ in what comes out, the run fails.
 #
 # usage: bench/book/run.sh      (needs rt, python3, taskset, GNU time and 2 GB; some ten minutes, and more where the crates were
@@ -20,7 +20,7 @@ set -eu
 . "$(dirname "$0")/../common.sh"
 
 build_over_layer book plans.py \
-    "fill_base fill_spans fill_region fill_size fill_area fill_cells fill_measure fill_sums fill_raster fill_text fill_job fill_core fill_state fill_book"
+    "fill_base fill_spans fill_bands fill_region fill_size fill_area fill_cells fill_measure fill_sums fill_raster fill_text fill_job fill_core fill_state fill_book"
 
 for processors in $(one_and_all); do
     for round in 1 2 3; do
@@ -40,7 +40,7 @@ awk -F';' '
         key = $1 ";" $4
         if (!(key in came)) came[key] = $5 ";" $6
         if (came[key] != $5 ";" $6) { print "differs: " key ": " came[key] " and " $5 ";" $6; exit wrong = 1 }
-        if ($2 > 1 && $4 != "open" && $4 != "measure_region") next
+        if ($2 > 1 && $4 != "open" && $4 != "measure_all") next
         row = key ";" $2
         if (!(row in total)) rows[++count] = row
         least(total, row, $7); least(worst, row, $8); least(peak, $1 ";" $2, $3)

@@ -5,13 +5,10 @@ from dataclasses import dataclass
 # Of any run, and for one of each: no less than was measured (docs/PERFORMANCE.md).
 AT_LEAST = 16 << 20
 BYTES = {"check": {"size": 1.05, "elements": 84, "copies": 32, "windows": 110, "places": 0, "tiles": 0},
-         "fill": {"size": 1.05, "elements": 84, "copies": 110, "windows": 200, "places": 10, "tiles": 170}}
-# A fill cuts each shape at the heights at which shapes beside it begin or end: as many as there are across the chip where blocks stand at any
-# heights, which is by the square root of all copies, and few where they stand in rows.
-BYTES_OF_CUTS = {"check": 0.0, "fill": 0.55}
+         "fill": {"size": 1.05, "elements": 84, "copies": 330, "windows": 200, "places": 10, "tiles": 170}}
 # Seconds of a processor for one of each, about.
 SECONDS = {"check": {"size": 3e-9, "copies": 1.2e-7, "windows": 5e-7},
-           "fill": {"size": 3e-9, "copies": 5e-7, "windows": 1e-6, "places": 8e-8, "tiles": 1.2e-6}}
+           "fill": {"size": 3e-9, "copies": 2e-6, "windows": 1e-6, "places": 8e-8, "tiles": 1.2e-6}}
 WHOLE = ("size", "elements")   # what each part of a chip reads and keeps, whatever part it is
 
 
@@ -28,8 +25,7 @@ class Load:
 
     def memory(self, does: str, share: float = 1.0) -> int:
         """Bytes that a check or a fill takes at most, or a part that looks at this share of the chip."""
-        cuts = BYTES_OF_CUTS[does] * self.copies**1.5 * share
-        return AT_LEAST + int(cuts + sum(each * getattr(self, name) * (1.0 if name in WHOLE else share) for name, each in BYTES[does].items()))
+        return AT_LEAST + int(sum(each * getattr(self, name) * (1.0 if name in WHOLE else share) for name, each in BYTES[does].items()))
 
     def seconds(self, does: str) -> float:
         """Seconds of a processor that a check or a fill takes, about."""

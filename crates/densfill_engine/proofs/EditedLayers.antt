@@ -6,7 +6,7 @@ use Rattle.std.proofs.lemmas.List.{take_more}
 use Rattle.std.proofs.lemmas.List.Folds.{list_any-append}
 use Rattle.fill_base.specs.Squares.{squares}
 use Rattle.fill_base.specs.declared.rect.Rect.{Rect}
-use Rattle.fill_region.specs.Bands.{Band, holds}
+use Rattle.fill_region.specs.Runs.{Sides, holds}
 use Rattle.fill_region.specs.Squares.{covered}
 use Rattle.fill_text.specs.Script.{change_of}
 use Rattle.fill_text.specs.declared.script.Edit.{Edit}
@@ -95,7 +95,7 @@ patched (Some false) false = refl
 
 -- ---- both
 
-pub edited_layers : (edits : List Edit) (metal keep m k : List Band)
+pub edited_layers : (edits : List Edit) (metal keep m k : List Sides)
     → ((x y : ℤ) → holds m x y ≡ ((holds metal x y && not (is_cut (last_change (map change_of edits) x y))) || is_added (last_change (map change_of edits) x y)))
     → ((x y : ℤ) → holds k x y ≡ (holds keep x y || (layers_with edits no_layers).keep x y)) → layers_in m k ≡ layers_with edits (layers_in metal keep)
 edited_layers edits metal keep m k drawn kept = λ i. record {

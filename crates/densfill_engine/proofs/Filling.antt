@@ -1,7 +1,7 @@
 -- A book that is opened, edited and filled gives the texts of a fill, or was given too few turns or too little history.
 use Rattle.std.proofs.Common.{◌≡◌, refl, ap, ap₂, sym, subst, ◌∙◌, ℕ, ◌+◌, ◌*◌, ◌^◌, ◌≤◌, ◌<◌, ◌&&◌, ◌||◌, arith, inl, inr, List, [], length, map, Option}
 use Rattle.std.proofs.lemmas.List.{length-map}
-use Rattle.fill_region.specs.Bands.{Band}
+use Rattle.fill_region.specs.Runs.{Sides}
 use Rattle.fill_text.specs.Rules.{Values}
 use Rattle.fill_text.specs.Script.{change_of}
 use Rattle.fill_text.specs.declared.script.Edit.{Edit}
@@ -28,7 +28,7 @@ use Rattle.densfill_engine.specs.Runs.{IsBack, IsFresh, IsRun, IsTooShort, Leave
 use Rattle.densfill_engine.proofs.TileTurns.{run_brief, run_unedited}
 
 -- what a fill opens its book with
-abbrev pub fill_terms : Values → List Band → List Band → Terms
+abbrev pub fill_terms : Values → List Sides → List Sides → Terms
 fill_terms values metal keep = record { rules = values; opening = metal; keep = keep; most = 2 ^ 32 }
 
 -- a book with no history yet

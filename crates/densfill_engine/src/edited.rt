@@ -1,6 +1,6 @@
 //! A design after the edits of a script, made all at once.
 ghost use Rattle.std.specs.Prelude.{◌≡◌, ◌||◌, ◌&&◌, not, ℤ, map, IfErr, IfOk};
-ghost use Rattle.fill_region.specs.Bands.{holds};
+ghost use Rattle.fill_region.specs.Runs.{holds};
 ghost use Rattle.fill_region.specs.Squares.{covered};
 ghost use Rattle.fill_text.specs.Script.{change_of};
 ghost use Rattle.fill_job.specs.Basis.{layers_in};

@@ -3,7 +3,7 @@ ghost use Rattle.std.specs.Prelude.{◌≡◌, ◌↔◌, ◌≤◌, ◌^◌, tr
 ghost use Rattle.std.specs.List.{flat_map};
 ghost use Rattle.std.specs.Vec.{vec_items};
 ghost use Rattle.densfill_io.specs.Taps.{has_failed, under};
-ghost use Rattle.fill_region.specs.Bands.{holds};
+ghost use Rattle.fill_region.specs.Runs.{holds};
 ghost use Rattle.fill_region.specs.Squares.{covered};
 ghost use Rattle.fill_text.specs.Script.{change_of};
 ghost use Rattle.fill_text.specs.ValuesOfRules.{values_of};
@@ -16,8 +16,7 @@ ghost use Rattle.densfill_engine.specs.Inputs.{rules_answer, script_answer, IsFa
 use crate::refusal::{DesignError, InputFault};
 use densfill_io::{InputError, Tap, read_input};
 use fill_base::{Layer, Rect};
-use fill_region::Region;
-use fill_strips::region_of_rects;
+use fill_region::{Region, region_of_rects};
 use fill_text::{Edit, RuleError, Rules, ScriptError, read_rules, read_script};
 use gds_flatten::laws::layers_suffice;
 use gds_flatten::{FlattenError, flatten_parts};

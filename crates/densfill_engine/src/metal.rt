@@ -2,7 +2,7 @@
 ghost use Rattle.std.specs.Prelude.{◌≡◌, [], ◌∷◌, ◌||◌, ◌&&◌, not, ℤ, map, IfOk, IfSome};
 ghost use Rattle.std.specs.List.{flat_map};
 ghost use Rattle.std.specs.Vec.{vec_items};
-ghost use Rattle.fill_region.specs.Bands.{holds};
+ghost use Rattle.fill_region.specs.Runs.{holds};
 ghost use Rattle.fill_text.specs.Script.{change_of};
 ghost use Rattle.densfill_engine.specs.Metal.{AreAdded, is_added, is_cut, is_metal, last_change};
 ghost use Rattle.fill_region.specs.Squares.{covered};
@@ -11,7 +11,6 @@ use fill_base::Rect;
 use fill_region::Region;
 use fill_report::OutOfMemory;
 use fill_text::Edit;
-use gds_cells::join;
 use std::alloc::{AllocError, Global};
 
 /// What a run of edits leaves of the squares that it touches: metal, or none.
@@ -123,23 +122,14 @@ pub fn metal_left(alloc: Global, edits: &[Edit]) -> Result<Region, AllocError>
     }
 }
 
-/// Rectangles that make up the region: its pieces, of which those that stand on one another are one.
-fn pieces_joined(alloc: Global, region: &Region) -> Result<Vec<Rect>, AllocError>
-    ensures { IfOk result (λ v. (x y : ℤ) → covered v.items x y ≡ holds region.now x y) }
-{
-    let mut rects = region.pieces(alloc)?;
-    join(alloc, &mut rects)?;
-    Ok(rects)
-}
-
-/// Rectangles of the metal that the edits leave of nothing: those that they add, where they cut nothing, and else the pieces
-/// of what is left, joined.
+/// Rectangles of the metal that the edits leave of nothing: those that they add, where they cut nothing, and else the runs
+/// of what is left.
 fn rects_left(alloc: Global, edits: &[Edit]) -> Result<Vec<Rect>, AllocError>
     ensures { IfOk result (λ v. covered v.items ≡ is_metal (map change_of edits.now)) }
 {
     match rects_added(alloc, edits)? {
         Some(rects) => Ok(rects),
-        None => pieces_joined(alloc, &metal_left(alloc, edits)?),
+        None => metal_left(alloc, edits)?.pieces(alloc),
     }
 }
 

@@ -144,7 +144,3 @@ size_area (pos w) (pos h) iw ih =
     area m most = record { least = omega (arith, ints, clamps); most = omega (arith, ints, clamps) }
 size_area (pos w) (negsuc h) iw ih = absurd (let least : pos 1 ≤ℤ negsuc h = ih.least in omega (arith, ints, clamps))
 size_area (negsuc w) h iw ih = absurd (let least : pos 1 ≤ℤ negsuc w = iw.least in omega (arith, ints, clamps))
-
--- each column ends within the coordinates, as the code reads its numbers
-pub columns_end : (first length step : ℤ) (count a : ℕ) → IsAxis (axis_of first length step count) → a < count → ((read first +ℤ (pos a *ℤ read step)) +ℤ read length) ≤ℤ highest
-columns_end first length step count a axis lt = rw (read_is first (coordinate_fits first axis.first_is.least axis.first_is.most), read_is step (length_fits step axis.step_is), read_is length (length_fits length axis.length_is)) ((extent first length step count a axis lt).high)

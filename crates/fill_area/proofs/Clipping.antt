@@ -1,35 +1,28 @@
 -- What counts of windows is what they have within the clip.
-use Rattle.std.proofs.Common.{◌≡◌, refl, ap, sym, ◌∙◌, ℕ, ◌+◌, ◌*◌, ◌/◌, ◌%◌, ◌<◌, ◌≤◌, ℤ, pos, ◌+ℤ◌, ◌-ℤ◌, ◌*ℤ◌, ◌≤ℤ◌, ◌<ℤ◌, arith, inl, inr, ◌⊎◌, Bool, true, false, cond, ◌&&◌, List, length, get_or}
+use Rattle.std.proofs.Common.{◌≡◌, refl, ap, sym, ◌∙◌, ℕ, ◌+◌, ◌*◌, ◌<◌, ◌≤◌, ℤ, pos, ◌+ℤ◌, ◌-ℤ◌, ◌*ℤ◌, ◌≤ℤ◌, ◌<ℤ◌, arith, inl, inr, ◌⊎◌, Bool, true, false, cond, ◌&&◌, length}
 use Rattle.std.specs.Prelude.{int_lt}
 use Rattle.std.specs.Int.{int_max, int_min}
-use Rattle.std.specs.List.{All}
 use Rattle.std.proofs.lemmas.Int.{ints, clamps}
 use Rattle.fill_base.specs.Coordinates.{lowest, highest}
 use Rattle.fill_base.specs.Counts.{sum_from, span_len, is_between, sum_between, count_between}
 use Rattle.fill_base.specs.Squares.{area_between}
 use Rattle.fill_base.proofs.Between.{is_between_true, is_between_below, is_between_above}
 use Rattle.fill_base.proofs.Counting.{sum_between_same, sum_between_const, sum_between_split}
-use Rattle.fill_area.specs.Axes.{IsAxis, IsExtent, axis_begin, axis_end}
-use Rattle.fill_area.specs.Density.{AreMeasured, IsArea, window_area}
+use Rattle.fill_area.specs.Axes.{IsExtent, axis_begin, axis_end}
+use Rattle.fill_area.specs.Density.{IsArea, window_area}
 use Rattle.std.proofs.Common.{w64, FitsSigned, negsuc, ◌^◌}
 use Rattle.std.proofs.Math.Nat.{mul-le-mul}
 use Rattle.fill_base.specs.Limits.{IsLength}
-use Rattle.fill_area.specs.Grid.{Grid, IsGrid, all_coordinates, counted_size, whole, parts_across, parts_up, window_left, window_right, window_bottom, window_top}
-use Rattle.fill_area.specs.Parts.{AreParts, IsPart, kept_within, part_begin, part_end}
+use Rattle.fill_area.specs.Grid.{Grid, IsGrid, all_coordinates, counted_size, parts_across, parts_up, window_left, window_right, window_bottom, window_top}
+use Rattle.fill_area.specs.Parts.{AreParts, IsPart, kept_within}
 use Rattle.fill_area.specs.declared.parts.Parts.{Parts}
 use Rattle.fill_base.proofs.Signed.{read, read_is, coordinate_fits}
-use Rattle.std.proofs.Math.Path.{fun_ext}
-use Rattle.std.proofs.Math.Nat.{mul_comm}
-use Rattle.std.proofs.lemmas.Nat.{div_below, mod_below}
-use Rattle.fill_area.specs.Sharing.{in_clip, part_squares}
-use Rattle.fill_area.specs.steps.Whole.{AreWhole, whole_area}
-use Rattle.fill_area.specs.declared.axis.Axis.{Axis}
+use Rattle.fill_area.specs.Sharing.{part_squares}
 use Rattle.fill_area.proofs.Axes as axes
-use Rattle.fill_area.proofs.Measuring.{area_at, bounded, measured}
 
 -- ---- one range cut by another
 
-kept_ordered : (low high b e : ℤ) → low <ℤ high → b ≤ℤ e → kept_within low high b ≤ℤ kept_within low high e
+pub kept_ordered : (low high b e : ℤ) → low <ℤ high → b ≤ℤ e → kept_within low high b ≤ℤ kept_within low high e
 kept_ordered low high b e some le = omega (arith, ints, clamps)
 
 le_self : (z : ℤ) → z ≤ℤ z
@@ -156,17 +149,12 @@ area_kept p left bottom right top l b r t across up wide tall =
     (λ y from to. line_kept p left right l r y (is_between b t y) across wide)
     ∙ sum_kept (λ y. count_between (λ x. p x y) (kept_within l r left) (kept_within l r right)) b t bottom top up tall
 
-longer : (z length : ℤ) → pos 1 ≤ℤ length → z ≤ℤ (z +ℤ length)
-longer z length one = omega (arith, ints, clamps)
-
--- what a window has of the squares within the clip is what counts of it
-pub counted_whole : (p : ℤ → ℤ → Bool) (g : Grid) (a b : ℕ) → IsGrid g → whole_area (λ x y. p x y && in_clip g x y) g a b ≡ window_area p g a b
-counted_whole p g a b is =
-    area_kept p (window_left g a) (window_bottom g b) (window_right g a) (window_top g b) g.clip.left g.clip.bottom g.clip.right g.clip.top is.clip.across is.clip.up
-    (longer (window_left g a) g.across.length is.across.length_is.least) (longer (window_bottom g b) g.up.length is.up.length_is.least)
-
 kept_all : (z : ℤ) → lowest ≤ℤ z → z ≤ℤ highest → kept_within lowest highest z ≡ z
 kept_all z low high = omega (arith, ints, clamps)
+
+-- how many squares of the whole window in column `a` and row `b` are in the set
+abbrev pub whole_area : (ℤ → ℤ → Bool) → Grid → ℕ → ℕ → ℕ
+whole_area p g a b = area_between p (window_left g a) (window_bottom g b) (window_right g a) (window_top g b)
 
 -- where nothing is cut off, windows count whole
 pub counted_all : (p : ℤ → ℤ → Bool) (g : Grid) (a b : ℕ) → IsGrid g → g.clip ≡ all_coordinates → a < g.across.count → b < g.up.count → whole_area p g a b ≡ window_area p g a b
@@ -180,26 +168,6 @@ counted_all p g a b is all column row =
 
     le_le : (a b c : ℤ) → a ≤ℤ b → b ≤ℤ c → a ≤ℤ c
     le_le a b c h k = omega (arith, ints, clamps)
-
--- the list of what whole windows have of the squares within the clip, or of all squares where nothing is cut off
-pub clipped_measured : (p q : ℤ → ℤ → Bool) (g : Grid) (totals : List ℤ) → ((x y : ℤ) → q x y ≡ p x y && in_clip g x y) → AreWhole q g totals → AreMeasured p g totals × All IsArea totals
-clipped_measured p q g totals is w = (measured p g totals w.grid w.count each, bounded p g totals w.grid w.count each)
-  where
-    each : (k : ℕ) (d : ℤ) → k < g.across.count * g.up.count → get_or totals k d ≡ area_at p g k
-    each k d lt =
-        let a = k % g.across.count in let b = k / g.across.count in
-        w.each k d lt ∙ (ap (λ (s : ℤ → ℤ → Bool). pos (whole_area s g a b)) (fun_ext (λ x. fun_ext (λ y. is x y))) ∙ ap pos (counted_whole p g a b w.grid))
-
-pub whole_measured : (p : ℤ → ℤ → Bool) (g : Grid) (totals : List ℤ) → g.clip ≡ all_coordinates → AreWhole p g totals → AreMeasured p g totals × All IsArea totals
-whole_measured p g totals all w = (measured p g totals w.grid w.count each, bounded p g totals w.grid w.count each)
-  where
-    turned : (k : ℕ) → k < g.across.count * g.up.count → k < g.up.count * g.across.count
-    turned k lt = let e : g.across.count * g.up.count ≡ g.up.count * g.across.count = mul_comm g.across.count g.up.count in omega (arith, e, lt)
-
-    each : (k : ℕ) (d : ℤ) → k < g.across.count * g.up.count → get_or totals k d ≡ area_at p g k
-    each k d lt =
-        let some : 0 < g.across.count = let one : 1 ≤ g.across.count = w.grid.across.count_is.least in omega (arith, one) in
-        w.each k d lt ∙ ap pos (counted_all p g (k % g.across.count) (k / g.across.count) w.grid all (mod_below k g.across.count some) (div_below k g.across.count g.up.count some (turned k lt)))
 
 -- ---- as the code finds the ends
 
@@ -321,27 +289,3 @@ not_less x y fx fy h = not_lt y x (rw (read_is x fx, read_is y fy) at h)
   where
     not_lt : (y x : ℤ) → int_lt x y ≡ false → y ≤ℤ x
     not_lt y x h = grind (arith, ints)
-
--- ---- windows that count whole
-
-pub part_whole : (axis : Axis) (a : ℕ) → IsAxis axis → a < axis.count → let p : Parts = record { axis = axis; low = lowest; high = highest } in (part_begin p a ≡ axis_begin axis a) × (part_end p a ≡ axis_end axis a)
-part_whole axis a is lt =
-    let e : IsExtent axis a (axis_begin axis a) (axis_end axis a) = axes.extent axis.first axis.length axis.step axis.count a is lt in
-    (kept_all _ e.low (le_le _ _ _ (lt_le _ _ e.some) e.high), kept_all _ (le_le _ _ _ e.low (lt_le _ _ e.some)) e.high)
-  where
-    lt_le : (a b : ℤ) → a <ℤ b → a ≤ℤ b
-    lt_le a b h = omega (arith, ints, clamps)
-
-    le_le : (a b c : ℤ) → a ≤ℤ b → b ≤ℤ c → a ≤ℤ c
-    le_le a b c h k = omega (arith, ints, clamps)
-
--- what whole windows have of the squares within a clip is what the clipped ones count
-pub cut_measured : (p q : ℤ → ℤ → Bool) (g : Grid) (totals : List ℤ) → IsGrid g → ((x y : ℤ) → q x y ≡ p x y && in_clip g x y) → AreMeasured q (whole g) totals → AreMeasured p g totals
-cut_measured p q g totals is same measured = record {
-  grid = is;
-  count = measured.count;
-  each = λ a b column row.
-      measured.each a b column row
-      ∙ (ap pos (sym (counted_all q (whole g) a b measured.grid refl column row))
-      ∙ (ap (λ (s : ℤ → ℤ → Bool). pos (whole_area s g a b)) (fun_ext (λ x. fun_ext (λ y. same x y))) ∙ ap pos (counted_whole p g a b is)));
-}

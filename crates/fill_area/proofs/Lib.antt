@@ -2,12 +2,8 @@ pub mod Axes
 pub mod Begun
 pub mod Sharing
 pub mod GridTests
-pub mod Walking
-pub mod Rows
-pub mod Summing
-pub mod Gathering
-pub mod RowByRow
+pub mod SharedAreas
 pub mod Shares
 pub mod Measuring
-pub mod Cutting
 pub mod Clipping
+pub mod RowByRow

@@ -11,10 +11,7 @@ use Rattle.fill_area.specs.Grid.{Grid, IsGrid, parts_across, parts_up, window_le
 use Rattle.fill_area.specs.Parts.{kept_within, part_begin, part_end}
 use Rattle.fill_base.specs.Limits.{IsLength}
 use Rattle.fill_area.specs.Density.{AreMeasured, IsArea, window_area}
-
--- the area of the window at place `k` of the list
-abbrev pub area_at : (ℤ → ℤ → Bool) → Grid → ℕ → ℤ
-area_at p g k = pos (window_area p g (k % g.across.count) (k / g.across.count))
+pub use Rattle.fill_area.specs.steps.Measured.{area_at}
 
 -- the list says the area of each window
 pub measured : (p : ℤ → ℤ → Bool) (g : Grid) (totals : List ℤ) → IsGrid g → length totals ≡ g.across.count * g.up.count → ((k : ℕ) (d : ℤ) → k < g.across.count * g.up.count → get_or totals k d ≡ area_at p g k) → AreMeasured p g totals

@@ -57,9 +57,6 @@ pub record IsGrid (g : Grid) : Type 0 where
 
 -- ---- what counts of a window
 
-abbrev pub whole : Grid → Grid
-whole g = record g { clip = all_coordinates }
-
 abbrev pub clipped_to : Grid → Sides → Grid
 clipped_to g s = record g { clip = record { left = s.left; bottom = s.bottom; right = s.right; top = s.top } }
 

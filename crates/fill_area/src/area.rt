@@ -1,22 +1,31 @@
 //! The area of a region in one window, and when a share is too little or too much.
 ghost use Rattle.std.specs.Prelude.{◌≡◌, ◌↔◌, pos, ◌*ℤ◌, IsTrue};
-ghost use Rattle.fill_base.specs.Squares.{area_of};
-ghost use Rattle.fill_region.specs.Bands.{holds};
+ghost use Rattle.fill_base.specs.Squares.{area_of, squares};
+ghost use Rattle.fill_region.specs.Runs.{holds};
 ghost use Rattle.fill_area.specs.Density.{IsBelow, IsAbove, IsArea, IsShare};
 
 use fill_base::Rect;
 use fill_region::Region;
 
-/// How many squares of the window are in the region: a search for its lowest row there, and a walk
-/// over the rows up to the window's upper edge.
+/// How many squares of the window are in the region: the sum of what each of its runs shares with the window.
 pub fn area_in(region: &Region, window: &Rect) -> i64
     ensures { result ≡ pos (area_of (holds region.now) window.now) }
 {
     let mut total = 0;
-    'rows: for row in region.rows(window.y1(), window.y2()) {
-        total += (row.top - row.bottom) * row.spans.length_in(window.x1(), window.x2());
+    for run in region.runs() {
+        total += shared_area(run, window);
     }
     total
+}
+
+/// How many unit squares two rectangles share.
+pub fn shared_area(rect: &Rect, part: &Rect) -> i64
+    ensures { result ≡ pos (area_of (squares rect.now) part.now) }
+{
+    match rect.clip(part) {
+        Some(piece) => piece.area(),
+        None => 0,
+    }
 }
 
 /// Whether a total is less than `min` parts in a million of a window's area.

@@ -6,11 +6,10 @@ mod area;
 mod axis;
 mod measure;
 mod parts;
-mod strips;
 mod windows;
 
-pub use area::{area_in, is_high, is_low};
+pub use area::{area_in, is_high, is_low, shared_area};
 pub use axis::Axis;
-pub use measure::{areas_in, measure_all};
+pub use measure::areas_in;
 pub use parts::Parts;
 pub use windows::{BadWindows, Windows};

@@ -1,19 +1,16 @@
 //! The density windows of a layer.
-ghost use Rattle.std.specs.Prelude.{◌≡◌, ◌↔◌, ℕ, ℤ, Bool, None, IfSome, ◌<◌, ◌*◌, ◌/◌, ◌%◌, ◌≤◌, pos, ◌*ℤ◌, ◌≤ℤ◌, IsTrue, IsOk, IfOk, length};
+ghost use Rattle.std.specs.Prelude.{◌≡◌, ◌↔◌, ℕ, ℤ, Bool, None, IfSome, ◌<◌, ◌*◌, ◌/◌, ◌%◌, ◌≤◌, pos, ◌*ℤ◌, IsTrue, IsOk, IfOk};
 ghost use Rattle.fill_base.specs.Squares.{squares};
-ghost use Rattle.fill_spans.specs.EvenColumns.{AreSums};
 ghost use Rattle.fill_area.specs.Axes.{IsAxis, IsIndex, IsTouching, IsContaining, IsRangeOf};
 ghost use Rattle.fill_base.specs.Sides.{sides_of};
-ghost use Rattle.fill_area.specs.Grid.{Grid, IsGrid, all_coordinates, clipped_to, counted_size, grid_of, parts_across, parts_up, whole, window_left, window_right, window_bottom, window_top};
+ghost use Rattle.fill_area.specs.Grid.{Grid, IsGrid, all_coordinates, clipped_to, counted_size, grid_of, parts_across, parts_up, window_left, window_right, window_bottom, window_top};
 ghost use Rattle.fill_area.specs.Parts.{AreParts};
 ghost use Rattle.fill_area.specs.Sharing.{IsWindow, ShareASquare, Holds, in_clip, option_squares, part_squares, window_squares};
 ghost use Rattle.fill_area.specs.Density.{IsArea, option_area, window_area};
-ghost use Rattle.fill_area.specs.steps.Lines.{RowAdded};
 
 use crate::axis::Axis;
 use crate::parts::{Clip, Parts};
 use fill_base::{HIGHEST, LOWEST, Point, Rect};
-use fill_spans::Spans;
 use std::marker::Model;
 use std::ops::Range;
 use thiserror::Error;
@@ -198,16 +195,6 @@ impl Windows {
         (x2 - x1) * (y2 - y1)
     }
 
-    /// The same windows, of which all counts.
-    pub fn whole(&self) -> Windows
-        ensures { result ≡ whole self.now }
-    {
-        Windows {
-            clip: ALL_COORDINATES,
-            ..*self
-        }
-    }
-
     /// The rectangle within which windows count, unless they count whole.
     pub fn clip(&self) -> Option<Rect>
         ensures some { IfSome result (λ r. (x y : ℤ) → squares r x y ≡ in_clip self.now x y) }
@@ -246,18 +233,6 @@ impl Windows {
         self.across.count as usize * self.up.count as usize
     }
 
-    /// The window at index `k` of the list of all windows, row by row.
-    pub fn nth(&self, k: usize) -> Rect
-        requires { k < self.now.across.count * self.now.up.count }
-        ensures left { result.x1 ≡ window_left self.now (k % self.now.across.count) }
-        ensures bottom { result.y1 ≡ window_bottom self.now (k / self.now.across.count) }
-        ensures right { result.x2 ≡ window_right self.now (k % self.now.across.count) }
-        ensures top { result.y2 ≡ window_top self.now (k / self.now.across.count) }
-    {
-        let (a, b) = self.column_and_row(k);
-        self.rect(a, b)
-    }
-
     /// The column and the row of the window at index `k` of the list.
     pub fn column_and_row(&self, k: usize) -> (u32, u32)
         requires { k < self.now.across.count * self.now.up.count }
@@ -268,18 +243,6 @@ impl Windows {
     {
         let columns = self.across.count as usize;
         ((k % columns) as u32, (k / columns) as u32)
-    }
-
-    /// Adds to the number of each column `height` times the members of the row within its windows.
-    pub(crate) fn add_lengths(&self, row: &Spans, height: i64, sums: &mut [i64])
-        requires columns { length sums.old ≡ self.now.across.count }
-        requires least { pos 0 ≤ℤ height }
-        requires most { height ≤ℤ pos 1048576 }
-        requires sums { AreSums sums.old }
-        ensures { RowAdded row.now height self.now.across sums.old sums.new }
-    {
-        let across = self.across;
-        row.add_lengths(across.first, across.step, across.length, height, sums);
     }
 }
 

@@ -2,7 +2,8 @@
 use Rattle.std.proofs.Common.{◌≡◌, refl, ap, sym, subst, ◌∙◌, ℕ, ◌+◌, ◌≤◌, ◌<◌, ◌^◌, ℤ, pos, arith, inl, inr, List, [], length, Bool, true, false, ◌||◌, ◌↔◌, cond, Option, None, Some, IfSome}
 use Rattle.std.specs.Prelude.{IsTrue, ◌==◌}
 use Rattle.std.proofs.lemmas.Bool.{and_parts, cases_Bool}
-use Rattle.fill_region.specs.Bands.{Band, holds}
+use Rattle.fill_state.specs.Layers.{Layered, in_layer}
+use Rattle.fill_region.specs.Runs.{Sides, holds}
 use Rattle.fill_area.specs.Density.{window_area}
 use Rattle.fill_raster.specs.Lattice.{Lattice, in_tile}
 use Rattle.fill_raster.specs.Marks.{Marked, is_marked}
@@ -22,7 +23,7 @@ use Rattle.fill_core.specs.declared.event.Reply.{Reply}
 use Rattle.fill_core.specs.declared.event.Reply.TheVariants.{Placed, Withdrawn}
 use Rattle.fill_core.proofs.Written.{keeping_of}
 use Rattle.fill_state.specs.Filling.{KeepsClear, is_filled, left_by, metal_or_box}
-use Rattle.fill_book.specs.Keeping.{Fits, Keeps, state_by}
+use Rattle.fill_book.specs.Keeping.{Fits, Keeps, state_by, stored_layers}
 use Rattle.fill_state.specs.Pieces.{ArePieces}
 use Rattle.fill_book.specs.Standing.{squares_in}
 use Rattle.fill_book.specs.declared.stored.Change.{Change}
@@ -40,24 +41,24 @@ at_view {a} {b} {t} {s} keeps same = subst (λ (k : Account). Keeps k t s) same 
 pub keeping : {a : Account} {t : Totals} {s : Stored} → Keeps a t s → IsKeeping a
 keeping {a} {t} {s} keeps = keeping_of a keeps.plan keeps.legal keeps.room keeps.most
 
-pub clear_stored : {a : Account} {t : Totals} {s : Stored} → Keeps a t s → KeepsClear s.filled.raster (is_filled s.filled) (holds s.metal)
+pub clear_stored : {a : Account} {t : Totals} {s : Stored} → Keeps a t s → KeepsClear s.filled.raster (is_filled s.filled) (in_layer s.metal)
 clear_stored {a} {t} {s} keeps =
-    clear_same (plan_of a.rules).raster s.filled.raster (is_filled s.filled) (is_filled s.filled) (holds s.metal) (holds s.metal)
+    clear_same (plan_of a.rules).raster s.filled.raster (is_filled s.filled) (is_filled s.filled) (in_layer s.metal) (in_layer s.metal)
     keeps.fits.raster (λ i j. refl) (λ x y. refl) (clear_now a s (state_of a).base keeps.plan keeps.state)
 
 -- the areas of what is stored
 pub total_is : {a : Account} {t : Totals} {s : Stored} → Keeps a t s → (m n : ℕ) → window_area (squares_in s) (plan_of a.rules).windows m n ≡ total_in (plan_of a.rules) (state_of a).layers.metal (state_of a).fill m n
 total_is {a} {t} {s} keeps m n =
     let plan = plan_of a.rules in
-    let metal : (state_of a).layers.metal ≡ holds s.metal = ap (λ (q : State). q.layers.metal) keeps.state in
+    let metal : (state_of a).layers.metal ≡ in_layer s.metal = ap (λ (q : State). q.layers.metal) keeps.state in
     let fill : (state_of a).fill ≡ is_filled s.filled = ap (λ (q : State). q.fill) keeps.state in
-    ap (λ r. window_area (metal_or_box r (is_filled s.filled) (holds s.metal)) plan.windows m n) keeps.fits.raster
-    ∙ (ap (λ (f : PointSet). total_in plan (holds s.metal) f m n) (sym fill) ∙ ap (λ (f : PointSet). total_in plan f (state_of a).fill m n) (sym metal))
+    ap (λ r. window_area (metal_or_box r (is_filled s.filled) (in_layer s.metal)) plan.windows m n) keeps.fits.raster
+    ∙ (ap (λ (f : PointSet). total_in plan (in_layer s.metal) f m n) (sym fill) ∙ ap (λ (f : PointSet). total_in plan f (state_of a).fill m n) (sym metal))
 
-pub drawn_is : {a : Account} {t : Totals} {s : Stored} → Keeps a t s → (m n : ℕ) → window_area (holds s.metal) (plan_of a.rules).windows m n ≡ window_area (state_of a).layers.metal (plan_of a.rules).windows m n
+pub drawn_is : {a : Account} {t : Totals} {s : Stored} → Keeps a t s → (m n : ℕ) → window_area (in_layer s.metal) (plan_of a.rules).windows m n ≡ window_area (state_of a).layers.metal (plan_of a.rules).windows m n
 drawn_is {a} {t} {s} keeps m n = ap (λ (f : PointSet). window_area f (plan_of a.rules).windows m n) (sym (ap (λ (q : State). q.layers.metal) keeps.state))
 
-pub clear_by_edit : {a : Account} {t : Totals} {s : Stored} → Keeps a t s → (edit : Edit) → KeepsClear (plan_of a.rules).raster (fill_after (plan_of a.rules) edit (is_filled s.filled)) (metal_after edit (holds s.metal))
+pub clear_by_edit : {a : Account} {t : Totals} {s : Stored} → Keeps a t s → (edit : Edit) → KeepsClear (plan_of a.rules).raster (fill_after (plan_of a.rules) edit (is_filled s.filled)) (metal_after edit (in_layer s.metal))
 clear_by_edit {a} {t} {s} keeps edit = clear_after a s (state_of a).base edit keeps.plan keeps.state
 
 -- ---- the ledgers have room
@@ -90,9 +91,9 @@ stored_next plan e s q b n same next =
     subst (λ (r : State). step plan r e ≡ state_by (step plan r e).base n) (sym same) at_q
 
 -- the pieces that are stored are those that were found, of the metal that is stored
-pieces_kept : (r : Lattice) (d : ℤ) (p : PointSet) (bands : List Band) (pieces : List (List Band)) (m : List Band) (v : List (List Band)) → bands ≡ m → pieces ≡ v → ((x y : ℤ) → holds m x y ≡ p x y) → ArePieces r d p v → ArePieces r d (holds bands) pieces
-pieces_kept r d p bands pieces m v metal same is are =
-    subst (λ (b : List Band). ArePieces r d (holds b) pieces) (sym metal) (subst (λ (l : List (List Band)). ArePieces r d (holds m) l) (sym same) (subst (λ (q : PointSet). ArePieces r d q v) (sym (same_set (holds m) p is)) are))
+pieces_kept : (r : Lattice) (d : ℤ) (p : PointSet) (layer : Layered) (pieces : List (List Sides)) (m : Layered) (v : List (List Sides)) → layer ≡ m → pieces ≡ v → ((x y : ℤ) → in_layer m x y ≡ p x y) → ArePieces r d p v → ArePieces r d (in_layer layer) pieces
+pieces_kept r d p layer pieces m v metal same is are =
+    subst (λ (b : Layered). ArePieces r d (in_layer b) pieces) (sym metal) (subst (λ (l : List (List Sides)). ArePieces r d (in_layer m) l) (sym same) (subst (λ (q : PointSet). ArePieces r d q v) (sym (same_set (in_layer m) p is)) are))
 
 pub edit_answer : {a : Account} {t : Totals} {s : Stored} → Keeps a t s → (n : Stored) (edit : Edit) (c : Change) (withdrawn : ℕ) → IsOf (plan_of a.rules) s edit c → IsChanged s n c withdrawn
     → Withdrawn withdrawn ≡ reply_of (plan_of a.rules) (state_of a) (event.Edit edit)
@@ -108,8 +109,8 @@ keeps_edit {a} {t} {s} keeps u n edit c withdrawn room of is noted =
       state = stored_next plan (event.Edit edit) (state_of a) (state_by base s) (fill_after plan edit (is_filled s.filled)) n keeps.state (edited plan base s n edit c withdrawn of is);
       raster = is.raster;
       bits = is.bits;
-      pieces = pieces_kept plan.raster plan.spacing (metal_after edit (holds s.metal)) n.metal n.pieces.items c.metal c.pieces.items is.metal (ap (λ v. v.items) is.pieces) of.metal of.pieces;
-      keep_pieces = pieces_kept plan.raster (pos 0) (keep_after edit (holds s.keep)) n.keep n.keep_pieces.items c.keep c.keep_pieces.items is.keep (ap (λ v. v.items) is.keep_pieces) of.keep of.keep_pieces;
+      pieces = pieces_kept plan.raster plan.spacing (metal_after edit (in_layer s.metal)) n.metal n.pieces.items c.metal c.pieces.items is.metal (ap (λ v. v.items) is.pieces) of.metal of.pieces;
+      keep_pieces = pieces_kept plan.raster (pos 0) (keep_after edit (in_layer s.keep)) n.keep n.keep_pieces.items c.keep c.keep_pieces.items is.keep (ap (λ v. v.items) is.keep_pieces) of.keep of.keep_pieces;
       version = one_more n.version s.version is.version;
       answer = edit_answer keeps n edit c withdrawn of is;
       totals = noted;
@@ -128,7 +129,7 @@ pub marks_in_tile : (rules : Values) (s : Stored) (version tile : ℕ) (read : R
     → same ≡ true → (i j : ℤ) → is_marked m i j ≡ true → in_tile s.filled.raster tile i j ≡ true
 marks_in_tile rules s version tile read same m fits is all i j h =
     let t = is.is_same.0 all in
-    let wanted : wanted_of (read_set rules (layers_in s.metal s.keep) (windows_in s.low) tile) tile i j ≡ true = ap (λ (r : ReadSet). wanted_of r tile i j) (sym t.2) ∙ (sym (is.marked i j) ∙ h) in
+    let wanted : wanted_of (read_set rules (stored_layers s) (windows_in s.low) tile) tile i j ≡ true = ap (λ (r : ReadSet). wanted_of r tile i j) (sym t.2) ∙ (sym (is.marked i j) ∙ h) in
     rw fits.raster (and_parts (in_tile (plan_of rules).raster tile i j) _ wanted).0
 
 pub commit_answer : {a : Account} {t : Totals} {s : Stored} → Keeps a t s → (n : Stored) (version tile : ℕ) (read : ReadSet) (same : Bool) (m : Marked) (placed : ℕ) (refusal : Reply) → IsBrought a.rules s version tile read same m → IsTakenIn s n same tile m placed
@@ -147,8 +148,8 @@ keeps_commit {a} {t} {s} keeps u n version tile read same m placed reply room is
       state = stored_next plan (event.Commit version tile same) (state_of a) (state_by base s) base n keeps.state (committed a.rules base s n version tile read same m placed keeps.plan is.is_same is.marked taken);
       raster = taken.raster;
       bits = taken.bits;
-      pieces = pieces_kept plan.raster plan.spacing (holds s.metal) n.metal n.pieces.items s.metal s.pieces.items taken.metal (ap (λ v. v.items) taken.pieces) (λ x y. refl) keeps.fits.pieces;
-      keep_pieces = pieces_kept plan.raster (pos 0) (holds s.keep) n.keep n.keep_pieces.items s.keep s.keep_pieces.items taken.keep (ap (λ v. v.items) taken.keep_pieces) (λ x y. refl) keeps.fits.keep_pieces;
+      pieces = pieces_kept plan.raster plan.spacing (in_layer s.metal) n.metal n.pieces.items s.metal s.pieces.items taken.metal (ap (λ v. v.items) taken.pieces) (λ x y. refl) keeps.fits.pieces;
+      keep_pieces = pieces_kept plan.raster (pos 0) (in_layer s.keep) n.keep n.keep_pieces.items s.keep s.keep_pieces.items taken.keep (ap (λ v. v.items) taken.keep_pieces) (λ x y. refl) keeps.fits.keep_pieces;
       version = same_version n.version s.version taken.version;
       answer = answer;
       totals = noted;
@@ -203,7 +204,7 @@ same_now {a} {b} {t} {s} keeps at version tile read same is =
     subst (λ (k : Account). IsSame k.rules (state_of k) version tile read same) at (subst (λ (q : State). IsSame a.rules q version tile read same) (sym keeps.state) is)
 
 -- the book opens
-pub keeps_opening : (rules : Values) (opening_bands keep : List Band) (most : ℕ) (t : Totals) (s : Stored) → IsPlan (plan_of rules) → Fits (plan_of rules) s → state_by no_places s ≡ opening (plan_of rules) (layers_in opening_bands keep) → most ≤ 2 ^ 32
+pub keeps_opening : (rules : Values) (opening_bands keep : List Sides) (most : ℕ) (t : Totals) (s : Stored) → IsPlan (plan_of rules) → Fits (plan_of rules) s → state_by no_places s ≡ opening (plan_of rules) (layers_in opening_bands keep) → most ≤ 2 ^ 32
     → t ≡ record { calls = 0; placed = 0; withdrawn = 0 } → Keeps (record { rules = rules; opening = opening_bands; keep = keep; history = []; most = most }) t s
 unfolding replay_from replies_from
 keeps_opening rules opening_bands keep most t s plan fits state bound none =
@@ -230,28 +231,28 @@ if_some (Some x) h = h x refl
 
 -- what was brought keeps clear of the metal
 pub clear_by_commit : {a : Account} {t : Totals} {s : Stored} → Keeps a t s → (version tile : ℕ) (read : ReadSet) (same : Bool) (m : Marked) → IsBrought a.rules s version tile read same m → same ≡ true
-    → KeepsClear s.filled.raster (λ i j. is_filled s.filled i j || is_marked m i j) (holds s.metal)
+    → KeepsClear s.filled.raster (λ i j. is_filled s.filled i j || is_marked m i j) (in_layer s.metal)
 clear_by_commit {a} {t} {s} keeps version tile read same m is all =
     let marks = (λ (i j : ℤ). is_filled s.filled i j || is_marked m i j) in
-    clear_same (plan_of a.rules).raster s.filled.raster marks marks (holds s.metal) (holds s.metal) keeps.fits.raster (λ i j. refl) (λ x y. refl)
+    clear_same (plan_of a.rules).raster s.filled.raster marks marks (in_layer s.metal) (in_layer s.metal) keeps.fits.raster (λ i j. refl) (λ x y. refl)
     (clear_commit a s (state_of a).base version tile read m keeps.plan keeps.state (subst (λ (b : Bool). IsSame a.rules (state_by no_places s) version tile read b) all is.is_same) is.marked)
 
 -- the first squares are those of the metal
-pub opening_squares : (rules : Values) (s : Stored) (layers : Layers) → Fits (plan_of rules) s → state_by no_places s ≡ opening (plan_of rules) layers → (holds s.metal ≡ layers.metal) × (squares_in s ≡ layers.metal)
+pub opening_squares : (rules : Values) (s : Stored) (layers : Layers) → Fits (plan_of rules) s → state_by no_places s ≡ opening (plan_of rules) layers → (in_layer s.metal ≡ layers.metal) × (squares_in s ≡ layers.metal)
 opening_squares rules s layers fits state =
     let plan = plan_of rules in
-    let drawn : holds s.metal ≡ layers.metal = ap (λ (q : State). q.layers.metal) state in
+    let drawn : in_layer s.metal ≡ layers.metal = ap (λ (q : State). q.layers.metal) state in
     let fill : is_filled s.filled ≡ no_places = ap (λ (q : State). q.fill) state in
-    (drawn, ap (λ r. metal_or_box r (is_filled s.filled) (holds s.metal)) fits.raster ∙ (ap (λ (f : PointSet). with_boxes plan (holds s.metal) f) fill ∙ (ap (λ (f : PointSet). with_boxes plan f no_places) drawn ∙ no_boxes plan layers.metal)))
+    (drawn, ap (λ r. metal_or_box r (is_filled s.filled) (in_layer s.metal)) fits.raster ∙ (ap (λ (f : PointSet). with_boxes plan (in_layer s.metal) f) fill ∙ (ap (λ (f : PointSet). with_boxes plan f no_places) drawn ∙ no_boxes plan layers.metal)))
 
 -- what tells the areas of a change tells those of what is stored after it
-pub changed_stands : (P : PointSet → PointSet → Type 0) (s n : Stored) (c : Change) (withdrawn : ℕ) → IsChanged s n c withdrawn → P (holds c.metal) (metal_or_box s.filled.raster (left_by s.filled c.out) (holds c.metal)) → P (holds n.metal) (squares_in n)
+pub changed_stands : (P : PointSet → PointSet → Type 0) (s n : Stored) (c : Change) (withdrawn : ℕ) → IsChanged s n c withdrawn → P (in_layer c.metal) (metal_or_box s.filled.raster (left_by s.filled c.out) (in_layer c.metal)) → P (in_layer n.metal) (squares_in n)
 changed_stands P s n c withdrawn is stands =
-    let same : metal_or_box s.filled.raster (left_by s.filled c.out) (holds n.metal) ≡ squares_in n = same_squares s.filled.raster n.filled.raster (left_by s.filled c.out) (is_filled n.filled) (holds n.metal) is.raster is.filled in
-    subst (λ (p : PointSet). P (holds n.metal) p) same (subst (λ (b : List Band). P (holds b) (metal_or_box s.filled.raster (left_by s.filled c.out) (holds b))) (sym is.metal) stands)
+    let same : metal_or_box s.filled.raster (left_by s.filled c.out) (in_layer n.metal) ≡ squares_in n = same_squares s.filled.raster n.filled.raster (left_by s.filled c.out) (is_filled n.filled) (in_layer n.metal) is.raster is.filled in
+    subst (λ (p : PointSet). P (in_layer n.metal) p) same (subst (λ (b : Layered). P (in_layer b) (metal_or_box s.filled.raster (left_by s.filled c.out) (in_layer b))) (sym is.metal) stands)
 
 -- what is stored is what there is to read
-pub read_now : {a b : Account} {t : Totals} {s : Stored} → Keeps a t s → a ≡ b → (rules : Values) (tile : ℕ) → rules ≡ a.rules → read_set rules (layers_in s.metal s.keep) (windows_in s.low) tile ≡ read_set b.rules (state_of b).layers (state_of b).low tile
+pub read_now : {a b : Account} {t : Totals} {s : Stored} → Keeps a t s → a ≡ b → (rules : Values) (tile : ℕ) → rules ≡ a.rules → read_set rules (stored_layers s) (windows_in s.low) tile ≡ read_set b.rules (state_of b).layers (state_of b).low tile
 read_now {a} {b} {t} {s} keeps at rules tile same =
-    subst (λ (k : Account). read_set rules (layers_in s.metal s.keep) (windows_in s.low) tile ≡ read_set k.rules (state_of k).layers (state_of k).low tile) at
-    (ap (λ (v : Values). read_set v (layers_in s.metal s.keep) (windows_in s.low) tile) same ∙ ap (λ (q : State). read_set a.rules q.layers q.low tile) (sym keeps.state))
+    subst (λ (k : Account). read_set rules (stored_layers s) (windows_in s.low) tile ≡ read_set k.rules (state_of k).layers (state_of k).low tile) at
+    (ap (λ (v : Values). read_set v (stored_layers s) (windows_in s.low) tile) same ∙ ap (λ (q : State). read_set a.rules q.layers q.low tile) (sym keeps.state))

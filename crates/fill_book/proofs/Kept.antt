@@ -4,7 +4,8 @@ use Rattle.std.specs.Prelude.{◌==◌}
 use Rattle.std.proofs.Math.Path.{fun_ext}
 use Rattle.std.proofs.lemmas.List.{length_push, map-append}
 use Rattle.std.proofs.lemmas.List.Sums.{sum_by_push}
-use Rattle.fill_region.specs.Bands.{holds}
+use Rattle.fill_state.specs.Layers.{in_layer}
+use Rattle.fill_region.specs.Runs.{holds}
 use Rattle.fill_raster.specs.Lattice.{Lattice}
 use Rattle.fill_raster.specs.Marks.{Marked, is_marked}
 use Rattle.fill_raster.proofs.Points.{or_no}
@@ -28,7 +29,7 @@ use Rattle.fill_core.proofs.Counts.{balanced}
 use Rattle.fill_core.proofs.Replays.{same_state}
 use Rattle.fill_core.proofs.Written.{state_with, legal_with}
 use Rattle.fill_state.specs.Filling.{is_filled, left_by}
-use Rattle.fill_book.specs.Keeping.{Keeps, state_by}
+use Rattle.fill_book.specs.Keeping.{Keeps, state_by, stored_layers}
 use Rattle.fill_state.specs.Pieces.{ArePieces}
 use Rattle.fill_state.specs.Tiles.{is_in}
 use Rattle.fill_book.specs.declared.stored.Change.{Change}
@@ -65,21 +66,21 @@ accepted rules base s version tile read false is = none (version == s.version) (
 
 -- the marks of a proposal that is the same are wanted
 pub wanted_marks : (rules : Values) (base : PointSet) (s : Stored) (version tile : ℕ) (read : ReadSet) (m : Marked) → IsPlan (plan_of rules) → IsSame rules (state_by base s) version tile read true
-    → ((i j : ℤ) → is_marked m i j ≡ wanted_of read tile i j) → (i j : ℤ) → is_marked m i j ≡ wanted (plan_of rules) (layers_in s.metal s.keep) (windows_in s.low) tile i j
+    → ((i j : ℤ) → is_marked m i j ≡ wanted_of read tile i j) → (i j : ℤ) → is_marked m i j ≡ wanted (plan_of rules) (stored_layers s) (windows_in s.low) tile i j
 wanted_marks rules base s version tile read m plan is marked i j =
     let h = is.0 refl in
-    marked i j ∙ (ap (λ (r : ReadSet). wanted_of r tile i j) h.2 ∙ ap (λ (p : PointSet). p i j) (same_wanted rules (layers_in s.metal s.keep) (windows_in s.low) tile plan))
+    marked i j ∙ (ap (λ (r : ReadSet). wanted_of r tile i j) h.2 ∙ ap (λ (p : PointSet). p i j) (same_wanted rules (stored_layers s) (windows_in s.low) tile plan))
 
 pub committed : (rules : Values) (base : PointSet) (s n : Stored) (version tile : ℕ) (read : ReadSet) (same : Bool) (m : Marked) (placed : ℕ) → IsPlan (plan_of rules) → IsSame rules (state_by base s) version tile read same
     → ((i j : ℤ) → is_marked m i j ≡ wanted_of read tile i j) → IsTakenIn s n same tile m placed → state_by base n ≡ commit_step (plan_of rules) (state_by base s) version tile same
 committed rules base s n version tile read true m placed plan is marked taken =
     rw (accepted rules base s version tile read true is)
-    (same_state (state_by base n) _ (λ x y. ap (λ b. holds b x y) taken.metal) (λ x y. ap (λ b. holds b x y) taken.keep)
+    (same_state (state_by base n) _ (λ x y. ap (λ b. in_layer b x y) taken.metal) (λ x y. ap (λ b. in_layer b x y) taken.keep)
     (λ i j. taken.filled i j ∙ ap (λ b. is_filled s.filled i j || b) (wanted_marks rules base s version tile read m plan is marked i j))
     taken.version (λ a b. ap (λ l. windows_in l a b) taken.low) taken.tiles (λ i j. refl))
 committed rules base s n version tile read false m placed plan is marked taken =
     rw (accepted rules base s version tile read false is)
-    (same_state (state_by base n) (state_by base s) (λ x y. ap (λ b. holds b x y) taken.metal) (λ x y. ap (λ b. holds b x y) taken.keep)
+    (same_state (state_by base n) (state_by base s) (λ x y. ap (λ b. in_layer b x y) taken.metal) (λ x y. ap (λ b. in_layer b x y) taken.keep)
     (λ i j. taken.filled i j ∙ or_no (is_filled s.filled i j))
     taken.version (λ a b. ap (λ l. windows_in l a b) taken.low) (λ t. taken.tiles t ∙ or_no (is_in s.tiles t)) (λ i j. refl))
 
@@ -130,18 +131,18 @@ pub record IsChanged (s n : Stored) (c : Change) (withdrawn : ℕ) : Type 0 wher
 
 -- the change is that of the edit
 pub record IsOf (plan : Plan) (s : Stored) (edit : Edit) (c : Change) : Type 0 where
-  pub metal : (x y : ℤ) → holds c.metal x y ≡ metal_after edit (holds s.metal) x y
-  pub keep : (x y : ℤ) → holds c.keep x y ≡ keep_after edit (holds s.keep) x y
-  pub pieces : ArePieces plan.raster plan.spacing (metal_after edit (holds s.metal)) c.pieces.items
-  pub keep_pieces : ArePieces plan.raster (pos 0) (keep_after edit (holds s.keep)) c.keep_pieces.items
+  pub metal : (x y : ℤ) → in_layer c.metal x y ≡ metal_after edit (in_layer s.metal) x y
+  pub keep : (x y : ℤ) → in_layer c.keep x y ≡ keep_after edit (in_layer s.keep) x y
+  pub pieces : ArePieces plan.raster plan.spacing (metal_after edit (in_layer s.metal)) c.pieces.items
+  pub keep_pieces : ArePieces plan.raster (pos 0) (keep_after edit (in_layer s.keep)) c.keep_pieces.items
   pub filled : (i j : ℤ) → left_by s.filled c.out i j ≡ fill_after plan edit (is_filled s.filled) i j
-  pub low : (a b : ℕ) → windows_in c.low a b ≡ low_windows plan (with_boxes plan (metal_after edit (holds s.metal)) (fill_after plan edit (is_filled s.filled))) a b
+  pub low : (a b : ℕ) → windows_in c.low a b ≡ low_windows plan (with_boxes plan (metal_after edit (in_layer s.metal)) (fill_after plan edit (is_filled s.filled))) a b
 
 pub edited : (plan : Plan) (base : PointSet) (s n : Stored) (edit : Edit) (c : Change) (withdrawn : ℕ) → IsOf plan s edit c → IsChanged s n c withdrawn
     → state_by (fill_after plan edit (is_filled s.filled)) n ≡ edit_step plan (state_by base s) edit
 edited plan base s n edit c withdrawn of is =
     same_state (state_by (fill_after plan edit (is_filled s.filled)) n) (edit_step plan (state_by base s) edit)
-    (λ x y. ap (λ b. holds b x y) is.metal ∙ of.metal x y) (λ x y. ap (λ b. holds b x y) is.keep ∙ of.keep x y) (λ i j. is.filled i j ∙ of.filled i j) is.version
+    (λ x y. ap (λ b. in_layer b x y) is.metal ∙ of.metal x y) (λ x y. ap (λ b. in_layer b x y) is.keep ∙ of.keep x y) (λ i j. is.filled i j ∙ of.filled i j) is.version
     (λ a b. ap (λ l. windows_in l a b) is.low ∙ of.low a b) is.tiles (λ i j. refl)
 
 pub withdrawn_is : (plan : Plan) (base : PointSet) (s n : Stored) (edit : Edit) (c : Change) (withdrawn : ℕ) → s.filled.raster ≡ plan.raster → IsOf plan s edit c → IsChanged s n c withdrawn
@@ -174,8 +175,8 @@ pub record IsNext (a : Account) (t u : Totals) (s n : Stored) (e : Event) (reply
   pub state : step (plan_of a.rules) (state_of a) e ≡ state_by (step (plan_of a.rules) (state_of a) e).base n
   pub raster : n.filled.raster ≡ s.filled.raster
   pub bits : length n.tiles ≡ length s.tiles
-  pub pieces : ArePieces (plan_of a.rules).raster (plan_of a.rules).spacing (holds n.metal) n.pieces.items
-  pub keep_pieces : ArePieces (plan_of a.rules).raster (pos 0) (holds n.keep) n.keep_pieces.items
+  pub pieces : ArePieces (plan_of a.rules).raster (plan_of a.rules).spacing (in_layer n.metal) n.pieces.items
+  pub keep_pieces : ArePieces (plan_of a.rules).raster (pos 0) (in_layer n.keep) n.keep_pieces.items
   pub version : n.version ≤ s.version + 1
   pub answer : reply ≡ reply_of (plan_of a.rules) (state_of a) e
   pub totals : u ≡ counted t (placed_by reply) (withdrawn_by reply)

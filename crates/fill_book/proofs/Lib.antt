@@ -1,3 +1,4 @@
+pub mod NearMetal
 pub mod Kept
 pub mod TooNear
 pub mod Measured

@@ -5,7 +5,8 @@ use Rattle.std.proofs.Math.Path.{fun_ext}
 use Rattle.std.proofs.lemmas.Bool.{and_parts, cases_Bool}
 use Rattle.std.proofs.lemmas.Bool.Decides.{nat_tests}
 use Rattle.std.proofs.lemmas.Int.{ints}
-use Rattle.fill_region.specs.Bands.{Band, holds}
+use Rattle.fill_state.specs.Layers.{in_layer}
+use Rattle.fill_region.specs.Runs.{Sides, holds}
 use Rattle.fill_area.specs.Density.{AreMeasured}
 use Rattle.fill_raster.specs.Axes.{first, past}
 use Rattle.fill_raster.specs.Lattice.{Lattice, box_squares, in_raster, KeepsPitch}
@@ -25,7 +26,7 @@ use Rattle.fill_core.specs.declared.event.Event.TheVariants as event
 use Rattle.fill_core.proofs.Replays.{no_boxes, replay_push, same_state}
 use Rattle.fill_core.proofs.Sound.{replay_sound}
 use Rattle.fill_state.specs.Filling.{Filling, KeepsClear, in_places, is_filled, left_by, metal_or_box}
-use Rattle.fill_book.specs.Keeping.{state_by}
+use Rattle.fill_book.specs.Keeping.{state_by, stored_layers}
 use Rattle.fill_state.specs.Low.{low_by}
 use Rattle.fill_state.specs.Tiles.{is_in}
 use Rattle.fill_book.proofs.Kept.{accepted, wanted_marks}
@@ -48,11 +49,11 @@ low_measured plan p totals a b are = elim (cases_Bool (nat_lt a plan.windows.acr
     below : (m n : ℕ) → nat_lt m n ≡ true → m < n
     below m n h = grind (arith, nat_tests)
 
-pub opened : (plan : Plan) (s : Stored) (metal keep : List Band) (totals : List ℤ) → s.metal ≡ metal → s.keep ≡ keep → s.version ≡ 0 → AreMeasured (holds metal) plan.windows totals
+pub opened : (plan : Plan) (s : Stored) (metal keep : List Sides) (totals : List ℤ) → ((x y : ℤ) → in_layer s.metal x y ≡ holds metal x y) → ((x y : ℤ) → in_layer s.keep x y ≡ holds keep x y) → s.version ≡ 0 → AreMeasured (holds metal) plan.windows totals
     → ((a b : ℕ) → windows_in s.low a b ≡ low_by plan.windows plan.least totals a b) → ((i j : ℤ) → is_filled s.filled i j ≡ false) → ((t : ℕ) → is_in s.tiles t ≡ false)
     → state_by no_places s ≡ opening plan (layers_in metal keep)
 opened plan s metal keep totals same same_keep version are low none out =
-    same_state (state_by no_places s) (opening plan (layers_in metal keep)) (λ x y. ap (λ b. holds b x y) same) (λ x y. ap (λ b. holds b x y) same_keep) none version
+    same_state (state_by no_places s) (opening plan (layers_in metal keep)) same same_keep none version
     (λ a b. low a b ∙ (low_measured plan (holds metal) totals a b are ∙ ap (λ (p : PointSet). low_windows plan p a b) (sym (no_boxes plan (holds metal))))) out (λ i j. refl)
 
 pub pitch_kept : (plan : Plan) → IsPlan plan → KeepsPitch plan.raster (pos 0)
@@ -84,17 +85,17 @@ sound_at : (plan : Plan) (s t : State) → s ≡ t → IsSound plan s.layers s.f
 sound_at plan s t e sound = subst (λ (q : State). IsSound plan q.layers q.fill) e sound
 
 -- so it is in a book, and in the book after an edit
-pub clear_now : (a : Account) (s : Stored) (base : PointSet) → IsPlan (plan_of a.rules) → state_of a ≡ state_by base s → KeepsClear (plan_of a.rules).raster (is_filled s.filled) (holds s.metal)
+pub clear_now : (a : Account) (s : Stored) (base : PointSet) → IsPlan (plan_of a.rules) → state_of a ≡ state_by base s → KeepsClear (plan_of a.rules).raster (is_filled s.filled) (in_layer s.metal)
 clear_now a s base is state =
     let plan = plan_of a.rules in
-    keeps_clear plan (layers_in s.metal s.keep) (is_filled s.filled) is (sound_at plan (state_of a) (state_by base s) state (replay_sound plan (opening_of a) (events_in a.history) is))
+    keeps_clear plan (stored_layers s) (is_filled s.filled) is (sound_at plan (state_of a) (state_by base s) state (replay_sound plan (opening_of a) (events_in a.history) is))
 
 pub clear_after : (a : Account) (s : Stored) (base : PointSet) (edit : Edit) → IsPlan (plan_of a.rules) → state_of a ≡ state_by base s
-    → KeepsClear (plan_of a.rules).raster (fill_after (plan_of a.rules) edit (is_filled s.filled)) (metal_after edit (holds s.metal))
+    → KeepsClear (plan_of a.rules).raster (fill_after (plan_of a.rules) edit (is_filled s.filled)) (metal_after edit (in_layer s.metal))
 clear_after a s base edit is state =
     let plan = plan_of a.rules in let events = events_in a.history in
     let next : replay plan (opening_of a) (events ++ event.Edit edit ∷ []) ≡ step plan (state_by base s) (event.Edit edit) = replay_push plan (opening_of a) events (event.Edit edit) ∙ ap (λ (q : State). step plan q (event.Edit edit)) state in
-    keeps_clear plan (layers_after edit (layers_in s.metal s.keep)) (fill_after plan edit (is_filled s.filled)) is (sound_at plan _ (step plan (state_by base s) (event.Edit edit)) next (replay_sound plan (opening_of a) (events ++ event.Edit edit ∷ []) is))
+    keeps_clear plan (layers_after edit (stored_layers s)) (fill_after plan edit (is_filled s.filled)) is (sound_at plan _ (step plan (state_by base s) (event.Edit edit)) next (replay_sound plan (opening_of a) (events ++ event.Edit edit ∷ []) is))
 
 -- the same sets, told otherwise
 pub same_set : (p q : PointSet) → ((x y : ℤ) → p x y ≡ q x y) → p ≡ q
@@ -105,15 +106,15 @@ clear_same r q f g m n raster fill metal clear = rw (raster, same_set g f fill, 
 
 -- and in the book after a commit that is accepted
 pub clear_commit : (a : Account) (s : Stored) (base : PointSet) (version tile : ℕ) (read : ReadSet) (m : Marked) → IsPlan (plan_of a.rules) → state_of a ≡ state_by base s → IsSame a.rules (state_by base s) version tile read true
-    → ((i j : ℤ) → is_marked m i j ≡ wanted_of read tile i j) → KeepsClear (plan_of a.rules).raster (λ i j. is_filled s.filled i j || is_marked m i j) (holds s.metal)
+    → ((i j : ℤ) → is_marked m i j ≡ wanted_of read tile i j) → KeepsClear (plan_of a.rules).raster (λ i j. is_filled s.filled i j || is_marked m i j) (in_layer s.metal)
 clear_commit a s base version tile read m is state same marked =
     let plan = plan_of a.rules in let events = events_in a.history in
     let after = with_tile plan (state_by base s) tile in
     let step_is : step plan (state_by base s) (event.Commit version tile true) ≡ after = rw (accepted a.rules base s version tile read true same) refl in
     let next : replay plan (opening_of a) (events ++ event.Commit version tile true ∷ []) ≡ after =
     replay_push plan (opening_of a) events (event.Commit version tile true) ∙ (ap (λ (q : State). step plan q (event.Commit version tile true)) state ∙ step_is) in
-    let wanted_clear = keeps_clear plan (layers_in s.metal s.keep) after.fill is (sound_at plan _ after next (replay_sound plan (opening_of a) (events ++ event.Commit version tile true ∷ []) is)) in
-    clear_same plan.raster plan.raster after.fill (λ i j. is_filled s.filled i j || is_marked m i j) (holds s.metal) (holds s.metal) refl
+    let wanted_clear = keeps_clear plan (stored_layers s) after.fill is (sound_at plan _ after next (replay_sound plan (opening_of a) (events ++ event.Commit version tile true ∷ []) is)) in
+    clear_same plan.raster plan.raster after.fill (λ i j. is_filled s.filled i j || is_marked m i j) (in_layer s.metal) (in_layer s.metal) refl
     (λ i j. ap (λ b. is_filled s.filled i j || b) (wanted_marks a.rules base s version tile read m is same marked i j)) (λ x y. refl) wanted_clear
 
 -- ---- the total of a window

@@ -1,9 +1,10 @@
 -- What a book stores, and how that stands to its account.
 use Rattle.std.specs.Prelude.{◌≡◌, ◌≤◌, ◌^◌, pos, length}
-use Rattle.fill_region.specs.Bands.{holds}
+use Rattle.fill_state.specs.Layers.{in_layer}
+use Rattle.fill_region.specs.Runs.{holds}
 use Rattle.fill_raster.specs.Lattice.{tiles}
-use Rattle.fill_job.specs.Basis.{layers_in, windows_in}
-use Rattle.fill_job.specs.Plans.{Plan, IsPlan, PointSet, plan_of}
+use Rattle.fill_job.specs.Basis.{windows_in}
+use Rattle.fill_job.specs.Plans.{Layers, Plan, IsPlan, PointSet, plan_of}
 use Rattle.fill_core.specs.Accounts.{Account, IsLegal, state_of}
 use Rattle.fill_core.specs.Machine.{State}
 use Rattle.fill_core.specs.Shares.{Totals, totals_of}
@@ -12,10 +13,14 @@ use Rattle.fill_state.specs.Pieces.{ArePieces}
 use Rattle.fill_state.specs.Tiles.{is_in}
 use Rattle.fill_book.specs.declared.stored.Stored.{Stored}
 
+-- the metal and the keep-outs that are stored, as sets of squares
+abbrev pub stored_layers : Stored → Layers
+stored_layers s = record { metal = in_layer s.metal; keep = in_layer s.keep }
+
 -- what is stored, as a state; the places that were filled when the version opened are not stored
 abbrev pub state_by : PointSet → Stored → State
 state_by base s = record {
-  layers = layers_in s.metal s.keep;
+  layers = stored_layers s;
   fill = is_filled s.filled;
   version = s.version;
   low = windows_in s.low;
@@ -27,8 +32,8 @@ state_by base s = record {
 pub record Fits (plan : Plan) (s : Stored) : Type 0 where
   pub raster : s.filled.raster ≡ plan.raster
   pub tiles : length s.tiles ≡ tiles plan.raster
-  pub pieces : ArePieces plan.raster plan.spacing (holds s.metal) s.pieces.items
-  pub keep_pieces : ArePieces plan.raster (pos 0) (holds s.keep) s.keep_pieces.items
+  pub pieces : ArePieces plan.raster plan.spacing (in_layer s.metal) s.pieces.items
+  pub keep_pieces : ArePieces plan.raster (pos 0) (in_layer s.keep) s.keep_pieces.items
 
 -- the state that is stored is the account's, its replies are those of the replay, its history has no more events than it may
 -- have, and the numbers of the ledgers are those of the history

@@ -2,7 +2,7 @@
 use crate::areas::Totals;
 use crate::edited::Edited;
 use crate::stored::Stored;
-use fill_area::{Windows, area_in};
+use fill_area::Windows;
 use fill_job::SharedRules;
 use fill_raster::Marks;
 use fill_region::Region;
@@ -35,10 +35,7 @@ impl Totals for Measured {
     }
 
     fn drawn(&self, stored: &Stored, windows: &Windows, a: u32, b: u32) -> i64 {
-        match windows.part(a, b) {
-            Some(window) => area_in(&stored.metal, &window),
-            None => 0,
-        }
+        stored.metal.counted_in(windows, a, b)
     }
 
     fn take_in(&mut self, _stored: &Stored, _windows: &Windows, _tile: u32, _marks: &Marks) {}

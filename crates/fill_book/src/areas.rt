@@ -1,6 +1,7 @@
 //! What tells the areas of windows.
 ghost use Rattle.std.specs.Prelude.{◌≡◌, ◌<◌, ◌||◌, ℕ, ℤ, pos, true, IfOk};
-ghost use Rattle.fill_region.specs.Bands.{holds};
+ghost use Rattle.fill_region.specs.Runs.{holds};
+ghost use Rattle.fill_state.specs.Layers.{in_layer};
 ghost use Rattle.fill_area.specs.Density.{AreMeasured, window_area};
 ghost use Rattle.fill_area.specs.Grid.{Grid};
 ghost use Rattle.fill_raster.specs.Lattice.{in_tile, tiles};
@@ -38,38 +39,38 @@ pub trait Totals: Drop {
 
     /// The area of metal and boxes in the window of column `a` and row `b`.
     fn total(&self, stored: &Stored, windows: &Windows, a: u32, b: u32) -> i64
-        requires stands { stand_for self.now windows.now (holds stored.now.metal) (squares_in stored.now) }
-        requires clear { KeepsClear stored.now.filled.raster (is_filled stored.now.filled) (holds stored.now.metal) }
+        requires stands { stand_for self.now windows.now (in_layer stored.now.metal) (squares_in stored.now) }
+        requires clear { KeepsClear stored.now.filled.raster (is_filled stored.now.filled) (in_layer stored.now.metal) }
         requires column { a < windows.now.across.count }
         requires row { b < windows.now.up.count }
         ensures { result ≡ pos (window_area (squares_in stored.now) windows.now a b) };
 
     /// The area of the metal alone in the window of column `a` and row `b`.
     fn drawn(&self, stored: &Stored, windows: &Windows, a: u32, b: u32) -> i64
-        requires stands { stand_for self.now windows.now (holds stored.now.metal) (squares_in stored.now) }
+        requires stands { stand_for self.now windows.now (in_layer stored.now.metal) (squares_in stored.now) }
         requires column { a < windows.now.across.count }
         requires row { b < windows.now.up.count }
-        ensures { result ≡ pos (window_area (holds stored.now.metal) windows.now a b) };
+        ensures { result ≡ pos (window_area (in_layer stored.now.metal) windows.now a b) };
 
     /// Takes in the boxes of the marked places of a tile that aren't filled yet. Takes no memory.
     fn take_in(&mut self, stored: &Stored, windows: &Windows, tile: u32, marks: &Marks)
-        requires stands { stand_for self.old windows.now (holds stored.now.metal) (squares_in stored.now) }
+        requires stands { stand_for self.old windows.now (in_layer stored.now.metal) (squares_in stored.now) }
         requires tile { tile < tiles stored.now.filled.raster }
         requires marked { (i j : ℤ) → is_marked marks.now i j ≡ true → in_tile stored.now.filled.raster tile i j ≡ true }
-        requires clear { KeepsClear stored.now.filled.raster (λ i j. is_filled stored.now.filled i j || is_marked marks.now i j) (holds stored.now.metal) }
-        ensures { stand_for self.new windows.now (holds stored.now.metal) (metal_or_box stored.now.filled.raster (λ i j. is_filled stored.now.filled i j || is_marked marks.now i j) (holds stored.now.metal)) };
+        requires clear { KeepsClear stored.now.filled.raster (λ i j. is_filled stored.now.filled i j || is_marked marks.now i j) (in_layer stored.now.metal) }
+        ensures { stand_for self.new windows.now (in_layer stored.now.metal) (metal_or_box stored.now.filled.raster (λ i j. is_filled stored.now.filled i j || is_marked marks.now i j) (in_layer stored.now.metal)) };
 
     /// Follows an edit, before it is made of what is stored. Takes no memory.
     fn follow(&mut self, stored: &Stored, windows: &Windows, edited: &Edited)
-        requires stands { stand_for self.old windows.now (holds stored.now.metal) (squares_in stored.now) }
+        requires stands { stand_for self.old windows.now (in_layer stored.now.metal) (squares_in stored.now) }
         requires edited { IsEdited stored.now edited.now }
-        ensures { stand_for self.new windows.now (holds edited.now.metal) (squares_left stored.now edited.now) };
+        ensures { stand_for self.new windows.now (in_layer edited.now.metal) (squares_left stored.now edited.now) };
 
     /// Turns back from an edit that was followed and isn't made. Takes no memory.
     fn turn_back(&mut self, stored: &Stored, windows: &Windows, edited: &Edited)
-        requires stands { stand_for self.old windows.now (holds edited.now.metal) (squares_left stored.now edited.now) }
+        requires stands { stand_for self.old windows.now (in_layer edited.now.metal) (squares_left stored.now edited.now) }
         requires edited { IsEdited stored.now edited.now }
-        ensures { stand_for self.new windows.now (holds stored.now.metal) (squares_in stored.now) };
+        ensures { stand_for self.new windows.now (in_layer stored.now.metal) (squares_in stored.now) };
 
     /// The low windows, of metal and boxes, after an edit that was followed: the window in column `a` and row `b` as the square
     /// `(a, b)`.
@@ -83,7 +84,7 @@ pub trait Totals: Drop {
         rules: &SharedRules,
         edited: &Edited,
     ) -> Result<Region, AllocError>
-        requires stands { stand_for self.now (plan_of rules.now).windows (holds edited.now.metal) (squares_left stored.now edited.now) }
+        requires stands { stand_for self.now (plan_of rules.now).windows (in_layer edited.now.metal) (squares_left stored.now edited.now) }
         requires edited { IsEdited stored.now edited.now }
         ensures { IfOk result (λ r. (a b : ℕ) → windows_in r a b ≡ low_windows (plan_of rules.now) (squares_left stored.now edited.now) a b) };
 }

@@ -1,6 +1,7 @@
 //! The books.
 ghost use Rattle.std.specs.Prelude.{◌≡◌, ◌↔◌, ◌<◌, ◌≤◌, ◌^◌, [], IfOk, IsTrue, length};
-ghost use Rattle.fill_region.specs.Bands.{holds};
+ghost use Rattle.fill_region.specs.Runs.{holds};
+ghost use Rattle.fill_state.specs.Layers.{in_layer};
 ghost use Rattle.fill_text.specs.Rules.{windows_of};
 ghost use Rattle.fill_text.specs.ValuesOfRules.{values_of};
 ghost use Rattle.fill_core.specs.Accounts.{Account};
@@ -15,8 +16,8 @@ use crate::origin::Origin;
 use crate::stored::{Stored, answer};
 use fill_base::Place;
 use fill_core::{BookError, Books, Entry, Event, FillBook, History, Opened, Pass, Reply};
-use fill_job::{Job, Proposal};
-use fill_measure::measure_region;
+use fill_job::{Job, Piece, Proposal};
+use fill_measure::measure_all;
 use fill_raster::Marks;
 use fill_region::Region;
 use fill_sums::Sums;
@@ -47,7 +48,7 @@ impl<T: Totals, C: Opened, P: Ledger, W: Ledger> Model for BookOf<T, C, P, W> {
 
     ghost view = { λ b. record { rules = b.origin.rules; opening = b.origin.opening; keep = b.origin.keep; history = entries_of b.history; most = b.origin.most } };
 
-    ghost invariant = { λ b. (Keeps (record { rules = b.origin.rules; opening = b.origin.opening; keep = b.origin.keep; history = entries_of b.history; most = b.origin.most }) b.books b.stored) × T.stand_for b.totals (windows_of b.origin.rules) (holds b.stored.metal) (squares_in b.stored) };
+    ghost invariant = { λ b. (Keeps (record { rules = b.origin.rules; opening = b.origin.opening; keep = b.origin.keep; history = entries_of b.history; most = b.origin.most }) b.books b.stored) × T.stand_for b.totals (windows_of b.origin.rules) (in_layer b.stored.metal) (squares_in b.stored) };
 }
 
 impl<T: Totals, C: Opened, P: Ledger, W: Ledger> BookOf<T, C, P, W> {
@@ -75,12 +76,14 @@ impl<T: Totals, C: Opened, P: Ledger, W: Ledger> BookOf<T, C, P, W> {
         ensures book { IfOk result (λ r. r.0 ≡ record { rules = values_of rules; opening = metal; keep = keep; history = []; most = max_events }) }
         ensures pass { IfOk result (λ r. r.1 ≡ nothing_with 1024) }
     {
+        let metal = Piece::new(alloc, metal)?;
+        let keep = Piece::new(alloc, keep)?;
         let origin = Origin::new(alloc, rules, &metal, &keep, max_events)?;
         origin.rules.make_a_plan();
         let windows = origin.rules.windows();
-        let areas = measure_region(rt, alloc, &metal, &windows)?;
+        let areas = measure_all(rt, alloc, metal.metal(), &windows)?;
         let stored = Stored::open(rt, alloc, metal, keep, &origin.rules, &areas)?;
-        let totals = T::of(alloc, &stored.metal, &windows, areas)?;
+        let totals = T::of(alloc, origin.opening.metal(), &windows, areas)?;
         let (books, pass) = Books::open(calls, placed, withdrawn);
         let book = BookOf {
             books,
@@ -215,11 +218,11 @@ impl<T: Totals, C: Opened + Send + Sync, P: Ledger + Send + Sync, W: Ledger + Se
     }
 
     fn opening(&self) -> &Region {
-        &self.origin.opening
+        self.origin.opening.metal()
     }
 
     fn opening_keep(&self) -> &Region {
-        &self.origin.keep
+        self.origin.keep.metal()
     }
 
     fn audit(&mut self, pass: &mut Pass<C, P, W>) {

@@ -1,13 +1,13 @@
 //! What an edit makes of metal and boxes.
 ghost use Rattle.std.specs.Prelude.{◌≡◌, ℤ, true, IfOk};
 ghost use Rattle.fill_base.specs.Squares.{squares};
-ghost use Rattle.fill_region.specs.Bands.{holds};
+ghost use Rattle.fill_region.specs.Runs.{holds};
 ghost use Rattle.fill_core.specs.Machine.{metal_after};
+ghost use Rattle.fill_state.specs.Layers.{in_layer};
 ghost use Rattle.fill_book.specs.steps.Following.{difference_by, opposite_of, way_of};
 
 use fill_base::Rect;
-use fill_region::Region;
-use fill_state::Places;
+use fill_state::{EditedLayer, Places};
 use fill_sums::Difference;
 use fill_text::Edit;
 use std::alloc::{AllocError, Global};
@@ -16,14 +16,18 @@ use std::alloc::{AllocError, Global};
 #[derive(Drop)]
 pub struct Edited {
     pub(crate) edit: Edit,
-    pub(crate) metal: Region,
+    pub(crate) metal: EditedLayer,
     pub(crate) difference: Difference,
     pub(crate) out: Places,
 }
 
 /// The metal after an edit.
-pub(crate) fn metal_edited(alloc: Global, metal: &Region, edit: Edit) -> Result<Region, AllocError>
-    ensures { IfOk result (λ r. (x y : ℤ) → holds r x y ≡ metal_after edit (holds metal.now) x y) }
+pub(crate) fn metal_edited(
+    alloc: Global,
+    metal: &EditedLayer,
+    edit: Edit,
+) -> Result<EditedLayer, AllocError>
+    ensures { IfOk result (λ l. (x y : ℤ) → in_layer l x y ≡ metal_after edit (in_layer metal.now) x y) }
 {
     match edit {
         Edit::Add(rect) => metal.with_rect(alloc, &rect),
@@ -38,17 +42,17 @@ pub(crate) fn metal_edited(alloc: Global, metal: &Region, edit: Edit) -> Result<
 /// `AllocError` where memory is refused.
 pub(crate) fn difference_of(
     alloc: Global,
-    metal: &Region,
+    metal: &EditedLayer,
     edit: Edit,
 ) -> Result<Difference, AllocError>
     ensures way { IfOk result (λ d. d.way ≡ way_of edit) }
     ensures back { IfOk result (λ d. d.back ≡ opposite_of edit) }
-    ensures metal { IfOk result (λ d. (x y : ℤ) → holds d.metal x y ≡ difference_by edit (holds metal.now) x y) }
+    ensures metal { IfOk result (λ d. (x y : ℤ) → holds d.metal x y ≡ difference_by edit (in_layer metal.now) x y) }
     ensures within { IfOk result (λ d. (x y : ℤ) → holds d.metal x y ≡ true → squares d.within x y ≡ true) }
 {
     match edit {
-        Edit::Add(rect) => Difference::added(alloc, metal, rect),
-        Edit::Cut(rect) => Difference::cut(alloc, metal, rect),
+        Edit::Add(rect) => Difference::added(alloc, &metal.clip(alloc, &rect)?, rect),
+        Edit::Cut(rect) => Difference::cut(alloc, &metal.clip(alloc, &rect)?, rect),
         Edit::Keep(rect) => Ok(Difference::none(alloc, rect)),
     }
 }

@@ -3,8 +3,7 @@ ghost use Rattle.std.specs.Prelude.{◌≡◌, IfOk};
 ghost use Rattle.fill_text.specs.ValuesOfRules.{values_of};
 
 use fill_core::Opened;
-use fill_job::SharedRules;
-use fill_region::Region;
+use fill_job::{Piece, SharedRules};
 use fill_text::Rules;
 use std::alloc::{AllocError, Global};
 use std::marker::PhantomData;
@@ -14,23 +13,23 @@ use std::marker::PhantomData;
 #[derive(Drop)]
 pub struct Origin<C: Opened> {
     pub(crate) rules: SharedRules,
-    pub(crate) opening: Region,
-    pub(crate) keep: Region,
+    pub(crate) opening: Piece,
+    pub(crate) keep: Piece,
     pub(crate) most: u64,
     of: PhantomData<C>,
     pub ghost under: { record { rules = rules; opening = opening; keep = keep; most = most } ≡ C.terms },
 }
 
 impl<C: Opened> Origin<C> {
-    /// The origin of a book with these rules, metal and keep-outs, of which it holds copies.
+    /// The origin of a book with these rules, metal and keep-outs, which it holds with others.
     ///
     /// # Errors
     /// `AllocError` where memory is refused.
     pub(crate) fn new(
         alloc: Global,
         rules: Rules,
-        opening: &Region,
-        keep: &Region,
+        opening: &Piece,
+        keep: &Piece,
         most: u64,
     ) -> Result<Origin<C>, AllocError>
         requires { record { rules = values_of rules; opening = opening.now; keep = keep.now; most = most } ≡ C.terms }
@@ -40,8 +39,8 @@ impl<C: Opened> Origin<C> {
         ensures most { IfOk result (λ o. o.most ≡ most) }
     {
         let rules = SharedRules::new(alloc, rules)?;
-        let opening = opening.copy(alloc)?;
-        let keep = keep.copy(alloc)?;
+        let opening = opening.share()?;
+        let keep = keep.share()?;
         Ok(Origin {
             rules,
             opening,

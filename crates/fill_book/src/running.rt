@@ -1,7 +1,7 @@
 //! Areas that are kept as running sums.
 ghost use Rattle.std.specs.Prelude.{◌≡◌, ◌≤ℤ◌, ℤ, true};
 ghost use Rattle.fill_base.specs.Counts.{is_between};
-ghost use Rattle.fill_region.specs.Bands.{holds};
+ghost use Rattle.fill_state.specs.Layers.{in_layer};
 ghost use Rattle.fill_raster.specs.Lattice.{in_raster};
 ghost use Rattle.fill_sums.specs.Numbers.{AreNumbers, AreSums, IsMovedBy, StaysBy};
 ghost use Rattle.fill_state.specs.Filling.{in_places, left_by, metal_or_box};
@@ -112,9 +112,9 @@ fn move_out(sums: &mut Sums, way: Way, stored: &Stored, out: &Places)
 
 /// Takes the boxes out that an edit takes out.
 fn take_out(sums: &mut Sums, stored: &Stored, _windows: &Windows, edited: &Edited)
-    requires stands { StandFor sums.old _windows.now (holds stored.now.metal) (squares_in stored.now) }
+    requires stands { StandFor sums.old _windows.now (in_layer stored.now.metal) (squares_in stored.now) }
     requires edited { IsEdited stored.now edited.now }
-    ensures { StandFor sums.new _windows.now (holds stored.now.metal) (metal_or_box stored.now.filled.raster (left_by stored.now.filled edited.now.out) (holds stored.now.metal)) }
+    ensures { StandFor sums.new _windows.now (in_layer stored.now.metal) (metal_or_box stored.now.filled.raster (left_by stored.now.filled edited.now.out) (in_layer stored.now.metal)) }
 {
     stored.filled.keeps_apart();
     move_out(sums, Way::Down, stored, &edited.out);
@@ -122,9 +122,9 @@ fn take_out(sums: &mut Sums, stored: &Stored, _windows: &Windows, edited: &Edite
 
 /// Puts them back.
 fn put_back(sums: &mut Sums, stored: &Stored, _windows: &Windows, edited: &Edited)
-    requires stands { StandFor sums.old _windows.now (holds stored.now.metal) (metal_or_box stored.now.filled.raster (left_by stored.now.filled edited.now.out) (holds stored.now.metal)) }
+    requires stands { StandFor sums.old _windows.now (in_layer stored.now.metal) (metal_or_box stored.now.filled.raster (left_by stored.now.filled edited.now.out) (in_layer stored.now.metal)) }
     requires edited { IsEdited stored.now edited.now }
-    ensures { StandFor sums.new _windows.now (holds stored.now.metal) (squares_in stored.now) }
+    ensures { StandFor sums.new _windows.now (in_layer stored.now.metal) (squares_in stored.now) }
 {
     stored.filled.keeps_apart();
     move_out(sums, Way::Up, stored, &edited.out);

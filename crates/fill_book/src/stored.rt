@@ -1,6 +1,6 @@
 //! What a book stores of its state, and what each event makes of it.
 ghost use Rattle.std.specs.Prelude.{◌≡◌, cond, not, ◌+◌, ◌<◌, ◌==◌, ◌&&◌, ◌||◌, ◌^◌, ◌≤ℤ◌, ℤ, ℕ, pos, true, false, All, IfOk, OnErr, OnOk, length};
-ghost use Rattle.fill_region.specs.Bands.{holds};
+ghost use Rattle.fill_region.specs.Runs.{holds};
 ghost use Rattle.fill_area.specs.Density.{AreMeasured, IsArea};
 ghost use Rattle.fill_raster.specs.Lattice.{in_raster, in_tile, tiles};
 ghost use Rattle.fill_raster.specs.Marks.{is_marked};
@@ -12,6 +12,7 @@ ghost use Rattle.fill_core.specs.Machine.{commit_reply, fill_after, keep_after, 
 ghost use Rattle.fill_core.specs.declared.event.Reply.TheVariants.{Placed};
 ghost use Rattle.fill_state.specs.Filling.{KeepsClear, in_places, is_filled, left_by, metal_or_box};
 ghost use Rattle.fill_book.specs.Keeping.{Fits, state_by};
+ghost use Rattle.fill_state.specs.Layers.{in_layer};
 ghost use Rattle.fill_state.specs.Pieces.{ArePieces};
 ghost use Rattle.fill_book.specs.Standing.{IsEdited, squares_in, squares_left};
 ghost use Rattle.fill_state.specs.Tiles.{is_in};
@@ -24,8 +25,8 @@ use fill_job::{Piece, Proposal, SharedRules};
 use fill_raster::{Marks, Raster};
 use fill_region::Region;
 use fill_state::{
-    Filled, Places, TileSet, keep_pieces, keep_pieces_after, low_windows, metal_pieces,
-    metal_pieces_after,
+    EditedLayer, Filled, Places, TileSet, keep_pieces, keep_pieces_after, low_windows,
+    metal_pieces, metal_pieces_after,
 };
 use fill_text::Edit;
 use std::alloc::{AllocError, Global};
@@ -35,8 +36,8 @@ use std::thread::Threads;
 /// tiles that are in.
 #[derive(Drop)]
 pub struct Stored {
-    pub(crate) metal: Region,
-    pub(crate) keep: Region,
+    pub(crate) metal: EditedLayer,
+    pub(crate) keep: EditedLayer,
     pub(crate) filled: Filled,
     pub(crate) low: Region,
     pub(crate) tiles: TileSet,
@@ -49,8 +50,8 @@ pub struct Stored {
 /// boxes it takes out.
 #[derive(Drop)]
 pub(crate) struct Change {
-    pub(crate) metal: Region,
-    pub(crate) keep: Region,
+    pub(crate) metal: EditedLayer,
+    pub(crate) keep: EditedLayer,
     pub(crate) low: Region,
     pub(crate) out: Places,
     pub(crate) pieces: Vec<Piece>,
@@ -58,8 +59,8 @@ pub(crate) struct Change {
 }
 
 /// The keep-outs after an edit.
-fn kept_out(alloc: Global, keep: &Region, edit: Edit) -> Result<Region, AllocError>
-    ensures { IfOk result (λ r. (x y : ℤ) → holds r x y ≡ keep_after edit (holds keep.now) x y) }
+fn kept_out(alloc: Global, keep: &EditedLayer, edit: Edit) -> Result<EditedLayer, AllocError>
+    ensures { IfOk result (λ l. (x y : ℤ) → in_layer l x y ≡ keep_after edit (in_layer keep.now) x y) }
 {
     match edit {
         Edit::Add(_) | Edit::Cut(_) => keep.copy(alloc),
@@ -103,8 +104,8 @@ impl Stored {
     pub(crate) fn open(
         rt: &(impl Threads + Sync),
         alloc: Global,
-        metal: Region,
-        keep: Region,
+        metal: Piece,
+        keep: Piece,
         rules: &SharedRules,
         areas: &[i64],
     ) -> Result<Stored, AllocError>
@@ -116,13 +117,13 @@ impl Stored {
         rules.make_a_plan();
         let (raster, windows) = (rules.raster(), rules.windows());
         Ok(Stored {
-            pieces: metal_pieces(rt, alloc, rules, &metal)?,
-            keep_pieces: keep_pieces(rt, alloc, rules, &keep)?,
+            pieces: metal_pieces(rt, alloc, rules, metal.metal())?,
+            keep_pieces: keep_pieces(rt, alloc, rules, keep.metal())?,
             low: low_windows(alloc, &windows, rules.min(), areas)?,
             filled: Filled::none(alloc, raster)?,
             tiles: TileSet::none(alloc, raster.tiles())?,
-            metal,
-            keep,
+            metal: EditedLayer::open(alloc, metal),
+            keep: EditedLayer::open(alloc, keep),
             version: 0,
         })
     }
@@ -168,12 +169,12 @@ impl Stored {
         tile: u32,
         marks: &Marks,
     ) -> u32
-        requires stands { T.stand_for totals.old windows.now (holds self.old.metal) (squares_in self.old) }
-        requires clear { same ≡ true → KeepsClear self.old.filled.raster (λ i j. is_filled self.old.filled i j || is_marked marks.now i j) (holds self.old.metal) }
+        requires stands { T.stand_for totals.old windows.now (in_layer self.old.metal) (squares_in self.old) }
+        requires clear { same ≡ true → KeepsClear self.old.filled.raster (λ i j. is_filled self.old.filled i j || is_marked marks.now i j) (in_layer self.old.metal) }
         requires tile { same ≡ true → tile < tiles self.old.filled.raster }
         requires bits { length self.old.tiles ≡ tiles self.old.filled.raster }
         requires marked { same ≡ true → (i j : ℤ) → is_marked marks.now i j ≡ true → in_tile self.old.filled.raster tile i j ≡ true }
-        ensures stands { T.stand_for totals.new windows.now (holds self.new.metal) (squares_in self.new) }
+        ensures stands { T.stand_for totals.new windows.now (in_layer self.new.metal) (squares_in self.new) }
         ensures metal { self.new.metal ≡ self.old.metal }
         ensures keep { self.new.keep ≡ self.old.keep }
         ensures pieces { self.new.pieces ≡ self.old.pieces }
@@ -202,8 +203,8 @@ impl Stored {
     /// `AllocError` where memory is refused.
     fn edited(&self, alloc: Global, rules: &SharedRules, edit: Edit) -> Result<Edited, AllocError>
         requires raster { self.now.filled.raster ≡ (plan_of rules.now).raster }
-        requires clear_now { KeepsClear self.now.filled.raster (is_filled self.now.filled) (holds self.now.metal) }
-        requires clear { KeepsClear (plan_of rules.now).raster (fill_after (plan_of rules.now) edit (is_filled self.now.filled)) (metal_after edit (holds self.now.metal)) }
+        requires clear_now { KeepsClear self.now.filled.raster (is_filled self.now.filled) (in_layer self.now.metal) }
+        requires clear { KeepsClear (plan_of rules.now).raster (fill_after (plan_of rules.now) edit (is_filled self.now.filled)) (metal_after edit (in_layer self.now.metal)) }
         ensures edit { IfOk result (λ e. e.edit ≡ edit) }
         ensures edited { IfOk result (λ e. IsEdited self.now e) }
         ensures left { IfOk result (λ e. (i j : ℤ) → left_by self.now.filled e.out i j ≡ fill_after (plan_of rules.now) edit (is_filled self.now.filled) i j) }
@@ -227,11 +228,11 @@ impl Stored {
         totals: &mut T,
         edited: &Edited,
     ) -> Result<Region, AllocError>
-        requires stands { T.stand_for totals.old (plan_of rules.now).windows (holds self.now.metal) (squares_in self.now) }
+        requires stands { T.stand_for totals.old (plan_of rules.now).windows (in_layer self.now.metal) (squares_in self.now) }
         requires edited { IsEdited self.now edited.now }
         ensures low { IfOk result (λ r. (a b : ℕ) → windows_in r a b ≡ low_windows (plan_of rules.now) (squares_left self.now edited.now) a b) }
-        ensures stands { OnOk result (T.stand_for totals.new (plan_of rules.now).windows (holds edited.now.metal) (squares_left self.now edited.now)) }
-        ensures back { OnErr result (T.stand_for totals.new (plan_of rules.now).windows (holds self.now.metal) (squares_in self.now)) }
+        ensures stands { OnOk result (T.stand_for totals.new (plan_of rules.now).windows (in_layer edited.now.metal) (squares_left self.now edited.now)) }
+        ensures back { OnErr result (T.stand_for totals.new (plan_of rules.now).windows (in_layer self.now.metal) (squares_in self.now)) }
     {
         let windows = rules.windows();
         totals.follow(self, &windows, edited);
@@ -257,18 +258,18 @@ impl Stored {
         edit: Edit,
     ) -> Result<Change, AllocError>
         requires fits { Fits (plan_of rules.now) self.now }
-        requires stands { T.stand_for totals.old (plan_of rules.now).windows (holds self.now.metal) (squares_in self.now) }
-        requires clear_now { KeepsClear self.now.filled.raster (is_filled self.now.filled) (holds self.now.metal) }
-        requires clear { KeepsClear (plan_of rules.now).raster (fill_after (plan_of rules.now) edit (is_filled self.now.filled)) (metal_after edit (holds self.now.metal)) }
-        ensures metal { IfOk result (λ c. (x y : ℤ) → holds c.metal x y ≡ metal_after edit (holds self.now.metal) x y) }
-        ensures keep { IfOk result (λ c. (x y : ℤ) → holds c.keep x y ≡ keep_after edit (holds self.now.keep) x y) }
+        requires stands { T.stand_for totals.old (plan_of rules.now).windows (in_layer self.now.metal) (squares_in self.now) }
+        requires clear_now { KeepsClear self.now.filled.raster (is_filled self.now.filled) (in_layer self.now.metal) }
+        requires clear { KeepsClear (plan_of rules.now).raster (fill_after (plan_of rules.now) edit (is_filled self.now.filled)) (metal_after edit (in_layer self.now.metal)) }
+        ensures metal { IfOk result (λ c. (x y : ℤ) → in_layer c.metal x y ≡ metal_after edit (in_layer self.now.metal) x y) }
+        ensures keep { IfOk result (λ c. (x y : ℤ) → in_layer c.keep x y ≡ keep_after edit (in_layer self.now.keep) x y) }
         ensures on { IfOk result (λ c. (i j : ℤ) → in_places c.out i j ≡ true → in_raster self.now.filled.raster i j ≡ true) }
         ensures left { IfOk result (λ c. (i j : ℤ) → left_by self.now.filled c.out i j ≡ fill_after (plan_of rules.now) edit (is_filled self.now.filled) i j) }
-        ensures low { let plan = plan_of rules.now in IfOk result (λ c. (a b : ℕ) → windows_in c.low a b ≡ low_windows plan (with_boxes plan (metal_after edit (holds self.now.metal)) (fill_after plan edit (is_filled self.now.filled))) a b) }
-        ensures pieces { let plan = plan_of rules.now in IfOk result (λ c. ArePieces plan.raster plan.spacing (metal_after edit (holds self.now.metal)) c.pieces.items) }
-        ensures keep_pieces { let plan = plan_of rules.now in IfOk result (λ c. ArePieces plan.raster (pos 0) (keep_after edit (holds self.now.keep)) c.keep_pieces.items) }
-        ensures stands { let plan = plan_of rules.now in IfOk result (λ c. T.stand_for totals.new plan.windows (holds c.metal) (metal_or_box self.now.filled.raster (left_by self.now.filled c.out) (holds c.metal))) }
-        ensures back { OnErr result (T.stand_for totals.new (plan_of rules.now).windows (holds self.now.metal) (squares_in self.now)) }
+        ensures low { let plan = plan_of rules.now in IfOk result (λ c. (a b : ℕ) → windows_in c.low a b ≡ low_windows plan (with_boxes plan (metal_after edit (in_layer self.now.metal)) (fill_after plan edit (is_filled self.now.filled))) a b) }
+        ensures pieces { let plan = plan_of rules.now in IfOk result (λ c. ArePieces plan.raster plan.spacing (metal_after edit (in_layer self.now.metal)) c.pieces.items) }
+        ensures keep_pieces { let plan = plan_of rules.now in IfOk result (λ c. ArePieces plan.raster (pos 0) (keep_after edit (in_layer self.now.keep)) c.keep_pieces.items) }
+        ensures stands { let plan = plan_of rules.now in IfOk result (λ c. T.stand_for totals.new plan.windows (in_layer c.metal) (metal_or_box self.now.filled.raster (left_by self.now.filled c.out) (in_layer c.metal))) }
+        ensures back { OnErr result (T.stand_for totals.new (plan_of rules.now).windows (in_layer self.now.metal) (squares_in self.now)) }
     {
         let edited = self.edited(alloc, rules, edit)?;
         let keep = kept_out(alloc, &self.keep, edit)?;

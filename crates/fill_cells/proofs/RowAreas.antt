@@ -16,7 +16,7 @@ use Rattle.fill_cells.specs.Mesh.{gaps, AreCuts, AreRowAreas}
 use Rattle.fill_cells.specs.steps.Parts.{AreShares}
 use Rattle.fill_cells.specs.steps.Within.{AreWithin}
 use Rattle.fill_cells.proofs.Gaps.{cut_le}
-use Rattle.fill_cells.proofs.Halving.{same_within, area_small}
+use Rattle.fill_area.proofs.SharedAreas.{same_within, area_small}
 
 -- the edges between which a square of a rectangle lies
 squares_bounds : (r : Rect) (x y : ℤ) → squares r x y ≡ true → (r.x1 ≤ℤ x) × (x <ℤ r.x2) × (r.y1 ≤ℤ y) × (y <ℤ r.y2)

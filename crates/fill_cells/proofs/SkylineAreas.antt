@@ -19,9 +19,9 @@ use Rattle.fill_base.proofs.Signed.{read, read_is, pos_fits, not_le, le_trans, l
 use Rattle.fill_spans.specs.Columns.{IsRisingBy}
 use Rattle.fill_region.specs.Squares.{covered}
 use Rattle.fill_cells.specs.steps.Skyline.{AreApart, IsOpen, IsSettled, IsSkyline}
-use Rattle.fill_cells.proofs.Halving.{area_small, same_within, summed}
+use Rattle.fill_area.proofs.SharedAreas.{LiesIn, and_no, and_yes, apart_sum, area_small, lies_in, of_none, same_within, summed}
 use Rattle.fill_cells.proofs.Lists.{covered_pushed}
-use Rattle.fill_cells.proofs.SharedAreas.{LiesIn, and_no, and_yes, apart_sum, hidden_part, lies_in, of_none}
+use Rattle.fill_cells.proofs.SharedAreas.{hidden_part}
 
 -- what `partition_point` asks of towers by their right edges, and what it answers
 pub left_first : (towers : List Rect) (column : ℤ) → AreApart towers → IsPartitionedBy (λ r. int_le r.x2 column) towers

@@ -19,9 +19,8 @@ use Rattle.fill_base.specs.Counts.{is_between}
 use Rattle.fill_base.specs.Squares.{squares, area_of}
 use Rattle.fill_region.specs.Squares.{covered}
 use Rattle.fill_cells.specs.steps.Skyline.{AreApart, GoesOn, IsColumns, IsNoMore, IsOpen, IsPassed, IsSettled, IsSkyline, without}
-use Rattle.fill_cells.proofs.SharedAreas.{apart_more}
+use Rattle.fill_area.proofs.SharedAreas.{apart_more, same_within}
 use Rattle.fill_cells.proofs.SkylineAreas.{right_of, tower_apart}
-use Rattle.fill_cells.proofs.Halving.{same_within}
 
 abbrev Left : Rect → Rect → Type 0
 Left a b = a.x2 ≤ℤ b.x1

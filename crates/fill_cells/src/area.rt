@@ -7,6 +7,7 @@ ghost use Rattle.fill_cells.specs.steps.Halves.{AreHalves};
 
 use crate::pieces::within;
 use crate::skyline::counted_area;
+use fill_area::shared_area;
 use fill_base::Rect;
 use std::alloc::{AllocError, Global};
 
@@ -78,16 +79,6 @@ fn meets(a: &Rect, b: &Rect) -> bool
     ensures { false ≡ result → (x y : ℤ) → squares a.now x y && squares b.now x y ≡ false }
 {
     (a.x1() < b.x2()) & (b.x1() < a.x2()) & (a.y1() < b.y2()) & (b.y1() < a.y2())
-}
-
-/// How many unit squares two rectangles share.
-pub fn shared_area(rect: &Rect, part: &Rect) -> i64
-    ensures { result ≡ pos (area_of (squares rect.now) part.now) }
-{
-    match rect.clip(part) {
-        Some(piece) => piece.area(),
-        None => 0,
-    }
 }
 
 /// The halves of a part in which many rectangles begin or end, cut across those edges of which there are more.

@@ -10,7 +10,6 @@ mod rows;
 mod shares;
 mod skyline;
 
-pub use area::shared_area;
 pub use cells::row_areas;
 pub use cuts::cuts_at;
 pub use rows::by_row;

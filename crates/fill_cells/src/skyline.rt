@@ -8,7 +8,7 @@ ghost use Rattle.fill_spans.specs.Columns.{IsRisingBy};
 ghost use Rattle.fill_region.specs.Squares.{covered};
 ghost use Rattle.fill_cells.specs.steps.Skyline.{AreApart, IsColumns, IsNoMore, IsOpen, IsPassed, IsSettled, IsSkyline, without};
 
-use crate::area::shared_area;
+use fill_area::shared_area;
 use fill_base::Rect;
 use std::alloc::AllocError;
 

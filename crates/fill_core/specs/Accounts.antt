@@ -1,6 +1,6 @@
 -- What a book is to its callers: rules, the metal and the keep-outs that it opened on, its history, and how much history it may have.
 use Rattle.std.specs.Prelude.{◌≡◌, ◌↔◌, ℕ, ◌+◌, ◌≤◌, ◌^◌, Bool, true, false, List, [], ◌∷◌, ◌++◌, length}
-use Rattle.fill_region.specs.Bands.{Band}
+use Rattle.fill_region.specs.Runs.{Sides}
 use Rattle.fill_text.specs.Rules.{Values}
 use Rattle.fill_text.specs.declared.script.Edit.{Edit}
 use Rattle.fill_job.specs.Basis.{layers_in}
@@ -19,8 +19,8 @@ use Rattle.fill_core.specs.declared.event.Reply.{Reply}
 
 pub record Account : Type 0 where
   pub rules : Values
-  pub opening : List Band
-  pub keep : List Band
+  pub opening : List Sides
+  pub keep : List Sides
   pub history : List Entry
   pub most : ℕ
 

@@ -1,6 +1,6 @@
 -- What a book is opened with. It stays so for good.
 use Rattle.std.specs.Prelude.{ℕ, List, [], None, false}
-use Rattle.fill_region.specs.Bands.{Band}
+use Rattle.fill_region.specs.Runs.{Sides}
 use Rattle.fill_text.specs.Rules.{Values}
 use Rattle.fill_job.specs.Basis.{layers_in}
 use Rattle.fill_job.specs.Plans.{Layers}
@@ -8,8 +8,8 @@ use Rattle.fill_job.specs.Plans.{Layers}
 -- the rules, the metal and the keep-outs, and how many events the history may have
 pub record Terms : Type 0 where
   pub rules : Values
-  pub opening : List Band
-  pub keep : List Band
+  pub opening : List Sides
+  pub keep : List Sides
   pub most : ℕ
 
 -- the metal and the keep-outs as sets

@@ -1,11 +1,8 @@
 -- The values of a rule file that is accepted make a plan.
-use Rattle.std.proofs.Common.{ℤ, Bool, true, false, List}
-use Rattle.fill_base.specs.Limits.{IsLength, IsSpacing}
-use Rattle.fill_base.specs.Coordinates.{IsCoordinate}
+use Rattle.std.proofs.Common.{Bool, true, false}
 use Rattle.fill_area.proofs.GridTests.{all_clip}
 use Rattle.fill_area.specs.Grid.{IsGrid}
 use Rattle.fill_text.specs.Rules.{frame_of, whole_windows, windows_with}
-use Rattle.fill_text.specs.declared.keys.NumberKey.{NumberKey}
 use Rattle.fill_text.specs.declared.keys.NumberKey.TheVariants.{BoxW, BoxH, StepX, StepY, OriginX, OriginY, Spacing, FillSpacing, Min, TileNx, TileNy}
 use Rattle.fill_text.proofs.Accepted.{each_within, fit_together}
 use Rattle.fill_text.proofs.GridTests.{is_grid_facts}

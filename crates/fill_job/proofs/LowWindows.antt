@@ -9,7 +9,7 @@ use Rattle.fill_base.specs.declared.rect.Rect.{Rect}
 use Rattle.fill_area.specs.Axes.{IsContaining, IsIndex, axis_begin, axis_end}
 use Rattle.fill_area.specs.Grid.{Grid}
 use Rattle.fill_area.specs.declared.axis.Axis.{Axis}
-use Rattle.fill_region.specs.Bands.{Band, holds}
+use Rattle.fill_region.specs.Runs.{Sides, holds}
 use Rattle.fill_raster.specs.Axes.{box_begin, box_end}
 use Rattle.fill_size.specs.Distance.{InConflict, IsNear}
 use Rattle.fill_size.proofs.Ranges.{grown_conflict, squares_inside, squares_true}
@@ -43,14 +43,14 @@ no_further x = record { above = omega (arith, ints); below = omega (arith, ints)
 index_le : (c d a : ℕ) → IsIndex c d a → (pos c ≤ℤ pos a) × (pos a <ℤ pos d)
 index_le c d a is = let low = is.0 in let high = is.1 in (omega (arith, ints), omega (arith, ints))
 
-pub record LowIn (low : List Band) (c0 c1 r0 r1 : ℕ) : Type 0 where
+pub record LowIn (low : List Sides) (c0 c1 r0 r1 : ℕ) : Type 0 where
   pub a : ℕ
   pub b : ℕ
   pub column : IsIndex c0 c1 a
   pub row : IsIndex r0 r1 b
   pub is_low : holds low (pos a) (pos b) ≡ true
 
-pub low_in_range : (low : List Band) (r : Rect) (c0 c1 r0 r1 : ℕ) → r.x1 ≡ pos c0 → r.y1 ≡ pos r0 → r.x2 ≡ pos c1 → r.y2 ≡ pos r1 → InConflict (holds low) (squares r) (pos 0) ↔ LowIn low c0 c1 r0 r1
+pub low_in_range : (low : List Sides) (r : Rect) (c0 c1 r0 r1 : ℕ) → r.x1 ≡ pos c0 → r.y1 ≡ pos r0 → r.x2 ≡ pos c1 → r.y2 ≡ pos r1 → InConflict (holds low) (squares r) (pos 0) ↔ LowIn low c0 c1 r0 r1
 low_in_range low r c0 c1 r0 r1 e1 e2 e3 e4 = (
   (λ c.
       let at = squares_inside r c.x c.y c.square in
@@ -84,7 +84,7 @@ is_le a b h = grind (arith, ints)
 containing : (axis : Axis) (a : ℕ) (lo hi : ℤ) → a < axis.count → int_le (axis_begin axis a) lo && int_le hi (axis_end axis a) ≡ true → IsContaining axis lo hi a
 containing axis a lo hi lt h = let parts = and_parts (int_le (axis_begin axis a) lo) (int_le hi (axis_end axis a)) h in (lt, is_le _ _ parts.0, is_le _ _ parts.1)
 
-pub in_low_is : (plan : Plan) (low : List Band) (i j : ℤ) (r : Rect) → r.x1 ≡ box_begin plan.raster.across i → r.y1 ≡ box_begin plan.raster.up j → r.x2 ≡ box_end plan.raster.across i → r.y2 ≡ box_end plan.raster.up j
+pub in_low_is : (plan : Plan) (low : List Sides) (i j : ℤ) (r : Rect) → r.x1 ≡ box_begin plan.raster.across i → r.y1 ≡ box_begin plan.raster.up j → r.x2 ≡ box_end plan.raster.across i → r.y2 ≡ box_end plan.raster.up j
     → IsTrue (in_window_of plan (windows_in low) i j) ↔ HoldsIn plan.windows low (sides_of r)
 unfolding in_window_of some_pair
 in_low_is plan low i j r e1 e2 e3 e4 =
@@ -112,7 +112,7 @@ in_low_is plan low i j r e1 e2 e3 e4 =
 -- ---- suitable places
 
 -- a place that nothing takes is suitable where its box lies in a low window
-pub free_is : (plan : Plan) (layers : Layers) (low : List Band) (i j : ℤ) (r : Rect) (taken b : Bool)
+pub free_is : (plan : Plan) (layers : Layers) (low : List Sides) (i j : ℤ) (r : Rect) (taken b : Bool)
     → r.x1 ≡ box_begin plan.raster.across i → r.y1 ≡ box_begin plan.raster.up j → r.x2 ≡ box_end plan.raster.across i → r.y2 ≡ box_end plan.raster.up j
     → taken ≡ is_taken plan layers i j → taken ≡ false → (IsTrue b ↔ HoldsIn plan.windows low (sides_of r)) → b ≡ is_suitable plan layers (windows_in low) i j
 free_is plan layers low i j r taken b e1 e2 e3 e4 taken_is free held =
@@ -123,7 +123,7 @@ free_is plan layers low i j r taken b e1 e2 e3 e4 taken_is free held =
 -- ---- equal read sets
 
 -- what was read is what there is to read now
-pub read_matches : (p : Basis) (rules : Values) (layers : Layers) (metal keep low : List Band) (tile : ℕ) (r m k w : Bool) → (IsTrue r ↔ (p.rules ≡ rules)) → (IsTrue m ↔ ((x y : ℤ) → holds p.metal x y ≡ holds metal x y))
+pub read_matches : (p : Basis) (rules : Values) (layers : Layers) (metal keep low : List Sides) (tile : ℕ) (r m k w : Bool) → (IsTrue r ↔ (p.rules ≡ rules)) → (IsTrue m ↔ ((x y : ℤ) → holds p.metal x y ≡ holds metal x y))
     → (IsTrue k ↔ ((x y : ℤ) → holds p.keep x y ≡ holds keep x y))
     → (IsTrue w ↔ ((a b : ℕ) → windows_in p.low a b ≡ (windows_in low a b && touches (plan_of p.rules) tile a b)))
     → ((x y : ℤ) → holds metal x y ≡ (layers.metal x y && in_halo (plan_of rules).raster tile (plan_of rules).spacing x y))
@@ -145,21 +145,21 @@ read_matches p rules layers metal keep low tile r m k w same_rules same_metal sa
 
 -- ---- the test of the code
 
-pub held_low : (g : Grid) (low : List Band) (r : Rect) (c0 c1 r0 r1 : ℕ) → ((a : ℕ) → IsIndex c0 c1 a ↔ IsContaining g.across r.x1 r.x2 a) → ((b : ℕ) → IsIndex r0 r1 b ↔ IsContaining g.up r.y1 r.y2 b)
+pub held_low : (g : Grid) (low : List Sides) (r : Rect) (c0 c1 r0 r1 : ℕ) → ((a : ℕ) → IsIndex c0 c1 a ↔ IsContaining g.across r.x1 r.x2 a) → ((b : ℕ) → IsIndex r0 r1 b ↔ IsContaining g.up r.y1 r.y2 b)
     → LowIn low c0 c1 r0 r1 ↔ HoldsIn g low (sides_of r)
 held_low g low r c0 c1 r0 r1 across up = (
   (λ l. record { a = l.a; b = l.b; across = (across l.a).0 l.column; up = (up l.b).0 l.row; is_low = l.is_low }),
   (λ h. record { a = h.a; b = h.b; column = (across h.a).1 h.across; row = (up h.b).1 h.up; is_low = h.is_low }),
 )
 
-pub none_held : (g : Grid) (low : List Band) (r : Rect) (c0 c1 r0 r1 : ℕ) → ((a : ℕ) → IsIndex c0 c1 a ↔ IsContaining g.across r.x1 r.x2 a) → ((b : ℕ) → IsIndex r0 r1 b ↔ IsContaining g.up r.y1 r.y2 b)
+pub none_held : (g : Grid) (low : List Sides) (r : Rect) (c0 c1 r0 r1 : ℕ) → ((a : ℕ) → IsIndex c0 c1 a ↔ IsContaining g.across r.x1 r.x2 a) → ((b : ℕ) → IsIndex r0 r1 b ↔ IsContaining g.up r.y1 r.y2 b)
     → (c1 ≤ c0) ⊎ ((c0 < c1) × (r1 ≤ r0)) → IsTrue false ↔ HoldsIn g low (sides_of r)
 none_held g low r c0 c1 r0 r1 across up empty = (
   (λ h. absurd (let e : false ≡ true = h in cc)),
   (λ h. let l = (held_low g low r c0 c1 r0 r1 across up).1 h in absurd (nothing l empty)),
 )
   where
-    nothing : {low : List Band} {c0 c1 r0 r1 : ℕ} → LowIn low c0 c1 r0 r1 → (c1 ≤ c0) ⊎ ((c0 < c1) × (r1 ≤ r0)) → ⊥
+    nothing : {low : List Sides} {c0 c1 r0 r1 : ℕ} → LowIn low c0 c1 r0 r1 → (c1 ≤ c0) ⊎ ((c0 < c1) × (r1 ≤ r0)) → ⊥
     nothing l (inl h) = let a = l.column.0 in let b = l.column.1 in omega arith
     nothing l (inr h) = let a = l.row.0 in let b = l.row.1 in let k = h.1 in omega arith
 
@@ -173,7 +173,7 @@ conflict_or_not p r s some =
       | inr h ↦ inr (λ c. let e : some_within p (r.x1 -ℤ s) (r.y1 -ℤ s) (r.x2 +ℤ s) (r.y2 +ℤ s) ≡ true = found.1 (near.1 c) in let f : true ≡ false = sym e ∙ h in absurd (cc))
     ]
 
-pub held_in_range : (g : Grid) (low : List Band) (r q : Rect) (c0 c1 r0 r1 : ℕ) (b : Bool) → ((a : ℕ) → IsIndex c0 c1 a ↔ IsContaining g.across r.x1 r.x2 a) → ((b : ℕ) → IsIndex r0 r1 b ↔ IsContaining g.up r.y1 r.y2 b)
+pub held_in_range : (g : Grid) (low : List Sides) (r q : Rect) (c0 c1 r0 r1 : ℕ) (b : Bool) → ((a : ℕ) → IsIndex c0 c1 a ↔ IsContaining g.across r.x1 r.x2 a) → ((b : ℕ) → IsIndex r0 r1 b ↔ IsContaining g.up r.y1 r.y2 b)
     → q.x1 ≡ pos c0 → q.y1 ≡ pos r0 → q.x2 ≡ pos c1 → q.y2 ≡ pos r1 → (IsTrue b ↔ ¬ InConflict (holds low) (squares q) (pos 0)) → IsTrue (not b) ↔ HoldsIn g low (sides_of r)
 held_in_range g low r q c0 c1 r0 r1 b across up e1 e2 e3 e4 clear =
     let range = low_in_range low q c0 c1 r0 r1 e1 e2 e3 e4 in

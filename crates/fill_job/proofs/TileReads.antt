@@ -13,7 +13,7 @@ use Rattle.fill_area.specs.Axes.{IsAxis, IsIndex, IsTouching, IsExtent, axis_beg
 use Rattle.fill_area.specs.Grid.{IsGrid}
 use Rattle.fill_area.specs.declared.axis.Axis.{Axis}
 use Rattle.fill_area.proofs.Axes as axes
-use Rattle.fill_region.specs.Bands.{Band, holds}
+use Rattle.fill_region.specs.Runs.{Sides, holds}
 use Rattle.fill_raster.specs.Lattice.{in_halo, tile_left, tile_right, tile_bottom, tile_top}
 use Rattle.fill_text.specs.Rules.{Values}
 use Rattle.fill_job.specs.Basis.{layers_in, windows_in}
@@ -69,7 +69,7 @@ axis_touched axis lo hi l h c0 c1 a is le he range =
         let e : IsExtent axis a (axis_begin axis a) (axis_end axis a) = axes.extent axis.first axis.length axis.step axis.count a is lt in
         clamped lo hi l h (axis_begin axis a) (axis_end axis a) le he e.some e.low e.high
 
-pub part_touched : (plan : Plan) (tile : ℕ) (low part : List Band) (r : Rect) (c0 c1 r0 r1 : ℕ) → IsGrid plan.windows
+pub part_touched : (plan : Plan) (tile : ℕ) (low part : List Sides) (r : Rect) (c0 c1 r0 r1 : ℕ) → IsGrid plan.windows
     → r.x1 ≡ int_max (tile_left plan.raster tile -ℤ pos 0) lowest → r.y1 ≡ int_max (tile_bottom plan.raster tile -ℤ pos 0) lowest
     → r.x2 ≡ int_min (tile_right plan.raster tile +ℤ pos 0) highest → r.y2 ≡ int_min (tile_top plan.raster tile +ℤ pos 0) highest
     → ((a : ℕ) → IsIndex c0 c1 a ↔ IsTouching plan.windows.across r.x1 r.x2 a) → ((b : ℕ) → IsIndex r0 r1 b ↔ IsTouching plan.windows.up r.y1 r.y2 b)
@@ -81,7 +81,7 @@ part_touched plan tile low part r c0 c1 r0 r1 grid e1 e2 e3 e4 across up is a b 
     is (pos a) (pos b) ∙ rw (x, y) refl
 
 -- the windows of a set that touch the tile are those of another set, window by window
-pub part_same : (plan : Plan) (tile : ℕ) (part low : List Band) (r : Rect) (c0 c1 r0 r1 : ℕ) (s : Bool) → IsGrid plan.windows
+pub part_same : (plan : Plan) (tile : ℕ) (part low : List Sides) (r : Rect) (c0 c1 r0 r1 : ℕ) (s : Bool) → IsGrid plan.windows
     → r.x1 ≡ int_max (tile_left plan.raster tile -ℤ pos 0) lowest → r.y1 ≡ int_max (tile_bottom plan.raster tile -ℤ pos 0) lowest
     → r.x2 ≡ int_min (tile_right plan.raster tile +ℤ pos 0) highest → r.y2 ≡ int_min (tile_top plan.raster tile +ℤ pos 0) highest
     → ((a : ℕ) → IsIndex c0 c1 a ↔ IsTouching plan.windows.across r.x1 r.x2 a) → ((b : ℕ) → IsIndex r0 r1 b ↔ IsTouching plan.windows.up r.y1 r.y2 b)
@@ -113,7 +113,7 @@ part_same plan tile part low r c0 c1 r0 r1 s grid e1 e2 e3 e4 across up inside s
     none false true h = refl
     none false false h = refl
 
-pub part_inside : (low part : List Band) (c0 c1 r0 r1 : ℕ) → ((x y : ℤ) → holds part x y ≡ (holds low x y && (is_between (pos c0) (pos c1) x && is_between (pos r0) (pos r1) y)))
+pub part_inside : (low part : List Sides) (c0 c1 r0 r1 : ℕ) → ((x y : ℤ) → holds part x y ≡ (holds low x y && (is_between (pos c0) (pos c1) x && is_between (pos r0) (pos r1) y)))
     → (x y : ℤ) → holds part x y ≡ true → (pos 0 ≤ℤ x) × (pos 0 ≤ℤ y)
 part_inside low part c0 c1 r0 r1 is x y h =
     let parts = and_parts (holds low x y) (is_between (pos c0) (pos c1) x && is_between (pos r0) (pos r1) y) (sym (is x y) ∙ h) in
@@ -132,15 +132,15 @@ abbrev pub set_of : Values → Layers → WindowSet → ReadSet
 set_of rules layers low = record { rules = rules; layers = layers; low = low }
 
 -- rules, the metal within the halo, the keep-outs between the edges, and the windows that touch the tile are a read set
-pub read_is_set : (rules held : Values) (layers : Layers) (metal piece keep between low part : List Band) (tile : ℕ) → held ≡ rules → piece ≡ metal → between ≡ keep
+pub read_is_set : (rules held : Values) (layers : Layers) (metal piece keep between low part : List Sides) (tile : ℕ) → held ≡ rules → piece ≡ metal → between ≡ keep
     → ((x y : ℤ) → holds metal x y ≡ (layers.metal x y && in_halo (plan_of rules).raster tile (plan_of rules).spacing x y))
     → ((x y : ℤ) → holds keep x y ≡ (layers.keep x y && in_halo (plan_of rules).raster tile (pos 0) x y))
     → ((a b : ℕ) → windows_in part a b ≡ (windows_in low a b && touches (plan_of rules) tile a b))
     → set_of held (layers_in piece between) (windows_in part) ≡ read_set rules layers (windows_in low) tile
 read_is_set rules held layers metal piece keep between low part tile same at on clip cut touched =
-    let metal_is : (x y : ℤ) → holds piece x y ≡ (layers.metal x y && in_halo (plan_of rules).raster tile (plan_of rules).spacing x y) = λ x y. ap (λ (b : List Band). holds b x y) at ∙ clip x y in
-    let keep_is : (x y : ℤ) → holds between x y ≡ (layers.keep x y && in_halo (plan_of rules).raster tile (pos 0) x y) = λ x y. ap (λ (b : List Band). holds b x y) on ∙ cut x y in
+    let metal_is : (x y : ℤ) → holds piece x y ≡ (layers.metal x y && in_halo (plan_of rules).raster tile (plan_of rules).spacing x y) = λ x y. ap (λ (b : List Sides). holds b x y) at ∙ clip x y in
+    let keep_is : (x y : ℤ) → holds between x y ≡ (layers.keep x y && in_halo (plan_of rules).raster tile (pos 0) x y) = λ x y. ap (λ (b : List Sides). holds b x y) on ∙ cut x y in
     λ k. record { rules = same k; layers = record { metal = λ x y. metal_is x y k; keep = λ x y. keep_is x y k }; low = λ a b. touched a b k }
 
-pub low_touches : (rules held : Values) (low part : List Band) (tile : ℕ) → held ≡ rules → ((a b : ℕ) → windows_in part a b ≡ (windows_in low a b && touches (plan_of rules) tile a b)) → (a b : ℕ) → windows_in part a b ≡ true → touches (plan_of held) tile a b ≡ true
+pub low_touches : (rules held : Values) (low part : List Sides) (tile : ℕ) → held ≡ rules → ((a b : ℕ) → windows_in part a b ≡ (windows_in low a b && touches (plan_of rules) tile a b)) → (a b : ℕ) → windows_in part a b ≡ true → touches (plan_of held) tile a b ≡ true
 low_touches rules held low part tile same is a b h = rw same (and_parts (windows_in low a b) (touches (plan_of rules) tile a b) (sym (is a b) ∙ h)).1

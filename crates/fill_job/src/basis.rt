@@ -1,12 +1,12 @@
 //! What was read for the work on one tile.
 ghost use Rattle.std.specs.Prelude.{◌≡◌, ◌≤ℤ◌, ℤ, pos, true};
-ghost use Rattle.fill_region.specs.Bands.{holds};
+ghost use Rattle.fill_region.specs.Runs.{holds};
 
 use crate::shared::{Piece, SharedRules};
 use fill_region::Region;
 
 /// The rules, metal and keep-outs as unit squares in database units, and low windows: the window in column `a` and row `b` is the unit
-/// square `(a, b)`. So whether some window of a range is low is one search, however many windows hold a box.
+/// square `(a, b)`. So whether some window of a range is low is one look at the runs of low windows, however many windows hold a box.
 #[derive(Drop)]
 pub struct Basis {
     pub(crate) rules: SharedRules,

@@ -1,6 +1,6 @@
 //! The work on one tile, to be done apart from the design.
 ghost use Rattle.std.specs.Prelude.{◌≡◌, ◌&&◌, ◌<◌, ℕ, ℤ, pos, true, IfOk, IfErr};
-ghost use Rattle.fill_region.specs.Bands.{holds};
+ghost use Rattle.fill_region.specs.Runs.{holds};
 ghost use Rattle.fill_raster.specs.Lattice.{in_halo, tiles};
 ghost use Rattle.fill_job.specs.Basis.{plan_by, read_by, windows_in};
 ghost use Rattle.fill_job.specs.Plans.{Layers, plan_of};

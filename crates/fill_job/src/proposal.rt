@@ -1,6 +1,6 @@
 //! The places of one tile that a job proposes to fill.
 ghost use Rattle.std.specs.Prelude.{◌≡◌, ◌↔◌, ◌&&◌, ◌<◌, ℕ, ℤ, pos, true, IsTrue};
-ghost use Rattle.fill_region.specs.Bands.{holds};
+ghost use Rattle.fill_region.specs.Runs.{holds};
 ghost use Rattle.fill_raster.specs.Lattice.{in_halo, tiles};
 ghost use Rattle.fill_raster.specs.Marks.{count_marked, is_marked};
 ghost use Rattle.fill_job.specs.Basis.{plan_by, read_by, windows_in};

@@ -1,7 +1,7 @@
 //! Rules and metal that jobs and books hold together.
 ghost use Rattle.std.specs.Arc.{arc_value};
 ghost use Rattle.std.specs.Prelude.{◌≡◌, List, IfOk};
-ghost use Rattle.fill_region.specs.Bands.{Band};
+ghost use Rattle.fill_region.specs.Runs.{Sides};
 ghost use Rattle.fill_raster.specs.Lattice.{KeepsPitch};
 ghost use Rattle.fill_text.specs.Rules as spec;
 ghost use Rattle.fill_text.specs.Keys.{IsWithin};
@@ -113,9 +113,9 @@ pub struct Piece {
 impl Model for Piece {
     ghost use Rattle.std.specs.Prelude.{List};
     ghost use Rattle.std.specs.Arc.{arc_value};
-    ghost use Rattle.fill_region.specs.Bands.{Band};
+    ghost use Rattle.fill_region.specs.Runs.{Sides};
 
-    ghost Value = { List Band };
+    ghost Value = { List Sides };
 
     ghost view = { λ p. arc_value p.metal };
 }

@@ -3,7 +3,7 @@ ghost use Rattle.std.specs.Prelude.{◌≡◌, ◌↔◌, ◌&&◌, ◌||◌, �
 ghost use Rattle.std.specs.Ordering.{int_eq};
 ghost use Rattle.fill_base.specs.Counts.{is_between, span_len};
 ghost use Rattle.fill_base.specs.Sides.{sides_of};
-ghost use Rattle.fill_region.specs.Bands.{holds};
+ghost use Rattle.fill_region.specs.Runs.{holds};
 ghost use Rattle.fill_raster.specs.Lattice.{in_raster, in_tile, tiles};
 ghost use Rattle.fill_raster.specs.Marks.{in_block, is_marked};
 ghost use Rattle.fill_text.specs.Rules as rules;
@@ -69,7 +69,7 @@ impl Basis {
         Ok(reaches)
     }
 
-    /// Marks the places of a part of a row whose boxes a region meets at a distance, by one walk along each of its rows around them.
+    /// Marks the places of a part of a row whose boxes a region meets at a distance: near each of its runs in the lines around them.
     fn mark_near(
         &self,
         region: &Region,

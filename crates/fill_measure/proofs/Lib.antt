@@ -1,7 +1,6 @@
 pub mod SumsAbove
 pub mod Amid
 pub mod Edging
-pub mod Dividing
 pub mod Ends
 pub mod Listing
 pub mod Chunking

@@ -1,12 +1,8 @@
 //! The prefix sums of bands of neighbouring rows of cells, measured in parallel straight from rectangles.
 ghost use Rattle.std.specs.Prelude.{◌≡◌, ◌+◌, ◌*◌, ◌<◌, ◌≤◌, IfOk};
-ghost use Rattle.std.specs.List.{flat_map};
-ghost use Rattle.std.specs.Vec.{vec_items};
-ghost use Rattle.fill_region.specs.Squares.{covered};
 ghost use Rattle.fill_cells.specs.Mesh.{gaps};
-ghost use Rattle.fill_measure.specs.steps.Meshes.{AreAllPrefixSumsOf, ArePrefixSumsOf, AreBandsOf, IsBandOf};
+ghost use Rattle.fill_measure.specs.steps.Meshes.{AreAllPrefixSumsOf, ArePrefixSumsOf, AreBandsOf, IsBandOf, squares_of};
 ghost use Rattle.fill_measure.specs.steps.Chunks.{AreChunkLists};
-ghost use Rattle.fill_measure.specs.steps.Shapes.{squares_of};
 
 use crate::lists::{Chunk, by_chunks, row_of};
 use crate::mesh::Mesh;
@@ -27,12 +23,10 @@ impl Mesh<'_> {
         &self,
         rt: &(impl Threads + Sync),
         alloc: Global,
-        lists: &[Vec<Rect>],
     ) -> Result<PrefixSums, AllocError>
-        requires shapes { squares_of self.now.shapes ≡ covered (flat_map vec_items lists.now) }
         ensures { IfOk result (λ c. AreAllPrefixSumsOf self.now c) }
     {
-        let listed = by_chunks(rt, alloc, lists, self.up)?;
+        let listed = by_chunks(rt, alloc, self.lists, self.up)?;
         let rows = self.up.len() - 1;
         let height = rows.div_ceil(MOST_BANDS).max(1);
         let bands = self.bands(rt, alloc, &listed, height)?;
@@ -48,7 +42,7 @@ impl Mesh<'_> {
         height: usize,
     ) -> Result<Vec<Vec<i64>>, AllocError>
         requires height { 0 < height }
-        requires chunks { AreChunkLists self.now.up.now (squares_of self.now.shapes) chunks.now }
+        requires chunks { AreChunkLists self.now.up.now (squares_of self.now) chunks.now }
         ensures { IfOk result (λ v. AreBandsOf self.now height v.items) }
     {
         let rows = self.up.len() - 1;
@@ -59,7 +53,7 @@ impl Mesh<'_> {
                 || -> Vec<Vec<Rect>> { Vec::new(alloc) },
                 move |held: &mut Vec<Vec<Rect>>, k: usize| -> Result<Vec<i64>, AllocError>
                     requires within { (k * height < rows) × (rows ≡ gaps self.now.up.now) }
-                    requires chunks { AreChunkLists self.now.up.now (squares_of self.now.shapes) chunks.now }
+                    requires chunks { AreChunkLists self.now.up.now (squares_of self.now) chunks.now }
                     ensures { IfOk result (λ v. IsBandOf self.entry.now height k v.items) }
                 {
                     let from = k * height;
@@ -79,7 +73,7 @@ impl Mesh<'_> {
         from: usize,
         count: usize,
     ) -> Result<Vec<i64>, AllocError>
-        requires chunks { AreChunkLists self.now.up.now (squares_of self.now.shapes) chunks.now }
+        requires chunks { AreChunkLists self.now.up.now (squares_of self.now) chunks.now }
         requires within { from + count ≤ gaps self.now.up.now }
         ensures { IfOk result (λ v. ArePrefixSumsOf self.now from (count + 1) v.items) }
     {

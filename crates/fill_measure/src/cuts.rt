@@ -1,14 +1,12 @@
 //! The cuts at which the windows along an axis begin or end, and further ones between them.
 ghost use Rattle.std.specs.Prelude.{◌≡◌, ◌^◌, ℤ, pos, ◌≤ℤ◌, IfOk, OnOk, All};
 ghost use Rattle.std.specs.List.{Contains};
-ghost use Rattle.fill_area.specs.Axes.{IsAxis};
 ghost use Rattle.fill_area.specs.Parts.{AreParts};
 ghost use Rattle.fill_base.specs.Coordinates.{IsCoordinate};
 ghost use Rattle.fill_cells.specs.Mesh.{AreCuts};
-ghost use Rattle.fill_measure.specs.steps.Divided.{AreEven};
 ghost use Rattle.fill_measure.specs.steps.Ends.{HoldEnds};
 
-use fill_area::{Axis, Parts};
+use fill_area::Parts;
 use fill_cells::cuts_at;
 use std::alloc::{AllocError, Global};
 
@@ -142,20 +140,4 @@ fn ends_of(alloc: Global, parts: Parts) -> Result<Vec<i64>, AllocError>
         ends.push(end)?;
     }
     Ok(ends)
-}
-
-/// The cuts at which spans side by side begin, and the one at which the last of them ends.
-pub(crate) fn side_by_side(alloc: Global, axis: Axis) -> Result<Vec<i64>, AllocError>
-    requires axis { IsAxis axis }
-    requires touching { axis.length ≡ axis.step }
-    ensures { IfOk result (λ v. AreEven axis v.items) }
-{
-    let mut cuts = Vec::with_capacity(alloc, axis.count as usize + 1)?;
-    for a in 0..axis.count {
-        let (begin, _) = axis.extent(a);
-        cuts.push(begin)?;
-    }
-    let (_, end) = axis.extent(axis.count - 1);
-    cuts.push(end)?;
-    Ok(cuts)
 }

@@ -1,23 +1,13 @@
-//! Shapes under a mesh of cuts.
+//! Rectangles under a mesh of cuts.
 ghost use Rattle.fill_cells.specs.Mesh.{AreCuts};
 
 use fill_base::Rect;
-use fill_region::Region;
 
-/// What has squares under a mesh.
-#[derive(Clone, Copy)]
-pub(crate) enum Shapes<'a> {
-    /// The rectangles of lists, which may overlap.
-    Rects(&'a [Vec<Rect>]),
-    /// A region.
-    Region(&'a Region),
-}
-
-/// Shapes, and the cuts across and upwards that cut them into cells.
+/// Lists of rectangles, which may overlap, and the cuts across and upwards that cut them into cells.
 #[derive(Clone, Copy)]
 pub(crate) struct Mesh<'a> {
-    /// The shapes.
-    pub(crate) shapes: Shapes<'a>,
+    /// The rectangles.
+    pub(crate) lists: &'a [Vec<Rect>],
     /// The cuts across, from left to right.
     pub(crate) across: &'a [i64],
     /// The cuts upwards.

@@ -1,7 +1,7 @@
 //! How many covered squares lie below and left of each crossing of two cuts: an area between cuts is a difference of such numbers.
 ghost use Rattle.std.specs.Prelude.{◌≡◌, ◌+◌, ◌-◌, ◌*◌, ◌<◌, ◌≤◌, pos, IfOk, OnOk, length, replicate};
 ghost use Rattle.fill_cells.specs.Mesh.{gaps};
-ghost use Rattle.fill_measure.specs.steps.Meshes.{AreAllPrefixSumsOf, AreBelow, AreCellsOf, ArePrefixSumsOf, AreBandsOf, IsBandOf, IsRowOf};
+ghost use Rattle.fill_measure.specs.steps.Meshes.{AreAllPrefixSumsOf, AreBelow, ArePrefixSumsOf, AreBandsOf, IsBandOf, IsRowOf};
 
 use crate::mesh::Mesh;
 use std::alloc::{AllocError, Global};
@@ -48,26 +48,6 @@ impl Mesh<'_> {
             prefix_sums.push(prefix_sums[below + i + 1] + total)?;
         }
         Ok(())
-    }
-
-    /// The prefix sums by the areas of all cells, row by row, as one band.
-    pub(crate) fn prefix_sums_of(
-        &self,
-        alloc: Global,
-        cells: &[i64],
-    ) -> Result<PrefixSums, AllocError>
-        requires { AreCellsOf self.now cells.now }
-        ensures { IfOk result (λ c. AreAllPrefixSumsOf self.now c) }
-    {
-        let (columns, rows) = (self.across.len() - 1, self.up.len() - 1);
-        let mut prefix_sums = self.lowest(alloc, rows)?;
-        for j in 0..rows {
-            let row = &cells[j * columns..(j + 1) * columns];
-            self.add_cut(0, j, row, &mut prefix_sums)?;
-        }
-        let mut bands = Vec::new(alloc);
-        bands.push(prefix_sums)?;
-        self.put_together(alloc, rows, bands)
     }
 
     /// The prefix sums of all bands of `height` rows, with what lies below each.

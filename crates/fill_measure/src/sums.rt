@@ -9,7 +9,7 @@ use crate::prefix_sums::PrefixSums;
 use crate::sides::Sides;
 use fill_area::Windows;
 
-/// What the areas of windows are differences of. It holds nothing of the shapes that were measured, so these may be let go of
+/// What the areas of windows are differences of. It holds nothing of the rectangles that were measured, so these may be let go of
 /// before an area is asked for.
 #[derive(Drop)]
 pub struct WindowSums {

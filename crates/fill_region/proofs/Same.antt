@@ -1,55 +1,92 @@
--- A set of squares has one canonical list of bands.
-use Rattle.std.proofs.Common.{◌≡◌, ℤ, ◌≤ℤ◌, ◌<ℤ◌, List, [], ◌∷◌, refl, arith, ap, ◌∙◌, sym, true, false}
-use Rattle.std.specs.Prelude.{int_le}
-use Rattle.std.proofs.lemmas.Int.{ints, by_lt_z}
-use Rattle.fill_base.proofs.Signed.{lt_le}
-use Rattle.fill_spans.specs.Spans.{floor, ceiling}
-use Rattle.fill_spans.proofs.Canonical.{equal_sets}
-use Rattle.fill_region.specs.Bands.{Band, row_from, holds, AreBands, IsRegion}
-use Rattle.fill_region.proofs.Stack.{row_below, row_canonical}
-use Rattle.fill_region.proofs.Sweeping.{nothing_canonical}
+-- A set has one list of runs.
+use Rattle.std.proofs.Common.{◌≡◌, zero, suc, ℤ, ◌<ℤ◌, true, List, [], ◌∷◌, refl, sym, ◌∙◌, ap, arith, ◌⊎◌, inl, inr, ⊎_elim, subst, true≢false}
+use Rattle.std.specs.List.{Contains}
+use Rattle.std.proofs.lemmas.Int.{ints}
+use Rattle.std.proofs.lemmas.List.Elements.{All-contains}
+use Rattle.fill_base.proofs.Between.{is_between_true}
+use Rattle.fill_region.specs.Runs.{Sides, IsRun, has, holds, Precedes, AreInOrder, AreRuns}
+use Rattle.fill_region.specs.Laws.{EqualSetsAreEqual}
+use Rattle.fill_region.proofs.Intervals.{same_run, run_alike}
+use Rattle.fill_region.proofs.Members.{either}
+use Rattle.fill_region.proofs.Levels.{le_self}
 
-le_here : (e y : ℤ) → e ≤ℤ y → int_le e y ≡ true
-le_here e y h = grind (arith, ints)
+among_cons : (t x : Sides) (rest : List Sides) → Contains (t ∷ rest) x → (t ≡ x) ⊎ Contains rest x
+among_cons t x rest (zero, lt, at) = inl at
+among_cons t x rest (suc k, lt, at) = inr (k, omega (arith, lt), at)
 
-not_here : (e y : ℤ) → y <ℤ e → int_le e y ≡ false
-not_here e y h = grind (arith, ints)
+pub first_in : (t : Sides) (rest : List Sides) → Contains (t ∷ rest) t
+first_in t rest = (zero, omega arith, refl)
 
-same_le : (e : ℤ) → e ≤ℤ e
-same_le e = omega (arith, ints)
+pub later_in : (t x : Sides) (rest : List Sides) → Contains rest x → Contains (t ∷ rest) x
+later_in t x rest (k, lt, at) = (suc k, omega (arith, lt), at)
 
--- at its bottom a band's row begins
-begins : (b : Band) (hi : ℤ) (d : List ℤ) (bs : List Band) → AreBands b.0 b.1 bs hi → row_from d (b ∷ bs) b.0 ≡ b.1
-begins b hi d bs h = rw (le_here b.0 b.0 (same_le b.0)) (row_below b.0 hi b.0 b.1 bs h (same_le b.0))
+nothing : (x : Sides) → Contains [] x → ⊥
+nothing x (k, lt, at) = omega (arith, lt)
 
--- below it there is still the row before
-before : (b : Band) (y : ℤ) (d : List ℤ) (bs : List Band) → y <ℤ b.0 → row_from d (b ∷ bs) y ≡ d
-before b y d bs lt = rw (not_here b.0 y lt) refl
+-- ---- the order
 
-pub same_bands : (lo hi : ℤ) (d : List ℤ) (xs ys : List Band) → AreBands lo d xs hi → AreBands lo d ys hi
-    → ((y : ℤ) → lo <ℤ y → row_from d xs y ≡ row_from d ys y) → xs ≡ ys
-same_bands lo hi d [] [] ha hb same = refl
-same_bands lo hi d [] (b ∷ ys) ha hb same = absurd (hb.1.1.0 (sym (begins b hi d ys hb.1.1.1) ∙ sym (same b.0 hb.0)))
-same_bands lo hi d (a ∷ xs) [] ha hb same = absurd (ha.1.1.0 (sym (begins a hi d xs ha.1.1.1) ∙ same a.0 ha.0))
-same_bands lo hi d (a ∷ xs) (b ∷ ys) ha hb same = by_lt_z a.0 b.0
-    (λ lt. absurd (ha.1.1.0 (sym (begins a hi d xs ha.1.1.1) ∙ (same a.0 ha.0 ∙ before b a.0 d ys lt))))
-    (λ le. by_lt_z b.0 a.0
-    (λ lt. absurd (hb.1.1.0 (sym (begins b hi d ys hb.1.1.1) ∙ (sym (same b.0 hb.0) ∙ before a b.0 d xs lt))))
-    (λ ge. one_more a b xs ys (omega (arith, ints)) (sym (begins a hi d xs ha.1.1.1) ∙ (same a.0 ha.0 ∙ ap (row_from d (b ∷ ys)) (omega (arith, ints)) ∙ begins b hi d ys hb.1.1.1))
-    (λ is row. same_bands a.0 hi a.1 xs ys ha.1.1.1 (rw (is, row) hb.1.1.1) (λ y lt. rest a b xs ys d y is row lt (same y (above lo a.0 y ha.0 lt))))))
+after_trans : (s t u : Sides) → Precedes s t → Precedes t u → Precedes s u
+after_trans s t u (inl a) (inl b) = inl (omega (arith, ints))
+after_trans s t u (inl a) (inr b) = inl (omega (arith, ints, b.0))
+after_trans s t u (inr a) (inl b) = inl (omega (arith, ints, a.0))
+after_trans s t u (inr a) (inr b) = inr (a.0 ∙ b.0, omega (arith, ints, a.1, b.1))
+
+pub not_before_self : (s : Sides) → Precedes s s → ⊥
+not_before_self s (inl a) = omega (arith, ints)
+not_before_self s (inr a) = omega (arith, ints, a.1)
+
+pub tail_ordered : (s : Sides) (rest : List Sides) → AreInOrder (s ∷ rest) → AreInOrder rest
+tail_ordered s [] h = tt
+tail_ordered s (t ∷ rest) h = h.1
+
+pub all_after : (s : Sides) (rest : List Sides) → AreInOrder (s ∷ rest) → (x : Sides) → Contains rest x → Precedes s x
+all_after s [] h x among = absurd (nothing x among)
+all_after s (t ∷ rest) h x among = ⊎_elim (λ is. subst (Precedes s) is h.0) (λ later. after_trans s t x h.0 (all_after t rest h.1 x later)) (among_cons t x rest among)
+
+-- lists in order with the same members are the same
+same_members : (a b : List Sides) → AreInOrder a → AreInOrder b → ((x : Sides) → Contains a x → Contains b x) → ((x : Sides) → Contains b x → Contains a x) → a ≡ b
+same_members [] [] ha hb to from = refl
+same_members [] (t ∷ b) ha hb to from = absurd (nothing t (from t (first_in t b)))
+same_members (s ∷ a) [] ha hb to from = absurd (nothing s (to s (first_in s a)))
+same_members (s ∷ a) (t ∷ b) ha hb to from =
+    ap (λ z. z ∷ a) first ∙ ap (λ zs. t ∷ zs) (same_members a b (tail_ordered s a ha) (tail_ordered t b hb) to_rest from_rest)
   where
-    above : (lo p y : ℤ) → lo <ℤ p → p <ℤ y → lo <ℤ y
-    above lo p y h k = omega (arith, ints)
+    first : s ≡ t
+    first = ⊎_elim (λ is. sym is) (λ s_later. ⊎_elim (λ is. is) (λ t_later. absurd (not_before_self s (after_trans s t s (all_after s a ha t t_later) (all_after t b hb s s_later))))
+        (among_cons s t a (from t (first_in t b)))) (among_cons t s b (to s (first_in s a)))
 
-    one_more : (a b : Band) (xs ys : List Band) → a.0 ≡ b.0 → a.1 ≡ b.1 → (a.0 ≡ b.0 → a.1 ≡ b.1 → xs ≡ ys) → a ∷ xs ≡ b ∷ ys
-    one_more (p, r) (q, s) xs ys is row more = let more' = more is row in cc
+    to_rest : (x : Sides) → Contains a x → Contains b x
+    to_rest x among = ⊎_elim (λ is. absurd (not_before_self s (subst (Precedes s) (sym is ∙ sym first) (all_after s a ha x among)))) (λ later. later) (among_cons t x b (to x (later_in s x a among)))
 
-    rest : (a b : Band) (xs ys : List Band) (d : List ℤ) (y : ℤ) → a.0 ≡ b.0 → a.1 ≡ b.1 → a.0 <ℤ y → row_from d (a ∷ xs) y ≡ row_from d (b ∷ ys) y → row_from a.1 xs y ≡ row_from a.1 ys y
-    rest a b xs ys d y is row lt same =
-        let at_a : int_le a.0 y ≡ true = le_here a.0 y (lt_le a.0 y lt) in
-        let at_b : int_le b.0 y ≡ true = le_here b.0 y (rw is at (lt_le a.0 y lt)) in
-        rw (at_a, at_b) at same ∙ ap (λ r. row_from r ys y) (sym row)
+    from_rest : (x : Sides) → Contains b x → Contains a x
+    from_rest x among = ⊎_elim (λ is. absurd (not_before_self t (subst (Precedes t) (sym is ∙ first) (all_after t b hb x among)))) (λ later. later) (among_cons s x a (from x (later_in t x b among)))
 
-pub equal_regions : (a b : List Band) → IsRegion a → IsRegion b → ((x y : ℤ) → holds a x y ≡ holds b x y) → a ≡ b
-equal_regions a b ra rb same = same_bands floor ceiling [] a b ra.bands rb.bands (λ y lt.
-    equal_sets (row_from [] a y) (row_from [] b y) (row_canonical floor ceiling y [] a nothing_canonical ra.bands) (row_canonical floor ceiling y [] b nothing_canonical rb.bands) (λ x. same x y))
+-- ---- the runs of a set
+
+-- the run that holds a square
+record HolderOf (runs : List Sides) (x y : ℤ) : Type 0 where
+  run : Sides
+  among : Contains runs run
+  has_it : has run x y ≡ true
+
+holder_of : (runs : List Sides) (x y : ℤ) → holds runs x y ≡ true → HolderOf runs x y
+holder_of [] x y is = absurd (true≢false (sym is))
+holder_of (s ∷ runs) x y is = ⊎_elim (λ here. record { run = s; among = first_in s runs; has_it = here })
+    (λ there. let h = holder_of runs x y there in record { run = h.run; among = later_in s h.run runs h.among; has_it = h.has_it })
+    (either (has s x y) (holds runs x y) is)
+
+pub corner : (s : Sides) → s.left <ℤ s.right → s.bottom <ℤ s.top → has s s.left s.bottom ≡ true
+corner s wide tall = rw (is_between_true s.left s.right s.left (le_self s.left) wide, is_between_true s.bottom s.top s.bottom (le_self s.bottom) tall) refl
+
+-- each run of the set is in the list
+member : (runs : List Sides) (s : Sides) → AreRuns runs → IsRun (holds runs) s → Contains runs s
+member runs s are run =
+    let square : holds runs s.left s.bottom ≡ true = (run.rows s.bottom (le_self s.bottom) run.tall).filled s.left (le_self s.left) run.wide in
+    let h = holder_of runs s.left s.bottom square in
+    let same : h.run ≡ s = same_run (holds runs) h.run s s.left s.bottom (All-contains (IsRun (holds runs)) runs h.run are.each h.among) run h.has_it (corner s run.wide run.tall) in
+    subst (Contains runs) same h.among
+
+pub one_list : EqualSetsAreEqual
+one_list a b ra rb same = same_members a b ra.ordered rb.ordered
+    (λ x among. member b x rb (run_alike (holds b) (holds a) x (λ x y. sym (same x y)) (All-contains (IsRun (holds a)) a x ra.each among)))
+    (λ x among. member a x ra (run_alike (holds a) (holds b) x same (All-contains (IsRun (holds b)) b x rb.each among)))

@@ -1,9 +1,14 @@
--- Comparing regions by their bands.
-use Rattle.std.specs.Prelude.{ℤ, List, ◌&&◌}
+-- Comparing regions by their runs.
+use Rattle.std.specs.Prelude.{Bool, ◌&&◌}
 use Rattle.std.specs.Ordering.{int_eq}
-use Rattle.std.specs.Cmp.{IsPartialEquivalence, int_eq_equiv, partial_equiv_from_equiv, on_per, and_per}
-use Rattle.std.specs.Cmp.Lexicographic.{pointwise, lists_per}
+use Rattle.std.specs.Cmp.{IsPartialEquivalence, int_eq_equiv, on_equiv, and_equiv, partial_equiv_from_equiv}
+use Rattle.fill_region.specs.Runs.{Sides}
 
--- comparing bands keeps the laws of a comparison
-pub bands_per : IsPartialEquivalence (λ (p q : ℤ × List ℤ). int_eq p.0 q.0 && pointwise int_eq p.1 q.1)
-bands_per = and_per (on_per (λ (b : ℤ × List ℤ). b.0) (partial_equiv_from_equiv int_eq_equiv)) (on_per (λ (b : ℤ × List ℤ). b.1) (lists_per (partial_equiv_from_equiv int_eq_equiv)))
+-- the four sides are equal
+abbrev pub same_sides : Sides → Sides → Bool
+same_sides s t = int_eq s.left t.left && (int_eq s.bottom t.bottom && (int_eq s.right t.right && int_eq s.top t.top))
+
+-- comparing sides keeps the laws of a comparison
+pub sides_per : IsPartialEquivalence same_sides
+sides_per = partial_equiv_from_equiv (and_equiv (on_equiv (λ (s : Sides). s.left) int_eq_equiv) (and_equiv (on_equiv (λ (s : Sides). s.bottom) int_eq_equiv)
+    (and_equiv (on_equiv (λ (s : Sides). s.right) int_eq_equiv) (on_equiv (λ (s : Sides). s.top) int_eq_equiv))))

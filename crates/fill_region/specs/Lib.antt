@@ -1,6 +1,8 @@
-pub mod Bands
 pub mod Squares
-pub mod Pieces
-pub mod Rows
-pub mod steps
+pub mod Runs
 pub mod Comparison
+pub mod Laws
+pub mod Steps
+pub mod Operands
+pub mod Near
+pub mod Clips

@@ -1,15 +1,22 @@
-//! Sets of unit squares, as bands of sorted intervals in one canonical form. Every operation is that
-//! of sets of squares, and equal sets are equal values: the layers above rely on both. Their clauses
-//! speak of squares, also where a layer goes over a region row by row ([`Region::rows`]).
+//! Sets of unit squares as joined runs, in one canonical form: a wire is one run, whichever way it lies. Every operation is that
+//! of sets of squares, and equal sets are equal values.
 #![tactic(auto)]
 
-mod bands;
+mod clips;
+mod cuts;
+mod edges;
+mod growing;
+mod joins;
 pub mod laws;
 mod lines;
-mod pieces;
+mod near;
+mod operands;
+mod order;
+mod parts;
 mod region;
 mod rows;
-mod shared;
+mod stacks;
+mod upwards;
 
-pub use region::Region;
-pub use rows::{Row, Rows};
+pub use near::runs_near;
+pub use region::{Region, region_of_rects};

@@ -1,49 +1,54 @@
-ghost use Rattle.std.specs.Prelude.{◌≡◌, ◌⊎◌, ◌↔◌, ◌&&◌, ◌||◌, not, false, ◌+◌, ◌≤◌, ◌<◌, ◌^◌, map, List, [], ◌∷◌, ◌++◌, ℤ, ◌≤ℤ◌, ◌<ℤ◌, IsTrue, IfOk};
-ghost use Rattle.std.specs.Ordering.{int_eq};
+//! Regions.
+ghost use Rattle.std.specs.Prelude.{◌≡◌, ◌↔◌, ◌&&◌, ◌||◌, not, false, true, ℤ, List, map, IsTrue, IfOk};
 ghost use Rattle.std.specs.Cmp.Lexicographic.{pointwise, lists_per};
-ghost use Rattle.fill_base.specs.Coordinates.{lowest, highest};
+ghost use Rattle.fill_base.specs.Coordinates.{IsInRange};
 ghost use Rattle.fill_base.specs.Squares.{squares};
 ghost use Rattle.fill_spans.specs.Operations.{applied};
-ghost use Rattle.fill_region.specs.Bands.{holds, IsRegion};
-ghost use Rattle.fill_region.specs.Comparison.{bands_per};
+ghost use Rattle.fill_region.specs.Comparison.{same_sides, sides_per};
+ghost use Rattle.fill_region.specs.Near.{AreSomeRuns};
 ghost use Rattle.fill_region.specs.Squares.{covered};
-ghost use Rattle.fill_region.specs.Pieces.{sides_of, band_pieces, AreInOrder};
+ghost use Rattle.fill_region.specs.Operands.{wanted};
+ghost use Rattle.fill_region.specs.Runs.{sides_of, holds, AreApart, AreInOrder, AreRuns};
 
-use crate::bands::{first_above, merged, pair, put_row};
-use crate::lines::bands_of;
-use crate::pieces::pieces_of;
-use crate::shared::SharedRow;
+use crate::clips::clipped_runs;
+use crate::cuts::{runs_alone, runs_together};
+use crate::operands::Operands;
+use crate::order::in_order;
+use crate::parts::is_covered;
 use fill_base::Rect;
-use fill_spans::{Operation, Spans};
+use fill_spans::Operation;
 use std::alloc::{AllocError, Global};
 use std::marker::Model;
+use std::thread::Threads;
 
-/// A set of unit squares, in database units: bands from the lowest to the highest, each with its
-/// bottom and its row of intervals.
+/// A set of unit squares, in database units: its runs, from the lowest row upwards and in a row from left to right.
 #[derive(Drop)]
 pub struct Region {
-    bands: Vec<(i32, SharedRow)>,
+    runs: Vec<Rect>,
 }
 
 impl Model for Region {
-    ghost Value = { List (ℤ × List ℤ) };
+    ghost use Rattle.std.specs.Prelude.{List, map};
+    ghost use Rattle.fill_region.specs.Runs.{Sides, sides_of, AreRuns};
 
-    ghost view = { λ r. r.bands.items };
+    ghost Value = { List Sides };
 
-    ghost invariant = { λ r. IsRegion r.bands.items };
+    ghost view = { λ r. map sides_of r.runs.items };
+
+    ghost invariant = { λ r. AreRuns (map sides_of r.runs.items) };
 }
 
 impl PartialEq for Region {
-    ghost eq = { pointwise (λ (p q : ℤ × List ℤ). int_eq p.0 q.0 && pointwise int_eq p.1 q.1) };
+    ghost eq = { pointwise same_sides };
 
-    ghost laws = { lists_per bands_per };
+    ghost laws = { lists_per sides_per };
 
     /// Whether both regions have the same squares.
     fn eq(&self, other: &Region) -> bool
-        ensures eq { result ≡ pointwise (λ (p q : ℤ × List ℤ). int_eq p.0 q.0 && pointwise int_eq p.1 q.1) self.now other.now }
+        ensures eq { result ≡ pointwise same_sides self.now other.now }
         ensures same { IsTrue result ↔ ((x y : ℤ) → holds self.now x y ≡ holds other.now x y) }
     {
-        self.bands == other.bands
+        self.runs == other.runs
     }
 }
 
@@ -53,33 +58,54 @@ impl Region {
         ensures squares { (x y : ℤ) → holds result x y ≡ false }
     {
         Region {
-            bands: Vec::new(alloc),
+            runs: Vec::new(alloc),
         }
     }
 
+    /// The squares that the operation keeps.
+    fn kept(alloc: Global, operands: Operands) -> Result<Region, AllocError>
+        ensures squares { IfOk result (λ r. (x y : ℤ) → holds r x y ≡ wanted operands x y) }
+    {
+        let unordered = runs_alone(alloc, operands)?;
+        let runs = in_order(alloc, unordered)?;
+        Ok(Region { runs })
+    }
+
     /// The squares of one rectangle.
+    ///
+    /// # Errors
+    /// `AllocError` where there is no memory for the run.
     pub fn one(alloc: Global, rect: &Rect) -> Result<Region, AllocError>
         ensures squares { IfOk result (λ r. (x y : ℤ) → holds r x y ≡ squares rect.now x y) }
     {
-        let row = Spans::one(alloc, rect.x1(), rect.x2())?;
-        let bands = pair(alloc, rect.y1() as i32, row, rect.y2() as i32)?;
-        Ok(Region { bands })
+        Region::from_rects(alloc, &[*rect])
     }
 
-    /// The squares that some rectangle holds, by one sweep upwards: a sort, and at each line at which a
-    /// rectangle begins or ends a walk over those that cross it. A pile of rectangles that lie all over one
-    /// another is swept in halves, which are united.
+    /// The squares that some rectangle holds, on the calling thread alone.
     ///
     /// # Errors
-    /// `AllocError` where there is no memory for the bands.
+    /// `AllocError` where there is no memory for the runs.
     pub fn from_rects(alloc: Global, rects: &[Rect]) -> Result<Region, AllocError>
         ensures squares { IfOk result (λ r. (x y : ℤ) → holds r x y ≡ covered rects.now x y) }
     {
-        let bands = bands_of(alloc, rects)?;
-        Ok(Region { bands })
+        Region::kept(alloc, Operands::of_rects(alloc, rects)?)
     }
 
-    /// The squares that `operation` keeps, in one sweep over both regions.
+    /// The squares of some runs of a set within the frame. It costs a look at each run, and a sweep of those alone that reach the
+    /// frame's left or right side.
+    ///
+    /// # Errors
+    /// `AllocError` where there is no memory for the runs.
+    pub fn of_runs(alloc: Global, runs: &[Rect], frame: &Rect) -> Result<Region, AllocError>
+        requires { AreSomeRuns runs.now }
+        ensures squares { IfOk result (λ r. (x y : ℤ) → holds r x y ≡ (covered runs.now x y && squares frame.now x y)) }
+    {
+        let clipped = clipped_runs(alloc, runs, frame)?;
+        let runs = in_order(alloc, clipped)?;
+        Ok(Region { runs })
+    }
+
+    /// The squares that the operation keeps of this region and the other.
     fn combined(
         &self,
         alloc: Global,
@@ -88,11 +114,18 @@ impl Region {
     ) -> Result<Region, AllocError>
         ensures squares { IfOk result (λ r. (x y : ℤ) → holds r x y ≡ applied operation (holds self.now x y) (holds other.now x y)) }
     {
-        let bands = merged(alloc, operation, &self.bands, &other.bands)?;
-        Ok(Region { bands })
+        let operands = Operands {
+            operation,
+            first: Vec::from_slice(alloc, &self.runs)?,
+            second: Vec::from_slice(alloc, &other.runs)?,
+        };
+        Region::kept(alloc, operands)
     }
 
     /// The squares in either region.
+    ///
+    /// # Errors
+    /// `AllocError` where there is no memory for the runs.
     pub fn union(&self, alloc: Global, other: &Region) -> Result<Region, AllocError>
         ensures squares { IfOk result (λ r. (x y : ℤ) → holds r x y ≡ holds self.now x y || holds other.now x y) }
     {
@@ -100,6 +133,9 @@ impl Region {
     }
 
     /// The squares in this region and not in the other.
+    ///
+    /// # Errors
+    /// `AllocError` where there is no memory for the runs.
     pub fn minus(&self, alloc: Global, other: &Region) -> Result<Region, AllocError>
         ensures squares { IfOk result (λ r. (x y : ℤ) → holds r x y ≡ holds self.now x y && not (holds other.now x y)) }
     {
@@ -107,97 +143,108 @@ impl Region {
     }
 
     /// The squares in both regions.
+    ///
+    /// # Errors
+    /// `AllocError` where there is no memory for the runs.
     pub fn meet(&self, alloc: Global, other: &Region) -> Result<Region, AllocError>
         ensures squares { IfOk result (λ r. (x y : ℤ) → holds r x y ≡ holds self.now x y && holds other.now x y) }
     {
         self.combined(alloc, Operation::Meet, other)
     }
 
-    /// The squares of the region, and those of a rectangle. Bands beside the rectangle keep their rows.
+    /// The squares of the region, and those of a rectangle.
     ///
     /// # Errors
-    /// `AllocError` where there is no memory for the bands.
+    /// `AllocError` where there is no memory for the runs.
     pub fn with_rect(&self, alloc: Global, rect: &Rect) -> Result<Region, AllocError>
         ensures squares { IfOk result (λ r. (x y : ℤ) → holds r x y ≡ holds self.now x y || squares rect.now x y) }
     {
         self.union(alloc, &Region::one(alloc, rect)?)
     }
 
-    /// The squares of the region that aren't those of a rectangle. Bands beside the rectangle keep their rows.
+    /// The squares of the region that aren't those of a rectangle.
     ///
     /// # Errors
-    /// `AllocError` where there is no memory for the bands.
+    /// `AllocError` where there is no memory for the runs.
     pub fn without_rect(&self, alloc: Global, rect: &Rect) -> Result<Region, AllocError>
         ensures squares { IfOk result (λ r. (x y : ℤ) → holds r x y ≡ holds self.now x y && not (squares rect.now x y)) }
     {
         self.minus(alloc, &Region::one(alloc, rect)?)
     }
 
-    /// The squares of the region within the rectangle. A search by halving finds its lowest band, and in
-    /// each row its edges, so what lies around the rectangle costs little.
+    /// The squares of the region within the rectangle.
     ///
     /// # Errors
-    /// `AllocError` where there is no memory for the bands.
+    /// `AllocError` where there is no memory for the runs.
     pub fn clip(&self, alloc: Global, rect: &Rect) -> Result<Region, AllocError>
         ensures squares { IfOk result (λ r. (x y : ℤ) → holds r x y ≡ holds self.now x y && squares rect.now x y) }
     {
-        let mut bands = Vec::new(alloc);
-        let mut top = rect.y1();
-        'rows: for row in self.rows(rect.y1(), rect.y2()) {
-            let part = row.spans.clip(alloc, rect.x1(), rect.x2())?;
-            put_row(alloc, &mut bands, row.bottom as i32, part)?;
-            top = row.top;
-        }
-        put_row(alloc, &mut bands, top as i32, Spans::empty(alloc))?;
-        Ok(Region { bands })
+        Region::of_runs(alloc, &self.runs, rect)
     }
 
-    /// The same region once more. Both hold each row together.
+    /// The same region once more.
+    ///
+    /// # Errors
+    /// `AllocError` where memory is refused.
     pub fn copy(&self, alloc: Global) -> Result<Region, AllocError>
         ensures { IfOk result (λ r. r ≡ self.now) }
     {
-        let mut bands = Vec::with_capacity(alloc, self.bands.len())?;
-        for (bottom, row) in &self.bands {
-            let row = row.share()?;
-            bands.push((*bottom, row))?;
-        }
-        Ok(Region { bands })
+        let runs = Vec::from_slice(alloc, &self.runs)?;
+        Ok(Region { runs })
     }
 
-    /// The rectangles that make up the region, by bands upwards, and in a band from left to right.
-    /// No two share a square.
+    /// The runs as a list of its own.
+    ///
+    /// # Errors
+    /// `AllocError` where memory is refused.
     pub fn pieces(&self, alloc: Global) -> Result<Vec<Rect>, AllocError>
-        ensures listed { IfOk result (λ v. map sides_of v.items ≡ band_pieces self.now) }
+        ensures listed { IfOk result (λ v. map sides_of v.items ≡ self.now) }
         ensures cover { IfOk result (λ v. (x y : ℤ) → covered v.items x y ≡ holds self.now x y) }
         ensures ordered { IfOk result (λ v. AreInOrder (map sides_of v.items)) }
     {
-        pieces_of(alloc, &self.bands)
+        Vec::from_slice(alloc, self.runs())
     }
 
     /// Whether the region has no square.
     pub fn is_empty(&self) -> bool
         ensures { IsTrue result ↔ ((x y : ℤ) → holds self.now x y ≡ false) }
     {
-        self.bands.is_empty()
+        self.runs.is_empty()
     }
 
     /// Whether the square with its lower left corner at `(x, y)` is in the region.
     pub fn has(&self, x: i64, y: i64) -> bool
         ensures { result ≡ holds self.now x y }
     {
-        let k = first_above(&self.bands, y);
-        if k > 0 {
-            self.bands[k - 1].1.spans().has(x)
-        } else {
-            false
-        }
+        is_covered(&self.runs, x, y)
     }
 
-    /// The bands from the lowest to the highest, each with its bottom and its row.
-    pub(crate) fn bands(&self) -> &[(i32, SharedRow)]
-        ensures bands { result.now ≡ self.now }
-        ensures region { IsRegion result.now }
+    /// The runs, from the lowest row upwards and in a row from left to right. No two share a square.
+    pub fn runs(&self) -> &[Rect]
+        ensures listed { map sides_of result.now ≡ self.now }
+        ensures cover { (x y : ℤ) → covered result.now x y ≡ holds self.now x y }
+        ensures canonical { AreRuns self.now }
+        ensures apart { AreApart self.now }
+        ensures some { AreSomeRuns result.now }
+        ensures in_range { (x y : ℤ) → holds self.now x y ≡ true → IsInRange x y }
     {
-        &self.bands
+        &self.runs
     }
+}
+
+/// The squares that some rectangle holds, on all threads that there are.
+///
+/// # Errors
+/// `AllocError` where there is no memory for the runs.
+pub fn region_of_rects<R: Threads + Sync>(
+    rt: &R,
+    alloc: Global,
+    rects: &[Rect],
+) -> Result<Region, AllocError>
+    ensures squares { IfOk result (λ r. (x y : ℤ) → holds r x y ≡ covered rects.now x y) }
+{
+    let operands = Operands::of_rects(alloc, rects)?;
+    let unordered = runs_together(rt, alloc, operands)?;
+    let runs = in_order(alloc, unordered)?;
+    Ok(Region { runs })
 }

@@ -1,92 +1,60 @@
-//! The rows of a region between two lines, one after the other.
-ghost use Rattle.std.specs.Prelude.{◌≡◌, ℤ, ◌≤ℤ◌, ◌<ℤ◌, true, false};
-ghost use Rattle.std.specs.Iterator.{at_most};
-ghost use Rattle.fill_base.specs.Counts.{span_len};
-ghost use Rattle.fill_base.specs.Coordinates.{IsInRange};
-ghost use Rattle.fill_region.specs.Bands.{holds};
-ghost use Rattle.fill_region.specs.Rows.{Upwards, GivesRow};
+//! Runs of a few rectangles, by way of bands.
+ghost use Rattle.std.specs.Prelude.{◌≡◌, ◌+◌, ◌<◌, length, ℤ, ◌≤ℤ◌, ◌<ℤ◌, IfOk};
+ghost use Rattle.fill_base.specs.Coordinates.{lowest, highest};
+ghost use Rattle.fill_base.specs.Sides.{sides, sides_of};
+ghost use Rattle.fill_spans.specs.Spans.{next_edge, IsCanonical};
+ghost use Rattle.fill_bands.specs.Bands.{holds};
+ghost use Rattle.fill_region.specs.Steps.{AreRunsOf, IsRow, squares_between};
 
-use crate::Region;
-use crate::bands::{bottom_at, first_above};
-use crate::shared::SharedRow;
+use crate::growing::row_upon;
+use fill_bands::{Bands, Row};
+use fill_base::{HIGHEST, LOWEST, Rect};
 use fill_spans::Spans;
-use std::marker::Model;
+use fill_spans::sweep::edge_at;
+use std::alloc::{AllocError, Global};
 
-/// Lines of a region that have the same squares: those from `bottom` on and below `top`, in database
-/// units.
-#[derive(Clone, Copy)]
-pub struct Row<'a> {
-    /// The first of the lines.
-    pub bottom: i64,
-    /// The line after the last one.
-    pub top: i64,
-    /// The columns of the squares in each of the lines.
-    pub spans: &'a Spans,
+/// The interval between the edges at `k` and `k + 1`, as a rectangle between two lines.
+fn interval_at(edges: &[i32], k: usize, bottom: i64, top: i64) -> Rect
+    requires canonical { IsCanonical edges.now }
+    requires within { k + 1 < length edges.now }
+    requires low { lowest ≤ℤ bottom }
+    requires tall { bottom <ℤ top }
+    requires high { top ≤ℤ highest }
+    ensures { sides_of result ≡ sides (next_edge edges.now k) bottom (next_edge edges.now (k + 1)) top }
+{
+    let left = i64::from(edge_at(edges, k));
+    let right = i64::from(edge_at(edges, k + 1));
+    Rect::from_edges(left, bottom, right, top)
 }
 
-/// The rows of a region between two lines, upwards. What lies between them and in no row holds no
-/// square.
-#[derive(Drop)]
-pub struct Rows<'a> {
-    bands: &'a [(i32, SharedRow)],
-    /// The index of the band above the line `from`: its row is that of the band before.
-    next: usize,
-    from: i64,
-    top: i64,
-}
-
-impl<'a> Model for Rows<'a> {
-    ghost use Rattle.fill_region.specs.Rows.{Upwards};
-
-    ghost Value = { Upwards };
-
-    ghost use Rattle.fill_region.specs.steps.Rows.{IsAtBand};
-
-    ghost view = { λ r. record { region = r.bands.now; from = r.from; top = r.top } };
-
-    ghost invariant = { λ r. IsAtBand r.bands.now r.from r.top r.next };
-}
-
-impl Region {
-    /// The rows in the lines from `bottom` on and below `top`, in database units: a search for the
-    /// first, and a step for each further one.
-    pub fn rows(&self, bottom: i64, top: i64) -> Rows<'_>
-        ensures region { result.region ≡ self.now }
-        ensures begins { bottom ≤ℤ result.from }
-        ensures within { bottom ≤ℤ top → result.from ≤ℤ top }
-        ensures top { result.top ≡ top }
-        ensures passed { (x y : ℤ) → bottom ≤ℤ y → y <ℤ result.from → holds self.now x y ≡ false }
-        ensures in_range { (x y : ℤ) → holds self.now x y ≡ true → IsInRange x y }
-    {
-        let bands = self.bands();
-        let next = first_above(bands, bottom).max(1);
-        let first = i64::from(bottom_at(bands, next - 1));
-        let from = bottom.max(first.min(top));
-        Rows {
-            bands,
-            next,
-            from,
-            top,
-        }
+/// The intervals of one row, as rectangles between two lines.
+fn intervals(alloc: Global, spans: &Spans, bottom: i64, top: i64) -> Result<Vec<Rect>, AllocError>
+    requires low { lowest ≤ℤ bottom }
+    requires tall { bottom <ℤ top }
+    requires high { top ≤ℤ highest }
+    ensures runs { IfOk result (λ v. AreRunsOf (squares_between spans.now bottom top) v.items) }
+    ensures row { IfOk result (λ v. IsRow bottom top v.items) }
+{
+    let edges = spans.edges();
+    let mut rects = Vec::with_capacity(alloc, edges.len() / 2)?;
+    let mut k = 0;
+    'intervals: while edges.len() - k > 1 {
+        rects.push(interval_at(edges, k, bottom, top))?;
+        k += 2;
     }
+    Ok(rects)
 }
 
-impl<'a> Iterator for Rows<'a> {
-    type Item = Row<'a>;
-
-    ghost remaining = { λ s. at_most (span_len s.from s.top) };
-
-    ghost next_gives = { GivesRow };
-
-    fn next(&mut self) -> Option<Row<'a>> {
-        if self.from >= self.top || self.next >= self.bands.len() {
-            return None;
-        }
-        let spans = self.bands[self.next - 1].1.spans();
-        let bottom = self.from;
-        let top = self.top.min(i64::from(bottom_at(self.bands, self.next)));
-        self.from = top;
-        self.next += 1;
-        Some(Row { bottom, top, spans })
+/// The runs of a few bands: those of each row are joined to those below it that end there.
+pub(crate) fn runs_of_bands(alloc: Global, bands: &Bands) -> Result<Vec<Rect>, AllocError>
+    ensures { IfOk result (λ v. AreRunsOf (holds bands.now) v.items) }
+{
+    let mut recent = Vec::new(alloc);
+    let mut ended = Vec::new(alloc);
+    'rows: for row in bands.rows(LOWEST, HIGHEST) {
+        let begun = intervals(alloc, row.spans, row.bottom, row.top)?;
+        recent = row_upon(alloc, &recent, &begun, &mut ended)?;
     }
+    recent.append(&mut ended)?;
+    Ok(recent)
 }

@@ -1,19 +1,19 @@
 -- Regions grown on all sides.
-use Rattle.std.proofs.Common.{◌≡◌, ℕ, zero, suc, ◌+◌, ◌≤◌, ◌<◌, ℤ, pos, ◌+ℤ◌, ◌-ℤ◌, ◌≤ℤ◌, ◌<ℤ◌, List, [], ◌∷◌, ◌++◌, length, take, get_or, refl, arith, ap, ◌∙◌, sym, Bool, true, false, not, ◌||◌, ◌↔◌}
+use Rattle.std.proofs.Common.{◌≡◌, ℕ, ◌+◌, ◌≤◌, ◌<◌, ℤ, pos, ◌+ℤ◌, ◌-ℤ◌, ◌≤ℤ◌, ◌<ℤ◌, List, [], ◌∷◌, ◌++◌, length, take, get_or, refl, arith, ap, ◌∙◌, sym, Bool, true, false, not, ◌||◌, ◌↔◌}
 use Rattle.std.specs.Prelude.{IsTrue}
 use Rattle.std.proofs.lemmas.Int.{ints, clamps, by_lt_z}
-use Rattle.std.proofs.lemmas.List.{take_more, take_all}
+use Rattle.std.proofs.lemmas.List.{take_all}
 use Rattle.fill_base.specs.declared.rect.Rect.{Rect}
 use Rattle.fill_base.specs.Coordinates.{lowest, highest, IsInRange}
 use Rattle.fill_base.specs.Squares.{squares}
 use Rattle.std.specs.Int.{int_min}
 use Rattle.fill_base.proofs.Signed.{read, read_is}
-use Rattle.fill_region.specs.Bands.{Band, holds}
+use Rattle.fill_region.specs.Runs.{Sides, holds}
 use Rattle.fill_region.specs.Squares.{covered}
+use Rattle.fill_region.proofs.Members.{or_left, or_right, held, one_more, covered_push}
 use Rattle.fill_base.specs.Limits.{IsSpacing}
 use Rattle.fill_size.specs.Distance.{IsNear, Reaches, HasSquare, IsSized, StaysInRange}
-use Rattle.fill_size.specs.Growth.{FitsGrown, IsAdded}
-use Rattle.fill_size.proofs.Widening.{covered_more}
+use Rattle.fill_size.specs.Growth.{FitsGrown}
 use Rattle.fill_size.proofs.Ranges.{squares_inside, spacing_read, squares_true, nearest}
 
 not_both : (b : Bool) → b ≡ true → b ≡ false → ⊥
@@ -68,7 +68,7 @@ stay_strips p d some stays = record {
     down x h = omega (arith, ints)
 
 -- the four strips, as the code looks at them
-pub strips_none : (bs : List Band) (d : ℤ) → ((x y : ℤ) → holds bs x y ≡ true → IsInRange x y) → (HasSquare (holds bs) lowest lowest (lowest +ℤ d) highest → ⊥) → (HasSquare (holds bs) (highest -ℤ d) lowest highest highest → ⊥)
+pub strips_none : (bs : List Sides) (d : ℤ) → ((x y : ℤ) → holds bs x y ≡ true → IsInRange x y) → (HasSquare (holds bs) lowest lowest (lowest +ℤ d) highest → ⊥) → (HasSquare (holds bs) (highest -ℤ d) lowest highest highest → ⊥)
     → (HasSquare (holds bs) lowest lowest highest (lowest +ℤ d) → ⊥) → (HasSquare (holds bs) lowest (highest -ℤ d) highest highest → ⊥) → StripsEmpty (holds bs) d
 strips_none bs d region no_left no_right no_bottom no_top = record {
   left = λ x y is. let r = region x y is in at_least x _ (λ lt. no_left (record { x = x; y = y; square = is; from_left = r.left; to_right = lt; from_bottom = r.bottom; to_top = r.top }));
@@ -89,7 +89,7 @@ none_of_strips p d e = (
     over : (a b : ℤ) → b ≤ℤ a → a <ℤ b → ⊥
     over a b h k = omega (arith, ints)
 
-pub fits_test : (bs : List Band) (d : ℤ) (a b c e : Bool) → ((x y : ℤ) → holds bs x y ≡ true → IsInRange x y) → pos 0 ≤ℤ d
+pub fits_test : (bs : List Sides) (d : ℤ) (a b c e : Bool) → ((x y : ℤ) → holds bs x y ≡ true → IsInRange x y) → pos 0 ≤ℤ d
     → (IsTrue a ↔ HasSquare (holds bs) lowest lowest (lowest +ℤ d) highest) → (IsTrue b ↔ HasSquare (holds bs) (highest -ℤ d) lowest highest highest)
     → (IsTrue c ↔ HasSquare (holds bs) lowest lowest highest (lowest +ℤ d)) → (IsTrue e ↔ HasSquare (holds bs) lowest (highest -ℤ d) highest highest)
     → (IsTrue (not (((a || b) || c) || e)) ↔ StaysInRange (holds bs) d)
@@ -115,7 +115,7 @@ fits_test bs d a b c e region some la lb lc le = (
     not_true false false true e f g h i = absurd (h refl)
     not_true false false false true f g h i = absurd (i refl)
 
-pub fits_reads : (bs : List Band) (d : ℤ) (a b c e : Bool) → ((x y : ℤ) → holds bs x y ≡ true → IsInRange x y) → pos 0 ≤ℤ d → d ≤ℤ pos 2147483648
+pub fits_reads : (bs : List Sides) (d : ℤ) (a b c e : Bool) → ((x y : ℤ) → holds bs x y ≡ true → IsInRange x y) → pos 0 ≤ℤ d → d ≤ℤ pos 2147483648
     → (IsTrue a ↔ HasSquare (holds bs) lowest lowest (read (lowest +ℤ read d)) highest) → (IsTrue b ↔ HasSquare (holds bs) (read (highest -ℤ read d)) lowest highest highest)
     → (IsTrue c ↔ HasSquare (holds bs) lowest lowest highest (read (lowest +ℤ read d))) → (IsTrue e ↔ HasSquare (holds bs) lowest (read (highest -ℤ read d)) highest highest)
     → (IsTrue (not (((a || b) || c) || e)) ↔ StaysInRange (holds bs) d)
@@ -176,14 +176,6 @@ rect_sized r g d some left bottom right top x y = (from, to)
         high : (b u x : ℤ) → u <ℤ b → (x -ℤ u) ≤ℤ d → x <ℤ (b +ℤ d)
         high b u x h k = omega (arith, ints)
 
-pub left_of : (p q : Bool) → p ≡ true → p || q ≡ true
-left_of true q h = refl
-left_of false q h = cc
-
-right_of : (p q : Bool) → q ≡ true → p || q ≡ true
-right_of true q h = refl
-right_of false q h = h
-
 split : {P : Type 0} (p q : Bool) → (p ≡ true → P) → (q ≡ true → P) → p || q ≡ true → P
 split true q f g h = f refl
 split false q f g h = g h
@@ -196,19 +188,19 @@ sized_more rects grown r g d before one x y = (from, to)
     wider p q all h = record { u = h.u; v = h.v; square = all h.u h.v h.square; across = h.across; up = h.up }
 
     old : Reaches (covered rects) d x y → Reaches (covered (rects ++ (r ∷ []))) d x y
-    old = wider (covered rects) (covered (rects ++ (r ∷ []))) (λ u v is. covered_more rects r u v ∙ left_of (covered rects u v) (squares r u v) is)
+    old = wider (covered rects) (covered (rects ++ (r ∷ []))) (λ u v is. covered_push rects r u v ∙ or_left (covered rects u v) (squares r u v) is)
 
     new : Reaches (squares r) d x y → Reaches (covered (rects ++ (r ∷ []))) d x y
-    new = wider (squares r) (covered (rects ++ (r ∷ []))) (λ u v is. covered_more rects r u v ∙ right_of (covered rects u v) (squares r u v) is)
+    new = wider (squares r) (covered (rects ++ (r ∷ []))) (λ u v is. covered_push rects r u v ∙ or_right (covered rects u v) (squares r u v) is)
 
     from : covered (grown ++ (g ∷ [])) x y ≡ true → Reaches (covered (rects ++ (r ∷ []))) d x y
-    from is = split (covered grown x y) (squares g x y) (λ h. old ((before x y).0 h)) (λ h. new ((one x y).0 h)) (sym (covered_more grown g x y) ∙ is)
+    from is = split (covered grown x y) (squares g x y) (λ h. old ((before x y).0 h)) (λ h. new ((one x y).0 h)) (sym (covered_push grown g x y) ∙ is)
 
     to : Reaches (covered (rects ++ (r ∷ []))) d x y → covered (grown ++ (g ∷ [])) x y ≡ true
-    to h = covered_more grown g x y ∙ split (covered rects h.u h.v) (squares r h.u h.v)
-        (λ k. left_of (covered grown x y) (squares g x y) ((before x y).1 (record { u = h.u; v = h.v; square = k; across = h.across; up = h.up })))
-        (λ k. right_of (covered grown x y) (squares g x y) ((one x y).1 (record { u = h.u; v = h.v; square = k; across = h.across; up = h.up })))
-        (sym (covered_more rects r h.u h.v) ∙ h.square)
+    to h = covered_push grown g x y ∙ split (covered rects h.u h.v) (squares r h.u h.v)
+        (λ k. or_left (covered grown x y) (squares g x y) ((before x y).1 (record { u = h.u; v = h.v; square = k; across = h.across; up = h.up })))
+        (λ k. or_right (covered grown x y) (squares g x y) ((one x y).1 (record { u = h.u; v = h.v; square = k; across = h.across; up = h.up })))
+        (sym (covered_push rects r h.u h.v) ∙ h.square)
 
 -- a piece of a region that stays in range, grown, lies within the coordinates
 pub piece_fits : (p : ℤ → ℤ → Bool) (r : Rect) (d : ℤ) → pos 0 ≤ℤ d → StaysInRange p d → ((x y : ℤ) → squares r x y ≡ true → p x y ≡ true) → FitsGrown r d
@@ -230,33 +222,23 @@ piece_fits p r d some stays within =
     down : (x : ℤ) → (x -ℤ pos 1) <ℤ (highest -ℤ d) → (x +ℤ d) ≤ℤ highest
     down x h = omega (arith, ints)
 
-member_covered : (ps : List Rect) (i : ℕ) (r : Rect) (x y : ℤ) → i < length ps → squares (get_or ps i r) x y ≡ true → covered ps x y ≡ true
-member_covered [] i r x y lt h = absurd (omega arith)
-member_covered (p ∷ ps) zero r x y lt h = left_of (squares p x y) (covered ps x y) h
-member_covered (p ∷ ps) (suc i) r x y lt h = right_of (squares p x y) (covered ps x y) (member_covered ps i r x y (omega arith) h)
+-- what the code asks for at each run
+pub run_fits : (bs : List Sides) (runs : List Rect) (i : ℕ) (r : Rect) (d : ℤ) → IsSpacing d → StaysInRange (holds bs) d → ((x y : ℤ) → covered runs x y ≡ holds bs x y)
+    → i < length runs → r ≡ get_or runs i r → FitsGrown r (read d)
+run_fits bs runs i r d is stays cover lt item = rw (spacing_read d is) (piece_fits (holds bs) r d is.least stays (λ x y h. sym (cover x y) ∙ held runs r x y (i, lt, sym item) h))
 
--- what the code asks for at each piece
-pub item_fits : (bs : List Band) (ps items : List Rect) (i : ℕ) (r : Rect) (d : ℤ) → IsSpacing d → StaysInRange (holds bs) d → ((x y : ℤ) → covered ps x y ≡ holds bs x y)
-    → items ≡ ps → i < length items → r ≡ get_or items i r → FitsGrown r (read d)
-item_fits bs ps items i r d is stays cover all lt item = rw (spacing_read d is)
-    (piece_fits (holds bs) r d is.least stays (λ x y h. sym (cover x y) ∙ member_covered ps i r x y (rw all at lt) (sym (ap (λ q. squares q x y) (rw all at item)) ∙ h)))
-
--- one turn: another piece is grown
-pub turn_sized : (items grown after : List Rect) (i : ℕ) (r g : Rect) (d : ℤ) → IsSpacing d → i < length items → r ≡ get_or items i r → IsAdded g grown after
+-- one turn: another run is grown
+pub turn_sized : (runs grown after : List Rect) (i : ℕ) (r g : Rect) (d : ℤ) → IsSpacing d → i < length runs → r ≡ get_or runs i r → after ≡ grown ++ (g ∷ [])
     → g.x1 ≡ r.x1 -ℤ read d → g.y1 ≡ r.y1 -ℤ read d → g.x2 ≡ r.x2 +ℤ read d → g.y2 ≡ r.y2 +ℤ read d
-    → IsSized (covered (take i items)) (read d) (covered grown) → IsSized (covered (take (i + 1) items)) (read d) (covered after)
-turn_sized items grown after i r g d is lt item added left bottom right top before =
+    → IsSized (covered (take i runs)) (read d) (covered grown) → IsSized (covered (take (i + 1) runs)) (read d) (covered after)
+turn_sized runs grown after i r g d is lt item added left bottom right top before =
     let some : pos 0 ≤ℤ read d = rw (spacing_read d is) is.least in
-    let taken : take (i + 1) items ≡ take i items ++ (r ∷ []) = take_more items i r lt ∙ ap (λ q. take i items ++ (q ∷ [])) (sym item) in
-    rw taken (λ x y.
-    let one = sized_more (take i items) grown r g (read d) before (rect_sized r g (read d) some left bottom right top) x y in
-    let same : covered after x y ≡ covered (grown ++ (g ∷ [])) x y = added x y ∙ sym (covered_more grown g x y) in
-    rw same one)
+    rw (added, one_more runs i r lt item) (sized_more (take i runs) grown r g (read d) before (rect_sized r g (read d) some left bottom right top))
 
-pub all_sized : (p q : ℤ → ℤ → Bool) (ps items grown now : List Rect) (i : ℕ) (d : ℤ) → IsSpacing d → items ≡ ps → length items ≤ i → now ≡ grown → ((x y : ℤ) → covered ps x y ≡ p x y) → ((x y : ℤ) → q x y ≡ covered now x y)
-    → IsSized (covered (take i items)) (read d) (covered grown) → IsSized p d q
-all_sized p q ps items grown now i d is all end same cover squares_now before x y =
-    let at : IsSized (covered ps) d (covered grown) = rw (take_all i items end, all, spacing_read d is) at before in (
+pub all_sized : (p q : ℤ → ℤ → Bool) (runs grown now : List Rect) (i : ℕ) (d : ℤ) → IsSpacing d → length runs ≤ i → now ≡ grown → ((x y : ℤ) → covered runs x y ≡ p x y) → ((x y : ℤ) → q x y ≡ covered now x y)
+    → IsSized (covered (take i runs)) (read d) (covered grown) → IsSized p d q
+all_sized p q runs grown now i d is end same cover squares_now before x y =
+    let at : IsSized (covered runs) d (covered grown) = rw (take_all i runs end, spacing_read d is) at before in (
       (λ h. let r = (at x y).0 (sym (ap (λ g. covered g x y) same) ∙ sym (squares_now x y) ∙ h) in record { u = r.u; v = r.v; square = sym (cover r.u r.v) ∙ r.square; across = r.across; up = r.up }),
       (λ r. squares_now x y ∙ ap (λ g. covered g x y) same ∙ (at x y).1 (record { u = r.u; v = r.v; square = cover r.u r.v ∙ r.square; across = r.across; up = r.up })),
     )

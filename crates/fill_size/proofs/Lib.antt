@@ -1,5 +1,4 @@
 pub mod Ranges
-pub mod RangeWalks
-pub mod Scanning
 pub mod Growing
-pub mod Widening
+pub mod Overlaps
+pub mod Marking

@@ -15,7 +15,7 @@ use Rattle.fill_base.proofs.Between.{is_between_true, is_between_bounds}
 use Rattle.fill_base.specs.Limits.{IsSpacing}
 use Rattle.fill_size.specs.Distance.{IsNear, InConflict, AreNear, HasSquare}
 
-lt_is : (a b : ℤ) → a <ℤ b → int_lt a b ≡ true
+pub lt_is : (a b : ℤ) → a <ℤ b → int_lt a b ≡ true
 lt_is a b h = grind (arith, ints)
 
 pub spacing_read : (s : ℤ) → IsSpacing s → read s ≡ s
@@ -167,10 +167,10 @@ rects_test r q s is a b across up =
     let both = rects_conflict r q s is.least in
     ((λ h. both.0 (across.0 (first_so a b h), up.0 (second_so a b h))), (λ c. let near = both.1 c in and_from a b (across.1 near.0) (up.1 near.1)))
 
-x1_is : (r : Rect) → IsCoordinate r.x1
+pub x1_is : (r : Rect) → IsCoordinate r.x1
 x1_is r = record { least = r.left; most = le_trans r.x1 r.x2 _ (lt_le r.x1 r.x2 r.wide) r.right }
 
-x2_is : (r : Rect) → IsCoordinate r.x2
+pub x2_is : (r : Rect) → IsCoordinate r.x2
 x2_is r = record { least = le_trans _ r.x1 r.x2 r.left (lt_le r.x1 r.x2 r.wide); most = r.right }
 
 y1_is : (r : Rect) → IsCoordinate r.y1

@@ -2,10 +2,11 @@
 ghost use Rattle.std.specs.Prelude.{◌≡◌, ◌↔◌, ℤ, true, IsTrue};
 ghost use Rattle.fill_base.specs.Coordinates.{IsCoordinate, IsInRange};
 ghost use Rattle.fill_base.specs.Squares.{squares};
-ghost use Rattle.fill_region.specs.Bands.{holds};
+ghost use Rattle.fill_region.specs.Runs.{holds};
 ghost use Rattle.fill_base.specs.Limits.{IsSpacing};
 ghost use Rattle.fill_size.specs.Distance.{AreNear, HasSquare, InConflict};
 
+use crate::overlap::have_common;
 use fill_base::Rect;
 use fill_region::Region;
 
@@ -30,8 +31,8 @@ fn are_near(a: i64, b: i64, c: i64, d: i64, spacing: i64) -> bool
     (a < d + spacing) & (c < b + spacing)
 }
 
-/// Whether no square of the region is too near to the rectangle: by a search for the rows and edges
-/// around it, without memory. The spacing is 0 to 2^20 database units.
+/// Whether no square of the region is too near to the rectangle: by a look at each run, without memory. The spacing is 0
+/// to 2^20 database units.
 pub fn is_clear(region: &Region, rect: &Rect, spacing: i64) -> bool
     requires { IsSpacing spacing }
     ensures { IsTrue result ↔ ¬ InConflict (holds region.now) (squares rect.now) spacing }
@@ -50,10 +51,15 @@ pub(crate) fn has_square(region: &Region, left: i64, bottom: i64, right: i64, to
     ensures found { IsTrue result ↔ HasSquare (holds region.now) left bottom right top }
     ensures in_range { (x y : ℤ) → holds region.now x y ≡ true → IsInRange x y }
 {
-    'rows: for row in region.rows(bottom, top) {
-        if row.spans.meets(left, right) {
-            return true;
-        }
-    }
-    false
+    region
+        .runs()
+        .iter()
+        .any(|run| is_met(run, left, bottom, right, top))
+}
+
+/// Whether some square of the rectangle lies between these edges.
+fn is_met(rect: &Rect, left: i64, bottom: i64, right: i64, top: i64) -> bool
+    ensures { IsTrue result ↔ HasSquare (squares rect.now) left bottom right top }
+{
+    have_common(rect.x1(), rect.x2(), left, right) & have_common(rect.y1(), rect.y2(), bottom, top)
 }

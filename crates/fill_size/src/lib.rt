@@ -5,6 +5,7 @@
 
 mod clearance;
 mod meeting;
+mod overlap;
 mod sizing;
 
 pub use clearance::{conflicts, is_clear};

@@ -1,16 +1,14 @@
 //! Regions grown on all sides.
-ghost use Rattle.std.specs.Prelude.{◌≤ℤ◌, pos, true, ◌≡◌, ◌↔◌, ◌||◌, ◌+ℤ◌, ◌-ℤ◌, ℤ, IsTrue, IfOk, OnOk};
+ghost use Rattle.std.specs.Prelude.{◌≤ℤ◌, pos, true, ◌≡◌, ◌↔◌, ◌+ℤ◌, ◌-ℤ◌, ℤ, IsTrue, IfOk};
 ghost use Rattle.fill_base.specs.Coordinates.{IsInRange};
-ghost use Rattle.fill_base.specs.Squares.{squares};
-ghost use Rattle.fill_region.specs.Bands.{holds};
+ghost use Rattle.fill_region.specs.Runs.{holds};
 ghost use Rattle.fill_base.specs.Limits.{IsSpacing};
 ghost use Rattle.fill_size.specs.Distance.{IsSized, StaysInRange};
-ghost use Rattle.fill_size.specs.Growth.{Continues, FitsGrown, IsAdded};
+ghost use Rattle.fill_size.specs.Growth.{FitsGrown};
 
 use crate::clearance::has_square;
 use fill_base::{HIGHEST, LOWEST, Rect};
 use fill_region::Region;
-use fill_spans::Spans;
 use std::alloc::{AllocError, Global};
 
 /// Whether the region, grown by `d` database units on all sides, stays within the range of coordinates. Where `d` is
@@ -46,45 +44,10 @@ pub fn sized(alloc: Global, region: &Region, d: i64) -> Result<Region, AllocErro
     ensures { IfOk result (λ r. IsSized (holds region.now) d (holds r)) }
 {
     let mut grown = Vec::new(alloc);
-    let pieces = region.pieces(alloc)?;
-    for piece in &pieces {
-        put_wider(&mut grown, grown_rect(piece, d))?;
+    for run in region.runs() {
+        grown.push(grown_rect(run, d))?;
     }
     Region::from_rects(alloc, &grown)
-}
-
-/// Adds a rectangle to the list: as one more, or, where it continues the last one to the right, as a
-/// wider last one. So the grown intervals of a row, which mostly overlap, stay few.
-fn put_wider(rects: &mut Vec<Rect>, next: Rect) -> Result<(), AllocError>
-    ensures { OnOk result (IsAdded next rects.old.items rects.new.items) }
-{
-    if let Some(last) = rects.pop() {
-        if continues(&last, &next) {
-            rects.push(hull(&last, &next))?;
-            return Ok(());
-        }
-        rects.push(last)?;
-    }
-    rects.push(next)?;
-    Ok(())
-}
-
-/// Whether `next` has the same lines as `last`, and begins in its columns or where they end.
-fn continues(last: &Rect, next: &Rect) -> bool
-    ensures { IsTrue result ↔ Continues last.now next.now }
-{
-    (last.y1() == next.y1())
-        & (last.y2() == next.y2())
-        & (last.x1() <= next.x1())
-        & (next.x1() <= last.x2())
-}
-
-/// The rectangle of the squares of both, where `next` continues `last`.
-fn hull(last: &Rect, next: &Rect) -> Rect
-    requires { Continues last.now next.now }
-    ensures { (x y : ℤ) → squares result x y ≡ squares last.now x y || squares next.now x y }
-{
-    Rect::from_edges(last.x1(), last.y1(), last.x2().max(next.x2()), last.y2())
 }
 
 /// The rectangle grown by `d` on all sides.

@@ -1,3 +1,5 @@
+pub mod Halving
+pub mod Layering
 pub mod BoxAreas
 pub mod BoxSums
 pub mod Nearby
@@ -13,4 +15,3 @@ pub mod WindowTotals
 pub mod TileWords
 pub mod LastTile
 pub mod HaloMetal
-pub mod TilePieces

@@ -23,7 +23,7 @@ use Rattle.fill_state.specs.declared.places.Places.{Places}
 use Rattle.fill_state.specs.steps.Taken.{AreApart, taken_in, taken_by_row, taken_by_rows}
 use Rattle.fill_state.proofs.BoxAreas.{sum_part}
 use Rattle.fill_state.proofs.BoxSums.{rows_are}
-use Rattle.fill_cells.proofs.SharedAreas.{none_within}
+use Rattle.fill_area.proofs.SharedAreas.{none_within}
 
 not_true : (b : Bool) → (b ≡ true → ⊥) → b ≡ false
 not_true true h = absurd (h refl)

@@ -1,5 +1,6 @@
 pub mod Filling
 pub mod Low
 pub mod Tiles
+pub mod Layers
 pub mod Pieces
 pub mod steps

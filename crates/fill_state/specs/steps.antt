@@ -1,3 +1,4 @@
 pub mod Taken
 pub mod Empty
 pub mod Words
+pub mod Halves

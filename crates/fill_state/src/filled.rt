@@ -6,18 +6,17 @@ ghost use Rattle.fill_base.specs.Squares.{area_of};
 ghost use Rattle.fill_area.specs.Density.{AreMeasured, IsArea, window_area};
 ghost use Rattle.fill_raster.specs.Lattice.{KeepsPitch, in_raster, in_tile, tile_of, tiles};
 ghost use Rattle.fill_raster.specs.Marks.{in_block, is_marked};
-ghost use Rattle.fill_region.specs.Bands.{holds};
 ghost use Rattle.fill_job.specs.Plans.{PointSet};
 ghost use Rattle.fill_core.specs.Boxes.{count_places};
 ghost use Rattle.fill_state.specs.Filling.{Filling, IsCounted, IsFilling, KeepsClear, boxes_of, in_places, is_filled, left_by, metal_or_box};
+ghost use Rattle.fill_state.specs.Layers.{in_layer};
 ghost use Rattle.fill_state.specs.steps.Taken.{AreApart, taken_in, taken_by_row, taken_by_rows};
 
+use crate::layer::EditedLayer;
 use crate::places::Places;
-use fill_area::{Windows, area_in, areas_in};
+use fill_area::{Windows, shared_area};
 use fill_base::{Place, Rect};
-use fill_cells::shared_area;
 use fill_raster::{Marks, Raster};
-use fill_region::Region;
 use std::alloc::{AllocError, Global};
 use std::marker::Model;
 use std::ops::Range;
@@ -303,11 +302,11 @@ impl Filled {
 
     /// How many squares of a window are metal or in a box of a filled place but for some, where no such box shares a square
     /// with the metal.
-    pub fn total_in(&self, metal: &Region, out: &Places, window: &Rect) -> i64
-        requires { KeepsClear self.now.raster (left_by self.now out.now) (holds metal.now) }
-        ensures { result ≡ pos (area_of (metal_or_box self.now.raster (left_by self.now out.now) (holds metal.now)) window.now) }
+    pub fn total_in(&self, metal: &EditedLayer, out: &Places, window: &Rect) -> i64
+        requires { KeepsClear self.now.raster (left_by self.now out.now) (in_layer metal.now) }
+        ensures { result ≡ pos (area_of (metal_or_box self.now.raster (left_by self.now out.now) (in_layer metal.now)) window.now) }
     {
-        area_in(metal, window) + self.boxes_in(out, window)
+        metal.area_in(window) + self.boxes_in(out, window)
     }
 
     /// How many squares that count of the window in a column and a row the boxes of the filled places hold, but for some places.
@@ -331,19 +330,19 @@ impl Filled {
     pub fn totals(
         &self,
         alloc: Global,
-        metal: &Region,
+        metal: &EditedLayer,
         out: &Places,
         windows: &Windows,
     ) -> Result<Vec<i64>, AllocError>
-        requires { KeepsClear self.now.raster (left_by self.now out.now) (holds metal.now) }
-        ensures areas { IfOk result (λ v. AreMeasured (metal_or_box self.now.raster (left_by self.now out.now) (holds metal.now)) windows.now v.items) }
+        requires { KeepsClear self.now.raster (left_by self.now out.now) (in_layer metal.now) }
+        ensures areas { IfOk result (λ v. AreMeasured (metal_or_box self.now.raster (left_by self.now out.now) (in_layer metal.now)) windows.now v.items) }
         ensures bounded { IfOk result (λ v. All IsArea v.items) }
     {
-        let areas = areas_in(alloc, metal, windows)?;
-        let mut totals = Vec::with_capacity(alloc, areas.len())?;
+        let mut totals = Vec::with_capacity(alloc, windows.len())?;
         for k in 0..windows.len() {
             let (column, row) = windows.column_and_row(k);
-            totals.push(areas[k] + self.boxes_counted(out, windows, column, row))?;
+            let drawn = metal.counted_in(windows, column, row);
+            totals.push(drawn + self.boxes_counted(out, windows, column, row))?;
         }
         Ok(totals)
     }

@@ -3,12 +3,14 @@
 #![tactic(auto)]
 
 mod filled;
+mod layer;
 mod low;
 mod pieces;
 mod places;
 mod tiles;
 
 pub use filled::Filled;
+pub use layer::EditedLayer;
 pub use low::low_windows;
 pub use pieces::{keep_pieces, keep_pieces_after, metal_pieces, metal_pieces_after};
 pub use places::Places;

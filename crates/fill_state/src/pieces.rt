@@ -1,114 +1,178 @@
 //! What of the metal and of the keep-outs each tile depends on.
-ghost use Rattle.std.specs.Prelude.{◌≡◌, ◌<◌, ℤ, pos, true, false, IfOk};
-ghost use Rattle.fill_base.specs.Coordinates.{IsInRange};
+ghost use denote.Param.Send.{IsSync};
+ghost use Rattle.std.specs.Prelude.{◌≡◌, ◌<◌, ◌≤◌, ℤ, pos, false, IfOk};
 ghost use Rattle.fill_base.specs.Limits.{IsSpacing};
-ghost use Rattle.fill_region.specs.Bands.{holds};
+ghost use Rattle.fill_region.specs.Near.{AreSomeRuns};
+ghost use Rattle.fill_region.specs.Runs.{holds};
+ghost use Rattle.fill_region.specs.Squares.{covered};
 ghost use Rattle.fill_raster.specs.Lattice.{tiles};
 ghost use Rattle.fill_job.specs.Plans.{PointSet, plan_of};
 ghost use Rattle.fill_core.specs.Machine.{keep_after, metal_after};
+ghost use Rattle.fill_state.specs.Layers.{in_layer};
 ghost use Rattle.fill_state.specs.Pieces.{ArePieces, IsPiece};
+ghost use Rattle.fill_state.specs.steps.Halves.{ArePiecesFrom, HoldsHalos};
 
+use crate::layer::EditedLayer;
+use fill_base::Rect;
 use fill_job::{Piece, SharedRules};
 use fill_raster::Raster;
-use fill_region::Region;
+use fill_region::{Region, runs_near};
 use fill_text::Edit;
-use rayon::prelude::*;
+use rayon::join;
 use std::alloc::{AllocError, Global};
 use std::thread::Threads;
 
-/// The squares of a region lie within the coordinates, which its rows tell.
-fn stay_in_range(region: &Region)
-    ensures { (x y : ℤ) → holds region.now x y ≡ true → IsInRange x y }
-{
-    let _ = region.rows(0, 0);
+/// The tiles of a raster, each with the bounding rectangle of its boxes grown by a distance on all sides, its halo.
+#[derive(Drop)]
+struct Halos {
+    raster: Raster,
+    distance: i64,
+    /// The piece without squares.
+    none: Piece,
 }
 
-/// The piece of some squares: where there are none, the one without squares once more, which takes no memory.
-fn piece_or_none(alloc: Global, squares: Region, none: &Piece) -> Result<Piece, AllocError>
-    requires { (x y : ℤ) → holds none.now x y ≡ false }
-    ensures { IfOk result (λ p. (x y : ℤ) → holds p x y ≡ holds squares x y) }
-{
-    if squares.is_empty() {
-        none.share()
-    } else {
-        Piece::new(alloc, squares)
+impl Halos {
+    /// A rectangle that holds the halos of the tiles from one on and before another.
+    fn around(&self, from: u32, to: u32) -> Rect
+        requires distance { IsSpacing self.now.distance }
+        requires some { from < to }
+        requires tiles { to ≤ tiles self.now.raster }
+        ensures { HoldsHalos self.now.raster self.now.distance from to result }
+    {
+        let first = self.raster.halo(from, self.distance);
+        let (mut left, mut bottom) = (first.x1(), first.y1());
+        let (mut right, mut top) = (first.x2(), first.y2());
+        for tile in from..to {
+            let halo = self.raster.halo(tile, self.distance);
+            left = left.min(halo.x1());
+            bottom = bottom.min(halo.y1());
+            right = right.max(halo.x2());
+            top = top.max(halo.y2());
+        }
+        Rect::from_edges(left, bottom, right, top)
+    }
+
+    /// What of some runs lies in the halo of a tile. Where that is nothing, it is the piece without squares once more, which takes
+    /// no memory.
+    fn piece(&self, alloc: Global, runs: &[Rect], tile: u32) -> Result<Piece, AllocError>
+        requires distance { IsSpacing self.now.distance }
+        requires none { (x y : ℤ) → holds self.now.none x y ≡ false }
+        requires runs { AreSomeRuns runs.now }
+        requires tile { tile < tiles self.now.raster }
+        ensures { IfOk result (IsPiece self.now.raster self.now.distance (covered runs.now) tile) }
+    {
+        let region = Region::of_runs(alloc, runs, &self.raster.halo(tile, self.distance))?;
+        if region.is_empty() {
+            self.none.share()
+        } else {
+            Piece::new(alloc, region)
+        }
     }
 }
 
-/// The squares of a region in the bounding rectangle of the tile's boxes, grown by a distance on all sides.
-fn piece_of(
+/// The pieces of the tiles from one on and before another, of which there are some. The runs that meet the halos of the lower and of
+/// the upper half of them go to threads of their own.
+#[cycle(pieces)]
+fn pieces_between<R: Threads + Sync>(
+    rt: &R,
     alloc: Global,
-    raster: &Raster,
-    distance: i64,
-    region: &Region,
-    none: &Piece,
-    tile: u32,
-) -> Result<Piece, AllocError>
-    requires tile { tile < tiles raster.now }
-    requires distance { IsSpacing distance }
-    requires none { (x y : ℤ) → holds none.now x y ≡ false }
-    ensures { IfOk result (IsPiece raster.now distance (holds region.now) tile) }
+    halos: &Halos,
+    runs: &[Rect],
+    from: u32,
+    to: u32,
+) -> Result<Vec<Piece>, AllocError>
+    requires distance { IsSpacing halos.now.distance }
+    requires none { (x y : ℤ) → holds halos.now.none x y ≡ false }
+    requires runs { AreSomeRuns runs.now }
+    requires some { from < to }
+    requires tiles { to ≤ tiles halos.now.raster }
+    ensures { IfOk result (λ v. ArePiecesFrom halos.now.raster halos.now.distance (covered runs.now) from to v.items) }
 {
-    let halo = raster.halo(tile, distance);
-    stay_in_range(region);
-    let clipped = region.clip(alloc, &halo)?;
-    piece_or_none(alloc, clipped, none)
+    if to - from == 1 {
+        let mut pieces = Vec::new(alloc);
+        pieces.push(halos.piece(alloc, runs, from)?)?;
+        return Ok(pieces);
+    }
+    let middle = from + (to - from) / 2;
+    let lower = runs_near(alloc, runs, &halos.around(from, middle))?;
+    let upper = runs_near(alloc, runs, &halos.around(middle, to))?;
+    let first = move || -> Result<Vec<Piece>, AllocError>
+        requires shared { IsSync R.row }
+        requires distance { IsSpacing halos.now.distance }
+        requires none { (x y : ℤ) → holds halos.now.none x y ≡ false }
+        requires runs { AreSomeRuns lower.items }
+        requires some { from < middle }
+        requires tiles { middle ≤ tiles halos.now.raster }
+        ensures { IfOk result (λ v. ArePiecesFrom halos.entry.now.raster halos.entry.now.distance (covered lower.items) from middle v.items) }
+    { pieces_between(rt, alloc, halos, &lower, from, middle) };
+    let second = move || -> Result<Vec<Piece>, AllocError>
+        requires shared { IsSync R.row }
+        requires distance { IsSpacing halos.now.distance }
+        requires none { (x y : ℤ) → holds halos.now.none x y ≡ false }
+        requires runs { AreSomeRuns upper.items }
+        requires some { middle < to }
+        requires tiles { to ≤ tiles halos.now.raster }
+        ensures { IfOk result (λ v. ArePiecesFrom halos.entry.now.raster halos.entry.now.distance (covered upper.items) middle to v.items) }
+    { pieces_between(rt, alloc, halos, &upper, middle, to) };
+    let (first, second) = join(rt, first, second);
+    let mut pieces = first?;
+    let mut others = second?;
+    pieces.append(&mut others)?;
+    Ok(pieces)
 }
 
-/// Those of each tile, made by as many threads as there are processors.
-fn pieces_of(
-    rt: &(impl Threads + Sync),
+/// What of a region lies in the halo of each tile.
+fn pieces_of<R: Threads + Sync>(
+    rt: &R,
     alloc: Global,
-    raster: &Raster,
+    raster: Raster,
     distance: i64,
     region: &Region,
 ) -> Result<Vec<Piece>, AllocError>
     requires { IsSpacing distance }
-    ensures { IfOk result (λ v. ArePieces raster.now distance (holds region.now) v.items) }
+    ensures { IfOk result (λ v. ArePieces raster distance (holds region.now) v.items) }
 {
-    let none = &Piece::new(alloc, Region::empty(alloc))?;
-    (0..raster.tiles())
-        .into_par_iter()
-        .with_min_len(1)
-        .map(
-            |tile: u32| -> Result<Piece, AllocError>
-                requires tile { tile < tiles raster.now }
-                requires distance { IsSpacing distance }
-                requires none { (x y : ℤ) → holds none.now x y ≡ false }
-                ensures { IfOk result (IsPiece raster.entry.now distance (holds region.entry.now) tile) }
-            { piece_of(alloc, raster, distance, region, none, tile) },
-        )
-        .collect::<Result<Vec<Piece>, AllocError>>(rt, alloc)?
+    let none = Piece::new(alloc, Region::empty(alloc))?;
+    let halos = Halos {
+        raster,
+        distance,
+        none,
+    };
+    let tiles = halos.raster.tiles();
+    if tiles == 0 {
+        return Ok(Vec::new(alloc));
+    }
+    pieces_between(rt, alloc, &halos, region.runs(), 0, tiles)
 }
 
 /// The metal in the halo of each tile.
 ///
 /// # Errors
 /// `AllocError` where memory is refused.
-pub fn metal_pieces(
-    rt: &(impl Threads + Sync),
+pub fn metal_pieces<R: Threads + Sync>(
+    rt: &R,
     alloc: Global,
     rules: &SharedRules,
     metal: &Region,
 ) -> Result<Vec<Piece>, AllocError>
     ensures { let plan = plan_of rules.now in IfOk result (λ v. ArePieces plan.raster plan.spacing (holds metal.now) v.items) }
 {
-    pieces_of(rt, alloc, &rules.raster(), rules.spacing(), metal)
+    pieces_of(rt, alloc, rules.raster(), rules.spacing(), metal)
 }
 
 /// The keep-outs in the bounding rectangle of each tile's boxes.
 ///
 /// # Errors
 /// `AllocError` where memory is refused.
-pub fn keep_pieces(
-    rt: &(impl Threads + Sync),
+pub fn keep_pieces<R: Threads + Sync>(
+    rt: &R,
     alloc: Global,
     rules: &SharedRules,
     keep: &Region,
 ) -> Result<Vec<Piece>, AllocError>
     ensures { let plan = plan_of rules.now in IfOk result (λ v. ArePieces plan.raster (pos 0) (holds keep.now) v.items) }
 {
-    pieces_of(rt, alloc, &rules.raster(), 0, keep)
+    pieces_of(rt, alloc, rules.raster(), 0, keep)
 }
 
 /// The piece of a tile after an edit of the metal that it is of: the same one where the halo shares no square with the edit's rectangle.
@@ -116,15 +180,15 @@ fn piece_after(
     alloc: Global,
     raster: &Raster,
     distance: i64,
-    _was: &Region,
+    _was: &EditedLayer,
     piece: &Piece,
     edit: Edit,
     tile: u32,
 ) -> Result<Piece, AllocError>
     requires tile { tile < tiles raster.now }
     requires distance { IsSpacing distance }
-    requires piece { IsPiece raster.now distance (holds _was.now) tile piece.now }
-    ensures { IfOk result (IsPiece raster.now distance (metal_after edit (holds _was.now)) tile) }
+    requires piece { IsPiece raster.now distance (in_layer _was.now) tile piece.now }
+    ensures { IfOk result (IsPiece raster.now distance (metal_after edit (in_layer _was.now)) tile) }
 {
     let halo = raster.halo(tile, distance);
     match edit {
@@ -145,13 +209,13 @@ fn pieces_after(
     alloc: Global,
     raster: &Raster,
     distance: i64,
-    was: &Region,
+    was: &EditedLayer,
     pieces: &[Piece],
     edit: Edit,
 ) -> Result<Vec<Piece>, AllocError>
     requires distance { IsSpacing distance }
-    requires pieces { ArePieces raster.now distance (holds was.now) pieces.now }
-    ensures { IfOk result (λ v. ArePieces raster.now distance (metal_after edit (holds was.now)) v.items) }
+    requires pieces { ArePieces raster.now distance (in_layer was.now) pieces.now }
+    ensures { IfOk result (λ v. ArePieces raster.now distance (metal_after edit (in_layer was.now)) v.items) }
 {
     let mut after = Vec::new(alloc);
     for tile in 0..raster.tiles() {
@@ -168,12 +232,12 @@ fn pieces_after(
 pub fn metal_pieces_after(
     alloc: Global,
     rules: &SharedRules,
-    was: &Region,
+    was: &EditedLayer,
     pieces: &[Piece],
     edit: Edit,
 ) -> Result<Vec<Piece>, AllocError>
-    requires { let plan = plan_of rules.now in ArePieces plan.raster plan.spacing (holds was.now) pieces.now }
-    ensures { let plan = plan_of rules.now in IfOk result (λ v. ArePieces plan.raster plan.spacing (metal_after edit (holds was.now)) v.items) }
+    requires { let plan = plan_of rules.now in ArePieces plan.raster plan.spacing (in_layer was.now) pieces.now }
+    ensures { let plan = plan_of rules.now in IfOk result (λ v. ArePieces plan.raster plan.spacing (metal_after edit (in_layer was.now)) v.items) }
 {
     pieces_after(alloc, &rules.raster(), rules.spacing(), was, pieces, edit)
 }
@@ -195,12 +259,12 @@ fn as_metal(edit: Edit) -> Edit
 pub fn keep_pieces_after(
     alloc: Global,
     rules: &SharedRules,
-    was: &Region,
+    was: &EditedLayer,
     pieces: &[Piece],
     edit: Edit,
 ) -> Result<Vec<Piece>, AllocError>
-    requires { let plan = plan_of rules.now in ArePieces plan.raster (pos 0) (holds was.now) pieces.now }
-    ensures { let plan = plan_of rules.now in IfOk result (λ v. ArePieces plan.raster (pos 0) (keep_after edit (holds was.now)) v.items) }
+    requires { let plan = plan_of rules.now in ArePieces plan.raster (pos 0) (in_layer was.now) pieces.now }
+    ensures { let plan = plan_of rules.now in IfOk result (λ v. ArePieces plan.raster (pos 0) (keep_after edit (in_layer was.now)) v.items) }
 {
     let edit = as_metal(edit);
     pieces_after(alloc, &rules.raster(), 0, was, pieces, edit)

@@ -1,7 +1,7 @@
 //! What an edit makes of metal.
 ghost use Rattle.std.specs.Prelude.{◌≡◌, ◌&&◌, ℤ, true, false, not, IfOk};
 ghost use Rattle.fill_base.specs.Squares.{squares};
-ghost use Rattle.fill_region.specs.Bands.{holds};
+ghost use Rattle.fill_region.specs.Runs.{holds};
 ghost use Rattle.fill_sums.specs.declared.moving.Way.TheVariants.{Up, Down};
 
 use crate::moving::Way;

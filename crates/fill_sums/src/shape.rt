@@ -4,9 +4,8 @@ ghost use Rattle.fill_base.specs.Squares.{area_of};
 ghost use Rattle.fill_area.specs.Density.{window_area};
 ghost use Rattle.fill_sums.specs.steps.Moving.{AreAlike};
 
-use fill_area::{Windows, area_in};
+use fill_area::{Windows, area_in, shared_area};
 use fill_base::Rect;
-use fill_cells::shared_area;
 use fill_region::Region;
 
 /// Neighbouring columns of windows, in each of which a set has that area.

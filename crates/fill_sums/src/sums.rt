@@ -1,7 +1,7 @@
 //! Running sums over windows.
 ghost use Rattle.std.specs.Prelude.{◌≡◌, ◌<◌, ℤ, true, IfOk, All};
 ghost use Rattle.fill_base.specs.Squares.{squares};
-ghost use Rattle.fill_region.specs.Bands.{holds};
+ghost use Rattle.fill_region.specs.Runs.{holds};
 ghost use Rattle.fill_area.specs.Density.{AreMeasured, IsArea};
 ghost use Rattle.fill_sums.specs.declared.moving.Way.TheVariants.{Up, Down};
 ghost use Rattle.fill_sums.specs.Numbers.{AreSums, IsMoved, StaysWithin, WindowNumbers, number_at};
@@ -11,7 +11,7 @@ use crate::moving::{Way, move_all};
 use crate::shape::Shape;
 use fill_area::Windows;
 use fill_base::Rect;
-use fill_measure::measure_region;
+use fill_measure::measure_all;
 use fill_region::Region;
 use std::alloc::{AllocError, Global};
 use std::marker::Model;
@@ -49,7 +49,7 @@ impl Sums {
         ensures drawn { IfOk result (λ s. AreMeasured (holds metal.now) windows.now s.drawn) }
         ensures total { IfOk result (λ s. AreMeasured (holds metal.now) windows.now s.total) }
     {
-        let drawn = measure_region(rt, alloc, metal, windows)?;
+        let drawn = measure_all(rt, alloc, metal, windows)?;
         Sums::of_areas(alloc, metal, windows, drawn)
     }
 

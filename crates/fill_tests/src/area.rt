@@ -1,5 +1,6 @@
-use fill_area::{BadWindows, Windows, area_in, areas_in, is_high, is_low, measure_all};
+use fill_area::{BadWindows, Windows, area_in, areas_in, is_high, is_low};
 use fill_base::{Point, Rect};
+use fill_measure::measure_all;
 use fill_region::Region;
 use std::ops::Range;
 use std::process::Abort;
@@ -29,7 +30,7 @@ fn windows_of_a_strip(rt: HostRuntime) -> Result<(), Fail> {
 }
 
 #[test]
-fn few_windows_are_measured_in_strips(rt: HostRuntime) -> Result<(), Fail> {
+fn few_windows_over_long_wires(rt: HostRuntime) -> Result<(), Fail> {
     let alloc = rt.alloc();
     let rects = [rect(&rt, [0, 0, 3, 1000]), rect(&rt, [2, 10, 900, 12])];
     let region = Region::from_rects(alloc, &rects)?;

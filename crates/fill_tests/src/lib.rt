@@ -19,6 +19,4 @@ mod size;
 #[cfg(test)]
 mod spans;
 #[cfg(test)]
-mod strips;
-#[cfg(test)]
 mod text;

@@ -1,7 +1,7 @@
 //! Windows measured straight from rectangles, beside those measured by a region, and by hand.
-use fill_area::{Windows, measure_all};
+use fill_area::{Windows, areas_in};
 use fill_base::{Point, Rect};
-use fill_measure::{measure_region, sum_rects};
+use fill_measure::{measure_all, sum_rects};
 use fill_region::Region;
 use std::alloc::Global;
 use std::test::Fail;
@@ -50,7 +50,7 @@ fn areas_of(
 }
 
 /// Whether the windows have the areas of the region of the rectangles, measured straight from one list of them, from several, and by
-/// the region's cells.
+/// the region's runs.
 fn are_those_of_the_region(
     rt: &(impl Threads + Sync),
     alloc: Global,
@@ -58,11 +58,11 @@ fn are_those_of_the_region(
     windows: &Windows,
 ) -> Result<bool, Fail> {
     let region = Region::from_rects(alloc, rects)?;
-    let areas = measure_all(rt, alloc, &region, windows)?;
+    let areas = areas_in(alloc, &region, windows)?;
     let straight = areas_of(rt, alloc, &in_lists(alloc, rects, 1)?, windows)?;
     let by_lists = areas_of(rt, alloc, &in_lists(alloc, rects, 7)?, windows)?;
-    let by_cells = measure_region(rt, alloc, &region, windows)?;
-    Ok(straight == areas && by_lists == areas && by_cells == areas)
+    let by_runs = measure_all(rt, alloc, &region, windows)?;
+    Ok(straight == areas && by_lists == areas && by_runs == areas)
 }
 
 #[test]
@@ -175,7 +175,7 @@ fn windows_amid_edges_are_as_few_of_them_alone(rt: HostRuntime) -> Result<(), Fa
             (column.clipped_to(&part), rows.clipped_to(&part)),
         ] {
             let areas = areas_of(&rt, alloc, &lists, &all)?;
-            let alone = measure_region(&rt, alloc, &region, &few)?;
+            let alone = areas_in(alloc, &region, &few)?;
             assert!(rt; areas.get(from..to) == Some(alone.as_slice()), "{all:?}");
         }
     }

@@ -1,6 +1,6 @@
 -- The table of rules: for each key its index, its name and what its value may be. The numbers stand before the texts, and the
 -- keys that may be left out behind them.
-use Rattle.std.specs.Prelude.{Bool, true, false, ℕ, ℤ, pos, ◌≤ℤ◌, List, [], ◌∷◌, ◌++◌, map, Option, Some, None, find, option_map, bytes_eq, codes}
+use Rattle.std.specs.Prelude.{Bool, true, false, ℕ, ℤ, pos, ◌≤ℤ◌, List, [], ◌∷◌, ◌++◌, map, Option, Some, None, find, bytes_eq, codes}
 use Rattle.fill_base.specs.Coordinates.{lowest, highest}
 use Rattle.fill_text.specs.declared.keys.Key.{Key}
 use Rattle.fill_text.specs.declared.keys.Key.TheVariants.{Number, Text, Optional, Padding}

@@ -23,4 +23,3 @@ pub mod Placing
 pub mod Surveying
 pub mod Extending
 pub mod Shaping
-pub mod Standing

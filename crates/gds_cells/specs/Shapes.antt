@@ -1,5 +1,5 @@
 -- The shapes of a layer: what each covers, how far it goes, and why it's refused.
-use Rattle.std.specs.Prelude.{ℕ, ℤ, Bool, false, ◌&&◌, ◌==◌, List, [], map, cond, Option, Some, None, All}
+use Rattle.std.specs.Prelude.{ℤ, Bool, false, List, [], map, cond, Option, Some, None, All}
 use Rattle.std.specs.List.{list_any}
 use Rattle.fill_base.specs.declared.layer.Layer.{Layer}
 use Rattle.gds_grammar.specs.Layers.{same_layer}

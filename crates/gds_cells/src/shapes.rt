@@ -14,10 +14,10 @@ ghost use Rattle.gds_cells.specs.steps.Ranges.{IsWithin};
 
 use crate::error::FlattenError;
 use crate::filled::Filled;
-use crate::joined::join;
 use crate::placement::Placement;
 use crate::shape::Shape;
 use fill_base::{LOWEST, Layer, Point, Rect};
+use fill_region::Region;
 use gds_grammar::{Boundary, Element, Path};
 use gds_shape::{
     Bounds, ShapeError, is_in_range, is_manhattan, put_boundary_at_corner, put_path_at_corner,
@@ -50,6 +50,20 @@ fn is_shape(element: &Element<'_>, layer: Layer) -> bool
         Element::Path(path) => path.layer == layer,
         Element::Ref(_) | Element::Array(_) => false,
     }
+}
+
+/// As many rectangles as this are made runs; fewer take less time to carry than runs to make.
+const MANY: usize = 16;
+
+/// Makes many rectangles fewer, with the same squares: the runs of these.
+fn join(alloc: Global, rects: &mut Vec<Rect>) -> Result<(), AllocError>
+    ensures { OnOk result ((x y : ℤ) → covered rects.new.items x y ≡ covered rects.old.items x y) }
+{
+    if rects.len() >= MANY {
+        let region = Region::from_rects(alloc, rects)?;
+        *rects = region.pieces(alloc)?;
+    }
+    Ok(())
 }
 
 /// The boundary, filled in the empty list of rectangles; `points` is room for its points.

@@ -3,7 +3,7 @@
 ghost use Rattle.std.specs.Prelude.{◌≡◌, ◌⊎◌, ◌&&◌, ℤ, true, false, List, All, IfOk, IfErr, map};
 ghost use Rattle.std.specs.List.{flat_map};
 ghost use Rattle.std.specs.Vec.{vec_items};
-ghost use Rattle.fill_region.specs.Bands.{holds, IsRegion};
+ghost use Rattle.fill_region.specs.Runs.{holds, AreRuns};
 ghost use Rattle.fill_region.specs.Squares.{covered};
 ghost use Rattle.gds_grammar.specs.Values.{cell_of, contents_of};
 ghost use Rattle.gds_cells.specs.Copies.{Copy, drawn, AllStayInRange};
@@ -269,7 +269,7 @@ pub fn flatten(
     top: &[u8],
     layer: Layer,
 ) -> Result<Region, FlattenError>
-    ensures region { IfOk result IsRegion }
+    ensures region { IfOk result AreRuns }
     ensures fine { IfOk result (λ r. IsCountable (contents_of library.now).cells top.now layer) }
     ensures inside { IfOk result (λ r. AllStayInRange (copies_of (contents_of library.now).cells top.now layer)) }
     ensures squares { IfOk result (λ r. (x y : ℤ) → holds r x y

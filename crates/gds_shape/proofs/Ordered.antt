@@ -10,7 +10,7 @@ use Rattle.std.proofs.lemmas.Int.{ints}
 use Rattle.std.proofs.lemmas.List.Sorted.{sorted_far, ranks_by}
 use Rattle.gds_shape.specs.declared.edge.Edge.{Edge}
 use Rattle.fill_base.proofs.Signed.{not_le}
-use Rattle.fill_region.proofs.Ordered.{not_less}
+use Rattle.fill_bands.proofs.Ordered.{not_less}
 use Rattle.gds_shape.specs.steps.Edges.{AreRisingBy}
 use denote.Param.Members.{Mut}
 use denote.Ref.{Bor}

@@ -2,7 +2,7 @@
 //! that span its row, those upwards counted as 1 and those downwards as -1, don't add up to 0.
 
 ghost use Rattle.std.specs.Prelude.{◌≡◌, ◌↔◌, ◌||◌, ◌<◌, ◌-ℤ◌, ◌⊎◌, ℤ, length, map, All, IsTrue, Err, IfErr, IfOk, OnOk};
-ghost use Rattle.fill_region.specs.Bands.{holds, IsRegion};
+ghost use Rattle.fill_region.specs.Runs.{holds, AreRuns};
 ghost use Rattle.fill_region.specs.Squares.{covered};
 ghost use Rattle.gds_shape.specs.Winding.{covers, IsAligned, IsManhattan, IsClosed, IsPoint};
 ghost use Rattle.gds_shape.specs.Moves.{moved};
@@ -159,7 +159,7 @@ pub fn boundary_region(alloc: Global, points: &[Point]) -> Result<Region, ShapeE
     ensures out_of_range { (result ≡ Err ShapeError.OutOfRange)
         ↔ (IsManhattan points.now × (¬ All IsPoint points.now)) }
     ensures refused { IfErr result (λ e. (e ≡ ShapeError.NotManhattan) ⊎ (e ≡ ShapeError.OutOfRange) ⊎ (e ≡ ShapeError.Memory)) }
-    ensures region { IfOk result IsRegion }
+    ensures region { IfOk result AreRuns }
     ensures squares { IfOk result (λ r. (x y : ℤ) → holds r x y ≡ covers points.now x y) }
 {
     if !is_manhattan(points) {

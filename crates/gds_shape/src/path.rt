@@ -5,7 +5,7 @@ ghost use Rattle.std.specs.Prelude.{◌≡◌, ◌⊎◌, ◌||◌, ◌-ℤ◌, 
 ghost use Rattle.std.specs.List.{list_any};
 ghost use Rattle.std.specs.Ordering.{int_eq};
 ghost use Rattle.gds_grammar.specs.Values.{wire_of};
-ghost use Rattle.fill_region.specs.Bands.{holds, IsRegion};
+ghost use Rattle.fill_region.specs.Runs.{holds, AreRuns};
 ghost use Rattle.fill_region.specs.Squares.{covered};
 ghost use Rattle.gds_shape.specs.Extents.{IsExtent, IsNarrow, IsNear, LiesWithin, corner_move};
 ghost use Rattle.gds_shape.specs.Winding.{edges};
@@ -197,7 +197,7 @@ pub fn put_path_at_corner(
 /// Those of `path_segments`, else `OutOfRange` where a segment's rectangle passes the coordinates
 /// from -2^30 to 2^30, or `Memory` where memory is refused.
 pub fn path_region(alloc: Global, path: &Path) -> Result<Region, ShapeError>
-    ensures ok { IfOk result (λ r. IsRegion r × (path_fault (wire_of path.now) ≡ None)
+    ensures ok { IfOk result (λ r. AreRuns r × (path_fault (wire_of path.now) ≡ None)
         × All AreInRange (segments_of (wire_of path.now))) }
     ensures squares { IfOk result (λ r. (x y : ℤ) → holds r x y ≡ path_covers (wire_of path.now) x y) }
     ensures refused { IfErr result (λ e. IsPathRefusal (wire_of path.now) e) }

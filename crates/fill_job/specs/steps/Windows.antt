@@ -2,10 +2,9 @@
 use Rattle.std.specs.Prelude.{◌≡◌, ℕ, pos, true, List}
 use Rattle.fill_area.specs.Axes.{IsContaining}
 use Rattle.fill_area.specs.Grid.{Grid}
-use Rattle.fill_base.specs.Sides.{Sides}
-use Rattle.fill_region.specs.Bands.{Band, holds}
+use Rattle.fill_region.specs.Runs.{Sides, holds}
 
-pub record HoldsIn (g : Grid) (low : List Band) (s : Sides) : Type 0 where
+pub record HoldsIn (g : Grid) (low : List Sides) (s : Sides) : Type 0 where
   pub a : ℕ
   pub b : ℕ
   pub across : IsContaining g.across s.left s.right a

@@ -1,6 +1,6 @@
 use Rattle.std.proofs.Common.{[], ◌∷◌, inl, inr, refl}
 use Rattle.std.proofs.lemmas.Result.{err_from_is_err_and}
-use Rattle.fill_region.specs.Bands.{holds}
+use Rattle.fill_region.specs.Runs.{holds}
 use Rattle.fill_text.specs.ValuesOfRules.{values_of}
 use Rattle.gds_grammar.specs.Values.{contents_of}
 use Rattle.densfill_engine.proofs.Checking.{among_both, among_first}

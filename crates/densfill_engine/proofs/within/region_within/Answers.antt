@@ -1,6 +1,6 @@
 use Rattle.std.proofs.Common.{◌≡◌, ◌∙◌, ap, ℤ}
 use Rattle.std.proofs.lemmas.Result.{err_from_is_err_and}
-use Rattle.fill_region.specs.Bands.{holds}
+use Rattle.fill_region.specs.Runs.{holds}
 use Rattle.fill_region.specs.Squares.{covered}
 use Rattle.densfill_engine.proofs.within.region_within.Goals as goal
 

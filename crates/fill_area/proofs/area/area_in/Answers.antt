@@ -1,23 +1,19 @@
-use Rattle.std.proofs.Common.{to_z, w64}
-use Rattle.fill_area.proofs.Walking.{Turn, walk_starts, walk_turn, walk_ends}
+use Rattle.std.proofs.Common.{◌≡◌, ◌+◌, ◌+ℤ◌, ap, pos, take, to_z, w64, FitsSigned}
+use Rattle.fill_base.specs.Squares.{area_of}
+use Rattle.fill_base.proofs.Signed.{read}
+use Rattle.fill_region.specs.Squares.{covered}
+use Rattle.fill_area.proofs.SharedAreas.{apart_at, apart_more, of_none}
 use Rattle.fill_area.proofs.area.area_in.Goals as goal
 
-pub rows-init : goal.rows-init
-rows-init c = let rows = c.rows-row-items.ensures in
-    rw c.into_iter-row-iterator.ensures.into_iter_gives
-    (walk_starts c.args.region.now c.args.window.now c.rows-row-items.result c.y1.result c.y2.result c.y1.ensures c.y2.ensures rows.region rows.begins rows.within rows.top rows.passed)
+pub loop-run-init : goal.loop-run-init
+loop-run-init c = ap (λ n. pos n) (of_none c.args.window.now)
 
-turn : (c : goal.After-length_in) → Turn c.args.region.now c.args.window.now c.in-Some.row c.next.new.self (to_z w64 c.rows.total-bits) c.length_in.result
-turn c = walk_turn c.args.region.now c.args.window.now c.rows.row-iterator c.in-Some.row c.next.new.self _ c.x1.result c.x2.result c.length_in.result c.rows.invariant c.in-Some.ensures.steps c.x1.ensures c.x2.ensures c.length_in.ensures
-
-pub overflow_mul-total : goal.overflow_mul-total
-overflow_mul-total c = (turn c).product_fits
+more : (c : goal.After-shared_area-total) → FitsSigned w64 (to_z w64 c.loop-run.total-bits +ℤ read c.shared_area-total.result) × (read (to_z w64 c.loop-run.total-bits +ℤ read c.shared_area-total.result) ≡ pos (area_of (covered (take (c.loop-run.run-index + 1) c.runs-run-items.result.now)) c.args.window.now))
+more c = apart_more c.runs-run-items.result.now c.loop-run.run-index c.run-item.result c.args.window.now (to_z w64 c.loop-run.total-bits) c.shared_area-total.result c.loop-run-test.true c.run-item.is
+    (apart_at c.runs-run-items.result.now c.loop-run.run-index c.run-item.result (rw (← c.runs-run-items.ensures.listed) at c.runs-run-items.ensures.apart) c.loop-run-test.true c.run-item.is) c.loop-run.invariant c.shared_area-total.ensures
 
 pub overflow_add-total : goal.overflow_add-total
-overflow_add-total c = (turn c).sum_fits
+overflow_add-total c = (more c).0
 
-pub rows-preserved : goal.rows-preserved
-rows-preserved c = (turn c).walked
-
-pub returns : goal.returns
-returns c = walk_ends c.args.region.now c.args.window.now c.rows.row-iterator c.next.new.self _ c.rows.invariant c.in-None.ensures.steps
+pub loop-run-preserved : goal.loop-run-preserved
+loop-run-preserved c = (more c).1

@@ -2,7 +2,7 @@ use Rattle.std.proofs.Common.{◌≡◌, ◌+◌, ◌+ℤ◌, ap, sym, pos, take
 use Rattle.fill_base.specs.Squares.{area_of}
 use Rattle.fill_base.proofs.Signed.{read}
 use Rattle.fill_region.specs.Squares.{covered}
-use Rattle.fill_cells.proofs.SharedAreas.{apart_more, of_none}
+use Rattle.fill_area.proofs.SharedAreas.{apart_more, of_none}
 use Rattle.fill_cells.proofs.area.apart_area.Goals as goal
 
 pub loop-k-init : goal.loop-k-init

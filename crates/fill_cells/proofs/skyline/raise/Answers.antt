@@ -3,7 +3,7 @@ use Rattle.std.proofs.lemmas.List.{take-append-drop}
 use Rattle.fill_base.proofs.Areas.{read_x1, read_x2, read_y1}
 use Rattle.fill_cells.specs.steps.Skyline.{IsOpen, IsSettled}
 use Rattle.fill_cells.proofs.SkylineAreas.{added_in, all_added, area_read}
-use Rattle.fill_cells.proofs.Halving.{area_small}
+use Rattle.fill_area.proofs.SharedAreas.{area_small}
 use Rattle.fill_cells.proofs.Towers.{put_at}
 use Rattle.fill_cells.proofs.skyline.raise.Goals as goal
 

@@ -1,6 +1,6 @@
 use Rattle.std.proofs.Common.{rules}
 use Rattle.fill_base.proofs.Areas.{read_y1}
-use Rattle.fill_region.proofs.Ordered.{rising_from_sort}
+use Rattle.fill_bands.proofs.Ordered.{rising_from_sort}
 use Rattle.fill_cells.proofs.skyline.sort_by_bottom.Goals as goal
 
 pub returns-clause-rising : goal.returns-clause-rising

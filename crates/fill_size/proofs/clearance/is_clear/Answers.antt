@@ -1,4 +1,4 @@
-use Rattle.fill_region.specs.Bands.{holds}
+use Rattle.fill_region.specs.Runs.{holds}
 use Rattle.fill_size.proofs.Ranges.{clear_test}
 use Rattle.fill_size.proofs.clearance.is_clear.Goals as goal
 

@@ -1,19 +1,24 @@
-use Rattle.std.proofs.Common.{arith}
+use Rattle.fill_base.proofs.Areas.{read_x1, read_x2, read_y1, read_y2}
 use Rattle.fill_base.proofs.Signed.{read_is}
-use Rattle.fill_size.proofs.RangeWalks.{met_on, met_all, met_over}
+use Rattle.fill_region.specs.Runs.{holds}
+use Rattle.fill_size.proofs.Marking.{none_met, met_on, marked_by, unmarked_by, all_met, not_from}
+use Rattle.fill_size.proofs.meeting.mark_met.Goals.{then-have_common, else-have_common}
 use Rattle.fill_size.proofs.meeting.mark_met.Goals as goal
 
-pub rows-preserved : goal.rows-preserved
-rows-preserved c = met_on c.args.region.now c.args.ranges.now _ _ c.args.marks.now c.rows.marks c.mark_row.new.marks c.rows.row-iterator c.in-Some.row c.next.new.self c.rows.invariant c.in-Some.ensures.steps
-    c.mark_row.ensures.count (rw c.edges.ensures.edges at c.mark_row.ensures.marked)
+pub loop-run-init : goal.loop-run-init
+loop-run-init c = none_met c.args.ranges.now c.args.marks.now c.runs-run-items.result.now _ _
 
-pub returns-then-are_all-clause-marked : goal.returns-then-are_all-clause-marked
-returns-then-are_all-clause-marked c =
-    let met = met_on c.args.region.now c.args.ranges.now _ _ c.args.marks.now c.rows.marks c.mark_row.new.marks c.rows.row-iterator c.in-Some.row c.next.new.self c.rows.invariant c.in-Some.ensures.steps
-    c.mark_row.ensures.count (rw c.edges.ensures.edges at c.mark_row.ensures.marked) in
-    met_all c.args.region.now c.args.ranges.now c.args.bottom c.args.top c.args.marks.now c.mark_row.new.marks c.next.new.self (rw (read_is c.args.bottom c.ranges.bottom, read_is c.args.top c.ranges.top) at met)
-    (λ a m lt. c.are_all.ensures c.if-are_all.true a m (omega (arith, lt, met.count, c.requires.count)))
+pub loop-run-preserved : goal.loop-run-preserved
+loop-run-preserved c =
+    let run = c.run-item.result in
+    let test = rw (c.y1.ensures, c.y2.ensures, read_y1 run, read_y2 run) at c.have_common.ensures in
+    elim c.if-have_common.branch [
+      | then-have_common w ↦ rw (w.marks-is) (met_on c.args.ranges.now c.args.marks.now c.loop-run.marks w.mark_between.new.marks c.runs-run-items.result.now c.loop-run.run-index run _ _ c.loop-run-test.true c.run-item.is c.loop-run.invariant
+          (marked_by c.args.ranges.now c.loop-run.marks w.mark_between.new.marks run _ _ (test.0 w.if-have_common.true) (rw (w.x1.ensures, w.x2.ensures, read_x1 run, read_x2 run) at w.mark_between.ensures.marked)))
+      | else-have_common w ↦ rw (w.marks-is) (met_on c.args.ranges.now c.args.marks.now c.loop-run.marks c.loop-run.marks c.runs-run-items.result.now c.loop-run.run-index run _ _ c.loop-run-test.true c.run-item.is c.loop-run.invariant
+          (unmarked_by c.args.ranges.now c.loop-run.marks run _ _ (not_from c.have_common.result test w.if-have_common.false)))
+    ]
 
 pub returns-clause-marked : goal.returns-clause-marked
-returns-clause-marked c =
-    met_over c.args.region.now c.args.ranges.now c.args.bottom c.args.top c.args.marks.now c.rows.marks c.rows.row-iterator c.next.new.self (rw (read_is c.args.bottom c.ranges.bottom, read_is c.args.top c.ranges.top) at c.rows.invariant) c.in-None.ensures.steps
+returns-clause-marked c = all_met (holds c.args.region.now) c.args.ranges.now c.args.marks.now c.loop-run.marks c.runs-run-items.result.now c.loop-run.run-index c.args.bottom c.args.top
+    c.loop-run-test.false c.runs-run-items.ensures.cover (rw (read_is c.args.bottom c.ranges.bottom, read_is c.args.top c.ranges.top) at c.loop-run.invariant)

@@ -1,7 +1,7 @@
 use Rattle.std.proofs.Common.{◌≡◌, pos, rules}
 use Rattle.std.specs.Int.{int_min}
 use Rattle.fill_base.proofs.Signed.{read_is}
-use Rattle.fill_region.specs.Bands.{holds}
+use Rattle.fill_region.specs.Runs.{holds}
 use Rattle.fill_size.proofs.Growing.{far_same}
 use Rattle.fill_size.proofs.sizing.fits.Goals as goal
 

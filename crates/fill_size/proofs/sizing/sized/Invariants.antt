@@ -3,5 +3,5 @@ use Rattle.fill_region.specs.Squares.{covered}
 use Rattle.fill_size.specs.Distance.{IsSized}
 use Rattle.fill_size.proofs.sizing.sized.Given as goal
 
-abbrev pub invariant-loop-piece : goal.invariant-loop-piece
-invariant-loop-piece l = IsSized (covered (take l.piece-index l.piece-items)) l.d (covered l.grown.items)
+abbrev pub invariant-loop-run : goal.invariant-loop-run
+invariant-loop-run l = IsSized (covered (take l.run-index l.run-items)) l.d (covered l.grown.items)

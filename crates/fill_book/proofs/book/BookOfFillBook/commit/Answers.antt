@@ -1,5 +1,6 @@
 use Rattle.std.proofs.Common.{rules, ◌≡◌, refl, ap, sym, subst, ◌∙◌, ◌<◌, ◌^◌, List, [], ◌∷◌, ◌++◌}
-use Rattle.fill_region.specs.Bands.{holds}
+use Rattle.fill_state.specs.Layers.{in_layer}
+use Rattle.fill_region.specs.Runs.{holds}
 use Rattle.fill_area.specs.Grid.{Grid}
 use Rattle.fill_raster.specs.Marks.{Marked, is_marked}
 use Rattle.fill_job.specs.Basis.{read_by}
@@ -60,7 +61,7 @@ invariant_of-self-2 g c =
     let history = c.push.ensures ∙ ap (λ (h : List Entry). h ++ record { event = event.Commit v t same; reply = reply } ∷ []) c.reserve.ensures.same in (
       rw history (keeps_commit c.self.invariant.0 c.note.new.self c.take_in-placed.new.self v t (read_by c.args.proposal.now.basis) same c.marks-marks.result.now c.take_in-placed.result reply (not_full c.self.view_is c.is_full.result c.is_full.ensures c.if-is_full.false) d.brought d.taken d.answer
           (counted_as c.self.inside.books c.note.new.self c.from.result (placed_by reply) 0 (withdrawn_by reply) c.note.ensures.books (c.from.ensures ∙ d.counts.0) d.counts.1)),
-      subst (λ (w : Grid). g.T.Totals.stand_for c.take_in-placed.new.totals w (holds c.take_in-placed.new.self.metal) (squares_in c.take_in-placed.new.self)) c.windows-windows.ensures c.take_in-placed.ensures.stands,
+      subst (λ (w : Grid). g.T.Totals.stand_for c.take_in-placed.new.totals w (in_layer c.take_in-placed.new.self.metal) (squares_in c.take_in-placed.new.self)) c.windows-windows.ensures c.take_in-placed.ensures.stands,
     )
 
 pub take_in-placed-requires-clause-clear : goal.take_in-placed-requires-clause-clear

@@ -1,5 +1,5 @@
 use Rattle.std.proofs.Common.{sym, subst, ◌∙◌}
-use Rattle.fill_region.specs.Bands.{holds}
+use Rattle.fill_region.specs.Runs.{holds}
 use Rattle.fill_area.specs.Grid.{Grid}
 use Rattle.fill_sums.specs.Numbers.{IsMoved, StaysWithin}
 use Rattle.fill_book.proofs.EditParts.{all_parts, metal_parts}

@@ -1,4 +1,5 @@
-use Rattle.fill_region.specs.Bands.{holds}
+use Rattle.fill_state.specs.Layers.{in_layer}
+use Rattle.fill_region.specs.Runs.{holds}
 use Rattle.fill_job.specs.Plans.{plan_of}
 use Rattle.fill_core.specs.Machine.{fill_after, metal_after}
 use Rattle.fill_state.specs.Filling.{is_filled, left_by}
@@ -19,7 +20,7 @@ returns-clause-edited c =
       columns = c.too_near.ensures.ordered.0;
       rows = c.too_near.ensures.ordered.1;
       clear = c.requires.clear_now;
-      clear_left = clear_same plan.raster f.raster (fill_after plan c.args.edit (is_filled f)) (left_by f out) (metal_after c.args.edit (holds c.args.self.now.metal)) (holds c.in_ok-metal_edited.field-0) c.requires.raster left c.in_ok-metal_edited.ensures c.requires.clear;
+      clear_left = clear_same plan.raster f.raster (fill_after plan c.args.edit (is_filled f)) (left_by f out) (metal_after c.args.edit (in_layer c.args.self.now.metal)) (in_layer c.in_ok-metal_edited.field-0) c.requires.raster left c.in_ok-metal_edited.ensures c.requires.clear;
     }
 
 pub returns-clause-left : goal.returns-clause-left

@@ -1,6 +1,9 @@
-use Rattle.std.proofs.Common.{◌≡◌, sym, subst, refl, pos, ℕ}
+use Rattle.std.proofs.Common.{◌≡◌, ◌∙◌, ap, sym, subst, refl, pos, ℕ}
+use Rattle.std.proofs.Math.Path.{fun_ext}
 use Rattle.fill_base.proofs.Signed.{read_is}
-use Rattle.fill_raster.specs.Lattice.{Lattice, KeepsPitch}
+use Rattle.fill_region.specs.Runs.{holds}
+use Rattle.fill_state.specs.Layers.{in_layer}
+use Rattle.fill_raster.specs.Lattice.{Lattice, KeepsPitch, tiles}
 use Rattle.fill_job.specs.Plans.{plan_of}
 use Rattle.fill_job.specs.Basis.{windows_in}
 use Rattle.fill_state.specs.Low.{low_by}
@@ -15,5 +18,17 @@ returns-clause-state g c =
     let plan = plan_of c.args.rules.now in
     let low = rw (c.windows-windows.ensures, read_is c.min.result (record { sfits = c.min.type_inv }), c.min.ensures.value) at c.in_ok-low_windows.ensures in
     let low_is : (a b : ℕ) → windows_in c.in_ok-low_windows.field-0 a b ≡ low_by plan.windows plan.least c.args.areas.now a b = low in
-    opened plan (record { metal = c.args.metal; keep = c.args.keep; filled = c.in_ok-none.field-0; low = c.in_ok-low_windows.field-0; tiles = c.in_ok-none-2.field-0; version = 0; pieces = c.in_ok-metal_pieces.field-0; keep_pieces = c.in_ok-keep_pieces.field-0 }) c.args.metal c.args.keep c.args.areas.now refl refl refl
+    opened plan (record { metal = c.«open».result; keep = c.open-2.result; filled = c.in_ok-none.field-0; low = c.in_ok-low_windows.field-0; tiles = c.in_ok-none-2.field-0; version = 0; pieces = c.in_ok-metal_pieces.field-0; keep_pieces = c.in_ok-keep_pieces.field-0 }) c.args.metal c.args.keep c.args.areas.now c.«open».ensures.squares c.open-2.ensures.squares refl
     c.requires.measured low_is c.in_ok-none.ensures.none c.in_ok-none-2.ensures.none
+
+pub returns-clause-fits : goal.returns-clause-fits
+returns-clause-fits g c =
+    let plan = plan_of c.args.rules.now in
+    let metal : in_layer c.«open».result ≡ holds c.args.metal = fun_ext (λ x. fun_ext (λ y. c.«open».ensures.squares x y)) in
+    let keep : in_layer c.open-2.result ≡ holds c.args.keep = fun_ext (λ x. fun_ext (λ y. c.open-2.ensures.squares x y)) in
+    record {
+      raster = c.in_ok-none.ensures.raster ∙ c.raster-raster.ensures.raster;
+      tiles = c.in_ok-none-2.ensures.room ∙ (c.tiles.ensures ∙ ap tiles c.raster-raster.ensures.raster);
+      pieces = rw metal (rw c.metal-2.ensures at c.in_ok-metal_pieces.ensures);
+      keep_pieces = rw keep (rw c.metal-3.ensures at c.in_ok-keep_pieces.ensures);
+    }

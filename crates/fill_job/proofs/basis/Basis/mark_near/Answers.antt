@@ -1,6 +1,6 @@
 use Rattle.std.proofs.Common.{◌∙◌, rules}
 use Rattle.fill_base.proofs.Signed.{read_is}
-use Rattle.fill_region.specs.Bands.{holds}
+use Rattle.fill_region.specs.Runs.{holds}
 use Rattle.fill_raster.specs.Lattice.{IsLattice}
 use Rattle.fill_job.specs.Basis.{plan_by}
 use Rattle.fill_job.proofs.Reaching.{reaches_rising, lines_fit, lines_read, lines_ordered, first_in, met_places}

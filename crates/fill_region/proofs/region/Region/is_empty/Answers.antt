@@ -1,5 +1,5 @@
-use Rattle.fill_region.proofs.Looking.{empty_Decides}
+use Rattle.fill_region.proofs.Apart.{empty_Decides}
 use Rattle.fill_region.proofs.region.Region.is_empty.Goals as goal
 
 pub returns : goal.returns
-returns c = rw (← c.self.view_is) (empty_Decides c.self.inside.bands.items c.self.inside.bands.len c.is_empty.result c.self.invariant c.self.inside.bands.ok.0 c.is_empty.ensures)
+returns c = rw (← c.self.view_is) (empty_Decides c.self.inside.runs.items c.self.inside.runs.len c.is_empty.result c.self.invariant c.self.inside.runs.ok.0 c.is_empty.ensures)

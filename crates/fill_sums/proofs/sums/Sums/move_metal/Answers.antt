@@ -1,5 +1,5 @@
 use Rattle.std.proofs.Common.{drop, length, sym, subst}
-use Rattle.fill_region.specs.Bands.{holds}
+use Rattle.fill_region.specs.Runs.{holds}
 use Rattle.fill_sums.specs.Numbers.{StaysWithin, WindowNumbers}
 use Rattle.fill_sums.proofs.Changing.{moved_at, drawn_at, total_at}
 use Rattle.fill_sums.proofs.sums.Sums.move_metal.Goals as goal

@@ -1,5 +1,5 @@
 use Rattle.std.proofs.Common.{◌∙◌}
-use Rattle.fill_region.specs.Bands.{holds}
+use Rattle.fill_region.specs.Runs.{holds}
 use Rattle.fill_sums.proofs.Changing.{measured_numbers}
 use Rattle.fill_sums.proofs.sums.Sums.of_areas.Goals as goal
 

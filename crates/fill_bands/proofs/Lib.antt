@@ -1,0 +1,9 @@
+pub mod Stack
+pub mod Sweeping
+pub mod SweepTurns
+pub mod Looking
+pub mod Within
+pub mod Ordered
+pub mod NextLines
+pub mod UpwardSweep
+pub mod RowSteps

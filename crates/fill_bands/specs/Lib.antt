@@ -1,0 +1,4 @@
+pub mod Bands
+pub mod Squares
+pub mod Rows
+pub mod steps

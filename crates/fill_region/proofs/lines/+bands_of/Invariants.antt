@@ -1,5 +1,0 @@
-use Rattle.std.specs.Prelude.{length}
-use Rattle.fill_region.proofs.lines.+bands_of.Given as goal
-
-abbrev pub decreases-bands_of : goal.decreases-bands_of
-decreases-bands_of l = length l.rects.now

@@ -1,5 +1,0 @@
-use Rattle.fill_region.proofs.NextLines.{first_line}
-use Rattle.fill_region.proofs.lines.first_bottom.Goals as goal
-
-pub returns-in-Some : goal.returns-in-Some
-returns-in-Some c = first_line c.args.rects.now c.in-Some.rect.now c.y1.result c.y1.ensures c.in-Some.ensures.value c.requires

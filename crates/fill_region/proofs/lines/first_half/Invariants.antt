@@ -1,0 +1,7 @@
+use Rattle.std.proofs.Common.{◌≡◌, ℤ, take}
+use Rattle.fill_bands.specs.Squares.{covered}
+use Rattle.fill_region.specs.Steps.{before}
+use Rattle.fill_region.proofs.lines.first_half.Given as goal
+
+abbrev pub invariant-rects : goal.invariant-rects
+invariant-rects l = (x y : ℤ) → covered l.parts.items x y ≡ before l.line (covered (take l.rect-index l.rects)) x y

@@ -1,0 +1,50 @@
+//! Sides of rectangles, and lists that are parted by where one lies.
+ghost use Rattle.std.specs.Prelude.{◌≡◌, IfOk};
+ghost use Rattle.fill_region.specs.Steps.{edge_of, AreParted};
+
+use fill_base::Rect;
+use std::alloc::{AllocError, Global};
+
+/// A side of a rectangle.
+#[derive(Clone, Copy)]
+pub(crate) enum Edge {
+    Left,
+    Bottom,
+    Right,
+    Top,
+}
+
+impl Edge {
+    /// Where that side of the rectangle lies.
+    fn of(self, rect: &Rect) -> i64
+        ensures { result ≡ edge_of self rect.now }
+    {
+        match self {
+            Edge::Left => rect.x1(),
+            Edge::Bottom => rect.y1(),
+            Edge::Right => rect.x2(),
+            Edge::Top => rect.y2(),
+        }
+    }
+}
+
+/// Those of the rectangles of which that side lies at `at`, and the others.
+pub(crate) fn parted(
+    alloc: Global,
+    rects: &[Rect],
+    edge: Edge,
+    at: i64,
+) -> Result<(Vec<Rect>, Vec<Rect>), AllocError>
+    ensures { IfOk result (λ v. AreParted edge at rects.now v.0.items v.1.items) }
+{
+    let mut there = Vec::new(alloc);
+    let mut others = Vec::new(alloc);
+    'rects: for rect in rects {
+        if edge.of(rect) == at {
+            there.push(*rect)?;
+        } else {
+            others.push(*rect)?;
+        }
+    }
+    Ok((there, others))
+}

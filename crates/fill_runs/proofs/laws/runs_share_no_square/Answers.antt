@@ -1,5 +1,0 @@
-use Rattle.fill_runs.proofs.Intervals.{same_run}
-use Rattle.fill_runs.proofs.laws.runs_share_no_square.Goals as goal
-
-pub returns : goal.returns
-returns c = same_run

@@ -1,7 +1,0 @@
-use Rattle.std.proofs.Common.{◌≡◌, ℤ, take}
-use Rattle.fill_region.specs.Squares.{covered}
-use Rattle.fill_runs.specs.Steps.{behind}
-use Rattle.fill_runs.proofs.lines.second_half.Given as goal
-
-abbrev pub invariant-rects : goal.invariant-rects
-invariant-rects l = (x y : ℤ) → covered l.parts.items x y ≡ behind l.line (covered (take l.rect-index l.rects)) x y

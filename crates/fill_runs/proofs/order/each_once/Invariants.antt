@@ -1,5 +1,0 @@
-use Rattle.fill_runs.proofs.Ordered.{ArePut}
-use Rattle.fill_runs.proofs.order.each_once.Given as goal
-
-abbrev pub invariant-rects : goal.invariant-rects
-invariant-rects l = ArePut l.rects l.k l.ordered.items

@@ -1,5 +1,0 @@
-use Rattle.fill_runs.proofs.Rising.{Risen}
-use Rattle.fill_runs.proofs.rows.runs_of_bands.Given as goal
-
-abbrev pub invariant-rows : goal.invariant-rows
-invariant-rows l = Risen l.bands l.row-iterator l.runs.items

@@ -1,6 +1,0 @@
-//! Tests of joined runs. They stand here so that neither their crate nor those of other tests are proved a second time for
-//! their sake.
-#![tactic(auto)]
-
-#[cfg(test)]
-mod runs;
