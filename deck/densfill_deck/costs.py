@@ -5,7 +5,7 @@ from dataclasses import dataclass
 # Of any run, and for one of each: no less than was measured (docs/PERFORMANCE.md).
 AT_LEAST = 16 << 20
 BYTES = {"check": {"size": 1.05, "elements": 84, "copies": 32, "windows": 110, "places": 0, "tiles": 0},
-         "fill": {"size": 1.05, "elements": 84, "copies": 330, "windows": 200, "places": 10, "tiles": 170}}
+         "fill": {"size": 1.05, "elements": 84, "copies": 380, "windows": 200, "places": 10, "tiles": 170}}
 # Seconds of a processor for one of each, about.
 SECONDS = {"check": {"size": 3e-9, "copies": 1.2e-7, "windows": 5e-7},
            "fill": {"size": 3e-9, "copies": 2e-6, "windows": 1e-6, "places": 8e-8, "tiles": 1.2e-6}}
