@@ -1,5 +1,5 @@
 //! The density windows of a layer.
-ghost use Rattle.std.specs.Prelude.{◌≡◌, ◌↔◌, ℕ, ℤ, Bool, None, IfSome, ◌<◌, ◌*◌, ◌/◌, ◌%◌, ◌≤◌, pos, ◌*ℤ◌, IsTrue, IsOk, IfOk};
+ghost use Rattle.std.specs.Prelude.{◌≡◌, ◌↔◌, ℕ, ℤ, Bool, None, IfSome, ◌<◌, ◌*◌, ◌/◌, ◌%◌, ◌≤◌, ◌*ℤ◌, IsTrue, IsOk, IfOk};
 ghost use Rattle.fill_base.specs.Squares.{squares};
 ghost use Rattle.fill_area.specs.Axes.{IsAxis, IsIndex, IsTouching, IsContaining, IsRangeOf};
 ghost use Rattle.fill_base.specs.Sides.{sides_of};

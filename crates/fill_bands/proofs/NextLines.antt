@@ -20,7 +20,8 @@ use Rattle.fill_base.proofs.Areas.{read_y1, read_y2}
 use Rattle.fill_spans.specs.Spans.{ceiling}
 use Rattle.fill_spans.specs.Columns.{IsRisingBy}
 use Rattle.fill_bands.specs.Squares.{covered}
-use Rattle.fill_bands.specs.steps.Lines.{Crosses, IsNextLine, IsCrossed}
+use Rattle.fill_bands.specs.Lines.{Crosses}
+use Rattle.fill_bands.specs.steps.Lines.{IsNextLine, IsCrossed}
 use Rattle.fill_bands.proofs.Within.{ends_within, kept_squares, kept_rising, passing_rising}
 
 -- the first of the rectangles by their lower edges

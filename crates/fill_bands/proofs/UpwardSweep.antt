@@ -18,17 +18,14 @@ use Rattle.fill_spans.proofs.Canonical.{equal_sets}
 use Rattle.fill_bands.specs.Bands.{Band, holds, last_row, AreBands, IsBanded}
 use Rattle.fill_bands.specs.Squares.{covered}
 use Rattle.fill_bands.specs.steps.Merging.{RowPut}
-use Rattle.fill_bands.specs.steps.Lines.{Crosses, IsNextLine, IsCrossed}
-use Rattle.fill_bands.proofs.Stack.{bands_lt, row_past, last_canonical}
+use Rattle.fill_bands.specs.Lines.{Crosses, IsAtLine, IsStart, IsStep}
+use Rattle.fill_bands.specs.steps.Lines.{IsNextLine, IsCrossed}
+use Rattle.fill_bands.proofs.Stack.{row_past, last_canonical}
 use Rattle.fill_bands.proofs.Sweeping.{Grows, grows_written, last_is, nothing_canonical}
 
 -- below the line all is written; the rectangles that have squares from there on are at hand
 pub record SweptTo (rects later crossing : List Rect) (bands : List Band) (line : ℤ) : Type 0 where
-  pub sorted : IsRisingBy (λ r. r.y1) later
-  pub begins : All (λ r. line ≤ℤ r.y1) later
-  pub begun : All (λ r. r.y1 ≤ℤ line) crossing
-  pub lefts : IsRisingBy (λ r. r.x1) crossing
-  pub high : line ≤ℤ ceiling
+  pub at : IsAtLine later crossing line
   pub ahead : (x y : ℤ) → line ≤ℤ y → covered rects x y ≡ (covered crossing x y || covered later x y)
   pub behind : (x y : ℤ) → y <ℤ line → holds bands x y ≡ covered rects x y
   pub rising : AreBands floor [] bands line
@@ -77,22 +74,32 @@ columns_are (r ∷ rects) line x y le cross high =
     join true c d h = refl
     join false c d h = h
 
-pub swept_start : (rects sorted : List Rect) (line : ℤ) → IsPermutation rects sorted → IsRisingBy (λ r. r.y1) sorted → IsNextLine sorted [] line → SweptTo rects sorted [] [] line
-swept_start rects sorted line same rising next =
+pub started : (rects sorted : List Rect) (line : ℤ) → IsPermutation rects sorted → IsRisingBy (λ r. r.y1) sorted → IsNextLine sorted [] line → IsStart rects sorted line
+started rects sorted line same rising next =
     let all : (x y : ℤ) → covered rects x y ≡ covered sorted x y = λ x y. list_any-IsPermutation (λ r. squares r x y) rects sorted same in
     record {
-      sorted = rising;
-      begins = next.begins;
-      begun = λ k d lt. absurd (omega arith);
-      lefts = λ i j d le lt. absurd (omega arith);
-      high = next.high;
-      ahead = λ x y le. all x y;
-      behind = λ x y lt. sym (all x y ∙ none_yet sorted x y (λ k d h. lt_le_lt y line (get_or sorted k d).y1 lt (next.begins k d h)));
-      rising = next.nearest floor (omega (arith, ints)) (λ k d lt. above (get_or sorted k d)) (λ k d lt. absurd (omega arith));
+      at = record {
+        sorted = rising;
+        begins = next.begins;
+        begun = λ k d lt. absurd (omega arith);
+        lefts = λ i j d le lt. absurd (omega arith);
+        low = next.nearest floor (omega (arith, ints)) (λ k d lt. above (get_or sorted k d)) (λ k d lt. absurd (omega arith));
+        high = next.high;
+      };
+      same = all;
+      none = λ x y lt. all x y ∙ none_yet sorted x y (λ k d h. lt_le_lt y line (get_or sorted k d).y1 lt (next.begins k d h));
     }
   where
     above : (r : Rect) → floor <ℤ r.y1
     above r = let h = r.bottom in omega (arith, ints)
+
+pub swept_start : (rects sorted : List Rect) (line : ℤ) → IsStart rects sorted line → SweptTo rects sorted [] [] line
+swept_start rects sorted line s = record {
+  at = s.at;
+  ahead = λ x y le. s.same x y;
+  behind = λ x y lt. sym (s.none x y lt);
+  rising = s.at.low;
+}
 
 -- the line rises
 pub further : (rest crossing : List Rect) (line line' : ℤ) → line <ℤ ceiling → All (λ r. line <ℤ r.y1) rest → All (Crosses line) crossing → IsNextLine rest crossing line' → line <ℤ line'
@@ -124,47 +131,65 @@ join_three a b c d e h k = rw (h, k) (or_assoc b c e)
     or_assoc true c e = refl
     or_assoc false c e = refl
 
--- one turn: from the line to the next one
-pub swept_turn : (rects later begun rest crossing crossing' : List Rect) (bands bands' : List Band) (row : List ℤ) (line line' : ℤ) (n : ℕ)
-    → SweptTo rects later crossing bands line → line <ℤ ceiling → n ≤ length later → IsPartitionPoint (λ r. r.y1 ≤ℤ line) (λ r. line <ℤ r.y1) later n
-    → begun ≡ take n later → rest ≡ drop n later → IsCrossed line crossing begun crossing' → IsCanonical row → ((x : ℤ) → inside row x ≡ has_column crossing' x)
-    → RowPut line row bands bands' → IsNextLine rest crossing' line' → (line <ℤ line') × SweptTo rects rest crossing' bands' line'
-swept_turn rects later begun rest crossing crossing' bands bands' row line line' n s high within parted begun_is rest_is crossed canonical members put next =
+or_false : (b : Bool) → (b || false) ≡ b
+or_false true = refl
+or_false false = refl
+
+-- one step: from the line to the next one
+pub stepped : (later begun rest crossing crossing' : List Rect) (line line' : ℤ) (n : ℕ) → IsAtLine later crossing line → line <ℤ ceiling → n ≤ length later
+    → IsPartitionPoint (λ r. r.y1 ≤ℤ line) (λ r. line <ℤ r.y1) later n → begun ≡ take n later → rest ≡ drop n later → IsCrossed line crossing begun crossing' → IsNextLine rest crossing' line'
+    → IsStep line later crossing rest crossing' line'
+stepped later begun rest crossing crossing' line line' n s high within parted begun_is rest_is crossed next =
     let above = others_later later rest line n parted within rest_is in
     let first = first_cross later begun line n s.begins parted within begun_is in
     let cross = crossed.cross s.begun first in
     let far : line <ℤ line' = further rest crossing' line line' high above cross next in
-    let grown : Grows line bands bands' = grows_written bands bands' line row canonical s.rising put in
     let parts : (x y : ℤ) → covered later x y ≡ (covered begun x y || covered rest x y) = λ x y.
     ap (λ l. covered l x y) (sym (take-append-drop n later) ∙ rw (begun_is, rest_is) refl) ∙ list_any-append (λ r. squares r x y) begun rest in
-    let ahead : (x y : ℤ) → line ≤ℤ y → covered rects x y ≡ (covered crossing' x y || covered rest x y) = λ x y le.
-    s.ahead x y le ∙ join_three (covered crossing' x y) (covered crossing x y) (covered begun x y) (covered later x y) (covered rest x y) (crossed.squares s.begun first x y le) (parts x y) in (
-      far,
-      record {
+    let ahead : (x y : ℤ) → line ≤ℤ y → (covered crossing x y || covered later x y) ≡ (covered crossing' x y || covered rest x y) = λ x y le.
+    join_three (covered crossing' x y) (covered crossing x y) (covered begun x y) (covered later x y) (covered rest x y) (crossed.squares s.begun first x y le) (parts x y) in
+    record {
+      at = record {
         sorted = rest_sorted later rest n s.sorted rest_is;
         begins = next.begins;
         begun = λ k d lt. lt_le (get_or crossing' k d).y1 line' (le_lt_lt (get_or crossing' k d).y1 line line' (cross k d lt).0 far);
         lefts = crossed.sorted s.lefts;
+        low = lt_lt floor line line' s.low far;
         high = next.high;
-        ahead = λ x y le. ahead x y (lt_le line y (lt_le_lt line line' y far le));
+      };
+      further = far;
+      cross = cross;
+      whole = next.ends;
+      here = λ x y le lt. ahead x y le ∙ rw (none_yet rest x y (λ k d h. lt_le_lt y line' (get_or rest k d).y1 lt (next.begins k d h))) (or_false (covered crossing' x y));
+      above = λ x y le. ahead x y (lt_le line y (lt_le_lt line line' y far le));
+    }
+  where
+    lt_lt : (a b c : ℤ) → a <ℤ b → b <ℤ c → a <ℤ c
+    lt_lt a b c h k = omega (arith, ints)
+
+-- one turn: what crosses the rows up to the next line is written
+pub swept_turn : (rects later rest crossing crossing' : List Rect) (bands bands' : List Band) (row : List ℤ) (line line' : ℤ) → SweptTo rects later crossing bands line → IsStep line later crossing rest crossing' line'
+    → IsCanonical row → ((x : ℤ) → inside row x ≡ has_column crossing' x) → RowPut line row bands bands' → (line <ℤ line') × SweptTo rects rest crossing' bands' line'
+swept_turn rects later rest crossing crossing' bands bands' row line line' s step canonical members put =
+    let grown : Grows line bands bands' = grows_written bands bands' line row canonical s.rising put in (
+      step.further,
+      record {
+        at = step.at;
+        ahead = λ x y le. s.ahead x y (lt_le line y (lt_le_lt line line' y step.further le)) ∙ step.above x y le;
         behind = λ x y lt. by_lt_z y line
             (λ below. ap (λ r. inside r x) (grown.below y below) ∙ s.behind x y below)
             (λ past. ap (λ r. inside r x) (grown.past y past ∙ last_is bands bands' line row put) ∙ (members x
-            ∙ (columns_are crossing' line x y past cross (λ k d h. lt_le_lt y line' (get_or crossing' k d).y2 lt (next.ends k d h))
-            ∙ sym (ahead x y past ∙ rw (none_yet rest x y (λ k d h. lt_le_lt y line' (get_or rest k d).y1 lt (next.begins k d h))) (or_false (covered crossing' x y))))));
-        rising = grown.reach line' far;
+            ∙ (columns_are crossing' line x y past step.cross (λ k d h. lt_le_lt y line' (get_or crossing' k d).y2 lt (step.whole k d h))
+            ∙ sym (s.ahead x y past ∙ step.here x y past lt))));
+        rising = grown.reach line' step.further;
       },
     )
-  where
-    or_false : (b : Bool) → (b || false) ≡ b
-    or_false true = refl
-    or_false false = refl
 
 pub swept_smaller : (rects rest crossing : List Rect) (bands : List Band) (line line' : ℤ) → (line <ℤ line') × SweptTo rects rest crossing bands line'
     → unsigned_abs (ceiling -ℤ read line') < unsigned_abs (ceiling -ℤ line)
 swept_smaller rects rest crossing bands line line' turn =
-    let low = bands_lt floor line' [] bands turn.1.rising in
-    let high = turn.1.high in
+    let low = turn.1.at.low in
+    let high = turn.1.at.high in
     let is : read line' ≡ line' = read_is line' (omega (arith, ints)) in
     rw is (less line line' turn.0 high)
   where
@@ -172,14 +197,17 @@ swept_smaller rects rest crossing bands line line' turn =
     less line line' up high = omega (arith, ints)
 
 -- the lines are read as they are
+pub at_read : (later crossing : List Rect) (line : ℤ) → IsAtLine later crossing line → read line ≡ line
+at_read later crossing line s = read_is line (let low = s.low in let high = s.high in omega (arith, ints))
+
 pub turn_read : (rects rest crossing : List Rect) (bands : List Band) (line : ℤ) → SweptTo rects rest crossing bands line → SweptTo rects rest crossing bands (read line)
-turn_read rects rest crossing bands line s = rw (read_is line (let low = bands_lt floor line [] bands s.rising in let high = s.high in omega (arith, ints))) s
+turn_read rects rest crossing bands line s = rw (read_is line (let low = s.at.low in let high = s.at.high in omega (arith, ints))) s
 
 pub line_fits : (rects later crossing : List Rect) (bands : List Band) (line : ℤ) → SweptTo rects later crossing bands line → line <ℤ ceiling → FitsSigned w32 line
-line_fits rects later crossing bands line s high = let low = bands_lt floor line [] bands s.rising in omega (arith, ints)
+line_fits rects later crossing bands line s high = let low = s.at.low in omega (arith, ints)
 
 pub line_is : (rects later crossing : List Rect) (bands : List Band) (line : ℤ) → SweptTo rects later crossing bands line → line <ℤ ceiling → read32 line ≡ line
-line_is rects later crossing bands line s high = let low = bands_lt floor line [] bands s.rising in read32_is line (omega (arith, ints))
+line_is rects later crossing bands line s high = let low = s.at.low in read32_is line (omega (arith, ints))
 
 -- the sweep has come to its end
 pub swept_squares : (rects later crossing : List Rect) (bands : List Band) (line : ℤ) → SweptTo rects later crossing bands line → ceiling ≤ℤ line
@@ -188,12 +216,12 @@ swept_squares rects later crossing bands line s end x y = by_lt_z y line
     (λ lt. s.behind x y lt)
     (λ le.
     let top : highest <ℤ line = omega (arith, ints) in
-    ap (λ r. inside r x) (row_past floor line y [] bands s.rising (omega (arith, ints)) ∙ sym (row_past floor line highest [] bands s.rising (let h = s.high in omega (arith, ints))))
+    ap (λ r. inside r x) (row_past floor line y [] bands s.rising (omega (arith, ints)) ∙ sym (row_past floor line highest [] bands s.rising (let h = s.at.high in omega (arith, ints))))
     ∙ (s.behind x highest top ∙ (none_more rects x highest (omega (arith, ints)) ∙ sym (none_more rects x y (omega (arith, ints))))))
 
 pub swept_region : (rects later crossing : List Rect) (bands : List Band) (line : ℤ) → SweptTo rects later crossing bands line → ceiling ≤ℤ line → IsBanded bands
 swept_region rects later crossing bands line s end =
-    let top : line ≡ ceiling = let h = s.high in omega (arith, ints) in
+    let top : line ≡ ceiling = let h = s.at.high in omega (arith, ints) in
     let rising : AreBands floor [] bands ceiling = rw top at s.rising in
     let nothing : (x : ℤ) → inside (last_row [] bands) x ≡ false = λ x.
     ap (λ r. inside r x) (sym (row_past floor ceiling ceiling [] bands rising (omega (arith, ints)))) ∙ (swept_squares rects later crossing bands line s end x ceiling ∙ none_more rects x ceiling (omega (arith, ints))) in

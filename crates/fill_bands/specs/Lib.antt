@@ -1,4 +1,5 @@
 pub mod Bands
 pub mod Squares
+pub mod Lines
 pub mod Rows
 pub mod steps

@@ -8,5 +8,6 @@ mod rows;
 mod set;
 mod shared;
 
+pub use lines::{start, step};
 pub use rows::{Row, Rows};
 pub use set::Bands;

@@ -3,7 +3,9 @@
 ghost use Rattle.std.specs.Prelude.{◌≡◌, ℤ, ◌<ℤ◌, ◌≤ℤ◌, IfOk, IfSome, IfNone, OnOk, [], length, ◌≤◌};
 ghost use Rattle.std.specs.List.Sorted.{IsPermutation, IsPartitionPoint};
 ghost use Rattle.fill_spans.specs.Columns.{IsRisingBy};
+ghost use Rattle.fill_spans.specs.Spans.{ceiling};
 ghost use Rattle.fill_bands.specs.Bands.{holds, IsBanded};
+ghost use Rattle.fill_bands.specs.Lines.{IsAtLine, IsStart, IsStep};
 ghost use Rattle.fill_bands.specs.Squares.{covered};
 ghost use Rattle.fill_bands.specs.steps.Lines.{IsNextLine, IsCrossed};
 
@@ -44,15 +46,13 @@ fn swept(alloc: Global, rects: &[Rect]) -> Result<Option<Vec<(i32, SharedRow)>>,
     ensures squares { IfOk result (λ o. IfSome o (λ v. (x y : ℤ) → holds v.items x y ≡ covered rects.now x y)) }
     ensures many { IfOk result (λ o. IfNone o (2 ≤ length rects.now)) }
 {
-    let sorted = by_bottom(alloc, rects)?;
+    let (sorted, mut line) = start(alloc, rects)?;
     let mut later = sorted.as_slice();
     let mut crossing = Vec::new(alloc);
     let mut bands = Vec::new(alloc);
     let mut worth = rects.len().saturating_mul(WORTH);
-    let mut line = next_line(later, &crossing);
     'sweep: while line < i64::from(CEILING) {
-        let (begun, rest) = later.split_at(begun_at(later, line));
-        cross(&mut crossing, begun, line)?;
+        let (rest, next) = step(later, &mut crossing, line)?;
         let row = Spans::across(alloc, &crossing)?;
         worth = worth.saturating_add(row.edges().len().saturating_mul(WORTH));
         if rects.len() > FEW && worth < crossing.len() {
@@ -61,9 +61,43 @@ fn swept(alloc: Global, rects: &[Rect]) -> Result<Option<Vec<(i32, SharedRow)>>,
         worth = worth.saturating_sub(crossing.len());
         put_row(alloc, &mut bands, line as i32, row)?;
         later = rest;
-        line = next_line(later, &crossing);
+        line = next;
     }
     Ok(Some(bands))
+}
+
+/// Begins a sweep upwards: the rectangles by their lower edges, and the lowest line at which one begins, or the ceiling where
+/// there is none.
+///
+/// # Errors
+/// `AllocError` where memory is refused.
+pub fn start(alloc: Global, rects: &[Rect]) -> Result<(Vec<Rect>, i64), AllocError>
+    ensures { IfOk result (λ v. IsStart rects.now v.0.items v.1) }
+{
+    let sorted = by_bottom(alloc, rects)?;
+    let line = first_bottom(&sorted);
+    Ok((sorted, line))
+}
+
+/// Goes on with a sweep upwards, from a line to the next at which a rectangle begins or ends, or to the ceiling: `crossing` becomes
+/// the rectangles that cross the rows between both, by their left edges; of those that lie within others some are left out. Given
+/// back are the rectangles that begin at the next line or above it, and that line.
+///
+/// # Errors
+/// `AllocError` where memory is refused.
+pub fn step<'a>(
+    later: &'a [Rect],
+    crossing: &mut Vec<Rect>,
+    line: i64,
+) -> Result<(&'a [Rect], i64), AllocError>
+    requires at { IsAtLine later.now crossing.old.items line }
+    requires low { line <ℤ ceiling }
+    ensures { IfOk result (λ v. IsStep line later.now crossing.old.items v.0.now crossing.new.items v.1) }
+{
+    let (begun, rest) = later.split_at(begun_at(later, line));
+    cross(crossing, begun, line)?;
+    let next = next_line(rest, crossing);
+    Ok((rest, next))
 }
 
 /// The rectangles by their lower edges.

@@ -11,10 +11,13 @@ pub mod Parting
 pub mod Joining
 pub mod Columns
 pub mod RowIntervals
+pub mod Gaps
 pub mod Lengthening
 pub mod Rising
+pub mod Swept
 pub mod Same
 pub mod Ordered
 pub mod Apart
 pub mod SomeRuns
 pub mod Clipping
+pub mod Changing

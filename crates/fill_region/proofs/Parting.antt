@@ -1,35 +1,32 @@
 -- A list in two, by where one side of its rectangles lies.
-use Rattle.std.proofs.Common.{◌≡◌, ℕ, ◌+◌, ◌<◌, ℤ, List, [], ◌∷◌, ◌++◌, length, take, get_or, sym, subst, append_assoc}
-use Rattle.std.specs.List.Sorted.{IsPermutation}
-use Rattle.std.proofs.lemmas.List.Elements.{All-push}
-use Rattle.std.proofs.lemmas.List.Sorted.{IsPermutation-trans, IsPermutation-append_left, IsPermutation-append_right, IsPermutation-append_comm}
+use Rattle.std.proofs.Common.{◌≡◌, ℕ, ◌+◌, ◌<◌, ℤ, Bool, true, false, List, [], ◌∷◌, ◌++◌, append-nil, length, take, get_or, refl, sym, ◌∙◌, true≢false}
+use Rattle.std.specs.Prelude.{not}
+use Rattle.std.specs.List.{filter}
+use Rattle.std.proofs.lemmas.Bool.Decides.{Decides-int_eq}
+use Rattle.std.proofs.lemmas.List.Elements.{All-weaker, filter_more, filter_passes}
+use Rattle.std.proofs.lemmas.List.Sorted.{IsPermutation-filter_both}
 use Rattle.fill_base.specs.declared.rect.Rect.{Rect}
-use Rattle.fill_region.specs.Steps.{edge_of, AreParted}
+use Rattle.fill_region.specs.Steps.{edge_of, is_at, AreParted}
 use Rattle.fill_region.specs.declared.edges.Edge.{Edge}
-use Rattle.fill_region.proofs.Members.{one_more}
 
-moved : (all there others : List Rect) (d : Rect) → IsPermutation all (there ++ others) → IsPermutation (all ++ d ∷ []) ((there ++ d ∷ []) ++ others)
-moved all there others d same =
-    let pushed : IsPermutation (all ++ d ∷ []) ((there ++ others) ++ d ∷ []) = IsPermutation-append_left (d ∷ []) all (there ++ others) same in
-    let swapped : IsPermutation (there ++ (others ++ d ∷ [])) (there ++ ((d ∷ []) ++ others)) = IsPermutation-append_right there (others ++ d ∷ []) ((d ∷ []) ++ others) (IsPermutation-append_comm others (d ∷ [])) in
-    IsPermutation-trans (all ++ d ∷ []) ((there ++ others) ++ d ∷ []) ((there ++ d ∷ []) ++ others) pushed
-    (subst (λ xs. IsPermutation xs ((there ++ d ∷ []) ++ others)) (sym (append_assoc there others (d ∷ []))) (subst (λ ys. IsPermutation (there ++ (others ++ d ∷ [])) ys) (sym (append_assoc there (d ∷ []) others)) swapped))
+-- those at the line, and those that aren't
+pub are_parted : (edge : Edge) (at : ℤ) (all there others : List Rect) → there ≡ filter (is_at edge at) all → others ≡ filter (λ r. not (is_at edge at r)) all → AreParted edge at all there others
+are_parted edge at all there others there_is others_is = rw (there_is, others_is) (record {
+  same = IsPermutation-filter_both (is_at edge at) (λ r. not (is_at edge at r)) (λ r. refl) all;
+  are_there = All-weaker (λ r. is_at edge at r ≡ true) (λ r. edge_of edge r ≡ at) (λ r is. (Decides-int_eq (edge_of edge r) at).0 is) (filter (is_at edge at) all) (filter_passes (is_at edge at) all);
+  are_not = All-weaker (λ r. not (is_at edge at r) ≡ true) (λ r. edge_of edge r ≡ at → ⊥) (λ r is e. refuted (is_at edge at r) is ((Decides-int_eq (edge_of edge r) at).1 e))
+      (filter (λ r. not (is_at edge at r)) all) (filter_passes (λ r. not (is_at edge at r)) all);
+})
+  where
+    refuted : (b : Bool) → not b ≡ true → b ≡ true → ⊥
+    refuted true is there = true≢false (sym is)
+    refuted false is there = true≢false (sym there)
 
-kept : (all there others : List Rect) (d : Rect) → IsPermutation all (there ++ others) → IsPermutation (all ++ d ∷ []) (there ++ (others ++ d ∷ []))
-kept all there others d same = subst (IsPermutation (all ++ d ∷ [])) (append_assoc there others (d ∷ [])) (IsPermutation-append_left (d ∷ []) all (there ++ others) same)
+-- one rectangle more
+pub one_at : (edge : Edge) (at : ℤ) (all there : List Rect) (k : ℕ) (d : Rect) → k < length all → d ≡ get_or all k d → is_at edge at d ≡ true → there ≡ filter (is_at edge at) (take k all)
+    → (there ++ d ∷ []) ≡ filter (is_at edge at) (take (k + 1) all)
+one_at edge at all there k d lt is there_it so_far = rw so_far (sym (filter_more (is_at edge at) all k d lt ∙ rw (sym is, there_it) refl))
 
-pub one_there : (edge : Edge) (at : ℤ) (all there others : List Rect) (k : ℕ) (d : Rect) → k < length all → d ≡ get_or all k d → edge_of edge d ≡ at → AreParted edge at (take k all) there others
-    → AreParted edge at (take (k + 1) all) (there ++ d ∷ []) others
-one_there edge at all there others k d lt is on p = record {
-  same = subst (λ xs. IsPermutation xs ((there ++ d ∷ []) ++ others)) (sym (one_more all k d lt is)) (moved (take k all) there others d p.same);
-  are_there = All-push (λ r. edge_of edge r ≡ at) there d p.are_there on;
-  are_not = p.are_not;
-}
-
-pub one_other : (edge : Edge) (at : ℤ) (all there others : List Rect) (k : ℕ) (d : Rect) → k < length all → d ≡ get_or all k d → (edge_of edge d ≡ at → ⊥) → AreParted edge at (take k all) there others
-    → AreParted edge at (take (k + 1) all) there (others ++ d ∷ [])
-one_other edge at all there others k d lt is off p = record {
-  same = subst (λ xs. IsPermutation xs (there ++ (others ++ d ∷ []))) (sym (one_more all k d lt is)) (kept (take k all) there others d p.same);
-  are_there = p.are_there;
-  are_not = All-push (λ r. edge_of edge r ≡ at → ⊥) others d p.are_not off;
-}
+pub one_off : (edge : Edge) (at : ℤ) (all there : List Rect) (k : ℕ) (d : Rect) → k < length all → d ≡ get_or all k d → is_at edge at d ≡ false → there ≡ filter (is_at edge at) (take k all)
+    → there ≡ filter (is_at edge at) (take (k + 1) all)
+one_off edge at all there k d lt is other so_far = so_far ∙ sym (filter_more (is_at edge at) all k d lt ∙ (rw (sym is, other) refl ∙ append-nil (filter (is_at edge at) (take k all))))

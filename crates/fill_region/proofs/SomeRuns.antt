@@ -1,10 +1,10 @@
 -- Some runs of a set, and those of them that reach into a frame.
-use Rattle.std.proofs.Common.{◌≡◌, ℕ, suc, ◌+◌, ◌<◌, ℤ, Bool, true, false, ◌&&◌, ◌||◌, List, [], ◌∷◌, ◌++◌, length, take, get_or, map, refl, sym, ◌∙◌, ap, subst, arith, ⊎_elim, true≢false}
+use Rattle.std.proofs.Common.{◌≡◌, ℕ, suc, ◌+◌, ◌<◌, ℤ, Bool, true, false, ◌&&◌, ◌||◌, List, [], ◌∷◌, ◌++◌, append-nil, length, take, get_or, map, refl, sym, ◌∙◌, ap, subst, arith, ⊎_elim, true≢false}
 use Rattle.std.specs.Prelude.{int_lt}
-use Rattle.std.specs.List.{Contains}
+use Rattle.std.specs.List.{Contains, filter}
 use Rattle.std.proofs.lemmas.Int.{ints}
 use Rattle.std.proofs.lemmas.List.{get_or-map}
-use Rattle.std.proofs.lemmas.List.Elements.{All-contains, All-weaker, All-contains_itself, Contains-push_cases}
+use Rattle.std.proofs.lemmas.List.Elements.{All-contains, All-weaker, All-contains_itself, Contains-push_cases, filter_more}
 use Rattle.fill_base.specs.declared.rect.Rect.{Rect}
 use Rattle.fill_base.specs.Counts.{is_between}
 use Rattle.fill_base.specs.Sides.{sides_of}
@@ -53,17 +53,20 @@ apart r s off x y = by (int_lt r.x1 s.x2 && int_lt s.x1 r.x2) (int_lt r.y1 s.y2)
 pub record AreNear (runs passed : List Rect) (frame : Rect) (near : List Rect) : Type 0 where
   pub among : (r : Rect) → Contains near r → Contains runs r
   pub same : (x y : ℤ) → squares frame x y ≡ true → covered near x y ≡ covered passed x y
+  pub filtered : near ≡ filter (λ r. overlap r frame) passed
 
-pub one_near : (runs : List Rect) (frame : Rect) (near : List Rect) (k : ℕ) (d : Rect) → k < length runs → d ≡ get_or runs k d → AreNear runs (take k runs) frame near → AreNear runs (take (k + 1) runs) frame (near ++ d ∷ [])
-one_near runs frame near k d lt is n = record {
+pub one_near : (runs : List Rect) (frame : Rect) (near : List Rect) (k : ℕ) (d : Rect) → k < length runs → d ≡ get_or runs k d → overlap d frame ≡ true → AreNear runs (take k runs) frame near → AreNear runs (take (k + 1) runs) frame (near ++ d ∷ [])
+one_near runs frame near k d lt is on n = record {
   among = λ r within. ⊎_elim (λ old. n.among r old) (λ new. subst (Contains runs) new (k, lt, sym is)) (Contains-push_cases near d r within);
   same = λ x y in_frame. covered_push near d x y ∙ (ap (λ b. b || squares d x y) (n.same x y in_frame) ∙ sym (covered_more runs k d x y lt is));
+  filtered = ap (λ rs. rs ++ d ∷ []) n.filtered ∙ sym (filter_more (λ r. overlap r frame) runs k d lt ∙ rw (sym is, on) refl);
 }
 
 pub one_far : (runs : List Rect) (frame : Rect) (near : List Rect) (k : ℕ) (d : Rect) → k < length runs → d ≡ get_or runs k d → overlap d frame ≡ false → AreNear runs (take k runs) frame near → AreNear runs (take (k + 1) runs) frame near
 one_far runs frame near k d lt is off n = record {
   among = n.among;
   same = λ x y in_frame. n.same x y in_frame ∙ (sym (or_none (covered (take k runs) x y) (squares d x y) (squares frame x y) in_frame (apart d frame off x y)) ∙ sym (covered_more runs k d x y lt is));
+  filtered = n.filtered ∙ sym (filter_more (λ r. overlap r frame) runs k d lt ∙ (rw (sym is, off) refl ∙ append-nil (filter (λ r. overlap r frame) (take k runs))));
 }
   where
     or_none : (a b c : Bool) → c ≡ true → (b && c) ≡ false → (a || b) ≡ a

@@ -3,6 +3,7 @@ pub mod Runs
 pub mod Comparison
 pub mod Laws
 pub mod Steps
+pub mod Changes
 pub mod Operands
 pub mod Near
 pub mod Clips

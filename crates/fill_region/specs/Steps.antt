@@ -1,5 +1,6 @@
 -- What serves the functions of the crate alone: lists of rectangles that are runs of a set, in any order.
 use Rattle.std.specs.Prelude.{◌≡◌, true, ℤ, pos, ◌-ℤ◌, ◌<ℤ◌, ◌≤ℤ◌, ◌⊎◌, Bool, ◌&&◌, ◌||◌, not, int_lt, List, ◌++◌, map, length, get_or, All, ℕ, ◌+◌, ◌<◌, ◌≤◌}
+use Rattle.std.specs.Ordering.{int_eq}
 use Rattle.std.specs.List.{Contains}
 use Rattle.std.specs.List.Sorted.{IsPermutation}
 use Rattle.fill_base.specs.declared.rect.Rect.{Rect}
@@ -41,6 +42,9 @@ edge_of Left r = r.x1
 edge_of Bottom r = r.y1
 edge_of Right r = r.x2
 edge_of Top r = r.y2
+
+abbrev pub is_at : Edge → ℤ → Rect → Bool
+is_at edge at r = int_eq (edge_of edge r) at
 
 -- the list in two: the rectangles of which that side lies at `at`, and the others
 pub record AreParted (edge : Edge) (at : ℤ) (all there others : List Rect) : Type 0 where

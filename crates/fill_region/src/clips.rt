@@ -1,5 +1,5 @@
 //! Runs of a set, clipped at a frame.
-ghost use Rattle.std.specs.Prelude.{◌≡◌, ◌&&◌, ℤ, IfOk};
+ghost use Rattle.std.specs.Prelude.{◌≡◌, ◌&&◌, IfOk};
 ghost use Rattle.fill_base.specs.Squares.{squares};
 ghost use Rattle.fill_region.specs.Clips.{lies_inside, ArePartsWithin};
 ghost use Rattle.fill_region.specs.Near.{AreSomeRuns};

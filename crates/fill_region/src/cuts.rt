@@ -8,6 +8,7 @@ use crate::joins::joined;
 use crate::lines::Line;
 use crate::operands::Operands;
 use crate::rows::runs_of_bands;
+use crate::sweep::runs_swept;
 use fill_base::Rect;
 use rayon::join;
 use std::alloc::{AllocError, Global};
@@ -130,33 +131,54 @@ fn crossed_by_row(sample: &[Rect], count: usize) -> usize {
     pairs.saturating_mul(count) / all
 }
 
-/// A line to cut along, or `None` where a sweep of all costs less: where rows are short, or each line crosses most of the
-/// rectangles. Any line would give the same runs.
-fn line_for(alloc: Global, operands: &Operands) -> Result<Option<Line>, AllocError> {
+/// How a list is worked on. Any way gives the same runs.
+#[derive(Clone, Copy)]
+enum Course {
+    /// One sweep of all: rows are short.
+    Sweep,
+    /// By way of bands: each line crosses most of the rectangles.
+    Bands,
+    /// Cut in two along the line.
+    Cut(Line),
+}
+
+/// The way that costs least, by a sample of the rectangles.
+fn course_for(alloc: Global, operands: &Operands) -> Result<Course, AllocError> {
     let count = operands.len();
     let sample = sample_of(alloc, operands)?;
     if count <= MANY && crossed_by_row(&sample, count) <= CROSSED {
-        return Ok(None);
+        return Ok(Course::Sweep);
     }
     let mut least = sample.len().saturating_mul(7) / 4;
-    let mut best = None;
+    let mut best = Course::Bands;
     for line in lines_among(alloc, &sample)? {
         let cost = cost(&sample, line);
         if cost < least {
             least = cost;
-            best = Some(line);
+            best = Course::Cut(line);
         }
     }
     Ok(best)
 }
 
 /// The runs of the squares that the operation keeps, in any order, by way of bands.
-fn swept(alloc: Global, operands: &Operands) -> Result<Vec<Rect>, AllocError>
+fn runs_by_bands(alloc: Global, operands: &Operands) -> Result<Vec<Rect>, AllocError>
     ensures { IfOk result (λ v. AreRunsOf (wanted operands.now) v.items) }
 {
     let bands = operands.bands(alloc)?;
     let runs = runs_of_bands(alloc, &bands)?;
     Ok(runs)
+}
+
+/// The same, by one sweep where only the first list counts.
+fn runs_at_once(alloc: Global, operands: &Operands) -> Result<Vec<Rect>, AllocError>
+    ensures { IfOk result (λ v. AreRunsOf (wanted operands.now) v.items) }
+{
+    if operands.keeps_first() {
+        runs_swept(alloc, &operands.first)
+    } else {
+        runs_by_bands(alloc, operands)
+    }
 }
 
 /// The runs of the squares that the operation keeps, in any order. The list is cut in two, and the runs of both parts are joined.
@@ -165,17 +187,19 @@ fn runs_by_cuts(alloc: Global, operands: Operands, cuts: u32) -> Result<Vec<Rect
     ensures { IfOk result (λ v. AreRunsOf (wanted operands) v.items) }
 {
     if cuts == 0 || operands.len() <= FEW {
-        return swept(alloc, &operands);
+        return runs_at_once(alloc, &operands);
     }
-    let Some(line) = line_for(alloc, &operands)? else {
-        return swept(alloc, &operands);
+    let line = match course_for(alloc, &operands)? {
+        Course::Sweep => return runs_at_once(alloc, &operands),
+        Course::Bands => return runs_by_bands(alloc, &operands),
+        Course::Cut(line) => line,
     };
     let before = operands.before(alloc, line)?;
     let behind = operands.behind(alloc, line)?;
     drop(operands);
     let first = runs_by_cuts(alloc, before, cuts - 1)?;
     let second = runs_by_cuts(alloc, behind, cuts - 1)?;
-    joined(alloc, &first, &second, line)
+    joined(alloc, first, second, line)
 }
 
 /// The runs of the squares that the operation keeps, in any order, by the calling thread alone.
@@ -198,7 +222,7 @@ fn runs_within<R: Threads + Sync>(
     if cuts == 0 || operands.len() <= MANY {
         return runs_alone(alloc, operands);
     }
-    let Some(line) = line_for(alloc, &operands)? else {
+    let Course::Cut(line) = course_for(alloc, &operands)? else {
         return runs_alone(alloc, operands);
     };
     let before = operands.before(alloc, line)?;
@@ -216,7 +240,7 @@ fn runs_within<R: Threads + Sync>(
     let (first, second) = join(rt, first, second);
     let first = first?;
     let second = second?;
-    joined(alloc, &first, &second, line)
+    joined(alloc, first, second, line)
 }
 
 /// The runs of the squares that the operation keeps, in any order, by as many threads as there are.

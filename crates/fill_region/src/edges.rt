@@ -1,6 +1,6 @@
 //! Sides of rectangles, and lists that are parted by where one lies.
 ghost use Rattle.std.specs.Prelude.{◌≡◌, IfOk};
-ghost use Rattle.fill_region.specs.Steps.{edge_of, AreParted};
+ghost use Rattle.fill_region.specs.Steps.{edge_of, is_at, AreParted};
 
 use fill_base::Rect;
 use std::alloc::{AllocError, Global};
@@ -26,25 +26,30 @@ impl Edge {
             Edge::Top => rect.y2(),
         }
     }
+
+    /// Whether that side of the rectangle lies at `at`.
+    fn is_at(self, rect: &Rect, at: i64) -> bool
+        ensures { result ≡ is_at self at rect.now }
+    {
+        self.of(rect) == at
+    }
 }
 
-/// Those of the rectangles of which that side lies at `at`, and the others.
+/// Those of the rectangles of which that side lies at `at`, and the others, which stay where they are.
 pub(crate) fn parted(
     alloc: Global,
-    rects: &[Rect],
+    mut rects: Vec<Rect>,
     edge: Edge,
     at: i64,
 ) -> Result<(Vec<Rect>, Vec<Rect>), AllocError>
-    ensures { IfOk result (λ v. AreParted edge at rects.now v.0.items v.1.items) }
+    ensures { IfOk result (λ v. AreParted edge at rects.items v.0.items v.1.items) }
 {
     let mut there = Vec::new(alloc);
-    let mut others = Vec::new(alloc);
-    'rects: for rect in rects {
-        if edge.of(rect) == at {
+    'rects: for rect in &rects {
+        if edge.is_at(rect, at) {
             there.push(*rect)?;
-        } else {
-            others.push(*rect)?;
         }
     }
-    Ok((there, others))
+    rects.retain(|rect| !edge.is_at(rect, at));
+    Ok((there, rects))
 }

@@ -5,9 +5,8 @@ ghost use Rattle.fill_region.specs.declared.lines.Line.TheVariants.{Upright, Lev
 
 use crate::edges::{Edge, parted};
 use crate::lines::Line;
-use crate::rows::runs_of_bands;
+use crate::sweep::runs_swept;
 use crate::upwards::joined_upwards;
-use fill_bands::Bands;
 use fill_base::Rect;
 use std::alloc::{AllocError, Global};
 
@@ -15,17 +14,16 @@ use std::alloc::{AllocError, Global};
 /// touch the column stay; those that do make rows of one interval each.
 fn joined_across(
     alloc: Global,
-    left: &[Rect],
-    right: &[Rect],
+    left: Vec<Rect>,
+    right: Vec<Rect>,
     at: i64,
 ) -> Result<Vec<Rect>, AllocError>
-    ensures { IfOk result (λ v. (p : ℤ → ℤ → Bool) → AreRunsOf (before (Upright at) p) left.now → AreRunsOf (behind (Upright at) p) right.now → AreRunsOf p v.items) }
+    ensures { IfOk result (λ v. (p : ℤ → ℤ → Bool) → AreRunsOf (before (Upright at) p) left.items → AreRunsOf (behind (Upright at) p) right.items → AreRunsOf p v.items) }
 {
     let (mut touching, mut runs) = parted(alloc, left, Edge::Right, at)?;
     let (mut touching_too, mut others) = parted(alloc, right, Edge::Left, at)?;
     touching.append(&mut touching_too)?;
-    let bands = Bands::from_rects(alloc, &touching)?;
-    let mut across = runs_of_bands(alloc, &bands)?;
+    let mut across = runs_swept(alloc, &touching)?;
     runs.append(&mut others)?;
     runs.append(&mut across)?;
     Ok(runs)
@@ -34,11 +32,11 @@ fn joined_across(
 /// The runs of a set, of which `first` are those of what lies before the line, and `second` those of what lies behind it.
 pub(crate) fn joined(
     alloc: Global,
-    first: &[Rect],
-    second: &[Rect],
+    first: Vec<Rect>,
+    second: Vec<Rect>,
     line: Line,
 ) -> Result<Vec<Rect>, AllocError>
-    ensures { IfOk result (λ v. (p : ℤ → ℤ → Bool) → AreRunsOf (before line p) first.now → AreRunsOf (behind line p) second.now → AreRunsOf p v.items) }
+    ensures { IfOk result (λ v. (p : ℤ → ℤ → Bool) → AreRunsOf (before line p) first.items → AreRunsOf (behind line p) second.items → AreRunsOf p v.items) }
 {
     match line {
         Line::Upright(at) => joined_across(alloc, first, second, at),

@@ -2,7 +2,9 @@
 //! of sets of squares, and equal sets are equal values.
 #![tactic(auto)]
 
+mod changes;
 mod clips;
+mod crossed;
 mod cuts;
 mod edges;
 mod growing;
@@ -16,6 +18,7 @@ mod parts;
 mod region;
 mod rows;
 mod stacks;
+mod sweep;
 mod upwards;
 
 pub use near::runs_near;

@@ -1,6 +1,6 @@
 //! Those of a list of runs that reach into a frame.
 ghost use Rattle.std.specs.Prelude.{◌≡◌, true, ℤ, IfOk};
-ghost use Rattle.std.specs.List.{Contains};
+ghost use Rattle.std.specs.List.{Contains, filter};
 ghost use Rattle.fill_base.specs.Squares.{squares};
 ghost use Rattle.fill_region.specs.Clips.{overlap};
 ghost use Rattle.fill_region.specs.Near.{AreSomeRuns};
@@ -24,6 +24,7 @@ fn meets(rect: &Rect, frame: &Rect) -> bool
 /// # Errors
 /// `AllocError` where memory is refused.
 pub fn runs_near(alloc: Global, runs: &[Rect], frame: &Rect) -> Result<Vec<Rect>, AllocError>
+    ensures near { IfOk result (λ v. v.items ≡ filter (λ r. overlap r frame.now) runs.now) }
     ensures runs { AreSomeRuns runs.now → IfOk result (λ v. AreSomeRuns v.items) }
     ensures squares { IfOk result (λ v. (x y : ℤ) → squares frame.now x y ≡ true → covered v.items x y ≡ covered runs.now x y) }
     ensures among { IfOk result (λ v. (r : Rect) → Contains v.items r → Contains runs.now r) }

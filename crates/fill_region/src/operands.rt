@@ -70,7 +70,7 @@ impl Operands {
     }
 
     /// Whether the operation keeps the squares of the first list, as the second is empty.
-    fn keeps_first(&self) -> bool
+    pub(crate) fn keeps_first(&self) -> bool
         ensures { result ≡ true → (x y : ℤ) → wanted self.now x y ≡ covered self.now.first.items x y }
     {
         match self.operation {

@@ -10,6 +10,7 @@ ghost use Rattle.fill_region.specs.Squares.{covered};
 ghost use Rattle.fill_region.specs.Operands.{wanted};
 ghost use Rattle.fill_region.specs.Runs.{sides_of, holds, AreApart, AreInOrder, AreRuns};
 
+use crate::changes::combined_runs;
 use crate::clips::clipped_runs;
 use crate::cuts::{runs_alone, runs_together};
 use crate::operands::Operands;
@@ -114,12 +115,9 @@ impl Region {
     ) -> Result<Region, AllocError>
         ensures squares { IfOk result (λ r. (x y : ℤ) → holds r x y ≡ applied operation (holds self.now x y) (holds other.now x y)) }
     {
-        let operands = Operands {
-            operation,
-            first: Vec::from_slice(alloc, &self.runs)?,
-            second: Vec::from_slice(alloc, &other.runs)?,
-        };
-        Region::kept(alloc, operands)
+        let unordered = combined_runs(alloc, operation, &self.runs, &other.runs)?;
+        let runs = in_order(alloc, unordered)?;
+        Ok(Region { runs })
     }
 
     /// The squares in either region.

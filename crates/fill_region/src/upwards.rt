@@ -11,11 +11,11 @@ use std::alloc::{AllocError, Global};
 /// The runs of a set, of which `lower` are those of what lies below the row, and `upper` those of the rest.
 pub(crate) fn joined_upwards(
     alloc: Global,
-    lower: &[Rect],
-    upper: &[Rect],
+    lower: Vec<Rect>,
+    upper: Vec<Rect>,
     at: i64,
 ) -> Result<Vec<Rect>, AllocError>
-    ensures { IfOk result (λ v. (p : ℤ → ℤ → Bool) → AreRunsOf (before (Level at) p) lower.now → AreRunsOf (behind (Level at) p) upper.now → AreRunsOf p v.items) }
+    ensures { IfOk result (λ v. (p : ℤ → ℤ → Bool) → AreRunsOf (before (Level at) p) lower.items → AreRunsOf (behind (Level at) p) upper.items → AreRunsOf p v.items) }
 {
     let (ending, mut runs) = parted(alloc, lower, Edge::Top, at)?;
     let (beginning, mut others) = parted(alloc, upper, Edge::Bottom, at)?;

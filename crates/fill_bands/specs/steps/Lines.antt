@@ -3,11 +3,8 @@ use Rattle.std.specs.Prelude.{◌≡◌, ℤ, ◌≤ℤ◌, ◌<ℤ◌, List, �
 use Rattle.fill_base.specs.declared.rect.Rect.{Rect}
 use Rattle.fill_spans.specs.Spans.{ceiling}
 use Rattle.fill_spans.specs.Columns.{IsRisingBy}
+use Rattle.fill_bands.specs.Lines.{Crosses}
 use Rattle.fill_bands.specs.Squares.{covered}
-
--- the rectangle begins at the line or below, and ends above it
-abbrev pub Crosses : ℤ → Rect → Type 0
-Crosses line r = (r.y1 ≤ℤ line) × (line <ℤ r.y2)
 
 -- nothing of `later` begins and nothing of `crossing` ends below the line, which no line above has of it
 pub record IsNextLine (later crossing : List Rect) (line : ℤ) : Type 0 where
