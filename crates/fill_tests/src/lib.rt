@@ -19,4 +19,6 @@ mod size;
 #[cfg(test)]
 mod spans;
 #[cfg(test)]
+mod sums;
+#[cfg(test)]
 mod text;

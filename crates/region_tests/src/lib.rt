@@ -3,6 +3,18 @@
 #![tactic(auto)]
 
 #[cfg(test)]
+mod chains;
+#[cfg(test)]
+mod courses;
+#[cfg(test)]
+mod edits;
+#[cfg(test)]
+mod figures;
+#[cfg(test)]
+mod frames;
+#[cfg(test)]
 mod runs;
+#[cfg(test)]
+mod squares;
 #[cfg(test)]
 mod together;

@@ -1,17 +1,10 @@
 //! Regions as joined runs: one set is one list, whichever way it was made.
 
+use crate::squares::rects_of;
 use fill_base::Rect;
 use fill_region::{Region, region_of_rects};
 use std::alloc::Global;
 use std::test::Fail;
-
-fn rects_of(alloc: Global, corners: &[[i64; 4]]) -> Result<Vec<Rect>, Fail> {
-    let mut rects = Vec::new(alloc);
-    for [x1, y1, x2, y2] in corners {
-        rects.push(Rect::new(*x1, *y1, *x2, *y2)?)?;
-    }
-    Ok(rects)
-}
 
 #[test]
 fn figures_have_the_runs_that_their_rows_show(rt: HostRuntime) -> Result<(), Fail> {
