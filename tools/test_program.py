@@ -271,6 +271,20 @@ class Files(Case):
             (self.folder / "soft").unlink()
             (self.folder / "hard").unlink()
 
+    @unittest.skipIf(os.geteuid(), "only root may mount a device")
+    def test_out_may_have_the_number_of_an_input_on_another_device(self) -> None:
+        for name in "one", "other":
+            (self.folder / name).mkdir()
+        mounted = "mount -t tmpfs none one && mount -t tmpfs none other && cp design.gds one && echo old > other/out.gds"
+        filled = "./densfill fill rules.csv one/design.gds script.csv other/out.gds && cp other/out.gds out.gds"
+        command = f"{mounted} || exit 77; stat -c %i one/design.gds other/out.gds | uniq; {filled}"
+        done = subprocess.run(["unshare", "-m", "sh", "-c", command], cwd=self.folder, capture_output=True, text=True, check=False)
+        if done.returncode == 77 or "unshare" in done.stderr:
+            self.skipTest("no device can be mounted here")
+        number, report = done.stdout.split("\n", 1)
+        self.assertTrue(number.isdigit() and report == FILLED, done)
+        self.assertEqual((done.returncode, (self.folder / "out.gds").read_bytes()), (0, FILL))
+
     def test_an_input_stands_where_out_is_written(self) -> None:
         (self.folder / "out.gds.unfinished").write_bytes(DESIGN)
         ended = self.run_words("fill", "rules.csv", "out.gds.unfinished", "script.csv", "out.gds")
