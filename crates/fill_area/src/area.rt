@@ -7,12 +7,12 @@ ghost use Rattle.fill_area.specs.Density.{IsBelow, IsAbove, IsArea, IsShare};
 use fill_base::Rect;
 use fill_region::Region;
 
-/// How many squares of the window are in the region: the sum of what each of its runs shares with the window.
+/// How many squares of the window are in the region: the sum of what each of its runs level with the window shares with it.
 pub fn area_in(region: &Region, window: &Rect) -> i64
     ensures { result ≡ pos (area_of (holds region.now) window.now) }
 {
     let mut total = 0;
-    for run in region.runs() {
+    for run in region.runs_level(window.y1(), window.y2()) {
         total += shared_area(run, window);
     }
     total

@@ -66,8 +66,7 @@ fn swept(alloc: Global, rects: &[Rect]) -> Result<Option<Vec<(i32, SharedRow)>>,
     Ok(Some(bands))
 }
 
-/// Begins a sweep upwards: the rectangles by their lower edges, and the lowest line at which one begins, or the ceiling where
-/// there is none.
+/// Begins a sweep upwards: the rectangles by their lower edges, and the line to begin at, below which none of them has a square.
 ///
 /// # Errors
 /// `AllocError` where memory is refused.
@@ -79,9 +78,9 @@ pub fn start(alloc: Global, rects: &[Rect]) -> Result<(Vec<Rect>, i64), AllocErr
     Ok((sorted, line))
 }
 
-/// Goes on with a sweep upwards, from a line to the next at which a rectangle begins or ends, or to the ceiling: `crossing` becomes
-/// the rectangles that cross the rows between both, by their left edges; of those that lie within others some are left out. Given
-/// back are the rectangles that begin at the next line or above it, and that line.
+/// Goes on with a sweep upwards, from a line to a higher one, the ceiling at most: `crossing` becomes the rectangles that cross
+/// all rows between both, by their left edges; of those that lie within others some are left out. No other rectangle has a square
+/// in these rows. Given back are the rectangles that begin at the higher line or above it, and that line.
 ///
 /// # Errors
 /// `AllocError` where memory is refused.

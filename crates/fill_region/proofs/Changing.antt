@@ -3,6 +3,7 @@ use Rattle.std.proofs.Common.{◌≡◌, ℕ, suc, ◌+◌, ◌<◌, ℤ, pos, �
 use Rattle.std.specs.Prelude.{All, int_lt}
 use Rattle.std.specs.List.{Contains}
 use Rattle.std.specs.Int.{int_max, int_min}
+use Rattle.std.proofs.lemmas.Bool.{false_from_ne_true}
 use Rattle.std.proofs.lemmas.Int.{ints, by_lt_z, clamps}
 use Rattle.std.proofs.lemmas.List.{get_or-map}
 use Rattle.std.proofs.lemmas.List.Elements.{All-append, All-contains, All-contains_itself, All-nil, All-push, All-weaker, Contains-append_left, Contains-append_right, Contains-push_cases}
@@ -24,10 +25,6 @@ use Rattle.fill_region.proofs.Levels.{le_self}
 use Rattle.fill_region.proofs.Words.{least_read, most_read}
 use Rattle.fill_region.proofs.Members.{either, or_left, or_right, holder, held, covered_either, covered_push, covered_more, one_more, square_within, runs_alike}
 
-is_nothing : (b : Bool) → (b ≡ true → ⊥) → b ≡ false
-is_nothing true not = absurd (not refl)
-is_nothing false not = refl
-
 by_bool : {P : Type 0} (b : Bool) → (b ≡ true → P) → (b ≡ false → P) → P
 by_bool true f g = f refl
 by_bool false f g = g refl
@@ -47,7 +44,7 @@ none_far : (r q : ℤ → ℤ → Bool) (far : List Rect) (x y : ℤ) → IsBesi
 none_far r q far x y b is there = true_false (q x y) is (b.apart x y there)
 
 none_beside : (r q : ℤ → ℤ → Bool) (far : List Rect) (x y : ℤ) → IsBeside r q far → r x y ≡ false → q x y ≡ false
-none_beside r q far x y b none = is_nothing (q x y) (λ is. true_false (r x y) (in_both r q far x y b is) none)
+none_beside r q far x y b none = false_from_ne_true (q x y) (λ is. true_false (r x y) (in_both r q far x y b is) none)
 
 run_there : (r q : ℤ → ℤ → Bool) (far : List Rect) (s : Rect) → IsBeside r q far → Contains far s → IsRun r (sides_of s)
 run_there r q far s b among = All-contains (λ s. IsRun r (sides_of s)) far s b.runs among
@@ -56,11 +53,11 @@ run_there r q far s b among = All-contains (λ s. IsRun r (sides_of s)) far s b.
 interval_stays : (r q : ℤ → ℤ → Bool) (far : List Rect) (l m y : ℤ) → IsBeside r q far → l <ℤ m → IsInterval q l m y → IsInterval r l m y
 interval_stays r q far l m y b wide i = record {
   filled = λ x from to. in_both r q far x y b (i.filled x from to);
-  before = is_nothing (r (l -ℤ pos 1) y) (λ is. ⊎_elim
+  before = false_from_ne_true (r (l -ℤ pos 1) y) (λ is. ⊎_elim
       (λ there. let h = holder far (l -ℤ pos 1) y there in left h.rect h.among h.holds_it)
       (λ here. true_false (q (l -ℤ pos 1) y) here i.before)
       (either (covered far (l -ℤ pos 1) y) (q (l -ℤ pos 1) y) (sym (b.squares (l -ℤ pos 1) y) ∙ is)));
-  after = is_nothing (r m y) (λ is. ⊎_elim
+  after = false_from_ne_true (r m y) (λ is. ⊎_elim
       (λ there. let h = holder far m y there in right h.rect h.among h.holds_it)
       (λ here. true_false (q m y) here i.after)
       (either (covered far m y) (q m y) (sym (b.squares m y) ∙ is)));
@@ -173,7 +170,7 @@ far_run op p q s frame keeps within aside run = run_of r p (sides_of s) run
     r x y = applied op (p x y) (q x y)
 
     alike : (x y : ℤ) → (s.x1 -ℤ pos 1) ≤ℤ x → x ≤ℤ s.x2 → (s.y1 -ℤ pos 1) ≤ℤ y → y ≤ℤ s.y2 → r x y ≡ p x y
-    alike x y a b c d = ap (λ z. applied op (p x y) z) (is_nothing (q x y) (λ is. out s frame x y aside a b c d (within x y is))) ∙ keeps (p x y)
+    alike x y a b c d = ap (λ z. applied op (p x y) z) (false_from_ne_true (q x y) (λ is. out s frame x y aside a b c d (within x y is))) ∙ keeps (p x y)
 
 split : (op : Operation) (n f s : Bool) → ((b : Bool) → applied op b false ≡ b) → (f ≡ true → s ≡ false) → applied op (n || f) s ≡ (f || applied op n s)
 split op true true s keeps gone = rw (gone refl) (keeps true)
@@ -186,7 +183,7 @@ aside_alike t s frame same aside = subst (λ (z : Sides). ((z.right <ℤ frame.x
 
 -- where a far run has a square, no other run has it, and the second set neither
 no_near : (frame : Rect) (first near far : List Rect) (x y : ℤ) → AreRunsOf (covered first) first → ArePartedBy frame first near far → covered far x y ≡ true → covered near x y ≡ false
-no_near frame first near far x y are parted is = is_nothing (covered near x y) (λ too. let s = holder far x y is in let t = holder near x y too in meet s.rect t.rect s.among t.among s.holds_it t.holds_it)
+no_near frame first near far x y are parted is = false_from_ne_true (covered near x y) (λ too. let s = holder far x y is in let t = holder near x y too in meet s.rect t.rect s.among t.among s.holds_it t.holds_it)
   where
     meet : (s t : Rect) → Contains far s → Contains near t → squares s x y ≡ true → squares t x y ≡ true → ⊥
     meet s t in_far in_near in_s in_t = All-contains (λ r. IsAside r frame → ⊥) near t parted.near_not in_near
@@ -194,7 +191,7 @@ no_near frame first near far x y are parted is = is_nothing (covered near x y) (
         (All-contains (λ r. IsAside r frame) far s parted.far_aside in_far))
 
 no_second : (frame : Rect) (first near far : List Rect) (q : ℤ → ℤ → Bool) (x y : ℤ) → ((x y : ℤ) → q x y ≡ true → squares frame x y ≡ true) → ArePartedBy frame first near far → covered far x y ≡ true → q x y ≡ false
-no_second frame first near far q x y within parted is = is_nothing (q x y) (λ too. let s = holder far x y is in meet s.rect s.among s.holds_it too)
+no_second frame first near far q x y within parted is = false_from_ne_true (q x y) (λ too. let s = holder far x y is in meet s.rect s.among s.holds_it too)
   where
     meet : (s : Rect) → Contains far s → squares s x y ≡ true → q x y ≡ true → ⊥
     meet s in_far in_s too = let w = square_within s x y in_s in

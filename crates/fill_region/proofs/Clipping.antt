@@ -2,6 +2,7 @@
 use Rattle.std.proofs.Common.{◌≡◌, ℕ, ◌+◌, ◌<◌, ℤ, pos, ◌-ℤ◌, ◌≤ℤ◌, ◌<ℤ◌, Bool, true, false, ◌&&◌, ◌||◌, List, [], ◌∷◌, ◌++◌, length, take, get_or, refl, sym, ◌∙◌, ap, subst, arith, ⊎_elim}
 use Rattle.std.specs.Prelude.{All, int_lt}
 use Rattle.std.specs.List.{Contains}
+use Rattle.std.proofs.lemmas.Bool.{false_from_ne_true}
 use Rattle.std.proofs.lemmas.Int.{ints, by_lt_z}
 use Rattle.std.proofs.lemmas.List.Elements.{All-append, All-contains, All-push, All-weaker, All-contains_itself, Contains-append_left, Contains-append_right, Contains-append_cases, Contains-push}
 use Rattle.fill_base.specs.declared.rect.Rect.{Rect}
@@ -17,10 +18,6 @@ use Rattle.fill_region.specs.Steps.{AreRunsOf}
 use Rattle.fill_region.proofs.Cutting.{one_part, no_part}
 use Rattle.fill_region.proofs.Intervals.{and_first, and_second, true_false, same_left, same_right}
 use Rattle.fill_region.proofs.Members.{either, or_left, or_right, square_within, holder, held, covered_either, covered_push, runs_alike, one_more}
-
-not_true : (b : Bool) → (b ≡ true → ⊥) → b ≡ false
-not_true true f = absurd (f refl)
-not_true false f = refl
 
 pub square_in : (r : Rect) (x y : ℤ) → r.x1 ≤ℤ x → x <ℤ r.x2 → r.y1 ≤ℤ y → y <ℤ r.y2 → squares r x y ≡ true
 square_in r x y a b c d = rw (is_between_true r.x1 r.x2 x a b, is_between_true r.y1 r.y2 y c d) refl
@@ -142,10 +139,10 @@ clips_in_set p frame clips are x y is =
 clip_interval : (p : ℤ → ℤ → Bool) (frame : Rect) (clips : List Rect) → All (IsClip p frame) clips → (clip : Rect) → Contains clips clip → (y : ℤ) → clip.y1 ≤ℤ y → y <ℤ clip.y2 → IsInterval (covered clips) clip.x1 clip.x2 y
 clip_interval p frame clips are clip among y low high = record {
   filled = λ x left right. held clips clip x y among (square_in clip x y left right low high);
-  before = not_true (covered clips (clip.x1 -ℤ pos 1) y) (λ is.
+  before = false_from_ne_true (covered clips (clip.x1 -ℤ pos 1) y) (λ is.
       let at : c.run.left ≡ clip.x1 = c.left (omega (arith, ints, (clips_in_frame p frame clips are (clip.x1 -ℤ pos 1) y is).0.0)) in
       true_false (p (clip.x1 -ℤ pos 1) y) (clips_in_set p frame clips are (clip.x1 -ℤ pos 1) y is) (subst (λ x. p (x -ℤ pos 1) y ≡ false) at row.before));
-  after = not_true (covered clips clip.x2 y) (λ is.
+  after = false_from_ne_true (covered clips clip.x2 y) (λ is.
       let at : c.run.right ≡ clip.x2 = c.right (clips_in_frame p frame clips are clip.x2 y is).0.1 in
       true_false (p clip.x2 y) (clips_in_set p frame clips are clip.x2 y is) (subst (λ x. p x y ≡ false) at row.after));
 }

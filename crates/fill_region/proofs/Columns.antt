@@ -1,6 +1,7 @@
 -- A set cut along an upright line: which runs of its parts, and of what touches the line, are runs of the whole.
 use Rattle.std.proofs.Common.{◌≡◌, ℤ, pos, ◌-ℤ◌, ◌≤ℤ◌, ◌<ℤ◌, Bool, true, false, List, ◌++◌, refl, arith, ◌∙◌, sym, ⊎_elim}
 use Rattle.std.specs.List.{All, Contains}
+use Rattle.std.proofs.lemmas.Bool.{false_from_ne_true}
 use Rattle.std.proofs.lemmas.Int.{ints, by_lt_z}
 use Rattle.std.proofs.lemmas.List.Elements.{All-append, All-contains, Contains-append_cases, Contains-append_left, Contains-append_right}
 use Rattle.fill_base.specs.declared.rect.Rect.{Rect}
@@ -91,10 +92,6 @@ record Reach (p q : ℤ → ℤ → Bool) (at : ℤ) : Type 0 where
   from_left : (x y : ℤ) → x <ℤ at → ((z : ℤ) → x ≤ℤ z → z <ℤ at → p z y ≡ true) → q x y ≡ true
   from_right : (x y : ℤ) → at ≤ℤ x → ((z : ℤ) → at ≤ℤ z → z ≤ℤ x → p z y ≡ true) → q x y ≡ true
 
-none_so : (b : Bool) → (b ≡ true → ⊥) → b ≡ false
-none_so true h = absurd (h refl)
-none_so false h = refl
-
 -- an interval of what touches the line reaches it
 reaches : (p q : ℤ → ℤ → Bool) (at l r y : ℤ) → Reach p q at → l <ℤ r → IsInterval q l r y → (l ≤ℤ at) × (at ≤ℤ r)
 reaches p q at l r y reach wide i = (
@@ -109,8 +106,8 @@ reaches p q at l r y reach wide i = (
 out_interval : (p q : ℤ → ℤ → Bool) (at l r y : ℤ) → Reach p q at → l <ℤ r → IsInterval q l r y → IsInterval p l r y
 out_interval p q at l r y reach wide i = record {
   filled = λ x a b. reach.within x y (i.filled x a b);
-  before = none_so (p (l -ℤ pos 1) y) (λ is. before_absurd is);
-  after = none_so (p r y) (λ is. after_absurd is);
+  before = false_from_ne_true (p (l -ℤ pos 1) y) (λ is. before_absurd is);
+  after = false_from_ne_true (p r y) (λ is. after_absurd is);
 }
   where
     ends : (l ≤ℤ at) × (at ≤ℤ r)
@@ -150,8 +147,8 @@ in_interval p q at l r y reach low high i = record {
   filled = λ x a b. by_lt_z x at
       (λ lt. reach.from_left x y lt (λ z c d. i.filled z (le_le l x z a c) (lt_le z at r d high)))
       (λ ge. reach.from_right x y ge (λ z c d. i.filled z (le_le l at z low c) (le_lt z x r d b)));
-  before = none_so (q (l -ℤ pos 1) y) (λ is. true_false (p (l -ℤ pos 1) y) (reach.within (l -ℤ pos 1) y is) i.before);
-  after = none_so (q r y) (λ is. true_false (p r y) (reach.within r y is) i.after);
+  before = false_from_ne_true (q (l -ℤ pos 1) y) (λ is. true_false (p (l -ℤ pos 1) y) (reach.within (l -ℤ pos 1) y is) i.before);
+  after = false_from_ne_true (q r y) (λ is. true_false (p r y) (reach.within r y is) i.after);
 }
   where
     le_le : (a b c : ℤ) → a ≤ℤ b → b ≤ℤ c → a ≤ℤ c

@@ -3,6 +3,7 @@ use Rattle.std.proofs.Common.{◌≡◌, ℕ, zero, suc, ◌<◌, ℤ, pos, ◌-
 use Rattle.std.specs.Prelude.{All}
 use Rattle.std.specs.List.{Contains}
 use Rattle.std.specs.Int.{int_max}
+use Rattle.std.proofs.lemmas.Bool.{false_from_ne_true}
 use Rattle.std.proofs.lemmas.Int.{ints, clamps}
 use Rattle.std.proofs.lemmas.List.{get_or-take, get_or_default, length-take-le}
 use Rattle.std.proofs.lemmas.List.Elements.{All-contains, All-contains_itself, All-nil, All-push, All-tail, All-weaker, Contains-append_left, Contains-append_right}
@@ -38,10 +39,6 @@ beside (w ∷ xs) r s gaps (zero, lt, at) (zero, lt', at') = inl (sym at ∙ at'
 beside (w ∷ xs) r s gaps (zero, lt, at) (suc j, lt', at') = inr (inl (subst (λ z. z.x2 <ℤ s.x1) at (All-contains (λ s. w.x2 <ℤ s.x1) xs s gaps.0 (j, omega (arith, lt'), at'))))
 beside (w ∷ xs) r s gaps (suc k, lt, at) (zero, lt', at') = inr (inr (subst (λ z. z.x2 <ℤ r.x1) at' (All-contains (λ r. w.x2 <ℤ r.x1) xs r gaps.0 (k, omega (arith, lt), at))))
 beside (w ∷ xs) r s gaps (suc k, lt, at) (suc j, lt', at') = beside xs r s gaps.1 (k, omega (arith, lt), at) (j, omega (arith, lt'), at')
-
-is_nothing : (b : Bool) → (b ≡ true → ⊥) → b ≡ false
-is_nothing true not = absurd (not refl)
-is_nothing false not = refl
 
 -- they are runs of their squares
 gap_runs : (bottom top : ℤ) (xs : List Rect) → HaveGaps xs → All (λ r. r.y1 ≡ bottom) xs → All (λ r. r.y2 ≡ top) xs → AreRunsOf (covered xs) xs
@@ -96,8 +93,8 @@ gap_runs bottom top xs gaps bottoms tops = record {
       tall = r.tall;
       rows = λ y from to. record {
         filled = λ x a b. held xs r x y among (square_in r x y a b from to);
-        before = is_nothing (covered xs (r.x1 -ℤ pos 1) y) (before r y among);
-        after = is_nothing (covered xs r.x2 y) (after r y among);
+        before = false_from_ne_true (covered xs (r.x1 -ℤ pos 1) y) (before r y among);
+        after = false_from_ne_true (covered xs r.x2 y) (after r y among);
       };
       begins = λ i. let h = holder xs r.x1 (r.y1 -ℤ pos 1) (i.filled r.x1 (le_self r.x1) r.wide) in
           below h.rect.y1 r.y1 (low h.rect h.among ∙ sym (low r among)) (square_within h.rect r.x1 (r.y1 -ℤ pos 1) h.holds_it).1.0;

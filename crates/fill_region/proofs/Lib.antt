@@ -19,5 +19,6 @@ pub mod Same
 pub mod Ordered
 pub mod Apart
 pub mod SomeRuns
+pub mod RowCuts
 pub mod Clipping
 pub mod Changing

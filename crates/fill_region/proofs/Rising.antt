@@ -1,6 +1,7 @@
 -- Rows joined one after the other, upwards.
 use Rattle.std.proofs.Common.{◌≡◌, ℤ, ◌≤ℤ◌, ◌<ℤ◌, Bool, true, false, ◌&&◌, List, [], ◌++◌, refl, sym, subst, ◌∙◌, arith}
 use Rattle.std.specs.List.{All}
+use Rattle.std.proofs.lemmas.Bool.{false_from_ne_true}
 use Rattle.std.proofs.lemmas.Int.{ints, by_lt_z}
 use Rattle.std.proofs.lemmas.List.Elements.{All-nil, All-weaker}
 use Rattle.fill_base.specs.declared.rect.Rect.{Rect}
@@ -32,10 +33,6 @@ pub record Risen (bs : List Band) (rows : Upwards) (recent ended : List Rect) : 
   pub tops : All (λ r. r.y2 ≡ rows.from) recent
   pub below : All (λ r. r.y2 <ℤ rows.from) ended
 
-none_there : (b : Bool) → (b ≡ true → ⊥) → b ≡ false
-none_there true h = absurd (h refl)
-none_there false h = refl
-
 pub none_risen : (bs : List Band) (rows : Upwards) (low high : ℤ) → low ≡ lowest → high ≡ highest → rows.region ≡ bs → rows.top ≡ high → low ≤ℤ rows.from
     → ((x y : ℤ) → low ≤ℤ y → y <ℤ rows.from → holds bs x y ≡ false) → ((x y : ℤ) → holds bs x y ≡ true → IsInRange x y) → Risen bs rows [] []
 none_risen bs rows low high low_is high_is region_is top_is from passed in_range = record {
@@ -54,7 +51,7 @@ none_risen bs rows low high low_is high_is region_is top_is from passed in_range
   where
     empty : (x y : ℤ) → y <ℤ rows.from → holds bs x y ≡ false
     empty x y lt = by_lt_z y lowest
-        (λ under. none_there (holds bs x y) (λ is. let range = in_range x y is in not_both y (range.bottom) under))
+        (λ under. false_from_ne_true (holds bs x y) (λ is. let range = in_range x y is in not_both y (range.bottom) under))
         (λ le. passed x y (rw low_is le) lt)
       where
         not_both : (y : ℤ) → lowest ≤ℤ y → y <ℤ lowest → ⊥
@@ -132,7 +129,7 @@ all_risen bs rows rest recent ended over so_far = runs_alike (holds bs) (before 
         (λ lt. sym (below_same (holds bs) rows.from x y lt))
         (λ le. by_lt_z y highest
         (λ lt. rw so_far.region_is at (over.empty x y le (rw so_far.top_is lt)) ∙ sym (below_none (holds bs) rows.from x y le))
-        (λ past. none_there (holds bs x y) (λ is. not_both y (so_far.in_range x y is).top past) ∙ sym (below_none (holds bs) rows.from x y le)))
+        (λ past. false_from_ne_true (holds bs x y) (λ is. not_both y (so_far.in_range x y is).top past) ∙ sym (below_none (holds bs) rows.from x y le)))
 
 -- a row's lines, as the code reads them
 pub record RowLines (row : Row) : Type 0 where

@@ -1,6 +1,7 @@
 -- A sweep upwards, and the runs of what lies below its line.
-use Rattle.std.proofs.Common.{◌≡◌, ℤ, ◌-ℤ◌, ◌≤ℤ◌, ◌<ℤ◌, Bool, true, false, ◌||◌, ◌<◌, List, [], ◌++◌, refl, sym, ◌∙◌, arith}
+use Rattle.std.proofs.Common.{◌≡◌, ℤ, ◌-ℤ◌, ◌≤ℤ◌, ◌<ℤ◌, Bool, true, false, ◌||◌, ◌<◌, List, [], ◌++◌, sym, ◌∙◌, arith}
 use Rattle.std.specs.Prelude.{All, int_lt, unsigned_abs}
+use Rattle.std.proofs.lemmas.Bool.{false_from_ne_true}
 use Rattle.std.proofs.lemmas.Int.{ints, by_lt_z}
 use Rattle.std.proofs.lemmas.List.Elements.{All-contains, All-nil, All-weaker}
 use Rattle.fill_base.specs.declared.rect.Rect.{Rect}
@@ -44,13 +45,9 @@ none_swept rects sorted line s = record {
     nothing : (x y : ℤ) → before (Level line) (covered rects) x y ≡ false
     nothing x y = by_lt_z y line (λ lt. below_same (covered rects) line x y lt ∙ s.none x y lt) (λ le. below_none (covered rects) line x y le)
 
-is_nothing : (b : Bool) → (b ≡ true → ⊥) → b ≡ false
-is_nothing true not = absurd (not refl)
-is_nothing false not = refl
-
 -- a row holds nothing below its lines, and nothing above them
 under : (bottom top : ℤ) (row : List Rect) (x y : ℤ) → IsRow bottom top row → y <ℤ bottom → covered row x y ≡ false
-under bottom top row x y own lt = is_nothing (covered row x y) (λ is.
+under bottom top row x y own lt = false_from_ne_true (covered row x y) (λ is.
     let h = holder row x y is in
     not_both bottom h.rect.y1 y (All-contains (λ r. r.y1 ≡ bottom) row h.rect own.bottoms h.among) (square_within h.rect x y h.holds_it).1.0 lt)
   where
@@ -58,7 +55,7 @@ under bottom top row x y own lt = is_nothing (covered row x y) (λ is.
     not_both a b y is le lt = omega (arith, ints)
 
 over : (bottom top : ℤ) (row : List Rect) (x y : ℤ) → IsRow bottom top row → top ≤ℤ y → covered row x y ≡ false
-over bottom top row x y own le = is_nothing (covered row x y) (λ is.
+over bottom top row x y own le = false_from_ne_true (covered row x y) (λ is.
     let h = holder row x y is in
     not_both top h.rect.y2 y (All-contains (λ r. r.y2 ≡ top) row h.rect own.tops h.among) (square_within h.rect x y h.holds_it).1.1 le)
   where
@@ -119,7 +116,7 @@ all_swept rects later crossing recent ended line s end = runs_alike (covered rec
         lt_le a b c h k = omega (arith, ints)
 
     whole : (x y : ℤ) → covered rects x y ≡ before (Level line) (covered rects) x y
-    whole x y = by_lt_z y line (λ lt. sym (below_same (covered rects) line x y lt)) (λ le. is_nothing (covered rects x y) (none x y le) ∙ sym (below_none (covered rects) line x y le))
+    whole x y = by_lt_z y line (λ lt. sym (below_same (covered rects) line x y lt)) (λ le. false_from_ne_true (covered rects x y) (none x y le) ∙ sym (below_none (covered rects) line x y le))
 
 -- ---- lines as the code reads them
 

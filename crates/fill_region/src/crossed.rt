@@ -28,7 +28,7 @@ fn longer(interval: &Rect, rect: &Rect) -> Rect
 }
 
 /// The intervals of the rows between two lines, by the rectangles that cross them all.
-pub(crate) fn intervals(
+pub(crate) fn crossed_intervals(
     alloc: Global,
     crossing: &[Rect],
     bottom: i64,

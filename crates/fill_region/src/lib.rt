@@ -10,6 +10,7 @@ mod edges;
 mod growing;
 mod joins;
 pub mod laws;
+mod level;
 mod lines;
 mod near;
 mod operands;

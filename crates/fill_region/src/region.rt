@@ -1,5 +1,5 @@
 //! Regions.
-ghost use Rattle.std.specs.Prelude.{◌≡◌, ◌↔◌, ◌&&◌, ◌||◌, not, false, true, ℤ, List, map, IsTrue, IfOk};
+ghost use Rattle.std.specs.Prelude.{◌≡◌, ◌↔◌, ◌&&◌, ◌||◌, not, false, true, ℤ, ◌≤ℤ◌, ◌<ℤ◌, List, map, IsTrue, IfOk};
 ghost use Rattle.std.specs.Cmp.Lexicographic.{pointwise, lists_per};
 ghost use Rattle.fill_base.specs.Coordinates.{IsInRange};
 ghost use Rattle.fill_base.specs.Squares.{squares};
@@ -13,6 +13,7 @@ ghost use Rattle.fill_region.specs.Runs.{sides_of, holds, AreApart, AreInOrder, 
 use crate::changes::combined_runs;
 use crate::clips::clipped_runs;
 use crate::cuts::{runs_alone, runs_together};
+use crate::level::{level_with, tallest};
 use crate::operands::Operands;
 use crate::order::in_order;
 use crate::parts::is_covered;
@@ -26,17 +27,20 @@ use std::thread::Threads;
 #[derive(Drop)]
 pub struct Region {
     runs: Vec<Rect>,
+    /// No run is taller, in rows of squares.
+    height: i64,
 }
 
 impl Model for Region {
     ghost use Rattle.std.specs.Prelude.{List, map};
+    ghost use Rattle.fill_region.specs.Near.{IsTallest};
     ghost use Rattle.fill_region.specs.Runs.{Sides, sides_of, AreRuns};
 
     ghost Value = { List Sides };
 
     ghost view = { λ r. map sides_of r.runs.items };
 
-    ghost invariant = { λ r. AreRuns (map sides_of r.runs.items) };
+    ghost invariant = { λ r. AreRuns (map sides_of r.runs.items) × IsTallest r.runs.items r.height };
 }
 
 impl PartialEq for Region {
@@ -60,7 +64,17 @@ impl Region {
     {
         Region {
             runs: Vec::new(alloc),
+            height: 0,
         }
+    }
+
+    /// The region of these runs.
+    fn of(runs: Vec<Rect>) -> Region
+        requires { AreRuns (map sides_of runs.items) }
+        ensures { result ≡ map sides_of runs.items }
+    {
+        let height = tallest(&runs);
+        Region { runs, height }
     }
 
     /// The squares that the operation keeps.
@@ -69,7 +83,7 @@ impl Region {
     {
         let unordered = runs_alone(alloc, operands)?;
         let runs = in_order(alloc, unordered)?;
-        Ok(Region { runs })
+        Ok(Region::of(runs))
     }
 
     /// The squares of one rectangle.
@@ -103,7 +117,7 @@ impl Region {
     {
         let clipped = clipped_runs(alloc, runs, frame)?;
         let runs = in_order(alloc, clipped)?;
-        Ok(Region { runs })
+        Ok(Region::of(runs))
     }
 
     /// The squares that the operation keeps of this region and the other.
@@ -117,7 +131,7 @@ impl Region {
     {
         let unordered = combined_runs(alloc, operation, &self.runs, &other.runs)?;
         let runs = in_order(alloc, unordered)?;
-        Ok(Region { runs })
+        Ok(Region::of(runs))
     }
 
     /// The squares in either region.
@@ -177,7 +191,7 @@ impl Region {
     pub fn clip(&self, alloc: Global, rect: &Rect) -> Result<Region, AllocError>
         ensures squares { IfOk result (λ r. (x y : ℤ) → holds r x y ≡ holds self.now x y && squares rect.now x y) }
     {
-        Region::of_runs(alloc, &self.runs, rect)
+        Region::of_runs(alloc, self.runs_level(rect.y1(), rect.y2()), rect)
     }
 
     /// The same region once more.
@@ -188,7 +202,10 @@ impl Region {
         ensures { IfOk result (λ r. r ≡ self.now) }
     {
         let runs = Vec::from_slice(alloc, &self.runs)?;
-        Ok(Region { runs })
+        Ok(Region {
+            runs,
+            height: self.height,
+        })
     }
 
     /// The runs as a list of its own.
@@ -228,6 +245,18 @@ impl Region {
     {
         &self.runs
     }
+
+    /// The runs that have squares in the rows from `bottom` on and below `top`, whole and in their order, found by a search. Some
+    /// that end below these rows may be among them.
+    pub fn runs_level(&self, bottom: i64, top: i64) -> &[Rect]
+        ensures cover { (x y : ℤ) → bottom ≤ℤ y → y <ℤ top → covered result.now x y ≡ holds self.now x y }
+        ensures inside { (x y : ℤ) → covered result.now x y ≡ true → holds self.now x y ≡ true }
+        ensures apart { AreApart (map sides_of result.now) }
+        ensures some { AreSomeRuns result.now }
+        ensures in_range { (x y : ℤ) → holds self.now x y ≡ true → IsInRange x y }
+    {
+        level_with(&self.runs, self.height, bottom, top)
+    }
 }
 
 /// The squares that some rectangle holds, on all threads that there are.
@@ -244,5 +273,5 @@ pub fn region_of_rects<R: Threads + Sync>(
     let operands = Operands::of_rects(alloc, rects)?;
     let unordered = runs_together(rt, alloc, operands)?;
     let runs = in_order(alloc, unordered)?;
-    Ok(Region { runs })
+    Ok(Region::of(runs))
 }

@@ -3,7 +3,7 @@ ghost use Rattle.std.specs.Prelude.{IfOk};
 ghost use Rattle.fill_region.specs.Squares.{covered};
 ghost use Rattle.fill_region.specs.Steps.{AreRunsOf};
 
-use crate::crossed::intervals;
+use crate::crossed::crossed_intervals;
 use crate::growing::row_upon;
 use fill_bands::{start, step};
 use fill_base::Rect;
@@ -22,7 +22,7 @@ pub(crate) fn runs_swept(alloc: Global, rects: &[Rect]) -> Result<Vec<Rect>, All
     let mut ended = Vec::new(alloc);
     'sweep: while line < i64::from(CEILING) {
         let (rest, next) = step(later, &mut crossing, line)?;
-        let row = intervals(alloc, &crossing, line, next)?;
+        let row = crossed_intervals(alloc, &crossing, line, next)?;
         recent = row_upon(alloc, &recent, &row, &mut ended)?;
         later = rest;
         line = next;

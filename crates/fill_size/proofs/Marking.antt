@@ -223,7 +223,7 @@ met_on ranges old new after rects k r bottom top within item so_far marked a d m
     at h is = record { x = h.x; y = h.y; square = is; from_left = h.from_left; to_right = h.to_right; from_bottom = h.from_bottom; to_top = h.to_top }
 
 -- all runs together
-pub all_met : (p : ℤ → ℤ → Bool) (ranges : List (ℤ × ℤ)) (old new : List Bool) (rects : List Rect) (k : ℕ) (bottom top : ℤ) → length rects ≤ k → ((x y : ℤ) → covered rects x y ≡ p x y)
+pub all_met : (p : ℤ → ℤ → Bool) (ranges : List (ℤ × ℤ)) (old new : List Bool) (rects : List Rect) (k : ℕ) (bottom top : ℤ) → length rects ≤ k → ((x y : ℤ) → bottom ≤ℤ y → y <ℤ top → covered rects x y ≡ p x y)
     → AreMarked (λ lo hi. HasSquare (covered (take k rects)) lo bottom hi top) ranges old new → AreMarked (λ lo hi. HasSquare p lo bottom hi top) ranges old new
 all_met p ranges old new rects k bottom top end cover met a d m lt =
     let so : IsTrue (get_or new a m) ↔ (IsTrue (get_or old a m) ⊎ HasSquare (covered rects) (get_or ranges a d).0 bottom (get_or ranges a d).1 top) = rw (take_all k rects end) at met a d m lt in (
@@ -232,10 +232,10 @@ all_met p ranges old new rects k bottom top end cover met a d m lt =
     )
   where
     from : (lo hi : ℤ) → HasSquare (covered rects) lo bottom hi top → HasSquare p lo bottom hi top
-    from lo hi s = record { x = s.x; y = s.y; square = sym {a = covered rects s.x s.y} (cover s.x s.y) ∙ s.square; from_left = s.from_left; to_right = s.to_right; from_bottom = s.from_bottom; to_top = s.to_top }
+    from lo hi s = record { x = s.x; y = s.y; square = sym {a = covered rects s.x s.y} (cover s.x s.y s.from_bottom s.to_top) ∙ s.square; from_left = s.from_left; to_right = s.to_right; from_bottom = s.from_bottom; to_top = s.to_top }
 
     to : (lo hi : ℤ) → HasSquare p lo bottom hi top → HasSquare (covered rects) lo bottom hi top
-    to lo hi s = record { x = s.x; y = s.y; square = cover s.x s.y ∙ s.square; from_left = s.from_left; to_right = s.to_right; from_bottom = s.from_bottom; to_top = s.to_top }
+    to lo hi s = record { x = s.x; y = s.y; square = cover s.x s.y s.from_bottom s.to_top ∙ s.square; from_left = s.from_left; to_right = s.to_right; from_bottom = s.from_bottom; to_top = s.to_top }
 
 -- a test that fails rules out what it tests
 pub not_from : {P : Type 0} (b : Bool) → (IsTrue b ↔ P) → b ≡ false → P → ⊥

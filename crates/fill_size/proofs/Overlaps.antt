@@ -59,18 +59,18 @@ met_test r left bottom right top x1 x2 y1 y2 across up fl fb fr ft a b c d in_x 
     )
 
 -- some rectangle of a list has a square there, or none has
-pub list_met : (p : ℤ → ℤ → Bool) (rects : List Rect) (left bottom right top : ℤ) (found : Bool) → ((x y : ℤ) → covered rects x y ≡ p x y)
+pub list_met : (p : ℤ → ℤ → Bool) (rects : List Rect) (left bottom right top : ℤ) (found : Bool) → ((x y : ℤ) → bottom ≤ℤ y → y <ℤ top → covered rects x y ≡ p x y)
     → MatchBool found ((k : ℕ) × (k < length rects) × HoldsAt (λ r. HasSquare (squares r) left bottom right top) rects k) (AllWithin (λ r. HasSquare (squares r) left bottom right top → ⊥) rects 0 (length rects))
     → (IsTrue found ↔ HasSquare p left bottom right top)
 list_met p [] left bottom right top true cover (k, lt, at) = absurd (omega (arith, lt))
 list_met p (r ∷ rects) left bottom right top true cover (k, lt, at) =
     let h : HasSquare (squares (get_or (r ∷ rects) k r)) left bottom right top = at r in (
-      (λ _. record { x = h.x; y = h.y; square = sym (cover h.x h.y) ∙ list_any_at (λ s. squares s h.x h.y) (r ∷ rects) k r lt h.square; from_left = h.from_left; to_right = h.to_right; from_bottom = h.from_bottom; to_top = h.to_top }),
+      (λ _. record { x = h.x; y = h.y; square = sym (cover h.x h.y h.from_bottom h.to_top) ∙ list_any_at (λ s. squares s h.x h.y) (r ∷ rects) k r lt h.square; from_left = h.from_left; to_right = h.to_right; from_bottom = h.from_bottom; to_top = h.to_top }),
       (λ _. refl),
     )
 list_met p rects left bottom right top false cover none = (
   (λ e. absurd (false≢true e)),
-  (λ h. let o = holder rects h.x h.y (cover h.x h.y ∙ h.square) in absurd (none o.among.0 o.rect (omega arith) o.among.1 (record {
+  (λ h. let o = holder rects h.x h.y (cover h.x h.y h.from_bottom h.to_top ∙ h.square) in absurd (none o.among.0 o.rect (omega arith) o.among.1 (record {
     x = h.x;
     y = h.y;
     square = ap (λ s. squares s h.x h.y) o.among.2 ∙ o.holds_it;

@@ -31,7 +31,7 @@ fn are_near(a: i64, b: i64, c: i64, d: i64, spacing: i64) -> bool
     (a < d + spacing) & (c < b + spacing)
 }
 
-/// Whether no square of the region is too near to the rectangle: by a look at each run, without memory. The spacing is 0
+/// Whether no square of the region is too near to the rectangle: by a look at each run that is level with it, without memory. The spacing is 0
 /// to 2^20 database units.
 pub fn is_clear(region: &Region, rect: &Rect, spacing: i64) -> bool
     requires { IsSpacing spacing }
@@ -52,7 +52,7 @@ pub(crate) fn has_square(region: &Region, left: i64, bottom: i64, right: i64, to
     ensures in_range { (x y : ℤ) → holds region.now x y ≡ true → IsInRange x y }
 {
     region
-        .runs()
+        .runs_level(bottom, top)
         .iter()
         .any(|run| is_met(run, left, bottom, right, top))
 }

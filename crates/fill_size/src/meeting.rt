@@ -10,7 +10,7 @@ use fill_region::Region;
 
 /// Marks the ranges in which the region has a square in the lines from `bottom` on and below `top`; those that are marked
 /// stay so. A range is the columns from its first number on and below its second, in database units, and none begins
-/// before one that stands before it. Of each run in these lines only the ranges near it are looked at.
+/// before one that stands before it. Only runs level with these lines are looked at, and of each only the ranges near it.
 pub fn mark_met(region: &Region, ranges: &[(i64, i64)], bottom: i64, top: i64, marks: &mut [bool])
     requires count { length marks.old ≡ length ranges.now }
     requires rising { AreRising ranges.now }
@@ -19,7 +19,7 @@ pub fn mark_met(region: &Region, ranges: &[(i64, i64)], bottom: i64, top: i64, m
     ensures marked { AreMarked (λ lo hi. HasSquare (holds region.now) lo bottom hi top) ranges.now marks.old marks.new }
 {
     let width = widest(ranges);
-    for run in region.runs() {
+    for run in region.runs_level(bottom, top) {
         if have_common(run.y1(), run.y2(), bottom, top) {
             mark_between(ranges, width, run.x1(), run.x2(), marks);
         }

@@ -13,8 +13,8 @@ step-requires-clause-at c = c.sweep.invariant.at
 pub step-requires-clause-low : goal.step-requires-clause-low
 step-requires-clause-low c = goes_on (to_z w64 c.sweep.line-bits) c.from.result c.from.ensures c.sweep-test.true
 
-pub intervals-requires-clause-rising : goal.intervals-requires-clause-rising
-intervals-requires-clause-rising c = rw (c.deref.ensures.value) c.in_ok-rest.ensures.at.lefts
+pub crossed_intervals-requires-clause-rising : goal.crossed_intervals-requires-clause-rising
+crossed_intervals-requires-clause-rising c = rw (c.deref.ensures.value) c.in_ok-rest.ensures.at.lefts
 
 pub sweep-smaller : goal.sweep-smaller
 sweep-smaller c = nearer c.in_ok-rest.rest.now c.step.new.crossing.items (to_z w64 c.sweep.line-bits) c.in_ok-rest.next c.in_ok-rest.ensures.further c.in_ok-rest.ensures.at

@@ -12,4 +12,4 @@ pub returns-clause-same : goal.returns-clause-same
 returns-clause-same c =
     let d = slice_eq-Decides sides_Decides _ _ c.eq.result (c.eq.ensures ∙ same_lists c.self.inside.runs.items c.other.inside.runs.items) in
     rw (← c.self.view_is, ← c.other.view_is)
-    ((λ is x y. ap (λ rs. holds rs x y) (d.0 is)), (λ same. d.1 (one_list _ _ c.self.invariant c.other.invariant same)))
+    ((λ is x y. ap (λ rs. holds rs x y) (d.0 is)), (λ same. d.1 (one_list _ _ c.self.invariant.0 c.other.invariant.0 same)))

@@ -5,8 +5,8 @@ use Rattle.fill_base.proofs.Areas.{read_x1, read_x2}
 use Rattle.fill_base.proofs.Signed.{read_is, is_lt, not_lt}
 use Rattle.fill_region.proofs.Gaps.{Opened, one_opened, gap_opened, long_opened, all_opened, item_of, first_of, passed_left}
 use Rattle.fill_region.proofs.Members.{one_more}
-use Rattle.fill_region.proofs.crossed.intervals.Goals as goal
-use Rattle.fill_region.proofs.crossed.intervals.Goals.{then-x2-x1+in_ok-push, else-x2-x1}
+use Rattle.fill_region.proofs.crossed.crossed_intervals.Goals as goal
+use Rattle.fill_region.proofs.crossed.crossed_intervals.Goals.{then-x2-x1+in_ok-push, else-x2-x1}
 
 pub rest-init : goal.rest-init
 rest-init c =
