@@ -164,7 +164,7 @@ wanted_agree plan k s p q is enough agree tile lt needed = fun_ext (λ i. fun_ex
 
 -- ---- fills
 
-nat_same : (n : ℕ) → (n == n) ≡ true
+pub nat_same : (n : ℕ) → (n == n) ≡ true
 nat_same n = grind (arith, nat_tests)
 
 -- o: the place is on the raster; n: its tile is needed

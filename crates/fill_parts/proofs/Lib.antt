@@ -15,3 +15,8 @@ pub mod Clamping
 pub mod TileRows
 pub mod Framed
 pub mod Nothing
+pub mod BandsAlone
+pub mod RowsAlone
+pub mod RulesAlone
+pub mod WindowsAlone
+pub mod SmallCases

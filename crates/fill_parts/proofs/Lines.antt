@@ -1,9 +1,8 @@
 -- The lines of a part are the same for metals that agree there.
 use Rattle.std.proofs.Common.{◌≡◌, refl, ap, ◌∙◌, ℕ, zero, suc, ◌+◌, ◌*◌, ◌-◌, ◌/◌, ◌%◌, ◌<◌, ◌≤◌, arith, ℤ, pos, ◌≤ℤ◌, ◌<ℤ◌, Bool, true, false, ◌&&◌, ◌||◌, List, ◌++◌}
-use Rattle.std.specs.Prelude.{int_lt, ◌==◌}
+use Rattle.std.specs.Prelude.{int_lt}
 use Rattle.std.specs.List.{flat_map, range_with_len}
 use Rattle.std.proofs.lemmas.Bool.{and_from, and_parts}
-use Rattle.std.proofs.lemmas.Bool.Decides.{nat_tests}
 use Rattle.std.proofs.lemmas.Int.{ints}
 use Rattle.std.proofs.lemmas.Nat.{le-div, div_below, mod_below}
 use Rattle.fill_base.specs.Sides.{Sides}
@@ -26,7 +25,7 @@ use Rattle.fill_parts.specs.Needs.{IsEnough, LayersAgree, has_tile, has_windows,
 use Rattle.fill_parts.specs.PartFill.{near_fill}
 use Rattle.fill_parts.specs.PartReport.{part_lines}
 use Rattle.fill_parts.specs.Laws.{CheckLinesAgree, LinesAgree}
-use Rattle.fill_parts.proofs.Agreeing.{agree_at, areas_agree, held_same, near_same, window_same}
+use Rattle.fill_parts.proofs.Agreeing.{agree_at, areas_agree, held_same, near_same, nat_same, window_same}
 use Rattle.fill_parts.proofs.Cutting.{cut_le, cut_ends, is_row_of}
 
 -- ---- lines one after another
@@ -59,18 +58,21 @@ and_true : (a b : Bool) → b ≡ true → a && b ≡ a
 and_true true b h = h
 and_true false b h = refl
 
-nat_same : (n : ℕ) → (n == n) ≡ true
-nat_same n = grind (arith, nat_tests)
-
-level_needed : (plan : Plan) (k : Part) (b : ℕ) (i j x y : ℤ) → IsPlan plan → b < plan.windows.up.count → has_windows plan k b ≡ true → in_raster plan.raster i j ≡ true
-    → window_bottom plan.windows b ≤ℤ y → y <ℤ window_top plan.windows b → box_squares plan.raster i j x y ≡ true → needs_tile plan k (tile_of plan.raster i j) ≡ true
-level_needed plan k b i j x y is row own on low high holds =
+-- a tile whose box shares a square with a window is level with it
+pub level_with : (plan : Plan) (b : ℕ) (i j x y : ℤ) → IsPlan plan → in_raster plan.raster i j ≡ true → window_bottom plan.windows b ≤ℤ y → y <ℤ window_top plan.windows b → box_squares plan.raster i j x y ≡ true
+    → is_level plan (tile_of plan.raster i j) b ≡ true
+level_with plan b i j x y is on low high holds =
     let r = plan.raster in let w = plan.windows in let t = tile_of r i j in
     let edges = bounded plan t i j is (and_from _ _ on (nat_same t)) in
     let inside = is_between_bounds (box_begin r.up j) (box_end r.up j) y (and_parts _ _ holds).1 in
     let m = meets (window_bottom w b) (window_top w b) y (box_begin r.up j) (box_end r.up j) low high inside.0 inside.1 in
-    let level : is_level plan t b ≡ true = and_from _ _ (lt_is _ _ (wider (window_bottom w b) (box_end r.up j) (tile_top r t) m.0 edges.top)) (lt_is _ _ (lower (tile_bottom r t) (box_begin r.up j) (window_top w b) edges.bottom m.1)) in
-    or_second (has_tile plan k t) _ (some_below_has (λ c. has_windows plan k c && is_level plan t c) w.up.count b row (and_from _ _ own level))
+    and_from _ _ (lt_is _ _ (wider (window_bottom w b) (box_end r.up j) (tile_top r t) m.0 edges.top)) (lt_is _ _ (lower (tile_bottom r t) (box_begin r.up j) (window_top w b) edges.bottom m.1))
+
+level_needed : (plan : Plan) (k : Part) (b : ℕ) (i j x y : ℤ) → IsPlan plan → b < plan.windows.up.count → has_windows plan k b ≡ true → in_raster plan.raster i j ≡ true
+    → window_bottom plan.windows b ≤ℤ y → y <ℤ window_top plan.windows b → box_squares plan.raster i j x y ≡ true → needs_tile plan k (tile_of plan.raster i j) ≡ true
+level_needed plan k b i j x y is row own on low high holds =
+    let t = tile_of plan.raster i j in
+    or_second (has_tile plan k t) _ (some_below_has (λ c. has_windows plan k c && is_level plan t c) plan.windows.up.count b row (and_from _ _ own (level_with plan b i j x y is on low high holds)))
 
 boxes_same : (plan : Plan) (k : Part) (s : Sides) (p q : Layers) → IsPlan plan → IsEnough plan k s → LayersAgree s p q → (b : ℕ) (x y : ℤ) → b < plan.windows.up.count → has_windows plan k b ≡ true
     → window_bottom plan.windows b ≤ℤ y → y <ℤ window_top plan.windows b → boxes_of plan (near_fill plan p k) x y ≡ boxes_of plan (low_fill plan q) x y
@@ -87,7 +89,7 @@ boxes_same plan k s p q is enough agree b x y row own low high =
 own_needed : (plan : Plan) (k : Part) (b : ℕ) → has_windows plan k b ≡ true → needs_windows plan k b ≡ true
 own_needed plan k b h = rw h refl
 
-same_measures : (m n : Measures) → m.drawn ≡ n.drawn → m.fill ≡ n.fill → m.total ≡ n.total → m ≡ n
+pub same_measures : (m n : Measures) → m.drawn ≡ n.drawn → m.fill ≡ n.fill → m.total ≡ n.total → m ≡ n
 same_measures m n drawn fill total = λ k. record { drawn = drawn k; fill = fill k; total = total k }
 
 measures_same : (plan : Plan) (k : Part) (s : Sides) (p q : Layers) → IsPlan plan → IsEnough plan k s → LayersAgree s p q → (a b : ℕ) → a < plan.windows.across.count → b < plan.windows.up.count → has_windows plan k b ≡ true

@@ -1,11 +1,12 @@
 -- What holds of every cut into parts.
-use Rattle.std.specs.Prelude.{◌≡◌, ℕ, ◌<◌, ◌≤◌, ℤ, Bool, true, false, ◌&&◌, List, [], ◌++◌, length, map}
+use Rattle.std.specs.Prelude.{◌≡◌, ℕ, ◌+◌, ◌-◌, ◌*◌, ◌<◌, ◌≤◌, ℤ, Bool, true, false, ◌&&◌, List, [], ◌++◌, length, map}
 use Rattle.std.specs.List.{filter, flat_map, range_with_len}
 use Rattle.fill_base.specs.Squares.{squares}
 use Rattle.fill_base.specs.Coordinates.{IsInRange}
 use Rattle.fill_base.specs.Sides.{Sides}
 use Rattle.fill_area.specs.Density.{window_area}
 use Rattle.fill_area.specs.Grid.{Grid}
+use Rattle.fill_raster.specs.Axes.{bands}
 use Rattle.fill_raster.specs.Lattice.{tile_of, tiles}
 use Rattle.fill_text.specs.Rules.{Values}
 use Rattle.fill_text.specs.Script.{change_of}
@@ -19,11 +20,14 @@ use Rattle.fill_core.specs.Machine.{IsComplete, layers_after, State, opened, rep
 use Rattle.fill_core.specs.declared.event.Event.{Event}
 use Rattle.fill_core.specs.declared.event.Event.TheVariants as event
 use Rattle.fill_core.specs.Boxes.{low_fill}
-use Rattle.fill_report.specs.BookReport.{fill_report}
+use Rattle.fill_report.specs.BookReport.{boxes_of, fill_report}
+use Rattle.fill_report.specs.Report.{measures_of}
 use Rattle.fill_report.specs.RulesReport.{metal_report}
 use Rattle.fill_report.specs.declared.line.Measures.{Measures}
 use Rattle.fill_parts.specs.Cuts.{Part, IsPart, cut, has_row}
-use Rattle.fill_parts.specs.Needs.{IsEnough, HoldsItsWindows, AgreeInside, LayersAgree, in_coordinates, is_inside, layers_met, met_with, needed_sides, window_sides, needs_tile, needs_windows, has_tile}
+use Rattle.fill_parts.specs.Needs.{IsEnough, HoldsItsWindows, AgreeInside, LayersAgree, in_coordinates, is_inside, layers_met, met_with, needed_sides, window_sides, needs_tile, needs_windows, has_tile, is_level}
+use Rattle.fill_parts.specs.Smaller.{Rows, AreSome, IsHeldBy, IsSmaller}
+use Rattle.fill_parts.specs.SmallerRules.{Cover, rules_alone}
 use Rattle.fill_parts.specs.PartReport.{rows_lines, part_check, part_report}
 use Rattle.fill_parts.specs.PartFill.{part_fill, near_fill, layers_by, layers_with, rect_of}
 
@@ -188,3 +192,25 @@ PartRunIsThePart = (values : Values) (k : Part) (s : Sides) (layers : Layers) (t
     t.base ≡ no_places → t.layers ≡ layers_with (filter touches edits) (layers_met (in_coordinates s) layers)
     → ((tile : ℕ) → tile < tiles (plan_of values).raster → t.tiles_in tile ≡ needs_tile (plan_of values) k tile)
     → IsPartOf values k (layers_by (map change_of edits) layers) t
+
+-- ---- a part as a smaller chip
+
+-- A plan of some rows of tiles and of windows of a chip alone wants in each of its tiles the places that the chip's plan wants there, if
+-- all windows level with the tile are among these rows. Its tiles are numbered without those below.
+abbrev pub SmallerChipWantsTheSame : Type 0
+SmallerChipWantsTheSame = (whole small : Plan) (rows windows : Rows) (layers : Layers) → IsPlan whole → AreSome rows (bands whole.raster.up) → windows.to ≤ whole.windows.up.count → IsSmaller whole small rows windows
+    → (tile : ℕ) → tile < (rows.to - rows.from) * bands whole.raster.across → let there = rows.from * bands whole.raster.across + tile in
+    ((b : ℕ) → b < whole.windows.up.count → is_level whole there b ≡ true → (windows.from ≤ b) × (b < windows.to))
+    → wanted small layers (low_windows small layers.metal) tile ≡ wanted whole layers (low_windows whole layers.metal) there
+
+-- The rules of some rows of tiles and of windows alone make such a plan, if the tiles cover what counts of the windows.
+abbrev pub RulesAloneMakeASmallerChip : Type 0
+RulesAloneMakeASmallerChip = (values : Values) (rows windows : Rows) → let plan = plan_of values in IsPlan plan → AreSome rows (bands plan.raster.up) → AreSome windows plan.windows.up.count → Cover values rows windows
+    → IsSmaller plan (plan_of (rules_alone values rows windows)) rows windows
+
+-- And a window measures in it what it measures in the chip: its metal, and the boxes of a complete fill, if all tiles level with the
+-- window are among the rows, and all windows level with these tiles.
+abbrev pub SmallerChipMeasuresTheSame : Type 0
+SmallerChipMeasuresTheSame = (whole small : Plan) (rows windows : Rows) (layers : Layers) → IsPlan whole → AreSome rows (bands whole.raster.up) → windows.to ≤ whole.windows.up.count → IsSmaller whole small rows windows
+    → (a b : ℕ) → b < small.windows.up.count → ((tile : ℕ) → tile < tiles whole.raster → is_level whole tile (windows.from + b) ≡ true → IsHeldBy whole rows windows tile)
+    → measures_of layers.metal (boxes_of small (low_fill small layers)) small.windows a b ≡ measures_of layers.metal (boxes_of whole (low_fill whole layers)) whole.windows a (windows.from + b)

@@ -1,5 +1,5 @@
 -- The lines of a part's windows.
-use Rattle.std.specs.Prelude.{ℕ, ℤ, ◌*◌, ◌-◌, List}
+use Rattle.std.specs.Prelude.{ℕ, ◌*◌, ◌-◌, List}
 use Rattle.fill_area.specs.Grid.{Grid}
 use Rattle.fill_text.specs.Rules.{Values, limits_of, windows_of}
 use Rattle.fill_text.specs.declared.limits.Limits.{Limits}

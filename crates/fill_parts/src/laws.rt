@@ -1,5 +1,5 @@
 //! What holds of every cut into parts, whatever the code does. Each function's contract is the law.
-ghost use Rattle.fill_parts.specs.Laws.{AreasAgree, CheckLinesAgree, ClippedAgrees, EachRowIsInOnePart, EditsAgree, EditsAreChanges, EditsInsideSuffice, EditsOpenAnew, EditsOutsideDoNothing, FillOfNeededTiles, PartsMakeTheCheck, PartsTellTheReport, WindowSidesAreEnough, FillAfterEdits, FillsAgree, LinesAgree, LowWindowsAgree, NeededSidesAreEnough, PartFillIsWanted, PartRunIsThePart, PartsAreApart, PartsFollow, PartsMakeTheFill, PartsMakeTheReport, RowsFollow, WantedAgree};
+ghost use Rattle.fill_parts.specs.Laws.{AreasAgree, CheckLinesAgree, ClippedAgrees, EachRowIsInOnePart, EditsAgree, EditsAreChanges, EditsInsideSuffice, EditsOpenAnew, EditsOutsideDoNothing, FillOfNeededTiles, PartsMakeTheCheck, PartsTellTheReport, WindowSidesAreEnough, FillAfterEdits, FillsAgree, LinesAgree, LowWindowsAgree, NeededSidesAreEnough, PartFillIsWanted, PartRunIsThePart, PartsAreApart, PartsFollow, PartsMakeTheFill, PartsMakeTheReport, RowsFollow, RulesAloneMakeASmallerChip, SmallerChipMeasuresTheSame, SmallerChipWantsTheSame, WantedAgree};
 
 /// Each row is in exactly one part.
 pub fn each_row_is_in_one_part()
@@ -129,4 +129,19 @@ pub fn part_fill_is_wanted()
 /// One part's run has the part's fill and lines.
 pub fn part_run_is_the_part()
     ensures { PartRunIsThePart }
+{}
+
+/// A chip of some rows of tiles and of windows alone wants the same places in them.
+pub fn smaller_chip_wants_the_same()
+    ensures { SmallerChipWantsTheSame }
+{}
+
+/// The rules of these rows alone make the plan of such a chip.
+pub fn rules_alone_make_a_smaller_chip()
+    ensures { RulesAloneMakeASmallerChip }
+{}
+
+/// And windows measure the same in it.
+pub fn smaller_chip_measures_the_same()
+    ensures { SmallerChipMeasuresTheSame }
 {}

@@ -1,0 +1,49 @@
+-- The definitions of some rows alone, computed: ten places of six squares at steps of ten from 2 on in a frame from 0 to 100, three to
+-- a band, and twelve windows of twenty squares at steps of ten from -10 on.
+use Rattle.std.proofs.Common.{◌≡◌, refl, ℕ, ℤ, pos, negsuc}
+use Rattle.fill_area.specs.declared.axis.Axis as spans
+use Rattle.fill_raster.specs.Axes.{bands, first, past}
+use Rattle.fill_raster.specs.declared.axis.Axis.{Axis}
+use Rattle.fill_parts.specs.Smaller.{Rows, bands_alone, spans_alone}
+
+abbrev places : Axis
+places = record { low = pos 0; high = pos 100; length = pos 6; step = pos 10; origin = pos 2; band = 3 }
+
+abbrev windows : spans.Axis
+windows = record { first = negsuc 9; length = pos 20; step = pos 10; count = 12 }
+
+abbrev rows : ℕ → ℕ → Rows
+rows from to = record { from = from; to = to }
+
+four_bands : bands places ≡ 4
+unfolding first past
+four_bands = refl
+
+-- the second and the third band: places 3 to 8, whose boxes reach from 32 to 88
+middle_low : (bands_alone places (rows 1 3)).low ≡ pos 32
+unfolding first past
+middle_low = refl
+
+middle_high : (bands_alone places (rows 1 3)).high ≡ pos 88
+unfolding first past
+middle_high = refl
+
+middle_first : first (bands_alone places (rows 1 3)) ≡ pos 3
+unfolding first past
+middle_first = refl
+
+middle_past : past (bands_alone places (rows 1 3)) ≡ pos 9
+unfolding first past
+middle_past = refl
+
+-- all of them: the frame stays
+all_low : (bands_alone places (rows 0 4)).low ≡ pos 0
+all_low = refl
+
+all_high : (bands_alone places (rows 0 4)).high ≡ pos 100
+unfolding first past
+all_high = refl
+
+-- the windows from the fourth on up to the sixth
+some_windows : spans_alone windows (rows 3 6) ≡ record { first = pos 20; length = pos 20; step = pos 10; count = 3 }
+some_windows = refl

@@ -1,0 +1,51 @@
+-- Some rows of a chip as a chip of their own: the same rules, but with a frame and with windows that reach no further.
+use Rattle.std.specs.Prelude.{true, ◌≡◌, ℕ, ◌+◌, ◌-◌, ◌<◌, ◌≤◌, ◌==◌, if◌then◌else◌}
+use Rattle.fill_area.specs.Axes.{axis_begin}
+use Rattle.fill_area.specs.Grid.{parts_up}
+use Rattle.fill_area.specs.Parts.{part_begin, part_end}
+use Rattle.fill_area.specs.declared.axis.Axis as spans
+use Rattle.fill_raster.specs.Axes.{bands, band_begin, band_end}
+use Rattle.fill_raster.specs.declared.axis.Axis.{Axis}
+use Rattle.fill_job.specs.Plans.{Plan}
+use Rattle.fill_parts.specs.Needs.{is_level, row_of}
+
+-- rows from one on and below another
+pub record Rows : Type 0 where
+  pub from : ℕ
+  pub to : ℕ
+
+-- some of so many rows
+pub record AreSome (rows : Rows) (count : ℕ) : Type 0 where
+  pub some : rows.from < rows.to
+  pub within : rows.to ≤ count
+
+-- The places of some bands of an axis alone: its frame begins where the first of these bands does and ends where the last one does,
+-- but goes on to the frame's own edge where no band lies beyond.
+abbrev pub bands_alone : Axis → Rows → Axis
+bands_alone a rows = record a {
+  low = if rows.from == 0 then a.low else band_begin a rows.from;
+  high = if rows.to == bands a then a.high else band_end a (rows.to - 1);
+}
+
+-- some windows of an axis alone
+abbrev pub spans_alone : spans.Axis → Rows → spans.Axis
+spans_alone axis rows = record axis { first = axis_begin axis rows.from; count = rows.to - rows.from }
+
+-- The second plan is that of some rows of tiles and of windows of the first one: of each of these windows as much counts in both.
+pub record IsSmaller (whole small : Plan) (tiles windows : Rows) : Type 0 where
+  pub across : small.raster.across ≡ whole.raster.across
+  pub up : small.raster.up ≡ bands_alone whole.raster.up tiles
+  pub columns : small.windows.across ≡ whole.windows.across
+  pub rows : small.windows.up ≡ spans_alone whole.windows.up windows
+  pub left : small.windows.clip.left ≡ whole.windows.clip.left
+  pub right : small.windows.clip.right ≡ whole.windows.clip.right
+  pub begins : (b : ℕ) → b < small.windows.up.count → part_begin (parts_up small.windows) b ≡ part_begin (parts_up whole.windows) (windows.from + b)
+  pub ends : (b : ℕ) → b < small.windows.up.count → part_end (parts_up small.windows) b ≡ part_end (parts_up whole.windows) (windows.from + b)
+  pub spacing : small.spacing ≡ whole.spacing
+  pub least : small.least ≡ whole.least
+
+-- the tile is of those rows, and so are the windows level with it
+pub record IsHeldBy (plan : Plan) (tiles windows : Rows) (tile : ℕ) : Type 0 where
+  pub from : tiles.from ≤ row_of plan.raster tile
+  pub to : row_of plan.raster tile < tiles.to
+  pub level : (b : ℕ) → b < plan.windows.up.count → is_level plan tile b ≡ true → (windows.from ≤ b) × (b < windows.to)
