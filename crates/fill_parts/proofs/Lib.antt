@@ -20,3 +20,4 @@ pub mod RowsAlone
 pub mod RulesAlone
 pub mod WindowsAlone
 pub mod SmallCases
+pub mod PartRows

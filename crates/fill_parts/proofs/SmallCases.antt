@@ -1,6 +1,6 @@
 -- The definitions of some rows alone, computed: ten places of six squares at steps of ten from 2 on in a frame from 0 to 100, three to
 -- a band, and twelve windows of twenty squares at steps of ten from -10 on.
-use Rattle.std.proofs.Common.{◌≡◌, refl, ℕ, ℤ, pos, negsuc}
+use Rattle.std.proofs.Common.{◌≡◌, refl, ℕ, pos, negsuc}
 use Rattle.fill_area.specs.declared.axis.Axis as spans
 use Rattle.fill_raster.specs.Axes.{bands, first, past}
 use Rattle.fill_raster.specs.declared.axis.Axis.{Axis}

@@ -25,7 +25,8 @@ use Rattle.fill_report.specs.Report.{measures_of}
 use Rattle.fill_report.specs.RulesReport.{metal_report}
 use Rattle.fill_report.specs.declared.line.Measures.{Measures}
 use Rattle.fill_parts.specs.Cuts.{Part, IsPart, cut, has_row}
-use Rattle.fill_parts.specs.Needs.{IsEnough, HoldsItsWindows, AgreeInside, LayersAgree, in_coordinates, is_inside, layers_met, met_with, needed_sides, window_sides, needs_tile, needs_windows, has_tile, is_level}
+use Rattle.fill_parts.specs.Needs.{IsEnough, HoldsItsWindows, AgreeInside, LayersAgree, in_coordinates, is_inside, layers_met, met_with, needed_sides, window_sides, needs_tile, needs_windows, has_tile, has_windows, is_level}
+use Rattle.fill_parts.specs.PartChip.{IsChipOf, looks_at}
 use Rattle.fill_parts.specs.Smaller.{Rows, AreSome, IsHeldBy, IsSmaller}
 use Rattle.fill_parts.specs.SmallerRules.{Cover, rules_alone}
 use Rattle.fill_parts.specs.PartReport.{rows_lines, part_check, part_report}
@@ -214,3 +215,15 @@ abbrev pub SmallerChipMeasuresTheSame : Type 0
 SmallerChipMeasuresTheSame = (whole small : Plan) (rows windows : Rows) (layers : Layers) → IsPlan whole → AreSome rows (bands whole.raster.up) → windows.to ≤ whole.windows.up.count → IsSmaller whole small rows windows
     → (a b : ℕ) → b < small.windows.up.count → ((tile : ℕ) → tile < tiles whole.raster → is_level whole tile (windows.from + b) ≡ true → IsHeldBy whole rows windows tile)
     → measures_of layers.metal (boxes_of small (low_fill small layers)) small.windows a b ≡ measures_of layers.metal (boxes_of whole (low_fill whole layers)) whole.windows a (windows.from + b)
+
+-- The rows of a part that looks at any window are such rows.
+abbrev pub PartIsASmallerChip : Type 0
+PartIsASmallerChip = (values : Values) (k : Part) → let plan = plan_of values in IsPlan plan → 0 < bands plan.raster.up → some_below (looks_at plan k) plan.windows.up.count ≡ true → IsChipOf values k
+
+-- A part that looks at none has no fill, and no line.
+pub record HasNothing (values : Values) (k : Part) : Type 0 where
+  pub fill : (layers : Layers) (i j : ℤ) → part_fill (plan_of values) layers k i j ≡ false
+  pub windows : (b : ℕ) → b < (plan_of values).windows.up.count → has_windows (plan_of values) k b ≡ false
+
+abbrev pub PartOfNoWindowHasNothing : Type 0
+PartOfNoWindowHasNothing = (values : Values) (k : Part) → let plan = plan_of values in IsPlan plan → some_below (looks_at plan k) plan.windows.up.count ≡ false → HasNothing values k

@@ -4,5 +4,6 @@ pub mod PartReport
 pub mod PartFill
 pub mod Smaller
 pub mod SmallerRules
+pub mod PartChip
 pub mod Laws
 pub mod steps

@@ -1,5 +1,5 @@
 //! What holds of every cut into parts, whatever the code does. Each function's contract is the law.
-ghost use Rattle.fill_parts.specs.Laws.{AreasAgree, CheckLinesAgree, ClippedAgrees, EachRowIsInOnePart, EditsAgree, EditsAreChanges, EditsInsideSuffice, EditsOpenAnew, EditsOutsideDoNothing, FillOfNeededTiles, PartsMakeTheCheck, PartsTellTheReport, WindowSidesAreEnough, FillAfterEdits, FillsAgree, LinesAgree, LowWindowsAgree, NeededSidesAreEnough, PartFillIsWanted, PartRunIsThePart, PartsAreApart, PartsFollow, PartsMakeTheFill, PartsMakeTheReport, RowsFollow, RulesAloneMakeASmallerChip, SmallerChipMeasuresTheSame, SmallerChipWantsTheSame, WantedAgree};
+ghost use Rattle.fill_parts.specs.Laws.{AreasAgree, CheckLinesAgree, ClippedAgrees, EachRowIsInOnePart, EditsAgree, EditsAreChanges, EditsInsideSuffice, EditsOpenAnew, EditsOutsideDoNothing, FillOfNeededTiles, PartsMakeTheCheck, PartsTellTheReport, WindowSidesAreEnough, FillAfterEdits, FillsAgree, LinesAgree, LowWindowsAgree, NeededSidesAreEnough, PartFillIsWanted, PartIsASmallerChip, PartOfNoWindowHasNothing, PartRunIsThePart, PartsAreApart, PartsFollow, PartsMakeTheFill, PartsMakeTheReport, RowsFollow, RulesAloneMakeASmallerChip, SmallerChipMeasuresTheSame, SmallerChipWantsTheSame, WantedAgree};
 
 /// Each row is in exactly one part.
 pub fn each_row_is_in_one_part()
@@ -144,4 +144,14 @@ pub fn rules_alone_make_a_smaller_chip()
 /// And windows measure the same in it.
 pub fn smaller_chip_measures_the_same()
     ensures { SmallerChipMeasuresTheSame }
+{}
+
+/// A part that looks at a window is such a chip, of its own rows.
+pub fn part_is_a_smaller_chip()
+    ensures { PartIsASmallerChip }
+{}
+
+/// A part that looks at no window has no fill and no line.
+pub fn part_of_no_window_has_nothing()
+    ensures { PartOfNoWindowHasNothing }
 {}

@@ -1,0 +1,5 @@
+use Rattle.fill_parts.proofs.PartRows.{nothing}
+use Rattle.fill_parts.proofs.laws.part_of_no_window_has_nothing.Goals as goal
+
+pub returns : goal.returns
+returns c = nothing
