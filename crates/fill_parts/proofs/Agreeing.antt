@@ -14,7 +14,7 @@ use Rattle.fill_base.proofs.Counting.{count_between_same, sum_between_same}
 use Rattle.std.specs.Int.{int_max, int_min}
 use Rattle.fill_area.specs.Parts.{part_begin, part_end}
 use Rattle.fill_area.specs.Density.{window_area}
-use Rattle.fill_area.specs.Grid.{Grid, IsGrid, parts_across, parts_up, window_left, window_right, window_bottom, window_top}
+use Rattle.fill_area.specs.Grid.{Grid, parts_across, parts_up, window_left, window_right, window_bottom, window_top}
 use Rattle.fill_raster.specs.Axes.{box_begin, box_end}
 use Rattle.fill_raster.specs.Lattice.{in_raster, in_tile, tile_of, tiles, tile_left, tile_right, tile_bottom, tile_top}
 use Rattle.fill_raster.proofs.RasterLaws.{place_has_a_tile}
@@ -44,11 +44,11 @@ area_same p q left bottom right top wide tall each =
     (λ y low high. count_between_same (λ x. p x y) (λ x. q x y) left right wide (λ x from to. each x y from to low high))
 
 -- sets that agree in a window have the same area in it
-pub window_same : (p q : PointSet) (g : Grid) (a b : ℕ) → IsGrid g
+pub window_same : (p q : PointSet) (g : Grid) (a b : ℕ) → IsLength g.across.length → IsLength g.up.length
     → ((x y : ℤ) → window_left g a ≤ℤ x → x <ℤ window_right g a → window_bottom g b ≤ℤ y → y <ℤ window_top g b → p x y ≡ q x y) → window_area p g a b ≡ window_area q g a b
-window_same p q g a b is each =
+window_same p q g a b wide tall each =
     area_same p q (part_begin (parts_across g) a) (part_begin (parts_up g) b) (part_end (parts_across g) a) (part_end (parts_up g) b)
-    (ordered (window_left g a) g.across.length g.clip.left g.clip.right is.across.length_is) (ordered (window_bottom g b) g.up.length g.clip.bottom g.clip.top is.up.length_is)
+    (ordered (window_left g a) g.across.length g.clip.left g.clip.right wide) (ordered (window_bottom g b) g.up.length g.clip.bottom g.clip.top tall)
     (λ x y from to low high.
     let u = counted g.clip.left g.clip.right (window_left g a) (window_right g a) x from to in
     let v = counted g.clip.bottom g.clip.top (window_bottom g b) (window_top g b) y low high in
@@ -62,7 +62,7 @@ window_same p q g a b is each =
 
 pub areas_agree : AreasAgree
 areas_agree plan k s p q is enough agree a b column row needed =
-    window_same p q plan.windows a b is.windows (agree_at s p q _ _ _ _ agree (enough.windows a b column row needed))
+    window_same p q plan.windows a b is.windows.across.length_is is.windows.up.length_is (agree_at s p q _ _ _ _ agree (enough.windows a b column row needed))
 
 pub lt_is : (a b : ℕ) → nat_lt a b ≡ true → a < b
 lt_is a b h = grind (arith, nat_tests)

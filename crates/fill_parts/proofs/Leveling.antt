@@ -1,5 +1,5 @@
 -- The row of a place's tile, and the windows level with it.
-use Rattle.std.proofs.Common.{◌≡◌, sym, subst, ◌∙◌, ℕ, suc, ◌+◌, ◌*◌, ◌/◌, ◌≤◌, ◌<◌, ℤ, pos, ◌+ℤ◌, ◌-ℤ◌, ◌*ℤ◌, ◌≤ℤ◌, ◌<ℤ◌, arith, Bool, true, ◌&&◌}
+use Rattle.std.proofs.Common.{◌≡◌, ℕ, suc, ◌+◌, ◌*◌, ◌/◌, ◌≤◌, ◌<◌, ℤ, pos, ◌+ℤ◌, ◌-ℤ◌, ◌≤ℤ◌, ◌<ℤ◌, arith, true}
 use Rattle.std.specs.Prelude.{int_le, int_lt}
 use Rattle.std.proofs.Math.Nat.{mul-le-mul}
 use Rattle.std.proofs.lemmas.Bool.{and_from, and_parts}
@@ -7,14 +7,17 @@ use Rattle.std.proofs.lemmas.Int.{ints, clamps}
 use Rattle.fill_base.proofs.Between.{is_between_bounds}
 use Rattle.fill_area.specs.Grid.{window_bottom, window_top}
 use Rattle.fill_raster.specs.Axes.{IsAxis, band_begin, band_end, band_first, band_of, band_past, bands, box_begin, box_end, is_on}
-use Rattle.fill_raster.specs.Lattice.{Lattice, box_squares, in_raster, tile_bottom, tile_of, tile_top, tiles}
+use Rattle.fill_raster.specs.Lattice.{Lattice, box_squares, in_raster, tile_of, tiles}
 use Rattle.fill_raster.specs.declared.axis.Axis.{Axis}
 use Rattle.fill_raster.proofs.Bands.{band_below, band_is, of_band}
 use Rattle.fill_raster.proofs.Floors.{product_le}
 use Rattle.fill_raster.proofs.Ranges.{on_in, on_within}
-use Rattle.fill_job.specs.Plans.{Plan, holds_box}
+use Rattle.fill_job.specs.Plans.{IsPlan, Plan, holds_box}
 use Rattle.fill_parts.specs.Needs.{is_level, row_of}
 use Rattle.fill_parts.specs.Smaller.{AreAxes}
+
+pub axes_of : (plan : Plan) → IsPlan plan → AreAxes plan
+axes_of plan is = record { places_across = is.raster.across; places_up = is.raster.up; windows_across = is.windows.across; windows_up = is.windows.up }
 
 -- ---- the tile of a place
 

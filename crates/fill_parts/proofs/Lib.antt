@@ -15,9 +15,11 @@ pub mod Clamping
 pub mod TileRows
 pub mod Framed
 pub mod Nothing
+pub mod Leveling
 pub mod BandsAlone
 pub mod RowsAlone
 pub mod RulesAlone
 pub mod WindowsAlone
 pub mod SmallCases
 pub mod PartRows
+pub mod PartOfChip

@@ -1,20 +1,17 @@
 -- The lines of a part are the same for metals that agree there.
 use Rattle.std.proofs.Common.{◌≡◌, refl, ap, ◌∙◌, ℕ, zero, suc, ◌+◌, ◌*◌, ◌-◌, ◌/◌, ◌%◌, ◌<◌, ◌≤◌, arith, ℤ, pos, ◌≤ℤ◌, ◌<ℤ◌, Bool, true, false, ◌&&◌, ◌||◌, List, ◌++◌}
-use Rattle.std.specs.Prelude.{int_lt}
 use Rattle.std.specs.List.{flat_map, range_with_len}
-use Rattle.std.proofs.lemmas.Bool.{and_from, and_parts}
-use Rattle.std.proofs.lemmas.Int.{ints}
+use Rattle.std.proofs.lemmas.Bool.{and_from}
 use Rattle.std.proofs.lemmas.Nat.{le-div, div_below, mod_below}
 use Rattle.fill_base.specs.Sides.{Sides}
-use Rattle.fill_base.proofs.Between.{is_between_true, is_between_bounds}
+use Rattle.fill_base.proofs.Between.{is_between_true}
 use Rattle.fill_area.specs.Grid.{window_bottom, window_top}
-use Rattle.fill_raster.specs.Axes.{box_begin, box_end, first, past}
-use Rattle.fill_raster.specs.Lattice.{in_raster, box_squares, tile_of, tile_bottom, tile_top}
+use Rattle.fill_raster.specs.Axes.{first, past}
+use Rattle.fill_raster.specs.Lattice.{in_raster, box_squares, tile_of}
 use Rattle.fill_raster.proofs.RasterLaws.{places_range}
 use Rattle.fill_raster.proofs.Ranges.{first_past}
 use Rattle.fill_text.specs.Rules.{Values, limits_of, windows_of}
 use Rattle.fill_job.specs.Plans.{Plan, IsPlan, Layers, plan_of}
-use Rattle.fill_job.proofs.ReadSets.{bounded}
 use Rattle.fill_job.proofs.Searching.{some_below_has, some_within_same}
 use Rattle.fill_core.specs.Boxes.{low_fill}
 use Rattle.fill_report.specs.BookReport.{boxes_of}
@@ -25,7 +22,8 @@ use Rattle.fill_parts.specs.Needs.{IsEnough, LayersAgree, has_tile, has_windows,
 use Rattle.fill_parts.specs.PartFill.{near_fill}
 use Rattle.fill_parts.specs.PartReport.{part_lines}
 use Rattle.fill_parts.specs.Laws.{CheckLinesAgree, LinesAgree}
-use Rattle.fill_parts.proofs.Agreeing.{agree_at, areas_agree, held_same, near_same, nat_same, window_same}
+use Rattle.fill_parts.proofs.Agreeing.{agree_at, areas_agree, held_same, near_same, window_same}
+use Rattle.fill_parts.proofs.Leveling.{axes_of, level_meeting}
 use Rattle.fill_parts.proofs.Cutting.{cut_le, cut_ends, is_row_of}
 
 -- ---- lines one after another
@@ -38,18 +36,6 @@ flat_range f g a (suc n) each =
 
 -- ---- a box that shares a square with a window of the part is of a tile that it needs
 
-lt_is : (a b : ℤ) → a <ℤ b → int_lt a b ≡ true
-lt_is a b h = grind (arith, ints)
-
-meets : (l h y b e : ℤ) → l ≤ℤ y → y <ℤ h → b ≤ℤ y → y <ℤ e → (l <ℤ e) × (b <ℤ h)
-meets l h y b e a c d f = (omega (arith, ints), omega (arith, ints))
-
-wider : (l e t : ℤ) → l <ℤ e → e ≤ℤ t → l <ℤ t
-wider l e t h k = omega (arith, ints)
-
-lower : (t b h : ℤ) → t ≤ℤ b → b <ℤ h → t <ℤ h
-lower t b h k l = omega (arith, ints)
-
 or_second : (a b : Bool) → b ≡ true → a || b ≡ true
 or_second true b h = refl
 or_second false b h = h
@@ -58,21 +44,11 @@ and_true : (a b : Bool) → b ≡ true → a && b ≡ a
 and_true true b h = h
 and_true false b h = refl
 
--- a tile whose box shares a square with a window is level with it
-pub level_with : (plan : Plan) (b : ℕ) (i j x y : ℤ) → IsPlan plan → in_raster plan.raster i j ≡ true → window_bottom plan.windows b ≤ℤ y → y <ℤ window_top plan.windows b → box_squares plan.raster i j x y ≡ true
-    → is_level plan (tile_of plan.raster i j) b ≡ true
-level_with plan b i j x y is on low high holds =
-    let r = plan.raster in let w = plan.windows in let t = tile_of r i j in
-    let edges = bounded plan t i j is (and_from _ _ on (nat_same t)) in
-    let inside = is_between_bounds (box_begin r.up j) (box_end r.up j) y (and_parts _ _ holds).1 in
-    let m = meets (window_bottom w b) (window_top w b) y (box_begin r.up j) (box_end r.up j) low high inside.0 inside.1 in
-    and_from _ _ (lt_is _ _ (wider (window_bottom w b) (box_end r.up j) (tile_top r t) m.0 edges.top)) (lt_is _ _ (lower (tile_bottom r t) (box_begin r.up j) (window_top w b) edges.bottom m.1))
-
 level_needed : (plan : Plan) (k : Part) (b : ℕ) (i j x y : ℤ) → IsPlan plan → b < plan.windows.up.count → has_windows plan k b ≡ true → in_raster plan.raster i j ≡ true
     → window_bottom plan.windows b ≤ℤ y → y <ℤ window_top plan.windows b → box_squares plan.raster i j x y ≡ true → needs_tile plan k (tile_of plan.raster i j) ≡ true
 level_needed plan k b i j x y is row own on low high holds =
     let t = tile_of plan.raster i j in
-    or_second (has_tile plan k t) _ (some_below_has (λ c. has_windows plan k c && is_level plan t c) plan.windows.up.count b row (and_from _ _ own (level_with plan b i j x y is on low high holds)))
+    or_second (has_tile plan k t) _ (some_below_has (λ c. has_windows plan k c && is_level plan t c) plan.windows.up.count b row (and_from _ _ own (level_meeting plan b i j x y (axes_of plan is) on low high holds)))
 
 boxes_same : (plan : Plan) (k : Part) (s : Sides) (p q : Layers) → IsPlan plan → IsEnough plan k s → LayersAgree s p q → (b : ℕ) (x y : ℤ) → b < plan.windows.up.count → has_windows plan k b ≡ true
     → window_bottom plan.windows b ≤ℤ y → y <ℤ window_top plan.windows b → boxes_of plan (near_fill plan p k) x y ≡ boxes_of plan (low_fill plan q) x y
@@ -102,8 +78,8 @@ measures_same plan k s p q is enough agree a b column row own =
     let boxes = λ (x y : ℤ) (low : window_bottom w b ≤ℤ y) (high : y <ℤ window_top w b). boxes_same plan k s p q is enough agree b x y row own low high in
     same_measures _ _
     (ap pos (areas_agree plan k s p.metal q.metal is enough agree.metal a b column row needed))
-    (ap pos (window_same u v w a b is.windows (λ x y left right low high. boxes x y low high)))
-    (ap pos (window_same (λ x y. p.metal x y || u x y) (λ x y. q.metal x y || v x y) w a b is.windows
+    (ap pos (window_same u v w a b is.windows.across.length_is is.windows.up.length_is (λ x y left right low high. boxes x y low high)))
+    (ap pos (window_same (λ x y. p.metal x y || u x y) (λ x y. q.metal x y || v x y) w a b is.windows.across.length_is is.windows.up.length_is
     (λ x y left right low high. rw (metal x y left right low high, boxes x y low high) refl)))
 
 -- ---- the line at a place of the report
@@ -121,16 +97,16 @@ row_bounds n c low high some from to le = (le-div low n c some from, div_below n
     below n a b c lt e = omega (arith, lt, e)
 
 -- lines of a part whose measures are the same in its windows
-lines_by : (values : Values) (k : Part) (m n : ℕ → ℕ → Measures) → IsPlan (plan_of values) → IsPart k
+pub lines_by : (values : Values) (k : Part) (m n : ℕ → ℕ → Measures) → 1 ≤ (plan_of values).windows.across.count → IsPart k
     → ((a b : ℕ) → a < (plan_of values).windows.across.count → b < (plan_of values).windows.up.count → has_windows (plan_of values) k b ≡ true → m a b ≡ n a b)
     → part_lines (windows_of values) (limits_of values) m k ≡ part_lines (windows_of values) (limits_of values) n k
-lines_by values k m n is part each =
+lines_by values k m n some_columns part each =
     let g = (plan_of values).windows in
     let low = first_row k g.up.count in let high = past_row k g.up.count in
     let some = count_some k.number k.count part.below in
     let rise = cut_le g.up.count k.count k.number (k.number + 1) some (more k.number) in
     let most : high ≤ g.up.count = rw (cut_ends g.up.count k.count some) at (cut_le g.up.count k.count (k.number + 1) k.count some (up k.number k.count part.below)) in
-    let columns : 0 < g.across.count = one_some g.across.count is.windows.across.count_is.least in
+    let columns : 0 < g.across.count = one_some g.across.count some_columns in
     flat_range (line_at g (limits_of values) m) (line_at g (limits_of values) n) (low * g.across.count) ((high - low) * g.across.count)
     (λ l from to.
     let row = row_bounds l g.across.count low high columns from to rise in
@@ -156,16 +132,16 @@ lines_by values k m n is part each =
 pub lines_agree : LinesAgree
 lines_agree values k s p q is part enough agree =
     let plan = plan_of values in
-    lines_by values k (measures_of p.metal (boxes_of plan (near_fill plan p k)) plan.windows) (measures_of q.metal (boxes_of plan (low_fill plan q)) plan.windows) is part
+    lines_by values k (measures_of p.metal (boxes_of plan (near_fill plan p k)) plan.windows) (measures_of q.metal (boxes_of plan (low_fill plan q)) plan.windows) is.windows.across.count_is.least part
     (λ a b column row own. measures_same plan k s p q is enough agree a b column row own)
 
 pub check_agrees : CheckLinesAgree
 check_agrees values k s p q is part enough agree =
     let plan = plan_of values in let w = plan.windows in
-    lines_by values k (measures_of p nothing w) (measures_of q nothing w) is part
+    lines_by values k (measures_of p nothing w) (measures_of q nothing w) is.windows.across.count_is.least part
     (λ a b column row own.
     let metal = agree_at s p q _ _ _ _ agree (enough.windows a b column row own) in
     same_measures _ _
-    (ap pos (window_same p q w a b is.windows metal)) refl
-    (ap pos (window_same (λ x y. p x y || nothing x y) (λ x y. q x y || nothing x y) w a b is.windows
+    (ap pos (window_same p q w a b is.windows.across.length_is is.windows.up.length_is metal)) refl
+    (ap pos (window_same (λ x y. p x y || nothing x y) (λ x y. q x y || nothing x y) w a b is.windows.across.length_is is.windows.up.length_is
     (λ x y left right low high. ap (λ c. c || false) (metal x y left right low high)))))

@@ -10,11 +10,9 @@ use Rattle.fill_raster.specs.Axes.{bands, band_begin, band_end}
 use Rattle.fill_raster.specs.Lattice.{in_raster, tile_of, tiles}
 use Rattle.fill_raster.specs.declared.axis.Axis.{Axis}
 use Rattle.fill_raster.proofs.Blocks.{tile_parts}
-use Rattle.fill_raster.proofs.RasterLaws.{place_has_a_tile}
 use Rattle.fill_text.specs.Rules.{whole_windows, windows_with}
 use Rattle.fill_job.specs.Plans.{Plan, WindowSet, holds_box, in_window_of, low_windows, plan_of}
 use Rattle.fill_job.specs.Searches.{some_below, some_pair}
-use Rattle.fill_job.proofs.ReadSets.{holding_touches}
 use Rattle.fill_job.proofs.Searching.{some_below_finds, some_below_has}
 use Rattle.fill_core.specs.Boxes.{low_fill}
 use Rattle.fill_parts.specs.Cuts.{Part}
@@ -23,16 +21,15 @@ use Rattle.fill_parts.specs.Needs.{has_tile, has_windows, needs_tile, row_of}
 use Rattle.fill_parts.specs.PartChip.{down_to, first_of, first_tiles, is_row_level, looks_at, needs_row, part_tiles, part_windows, past_of, up_to}
 use Rattle.fill_parts.specs.PartFill.{part_fill}
 use Rattle.fill_parts.specs.Smaller.{IsHeldBy, bands_alone}
-use Rattle.fill_parts.proofs.Agreeing.{nat_same}
-use Rattle.fill_parts.proofs.RowsAlone.{is_level_of}
+use Rattle.fill_parts.proofs.Leveling.{level_holding, place_tile}
 
 -- ---- the least and the greatest number that passes
 
-true_or : (a b : Bool) → a ≡ true → a || b ≡ true
+pub true_or : (a b : Bool) → a ≡ true → a || b ≡ true
 true_or true b h = refl
 true_or false b h = absurd (let e : false ≡ true = h in cc)
 
-or_second : (a b : Bool) → b ≡ true → a || b ≡ true
+pub or_second : (a b : Bool) → b ≡ true → a || b ≡ true
 or_second true b h = refl
 or_second false b h = h
 
@@ -158,7 +155,7 @@ window_found plan low i j is =
     let row = some_below_finds (λ b. low column.0 b && holds_box plan column.0 b i j) plan.windows.up.count column.2 in
     record { column = column.0; row = row.0; left = column.1; below = row.1; holds = (and_parts (low column.0 row.0) _ row.2).1 }
 
-chip_windows : (plan : Plan) (k : Part) (b : ℕ) → b < plan.windows.up.count → looks_at plan k b ≡ true → ((part_windows plan k).from ≤ b) × (b < (part_windows plan k).to)
+pub chip_windows : (plan : Plan) (k : Part) (b : ℕ) → b < plan.windows.up.count → looks_at plan k b ≡ true → ((part_windows plan k).from ≤ b) × (b < (part_windows plan k).to)
 chip_windows plan k b lt looks = (first_before (looks_at plan k) plan.windows.up.count b lt looks, past_behind (looks_at plan k) plan.windows.up.count b lt looks)
 
 chip_tiles : (plan : Plan) (k : Part) (t : ℕ) → t < bands plan.raster.up → needs_row plan k t ≡ true → ((part_tiles plan k).from ≤ t) × (t < (part_tiles plan k).to)
@@ -183,7 +180,7 @@ chip_tiles plan k t lt needs =
 row_below : (plan : Plan) (tile : ℕ) → tile < tiles plan.raster → row_of plan.raster tile < bands plan.raster.up
 row_below plan tile lt = (tile_parts plan.raster tile lt).row_below
 
-held_by : (plan : Plan) (k : Part) (tile : ℕ) → tile < tiles plan.raster → needs_tile plan k tile ≡ true → IsHeldBy plan (part_tiles plan k) (part_windows plan k) tile
+pub held_by : (plan : Plan) (k : Part) (tile : ℕ) → tile < tiles plan.raster → needs_tile plan k tile ≡ true → IsHeldBy plan (part_tiles plan k) (part_windows plan k) tile
 held_by plan k tile lt needs =
     let row = row_below plan tile lt in
     let rows = chip_tiles plan k (row_of plan.raster tile) row needs in
@@ -266,8 +263,8 @@ nothing values k is none = record {
       let on = (and_parts (in_raster plan.raster i j) _ allowed_low.0).0 in
       let window = window_found plan (low_windows plan layers.metal) i j allowed_low.1 in
       let tile = tile_of plan.raster i j in
-      let lt = place_has_a_tile plan.raster is.raster i j on in
-      let level = is_level_of plan tile window.column window.row (holding_touches plan tile i j window.column window.row is (and_from _ _ on (nat_same tile)) window.left window.below window.holds) in
+      let lt = place_tile plan.raster i j is.places_across is.places_up on in
+      let level = level_holding plan window.column window.row i j is on window.holds in
       looked window.row window.below (or_second (has_windows plan k window.row) _ (some_below_has (λ t. needs_row plan k t && is_row_level plan t window.row) (bands plan.raster.up) (row_of plan.raster tile) (row_below plan tile lt)
       (and_from _ _ (true_or (has_tile plan k tile) _ parts.1) level))));
   windows = λ b lt. false_from_ne_true (has_windows plan k b) (λ has. looked b lt (true_or (has_windows plan k b) _ has));

@@ -1,5 +1,5 @@
 -- The places of some rows of tiles, and what is asked of them, in a chip of these rows alone.
-use Rattle.std.proofs.Common.{◌≡◌, refl, sym, ap, subst, ◌∙◌, ℕ, zero, suc, ◌+◌, ◌-◌, ◌*◌, ◌≤◌, ◌<◌, ℤ, pos, ◌+ℤ◌, ◌*ℤ◌, ◌≤ℤ◌, arith, Bool, true, false, ◌&&◌, inl, inr}
+use Rattle.std.proofs.Common.{◌≡◌, ◌==◌, refl, sym, ap, subst, ◌∙◌, ℕ, zero, suc, ◌+◌, ◌-◌, ◌*◌, ◌≤◌, ◌<◌, ℤ, pos, ◌+ℤ◌, ◌*ℤ◌, ◌≤ℤ◌, arith, Bool, true, false, ◌&&◌, inl, inr}
 use Rattle.std.specs.Prelude.{not, nat_lt}
 use Rattle.std.proofs.Math.Nat.{add-mul, mul-le-mul}
 use Rattle.std.proofs.Math.IntN.{zero-*ℤ}
@@ -18,12 +18,11 @@ use Rattle.fill_raster.proofs.Floors.{one_more}
 use Rattle.fill_raster.proofs.Ranges.{both, in_on, on_in, on_within, within_on}
 use Rattle.fill_job.specs.Plans.{Plan, Layers, PointSet, holds_box, in_window_of, is_taken, low_windows, meets_box}
 use Rattle.fill_job.specs.Searches.{some_below, some_pair}
-use Rattle.fill_job.specs.ReadSets.{touches}
-use Rattle.fill_job.proofs.ReadSets.{holding_touches}
 use Rattle.fill_job.proofs.Searching.{some_below_finds, some_below_has, some_below_same}
 use Rattle.fill_parts.specs.Laws.{SmallerChipWantsTheSame}
 use Rattle.fill_parts.specs.Needs.{is_level}
 use Rattle.fill_parts.specs.Smaller.{Rows, AreSome, IsSmaller, bands_alone}
+use Rattle.fill_parts.proofs.Leveling.{level_holding}
 use Rattle.fill_parts.proofs.BandsAlone.{in_alone, back_alone}
 
 -- ---- places by rows of tiles
@@ -229,16 +228,13 @@ both_same t false a b c d is x y = rw is refl
 pub banded : (a : Axis) → IsAxis a → IsBanded a
 banded a is = record { step = is.step_is.least; band = is.band_is.least }
 
--- a window that touches a tile is level with it
-pub is_level_of : (plan : Plan) (tile a b : ℕ) → touches plan tile a b ≡ true → is_level plan tile b ≡ true
-is_level_of plan tile a b touched = (and_parts (nat_lt b plan.windows.up.count) (is_level plan tile b) (and_parts _ _ touched).1).1
-
 pub wants_same : SmallerChipWantsTheSame
-wants_same whole small rows windows layers plan are within is tile lt level = fun_ext (λ i. fun_ext (λ j.
+wants_same whole small rows windows layers axes are within is tile lt level = fun_ext (λ i. fun_ext (λ j.
     let there = rows.from * bands whole.raster.across + tile in
     both_same (in_tile small.raster tile i j) (in_tile whole.raster there i j) (is_taken small layers i j) (in_window_of small (low_windows small layers.metal) i j)
     (is_taken whole layers i j) (in_window_of whole (low_windows whole layers.metal) i j)
-    (rw (is.across, is.up) (tile_alone whole.raster rows tile (banded whole.raster.across plan.raster.across) (banded whole.raster.up plan.raster.up) are lt i j))
+    (rw (is.across, is.up) (tile_alone whole.raster rows tile (banded whole.raster.across axes.places_across) (banded whole.raster.up axes.places_up) are lt i j))
     (λ here. taken_alone whole small rows windows layers is i j)
     (λ here. in_low_alone whole small rows windows layers.metal is within i j (λ a b column row holds.
-    level b row (is_level_of whole there a b (holding_touches whole there i j a b plan here column row holds))))))
+    let parts = and_parts (in_raster whole.raster i j) (tile_of whole.raster i j == there) here in
+    level b row (subst (λ (t : ℕ). is_level whole t b ≡ true) (eqb-true _ _ parts.1) (level_holding whole a b i j axes parts.0 holds))))))

@@ -72,13 +72,13 @@ smaller_chip values rows windows is tiles grid cover = record {
     axis = (whole_windows values.numbers).up
 
     wide : pos 1 ≤ℤ axis.length
-    wide = subst (λ (s : spans.Axis). pos 1 ≤ℤ s.length) (upwards values.ignores) is.windows.up.length_is.least
+    wide = subst (λ (s : spans.Axis). pos 1 ≤ℤ s.length) (upwards values.ignores) is.windows_up.length_is.least
 
     step : pos 1 ≤ℤ axis.step
-    step = subst (λ (s : spans.Axis). pos 1 ≤ℤ s.step) (upwards values.ignores) is.windows.up.step_is.least
+    step = subst (λ (s : spans.Axis). pos 1 ≤ℤ s.step) (upwards values.ignores) is.windows_up.step_is.least
 
     frame : IsFramed (raster_of values.numbers).up rows
-    frame = framed_alone (raster_of values.numbers).up rows is.raster.up tiles
+    frame = framed_alone (raster_of values.numbers).up rows is.places_up tiles
 
     inside : (b : ℕ) → b < (windows_of (rules_alone values rows windows)).up.count → windows.from + b ≤ windows.to - 1
     inside b lt = within (subst (λ n. b < n) (ap (λ (s : spans.Axis). s.count) (up values.ignores)) lt)

@@ -6,9 +6,9 @@ use Rattle.fill_base.specs.Coordinates.{IsInRange}
 use Rattle.fill_base.specs.Sides.{Sides}
 use Rattle.fill_area.specs.Density.{window_area}
 use Rattle.fill_area.specs.Grid.{Grid}
-use Rattle.fill_raster.specs.Axes.{bands}
+use Rattle.fill_raster.specs.Axes.{band_of, bands}
 use Rattle.fill_raster.specs.Lattice.{tile_of, tiles}
-use Rattle.fill_text.specs.Rules.{Values}
+use Rattle.fill_text.specs.Rules.{Values, limits_of, windows_of}
 use Rattle.fill_text.specs.Script.{change_of}
 use Rattle.fill_text.specs.declared.limits.Limits.{Limits}
 use Rattle.fill_text.specs.declared.script.Edit.{Edit}
@@ -26,10 +26,10 @@ use Rattle.fill_report.specs.RulesReport.{metal_report}
 use Rattle.fill_report.specs.declared.line.Measures.{Measures}
 use Rattle.fill_parts.specs.Cuts.{Part, IsPart, cut, has_row}
 use Rattle.fill_parts.specs.Needs.{IsEnough, HoldsItsWindows, AgreeInside, LayersAgree, in_coordinates, is_inside, layers_met, met_with, needed_sides, window_sides, needs_tile, needs_windows, has_tile, has_windows, is_level}
-use Rattle.fill_parts.specs.PartChip.{IsChipOf, looks_at}
-use Rattle.fill_parts.specs.Smaller.{Rows, AreSome, IsHeldBy, IsSmaller}
+use Rattle.fill_parts.specs.PartChip.{IsChipOf, chip_plan, looks_at, part_windows}
+use Rattle.fill_parts.specs.Smaller.{AreAxes, Rows, AreSome, IsHeldBy, IsSmaller}
 use Rattle.fill_parts.specs.SmallerRules.{Cover, rules_alone}
-use Rattle.fill_parts.specs.PartReport.{rows_lines, part_check, part_report}
+use Rattle.fill_parts.specs.PartReport.{part_lines, rows_lines, part_check, part_report}
 use Rattle.fill_parts.specs.PartFill.{part_fill, near_fill, layers_by, layers_with, rect_of}
 
 abbrev pub part : ℕ → ℕ → Part
@@ -199,26 +199,26 @@ PartRunIsThePart = (values : Values) (k : Part) (s : Sides) (layers : Layers) (t
 -- A plan of some rows of tiles and of windows of a chip alone wants in each of its tiles the places that the chip's plan wants there, if
 -- all windows level with the tile are among these rows. Its tiles are numbered without those below.
 abbrev pub SmallerChipWantsTheSame : Type 0
-SmallerChipWantsTheSame = (whole small : Plan) (rows windows : Rows) (layers : Layers) → IsPlan whole → AreSome rows (bands whole.raster.up) → windows.to ≤ whole.windows.up.count → IsSmaller whole small rows windows
+SmallerChipWantsTheSame = (whole small : Plan) (rows windows : Rows) (layers : Layers) → AreAxes whole → AreSome rows (bands whole.raster.up) → windows.to ≤ whole.windows.up.count → IsSmaller whole small rows windows
     → (tile : ℕ) → tile < (rows.to - rows.from) * bands whole.raster.across → let there = rows.from * bands whole.raster.across + tile in
     ((b : ℕ) → b < whole.windows.up.count → is_level whole there b ≡ true → (windows.from ≤ b) × (b < windows.to))
     → wanted small layers (low_windows small layers.metal) tile ≡ wanted whole layers (low_windows whole layers.metal) there
 
 -- The rules of some rows of tiles and of windows alone make such a plan, if the tiles cover what counts of the windows.
 abbrev pub RulesAloneMakeASmallerChip : Type 0
-RulesAloneMakeASmallerChip = (values : Values) (rows windows : Rows) → let plan = plan_of values in IsPlan plan → AreSome rows (bands plan.raster.up) → AreSome windows plan.windows.up.count → Cover values rows windows
+RulesAloneMakeASmallerChip = (values : Values) (rows windows : Rows) → let plan = plan_of values in AreAxes plan → AreSome rows (bands plan.raster.up) → AreSome windows plan.windows.up.count → Cover values rows windows
     → IsSmaller plan (plan_of (rules_alone values rows windows)) rows windows
 
 -- And a window measures in it what it measures in the chip: its metal, and the boxes of a complete fill, if all tiles level with the
 -- window are among the rows, and all windows level with these tiles.
 abbrev pub SmallerChipMeasuresTheSame : Type 0
-SmallerChipMeasuresTheSame = (whole small : Plan) (rows windows : Rows) (layers : Layers) → IsPlan whole → AreSome rows (bands whole.raster.up) → windows.to ≤ whole.windows.up.count → IsSmaller whole small rows windows
+SmallerChipMeasuresTheSame = (whole small : Plan) (rows windows : Rows) (layers : Layers) → AreAxes whole → AreSome rows (bands whole.raster.up) → windows.to ≤ whole.windows.up.count → IsSmaller whole small rows windows
     → (a b : ℕ) → b < small.windows.up.count → ((tile : ℕ) → tile < tiles whole.raster → is_level whole tile (windows.from + b) ≡ true → IsHeldBy whole rows windows tile)
     → measures_of layers.metal (boxes_of small (low_fill small layers)) small.windows a b ≡ measures_of layers.metal (boxes_of whole (low_fill whole layers)) whole.windows a (windows.from + b)
 
 -- The rows of a part that looks at any window are such rows.
 abbrev pub PartIsASmallerChip : Type 0
-PartIsASmallerChip = (values : Values) (k : Part) → let plan = plan_of values in IsPlan plan → 0 < bands plan.raster.up → some_below (looks_at plan k) plan.windows.up.count ≡ true → IsChipOf values k
+PartIsASmallerChip = (values : Values) (k : Part) → let plan = plan_of values in AreAxes plan → 0 < bands plan.raster.up → some_below (looks_at plan k) plan.windows.up.count ≡ true → IsChipOf values k
 
 -- A part that looks at none has no fill, and no line.
 pub record HasNothing (values : Values) (k : Part) : Type 0 where
@@ -226,4 +226,15 @@ pub record HasNothing (values : Values) (k : Part) : Type 0 where
   pub windows : (b : ℕ) → b < (plan_of values).windows.up.count → has_windows (plan_of values) k b ≡ false
 
 abbrev pub PartOfNoWindowHasNothing : Type 0
-PartOfNoWindowHasNothing = (values : Values) (k : Part) → let plan = plan_of values in IsPlan plan → some_below (looks_at plan k) plan.windows.up.count ≡ false → HasNothing values k
+PartOfNoWindowHasNothing = (values : Values) (k : Part) → let plan = plan_of values in AreAxes plan → some_below (looks_at plan k) plan.windows.up.count ≡ false → HasNothing values k
+
+-- A part's fill is that of its chip, of the part's own rows of tiles.
+abbrev pub PartFillIsOfItsChip : Type 0
+PartFillIsOfItsChip = (values : Values) (k : Part) (layers : Layers) → let plan = plan_of values in AreAxes plan → 0 < bands plan.raster.up → some_below (looks_at plan k) plan.windows.up.count ≡ true
+    → (i j : ℤ) → part_fill plan layers k i j ≡ low_fill (chip_plan values k) layers i j && has_row k (bands plan.raster.up) (band_of plan.raster.up j)
+
+-- And its lines are those of what its windows measure there, told with their rows in the whole chip.
+abbrev pub PartLinesAreOfItsChip : Type 0
+PartLinesAreOfItsChip = (values : Values) (k : Part) (layers : Layers) → let plan = plan_of values in let chip = chip_plan values k in AreAxes plan → IsPart k → 0 < bands plan.raster.up → some_below (looks_at plan k) plan.windows.up.count ≡ true
+    → part_report values layers.metal (low_fill plan layers) k
+    ≡ part_lines (windows_of values) (limits_of values) (λ a b. measures_of layers.metal (boxes_of chip (low_fill chip layers)) chip.windows a (b - (part_windows plan k).from)) k

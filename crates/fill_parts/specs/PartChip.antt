@@ -11,7 +11,7 @@ use Rattle.fill_job.specs.Searches.{some_below}
 use Rattle.fill_parts.specs.Cuts.{Part, has_row}
 use Rattle.fill_parts.specs.Needs.{has_windows, needs_tile}
 use Rattle.fill_parts.specs.Smaller.{Rows, AreSome, IsHeldBy}
-use Rattle.fill_parts.specs.SmallerRules.{Cover}
+use Rattle.fill_parts.specs.SmallerRules.{Cover, rules_alone}
 
 -- the least of the numbers below `n` that pass a test, and the one past the greatest
 unfoldable pub first_of : (ℕ → Bool) → ℕ → ℕ
@@ -54,6 +54,10 @@ part_tiles plan part = record {
   from = first_tiles plan part;
   to = up_to plan.raster.up (int_min plan.raster.up.high (window_top plan.windows ((part_windows plan part).to - 1))) (max (past_of (needs_row plan part) (bands plan.raster.up)) (first_tiles plan part + 1)) (bands plan.raster.up);
 }
+
+-- the plan of the part's rules
+abbrev pub chip_plan : Values → Part → Plan
+chip_plan values part = plan_of (rules_alone values (part_tiles (plan_of values) part) (part_windows (plan_of values) part))
 
 -- these rows are some, the tiles cover what counts of the windows, and each tile that the part needs is of them
 pub record IsChipOf (values : Values) (part : Part) : Type 0 where

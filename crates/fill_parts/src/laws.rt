@@ -1,5 +1,5 @@
 //! What holds of every cut into parts, whatever the code does. Each function's contract is the law.
-ghost use Rattle.fill_parts.specs.Laws.{AreasAgree, CheckLinesAgree, ClippedAgrees, EachRowIsInOnePart, EditsAgree, EditsAreChanges, EditsInsideSuffice, EditsOpenAnew, EditsOutsideDoNothing, FillOfNeededTiles, PartsMakeTheCheck, PartsTellTheReport, WindowSidesAreEnough, FillAfterEdits, FillsAgree, LinesAgree, LowWindowsAgree, NeededSidesAreEnough, PartFillIsWanted, PartIsASmallerChip, PartOfNoWindowHasNothing, PartRunIsThePart, PartsAreApart, PartsFollow, PartsMakeTheFill, PartsMakeTheReport, RowsFollow, RulesAloneMakeASmallerChip, SmallerChipMeasuresTheSame, SmallerChipWantsTheSame, WantedAgree};
+ghost use Rattle.fill_parts.specs.Laws.{AreasAgree, CheckLinesAgree, ClippedAgrees, EachRowIsInOnePart, EditsAgree, EditsAreChanges, EditsInsideSuffice, EditsOpenAnew, EditsOutsideDoNothing, FillOfNeededTiles, PartsMakeTheCheck, PartsTellTheReport, WindowSidesAreEnough, FillAfterEdits, FillsAgree, LinesAgree, LowWindowsAgree, NeededSidesAreEnough, PartFillIsOfItsChip, PartFillIsWanted, PartLinesAreOfItsChip, PartIsASmallerChip, PartOfNoWindowHasNothing, PartRunIsThePart, PartsAreApart, PartsFollow, PartsMakeTheFill, PartsMakeTheReport, RowsFollow, RulesAloneMakeASmallerChip, SmallerChipMeasuresTheSame, SmallerChipWantsTheSame, WantedAgree};
 
 /// Each row is in exactly one part.
 pub fn each_row_is_in_one_part()
@@ -154,4 +154,14 @@ pub fn part_is_a_smaller_chip()
 /// A part that looks at no window has no fill and no line.
 pub fn part_of_no_window_has_nothing()
     ensures { PartOfNoWindowHasNothing }
+{}
+
+/// A part's fill is that of its chip, of the part's own tiles.
+pub fn part_fill_is_of_its_chip()
+    ensures { PartFillIsOfItsChip }
+{}
+
+/// And its lines are those of its chip's windows.
+pub fn part_lines_are_of_its_chip()
+    ensures { PartLinesAreOfItsChip }
 {}
