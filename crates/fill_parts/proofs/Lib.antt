@@ -23,3 +23,4 @@ pub mod WindowsAlone
 pub mod SmallCases
 pub mod PartRows
 pub mod PartOfChip
+pub mod ChipPlan

@@ -22,7 +22,7 @@ kept_alike : (l h m n b t z : ℤ) → l ≤ℤ m → m <ℤ n → n ≤ℤ h �
 kept_alike l h m n b t z low some high below above from to = omega (arith, ints, clamps)
 
 -- the spans from one on, and that none of them passes the edges of them all
-rises : (s : spans.Axis) (m n : ℕ) → pos 1 ≤ℤ s.step → m ≤ n → axis_begin s m ≤ℤ axis_begin s n
+pub rises : (s : spans.Axis) (m n : ℕ) → pos 1 ≤ℤ s.step → m ≤ n → axis_begin s m ≤ℤ axis_begin s n
 rises s m n step le = more s.first (pos m *ℤ s.step) (pos n *ℤ s.step) (product_le (pos m) (pos n) s.step step (as_int m n le))
   where
     as_int : (m n : ℕ) → m ≤ n → pos m ≤ℤ pos n

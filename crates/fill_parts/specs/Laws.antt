@@ -7,7 +7,7 @@ use Rattle.fill_base.specs.Sides.{Sides}
 use Rattle.fill_area.specs.Density.{window_area}
 use Rattle.fill_area.specs.Grid.{Grid}
 use Rattle.fill_raster.specs.Axes.{band_of, bands}
-use Rattle.fill_raster.specs.Lattice.{tile_of, tiles}
+use Rattle.fill_raster.specs.Lattice.{HasFewPlaces, tile_of, tiles}
 use Rattle.fill_text.specs.Rules.{Values, limits_of, windows_of}
 use Rattle.fill_text.specs.Script.{change_of}
 use Rattle.fill_text.specs.declared.limits.Limits.{Limits}
@@ -27,7 +27,7 @@ use Rattle.fill_report.specs.declared.line.Measures.{Measures}
 use Rattle.fill_parts.specs.Cuts.{Part, IsPart, cut, has_row}
 use Rattle.fill_parts.specs.Needs.{IsEnough, HoldsItsWindows, AgreeInside, LayersAgree, in_coordinates, is_inside, layers_met, met_with, needed_sides, window_sides, needs_tile, needs_windows, has_tile, has_windows, is_level}
 use Rattle.fill_parts.specs.PartChip.{IsChipOf, chip_plan, looks_at, part_windows}
-use Rattle.fill_parts.specs.Smaller.{AreAxes, Rows, AreSome, IsHeldBy, IsSmaller}
+use Rattle.fill_parts.specs.Smaller.{AreAxes, IsPlanOfAnySize, Rows, AreSome, IsHeldBy, IsSmaller}
 use Rattle.fill_parts.specs.SmallerRules.{Cover, rules_alone}
 use Rattle.fill_parts.specs.PartReport.{part_lines, rows_lines, part_check, part_report}
 use Rattle.fill_parts.specs.PartFill.{part_fill, near_fill, layers_by, layers_with, rect_of}
@@ -238,3 +238,8 @@ abbrev pub PartLinesAreOfItsChip : Type 0
 PartLinesAreOfItsChip = (values : Values) (k : Part) (layers : Layers) → let plan = plan_of values in let chip = chip_plan values k in AreAxes plan → IsPart k → 0 < bands plan.raster.up → some_below (looks_at plan k) plan.windows.up.count ≡ true
     → part_report values layers.metal (low_fill plan layers) k
     ≡ part_lines (windows_of values) (limits_of values) (λ a b. measures_of layers.metal (boxes_of chip (low_fill chip layers)) chip.windows a (b - (part_windows plan k).from)) k
+
+-- The plan of a part's chip is one that can be run, if its own places and windows are few enough, whatever the whole chip has.
+abbrev pub ChipHasAPlan : Type 0
+ChipHasAPlan = (values : Values) (k : Part) → let plan = plan_of values in let chip = chip_plan values k in IsPlanOfAnySize plan → 0 < bands plan.raster.up → some_below (looks_at plan k) plan.windows.up.count ≡ true
+    → HasFewPlaces chip.raster → chip.windows.across.count * chip.windows.up.count ≤ 1048576 → IsPlan chip

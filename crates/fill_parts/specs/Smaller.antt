@@ -1,11 +1,14 @@
 -- Some rows of a chip as a chip of their own: the same rules, but with a frame and with windows that reach no further.
 use Rattle.std.specs.Prelude.{true, ◌≡◌, ℕ, ◌+◌, ◌-◌, ◌<◌, ◌≤◌, ◌==◌, if◌then◌else◌}
+use Rattle.fill_base.specs.Limits.{IsSpacing}
 use Rattle.fill_area.specs.Axes as areas
 use Rattle.fill_area.specs.Axes.{axis_begin}
-use Rattle.fill_area.specs.Grid.{parts_up}
+use Rattle.fill_area.specs.Density.{IsShare}
+use Rattle.fill_area.specs.Grid.{IsClip, parts_up}
 use Rattle.fill_area.specs.Parts.{part_begin, part_end}
 use Rattle.fill_area.specs.declared.axis.Axis as spans
 use Rattle.fill_raster.specs.Axes.{IsAxis, bands, band_begin, band_end}
+use Rattle.fill_raster.specs.Lattice.{KeepsPitch}
 use Rattle.fill_raster.specs.declared.axis.Axis.{Axis}
 use Rattle.fill_job.specs.Plans.{Plan}
 use Rattle.fill_parts.specs.Needs.{is_level, row_of}
@@ -16,6 +19,15 @@ pub record AreAxes (plan : Plan) : Type 0 where
   pub places_up : IsAxis plan.raster.up
   pub windows_across : areas.IsAxis plan.windows.across
   pub windows_up : areas.IsAxis plan.windows.up
+
+-- a plan, however many places and windows it has
+pub record IsPlanOfAnySize (plan : Plan) : Type 0 where
+  pub axes : AreAxes plan
+  pub clip : IsClip plan.windows.clip
+  pub spacing : IsSpacing plan.spacing
+  pub fill_spacing : IsSpacing plan.fill_spacing
+  pub pitch : KeepsPitch plan.raster plan.fill_spacing
+  pub least : IsShare plan.least
 
 -- rows from one on and below another
 pub record Rows : Type 0 where
