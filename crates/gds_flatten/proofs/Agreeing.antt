@@ -19,9 +19,7 @@ use Rattle.gds_cells.specs.steps.Searches.{State}
 use Rattle.gds_cells.specs.steps.Surveys.{IsSurveyed}
 use Rattle.gds_cells.specs.steps.Walks.{own_in, singles_in, hierarchy}
 use Rattle.gds_cells.specs.steps.Built.{IsCellAt, AreBuilt}
-use Rattle.gds_cells.specs.steps.Counting.{IsCapped, links_in, IsTied, IsCount, AreCounted}
-use Rattle.gds_shape.specs.declared.bounds.Bounds.{Bounds}
-use Rattle.gds_flatten.specs.steps.Framing.{IsRight, AreHeld, IsTight, IsExtentOf, extent_at}
+use Rattle.gds_cells.specs.steps.Counting.{links_in, IsTied}
 use Rattle.gds_cells.proofs.Chains.{chain_joins, reached_next}
 use Rattle.gds_cells.proofs.Naming.{no_more}
 
@@ -83,17 +81,6 @@ unfolding Each
 same_flat P f g same [] each = refl
 same_flat P f g same (s ∷ ss) (p, each) = rw (same s.0 p, same_flat P f g same ss each) refl
 
-in_row : (links : List Link) (row : List ℕ) → map (λ l. l.cell) links ≡ row → (k : ℕ) (d : Link) → k < length links
-    → (k < length row) × (item row k ≡ (get_or links k d).cell)
-in_row links row is k d small = (
-  let len : length row ≡ length links = sym (ap length is) ∙ length-map links (λ l. l.cell) in omega (arith, len, small),
-  sym (ap (λ xs. item xs k) is) ∙ at_index links k d small,
-) where
-  at_index : (xs : List Link) (k : ℕ) (e : Link) → k < length xs → item (map (λ l. l.cell) xs) k ≡ (get_or xs k e).cell
-  at_index [] k e inside = absurd (grind (arith, common_steps, inside))
-  at_index (x ∷ xs) zero e inside = refl
-  at_index (x ∷ xs) (suc k) e inside = at_index xs k e (grind (arith, common_steps, inside))
-
 -- ---- copies
 
 module _ (entries : List Entry) (layer : Layer) (t : ℕ) (s : State) (surveyed : IsSurveyed (graph_of entries) t s) (cells : List Cell)
@@ -140,62 +127,3 @@ module _ (entries : List Entry) (layer : Layer) (t : ℕ) (s : State) (surveyed 
     chain = (d, chain_joins (graph_of entries) m 256 t c d way chain);
     many = omega arith;
   })
-
-  no_step : (c : ℕ) → item s.steps c ≡ 0 → (n : ℕ) → copies (hierarchy cells) n c ≡ []
-  unfolding copies
-  no_step c fresh zero = refl
-  no_step c fresh (suc n) = rw (built.nothing_own c fresh, built.nothing_below c fresh) refl
-
-  module _ (counts : List ℕ) (right : (q : ℕ) → q < length s.order → IsCount (graph_of entries) cells (item s.order q) (item counts (item s.order q))) where
-    pub count_is : (c : ℕ) → IsReached (graph_of entries) t c → IsCapped (length (copies (hierarchy cells) 256 c)) (item counts c)
-    count_is c reached =
-        let (q, within, is) = surveyed.all c reached in
-        subst (λ x. IsCapped (length (copies (hierarchy cells) 256 x)) (item counts x)) is
-        (right q within 256 (shallow (item s.order q) (surveyed.order q within)))
-
-    -- where no chain of n references begins at a cell, its count and those of all below it are right
-    pub counted : (n c : ℕ) → IsReached (graph_of entries) t c → (IsDeep (graph_of entries) n c → ⊥) → AreCounted cells counts n c
-    unfolding AreCounted
-    counted zero c reached shallow_here = absurd (shallow_here (c, refl))
-    counted (suc n) c reached shallow_here =
-        let (q, within, is) = surveyed.all c reached in
-        let links : map (λ l. l.cell) (links_in (slice_get cells c)) ≡ next (graph_of entries) c =
-        subst (λ x. map (λ l. l.cell) (links_in (slice_get cells x)) ≡ next (graph_of entries) x) is (tied q within).1 in (
-          subst (λ x. IsCapped (length (copies (hierarchy cells) (suc n) x)) (item counts x)) is
-              (right q within (suc n) (subst (λ x. IsDeep (graph_of entries) (suc n) x → ⊥) (sym is) shallow_here)),
-          λ k d small.
-              let row = in_row (links_in (slice_get cells c)) (next (graph_of entries) c) links k d small in
-              subst (λ x. AreCounted cells counts n x) row.1
-              (counted n (item (next (graph_of entries) c) k) (reached_next (graph_of entries) t c k reached row.0)
-              (λ deep. shallow_here (deep.0, (k, row.0, deep.1)))),
-        )
-
-    pub top_counted : (c : ℕ) → IsReached (graph_of entries) t c → AreCounted cells counts 256 c
-    top_counted c reached = counted 256 c reached (shallow c reached)
-
-  module _ (extents : List (Option Bounds)) (right : (q : ℕ) → q < length s.order → IsExtentOf (graph_of entries) cells (item s.order q) (extent_at extents (item s.order q))) where
-    -- where no chain of n references begins at a cell, its extent and those of all below it are right
-    pub held : (n c : ℕ) → IsReached (graph_of entries) t c → (IsDeep (graph_of entries) n c → ⊥) → AreHeld cells extents n c
-    unfolding AreHeld
-    held zero c reached shallow_here = absurd (shallow_here (c, refl))
-    held (suc n) c reached shallow_here =
-        let (q, within, is) = surveyed.all c reached in
-        let links : map (λ l. l.cell) (links_in (slice_get cells c)) ≡ next (graph_of entries) c =
-        subst (λ x. map (λ l. l.cell) (links_in (slice_get cells x)) ≡ next (graph_of entries) x) is (tied q within).1 in (
-          subst (λ x. IsRight (copies (hierarchy cells) (suc n) x) (extent_at extents x)) is
-              (right q within (suc n) (subst (λ x. IsDeep (graph_of entries) (suc n) x → ⊥) (sym is) shallow_here)),
-          λ k d small.
-              let row = in_row (links_in (slice_get cells c)) (next (graph_of entries) c) links k d small in
-              subst (λ x. AreHeld cells extents n x) row.1
-              (held n (item (next (graph_of entries) c) k) (reached_next (graph_of entries) t c k reached row.0)
-              (λ deep. shallow_here (deep.0, (k, row.0, deep.1)))),
-        )
-
-    pub top_held : (c : ℕ) → IsReached (graph_of entries) t c → AreHeld cells extents 256 c
-    top_held c reached = held 256 c reached (shallow c reached)
-
-    pub top_tight : (c : ℕ) → IsReached (graph_of entries) t c → IsTight (copies (hierarchy cells) 256 c) (extent_at extents c)
-    top_tight c reached =
-        let (q, within, is) = surveyed.all c reached in
-        subst (λ x. IsTight (copies (hierarchy cells) 256 x) (extent_at extents x)) is
-        (right q within 256 (shallow (item s.order q) (surveyed.order q within))).tight

@@ -1,11 +1,10 @@
 -- Cells without the links that draw nothing draw the same.
 use Rattle.std.proofs.Common.{◌≡◌, ℕ, zero, suc, ◌+◌, ◌<◌, ◌≤◌, ◌⊎◌, inl, inr, Bool, true, false, List, [], ◌∷◌, ◌++◌, length, map, take, drop, get_or, set, ◌≢◌, refl, sym, ap, subst, arith, ◌∙◌}
 use Rattle.std.specs.Prelude.{filter, slice_get, nat_lt, Option, Some, None, All}
-use Rattle.std.specs.List.{flat_map}
+use Rattle.std.specs.List.{AllZip, flat_map}
 use Rattle.std.proofs.lemmas.Grind.{common_steps, flat_map-append}
 use Rattle.std.proofs.lemmas.List.Elements.{All-filter}
 use Rattle.std.proofs.lemmas.List.{get_or_default, get_or-set_same, get_or-set_other, length-set}
-use Rattle.std.proofs.lemmas.Option.{slice_get_cases, slice_get-get_or}
 use Rattle.std.proofs.lemmas.Bool.{cases_eq}
 use Rattle.std.specs.Vec.{vec_items}
 use Rattle.gds_grammar.specs.Values.{shape_of}
@@ -18,7 +17,9 @@ use Rattle.gds_cells.specs.Copies.{Copy, own_copy, carry_copy, copies}
 use Rattle.gds_cells.specs.Graphs.{item}
 use Rattle.gds_cells.specs.Links.{singles}
 use Rattle.gds_cells.specs.steps.Counting.{links_in, IsCapped, AreCounted}
-use Rattle.gds_flatten.specs.steps.Idle.{is_busy, IsBusy, AreBusy}
+use Rattle.gds_shape.specs.declared.bounds.Bounds.{Bounds}
+use Rattle.gds_flatten.specs.steps.Framing.{IsRight, AreHeld, extent_at}
+use Rattle.gds_flatten.specs.steps.Idle.{is_busy, IsBusy}
 use Rattle.gds_cells.specs.steps.Walks.{singles_of, singles_in, own_in, hierarchy}
 use Rattle.gds_flatten.proofs.Tight.{all_first, all_rest}
 
@@ -47,7 +48,25 @@ pub single_links : (o : Option Cell) → singles_in o ≡ flat_map singles_of (l
 single_links None = refl
 single_links (Some c) = refl
 
-module _ (counts : List ℕ) (old new : List Cell) (busy : AreBusy (is_busy counts) old new) where
+module _ (counts : List ℕ) (old new : List Cell) (busy : AllZip (IsBusy counts) old new) where
+  pub busy_own : (c : ℕ) → own_in (slice_get new c) ≡ own_in (slice_get old c)
+  busy_own c = at old new busy c where
+    at : (xs ys : List Cell) → AllZip (IsBusy counts) xs ys → (k : ℕ) → own_in (slice_get ys k) ≡ own_in (slice_get xs k)
+    at [] [] all k = refl
+    at (x ∷ xs) (y ∷ ys) all zero = ap (λ ss. map (λ (s : Shape). shape_of s.element.now) (flat_map vec_items ss.items)) all.0.shapes
+    at (x ∷ xs) (y ∷ ys) all (suc k) = at xs ys all.1 k
+    at [] (y ∷ ys) all k = absurd all
+    at (x ∷ xs) [] all k = absurd all
+
+  busy_links : (c : ℕ) → links_in (slice_get new c) ≡ filter (is_busy counts) (links_in (slice_get old c))
+  busy_links c = at old new busy c where
+    at : (xs ys : List Cell) → AllZip (IsBusy counts) xs ys → (k : ℕ) → links_in (slice_get ys k) ≡ filter (is_busy counts) (links_in (slice_get xs k))
+    at [] [] all k = refl
+    at (x ∷ xs) (y ∷ ys) all zero = all.0.links
+    at (x ∷ xs) (y ∷ ys) all (suc k) = at xs ys all.1 k
+    at [] (y ∷ ys) all k = absurd all
+    at (x ∷ xs) [] all k = absurd all
+
   link_step : (f g : ℕ → List Copy) (l : Link) (links : List Link) (b : Bool) → is_busy counts l ≡ b → f l.cell ≡ g l.cell → (is_busy counts l ≡ false → g l.cell ≡ [])
       → flat_map (through f) (flat_map singles_of (filter (is_busy counts) links)) ≡ flat_map (through g) (flat_map singles_of links)
       → flat_map (through f) (flat_map singles_of (filter (is_busy counts) (l ∷ links))) ≡ flat_map (through g) (flat_map singles_of (l ∷ links))
@@ -80,7 +99,7 @@ module _ (counts : List ℕ) (old new : List Cell) (busy : AreBusy (is_busy coun
   unfolding AreCounted copies
   busy_same zero c h = refl
   busy_same (suc n) c h =
-      rw (busy.own c, single_links (slice_get new c), single_links (slice_get old c), busy.links c)
+      rw (busy_own c, single_links (slice_get new c), single_links (slice_get old c), busy_links c)
       (ap (λ cs. map own_copy (own_in (slice_get old c)) ++ cs) (links_same n (links_in (slice_get old c)) h.1 (busy_same n) (idle_here n)))
 
   pub busy_counted : (n c : ℕ) → AreCounted old counts n c → AreCounted new counts n c
@@ -88,75 +107,54 @@ module _ (counts : List ℕ) (old new : List Cell) (busy : AreBusy (is_busy coun
   busy_counted zero c h = h
   busy_counted (suc n) c h = (
     subst (λ cs. IsCapped (length cs) (item counts c)) (sym (busy_same (suc n) c h)) h.0,
-    subst (All (λ l. AreCounted new counts n l.cell)) (sym (busy.links c))
+    subst (All (λ l. AreCounted new counts n l.cell)) (sym (busy_links c))
         (All-filter (is_busy counts) (λ l. AreCounted new counts n l.cell) (links_in (slice_get old c)) (λ k d lt. busy_counted n _ (h.1 k d lt))),
   )
 
--- ---- cell by cell
+  -- the copies are the same, and so are their extents
+  pub busy_held : (extents : List (Option Bounds)) (n c : ℕ) → AreCounted old counts n c → AreHeld old extents n c → AreHeld new extents n c
+  unfolding AreCounted AreHeld
+  busy_held extents zero c counted held = held
+  busy_held extents (suc n) c counted held = (
+    subst (λ cs. IsRight cs (extent_at extents c)) (sym (busy_same (suc n) c counted)) held.0,
+    subst (All (λ l. AreHeld new extents n l.cell)) (sym (busy_links c)) (All-filter (is_busy counts) (λ l. AreHeld new extents n l.cell) (links_in (slice_get old c))
+        (λ k d lt. busy_held extents n _ (counted.1 k d lt) (held.1 k d lt))),
+  )
 
-pub record AreDropped (test : Link → Bool) (old new : List Cell) (i : ℕ) : Type 0 where
+-- ---- one after another
+
+pub record AreChanged {X : Type 0} (R : X → X → Type 0) (old new : List X) (i : ℕ) : Type 0 where
   pub long : length new ≡ length old
-  pub done : (k : ℕ) (d : Cell) → k < i → k < length old → IsBusy test (get_or old k d) (get_or new k d)
-  pub rest : (k : ℕ) (d : Cell) → i ≤ k → get_or new k d ≡ get_or old k d
+  pub done : (k : ℕ) (d : X) → k < i → k < length old → R (get_or old k d) (get_or new k d)
+  pub rest : (k : ℕ) (d : X) → i ≤ k → get_or new k d ≡ get_or old k d
 
-pub dropped_none : (test : Link → Bool) (cells : List Cell) → AreDropped test cells cells 0
-dropped_none test cells = record { long = refl; done = λ k d lt within. absurd (omega (arith, lt)); rest = λ k d le. refl }
+pub changed_none : {X : Type 0} (R : X → X → Type 0) (xs : List X) → AreChanged R xs xs 0
+changed_none R xs = record { long = refl; done = λ k d lt within. absurd (omega (arith, lt)); rest = λ k d le. refl }
 
-pub dropped_next : (test : Link → Bool) (old new : List Cell) (i : ℕ) (c : Cell) (at : Cell) → i < length new → AreDropped test old new i → at ≡ get_or new i at → IsBusy test at c
-    → AreDropped test old (set new i c) (i + 1)
-dropped_next test old new i c at within h at_is busy = record {
+pub changed_next : {X : Type 0} (R : X → X → Type 0) (old new : List X) (i : ℕ) (c at : X) → i < length new → AreChanged R old new i → at ≡ get_or new i at → R at c
+    → AreChanged R old (set new i c) (i + 1)
+changed_next {X = X} R old new i c at within h at_is changed = record {
   long = length-set new i c ∙ h.long;
   done = λ k d lt in_old. cases k d in_old (cases_eq k i) (λ apart. h.done k d (omega (arith, lt, apart)) in_old);
   rest = λ k d le.
       let apart : k ≢ i = omega (arith, le) in
       get_or-set_other new i k c d apart ∙ h.rest k d (omega (arith, le));
 } where
-  cases : (k : ℕ) (d : Cell) → k < length old → ((k ≡ i) ⊎ (k ≡ i → ⊥)) → ((k ≡ i → ⊥) → IsBusy test (get_or old k d) (get_or new k d)) → IsBusy test (get_or old k d) (get_or (set new i c) k d)
+  cases : (k : ℕ) (d : X) → k < length old → ((k ≡ i) ⊎ (k ≡ i → ⊥)) → ((k ≡ i → ⊥) → R (get_or old k d) (get_or new k d)) → R (get_or old k d) (get_or (set new i c) k d)
   cases k d in_old (inl e) before =
       let now : get_or (set new i c) k d ≡ c = ap (λ j. get_or (set new i c) j d) e ∙ get_or-set_same new i c d within in
       let was : get_or old k d ≡ at = sym (h.rest k d (omega (arith, e))) ∙ ap (λ j. get_or new j d) e ∙ get_or_default new i d at within ∙ sym at_is in
-      subst (λ x. IsBusy test x (get_or (set new i c) k d)) (sym was) (subst (IsBusy test at) (sym now) busy)
+      subst (λ x. R x (get_or (set new i c) k d)) (sym was) (subst (R at) (sym now) changed)
   cases k d in_old (inr apart) before =
-      subst (IsBusy test (get_or old k d)) (sym (get_or-set_other new i k c d apart)) (before apart)
+      subst (R (get_or old k d)) (sym (get_or-set_other new i k c d apart)) (before apart)
 
-record TwoCells (test : Link → Bool) (old new : List Cell) (c : ℕ) : Type 0 where
-  before : Cell
-  after : Cell
-  was : slice_get old c ≡ Some before
-  is : slice_get new c ≡ Some after
-  busy : IsBusy test before after
-
-pub dropped_all : (test : Link → Bool) (old new : List Cell) (i : ℕ) → (i < length new → ⊥) → AreDropped test old new i → AreBusy test old new
-dropped_all test old new i ended h = record { own = λ c. own_at c (cells_at c); links = λ c. links_at c (cells_at c) } where
-  none_at : (c : ℕ) → length old ≤ c → slice_get new c ≡ None
-  none_at c le = beyond (slice_get_cases new c).1 where
-    beyond : ((x : Cell) × (c < length new) × (slice_get new c ≡ Some x) × (get_or new c x ≡ x)) ⊎ ((length new ≤ c) × (slice_get new c ≡ None)) → slice_get new c ≡ None
-    beyond (inl (x, lt, is, same)) = let long = h.long in absurd (omega (arith, lt, le, long))
-    beyond (inr (past, none)) = none
-
-  cells_at : (c : ℕ) → TwoCells test old new c ⊎ ((slice_get old c ≡ None) × (slice_get new c ≡ None))
-  cells_at c = by (slice_get_cases old c).1 where
-    by : ((x : Cell) × (c < length old) × (slice_get old c ≡ Some x) × (get_or old c x ≡ x)) ⊎ ((length old ≤ c) × (slice_get old c ≡ None))
-        → TwoCells test old new c ⊎ ((slice_get old c ≡ None) × (slice_get new c ≡ None))
-    by (inl (x, lt, is, same)) =
-        let long = h.long in
-        let inside : c < length new = omega (arith, lt, long) in
-        inl (record {
-          before = x;
-          after = get_or new c x;
-          was = is;
-          is = slice_get-get_or new c x inside;
-          busy = subst (λ y. IsBusy test y (get_or new c x)) same (h.done c x (omega (arith, inside, ended)) lt);
-        })
-    by (inr (past, none)) = inr (none, none_at c past)
-
-  own_at : (c : ℕ) → TwoCells test old new c ⊎ ((slice_get old c ≡ None) × (slice_get new c ≡ None)) → own_in (slice_get new c) ≡ own_in (slice_get old c)
-  own_at c (inl t) = rw (t.was, t.is) (ap (λ ss. map (λ (s : Shape). shape_of s.element.now) (flat_map vec_items ss.items)) t.busy.shapes)
-  own_at c (inr (old_none, new_none)) = rw (old_none, new_none) refl
-
-  links_at : (c : ℕ) → TwoCells test old new c ⊎ ((slice_get old c ≡ None) × (slice_get new c ≡ None)) → links_in (slice_get new c) ≡ filter test (links_in (slice_get old c))
-  links_at c (inl t) = rw (t.was, t.is) t.busy.links
-  links_at c (inr (old_none, new_none)) = rw (old_none, new_none) refl
+pub changed_all : {X : Type 0} (R : X → X → Type 0) (old new : List X) (i : ℕ) → (i < length new → ⊥) → AreChanged R old new i → AllZip R old new
+changed_all {X = X} R old new i ended h = zipped old new h.long (λ k d lt. h.done k d (let long = h.long in omega (arith, lt, ended, long)) lt) where
+  zipped : (xs ys : List X) → length ys ≡ length xs → ((k : ℕ) (d : X) → k < length xs → R (get_or xs k d) (get_or ys k d)) → AllZip R xs ys
+  zipped [] [] long each = tt
+  zipped (x ∷ xs) (y ∷ ys) long each = (each 0 x (omega arith), zipped xs ys (omega (arith, long)) (λ k d lt. each (suc k) d (omega (arith, lt))))
+  zipped [] (y ∷ ys) long each = absurd (omega (arith, long))
+  zipped (x ∷ xs) [] long each = absurd (omega (arith, long))
 
 -- a list that was written through a slice of all of it
 pub written_back : {X : Type 0} (n : ℕ) (new old : List X) → length new ≡ n → length old ≡ n → take n (new ++ drop (length new) old) ≡ new

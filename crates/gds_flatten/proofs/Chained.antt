@@ -46,7 +46,7 @@ pub still_carried : (cs : List Copy) → map (carry_copy still) cs ≡ cs
 still_carried [] = refl
 still_carried (c ∷ cs) = λ k. record { placement = still_composed c.placement k; element = c.element } ∷ still_carried cs k
 
-nothing_more : (cs : List Copy) → cs ++ [] ≡ cs
+pub nothing_more : (cs : List Copy) → cs ++ [] ≡ cs
 nothing_more [] = refl
 nothing_more (c ∷ cs) = ap (λ ds. c ∷ ds) (nothing_more cs)
 
@@ -117,10 +117,10 @@ module _ (cells : List Cell) (counts : List ℕ) (depth index below cell : ℕ) 
       ap (λ t. map (carry_copy t) (copies (hierarchy cells) below cell)) is
       ∙ sym (carried_twice s p (copies (hierarchy cells) below cell)) ∙ ap (map (carry_copy s)) (sym leads.same)
 
-  pub chain_near : depth ≤ 255 → IsWithin 257 p
+  pub chain_near : depth ≤ 256 → IsWithin 257 p
   chain_near few = let shorter = leads.shorter in within_more (depth - below) 257 p (omega (arith, few)) leads.near
 
-  pub chain_within : (s r : Placement) → depth ≤ 255 → IsWithin (257 - depth) s → r ≡ composed s p → IsWithin (257 - below) r
+  pub chain_within : (s r : Placement) → depth ≤ 256 → IsWithin (257 - depth) s → r ≡ composed s p → IsWithin (257 - below) r
   chain_within s r few near is =
       let shorter = leads.shorter in
       let sum : (257 - depth) + (depth - below) ≡ 257 - below = omega (arith, few, shorter) in

@@ -214,7 +214,7 @@ refused_more e leaves (inr (o, not_p)) = inr (o, leaves not_p)
 
 -- ---- as the code has it
 
-pub deeper : (n : ℕ) (p q r : Placement) → n ≤ 255 → IsWithin (256 - n) p → IsWithin 1 q → r ≡ composed p q → IsWithin (257 - n) r
+pub deeper : (n : ℕ) (p q r : Placement) → n ≤ 256 → IsWithin (256 - n) p → IsWithin 1 q → r ≡ composed p q → IsWithin (257 - n) r
 deeper n p q r few h k is =
     let more : (256 - n) + 1 ≡ 257 - n = omega (arith, few) in
     rw is (subst (λ m. IsWithin m (composed p q)) more (within_next (256 - n) p q h k))

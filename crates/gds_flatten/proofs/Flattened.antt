@@ -20,16 +20,15 @@ use Rattle.gds_cells.specs.Graphs.{Graph, item, IsReached}
 use Rattle.gds_cells.specs.References.{reference_fault, is_bad_transform, is_bad_array}
 use Rattle.gds_cells.specs.Shapes.{is_shape, shape_fault, refusal_if}
 use Rattle.gds_cells.specs.Copies.{Copy, carry_copy, copies, drawn, AllStayInRange}
-use Rattle.gds_cells.specs.Placements.{still}
 use Rattle.gds_cells.specs.Designs.{index_of, graph_of, element_fault, IsFirstFault, AllFine}
 use Rattle.gds_flatten.specs.Flattening.{HasTop, LacksCell, IsSound, IsCountable, IsRefused}
-use Rattle.gds_cells.specs.steps.Searches.{State, IsOrdered}
+use Rattle.gds_flatten.specs.steps.Reached.{IsArranged, AreReached}
+use Rattle.gds_cells.specs.steps.Searches.{State, IsIn}
 use Rattle.gds_cells.specs.steps.Surveys.{IsSurveyed, IsUnsound}
 use Rattle.gds_cells.specs.steps.Walks.{hierarchy, IsDrawn}
 use Rattle.gds_cells.specs.steps.Built.{AreBuilt, IsFaultAmong}
-use Rattle.gds_cells.specs.steps.Counting.{IsCapped, IsTied, IsCount, AreCounted}
-use Rattle.gds_cells.proofs.Composing.{still_composed}
-use Rattle.gds_flatten.proofs.Agreeing.{agree, count_is, tied, top_counted}
+use Rattle.gds_cells.specs.steps.Counting.{IsCapped}
+use Rattle.gds_flatten.proofs.Agreeing.{agree, tied, shallow}
 
 -- ---- which refusals are an element's own
 
@@ -99,14 +98,6 @@ is_the_own : (layer : Layer) (e : Element) (f : FlattenError) → element_fault 
 is_the_own layer e f is = subst (λ o. IsOwn o) is (own_fault layer e)
 
 -- ---- refusals
-
--- what is known of the cells, their counts and the index of the top, once all is counted
-pub record IsDesign (entries : List Entry) (top : List ℕ) (layer : Layer) (t : ℕ) (cells : List Cell) (counts : List ℕ) : Type 0 where
-  pub many : 4000001 ≤ item counts t → IsRefused entries top layer TooManyShapes
-  pub few : (4000001 ≤ item counts t → ⊥) → IsCountable entries top layer
-  pub same : copies (hierarchy cells) 256 t ≡ copies_of entries top layer
-  pub counted : AreCounted cells counts 256 t
-  pub number : (4000001 ≤ item counts t → ⊥) → item counts t ≡ length (copies (hierarchy cells) 256 t)
 
 module _ (entries : List Entry) (top : List ℕ) (layer : Layer) where
   refused_own : (e : FlattenError) → is_own e ≡ true → IsSound entries top → IsFirstFault entries (index_of entries top) layer e
@@ -189,70 +180,6 @@ module _ (entries : List Entry) (top : List ℕ) (layer : Layer) where
           (λ is. not_own OutOfRange e refl own is),
         )
 
-    module _ (cells : List Cell) (built : AreBuilt entries layer s.steps (length entries) cells) (counts : List ℕ)
-        (right : (q : ℕ) → q < length s.order → IsCount (graph_of entries) cells (item s.order q) (item counts (item s.order q))) where
-      top_reached : IsReached (graph_of entries) (index_of entries top) (index_of entries top)
-      top_reached = (0, refl)
-
-      same_copies : copies (hierarchy cells) 256 (index_of entries top) ≡ copies_of entries top layer
-      same_copies = agree entries layer (index_of entries top) s surveyed cells built 256 (index_of entries top) top_reached
-
-      capped : IsCapped (length (copies_of entries top layer)) (item counts (index_of entries top))
-      capped = subst (λ cs. IsCapped (length cs) (item counts (index_of entries top))) same_copies
-          (count_is entries layer (index_of entries top) s surveyed cells built counts right (index_of entries top) top_reached)
-
-      fine : AllFine entries (index_of entries top) layer
-      fine c reached =
-          let (q, within, is) = surveyed.all c reached in
-          let small : c < length entries = subst (λ n. c < n) long (subst (λ x. x < length (graph_of entries)) is (surveyed.within q within)) in
-          (built.built c small (surveyed.found c reached)).fine
-
-      many_refused : 4000001 ≤ item counts (index_of entries top) → IsRefused entries top layer TooManyShapes
-      many_refused many = (sound, fine, by capped.exact) where
-        by : ((item counts (index_of entries top) ≡ length (copies_of entries top layer))
-            ⊎ ((item counts (index_of entries top) ≡ 4000001) × (4000001 ≤ length (copies_of entries top layer))))
-            → 4000000 < length (copies_of entries top layer)
-        by (inl e) = omega (arith, many, e)
-        by (inr (full, large)) = omega (arith, large)
-
-      countable : (4000001 ≤ item counts (index_of entries top) → ⊥) → IsCountable entries top layer
-      countable few = record { sound = sound; fine = fine; few = by capped.exact } where
-        by : ((item counts (index_of entries top) ≡ length (copies_of entries top layer))
-            ⊎ ((item counts (index_of entries top) ≡ 4000001) × (4000001 ≤ length (copies_of entries top layer))))
-            → length (copies_of entries top layer) ≤ 4000000
-        by (inl e) = omega (arith, few, e)
-        by (inr (full, large)) = absurd (few (omega (arith, full)))
-
-      number_is : (4000001 ≤ item counts (index_of entries top) → ⊥) → item counts (index_of entries top) ≡ length (copies (hierarchy cells) 256 (index_of entries top))
-      number_is few = by (count_is entries layer (index_of entries top) s surveyed cells built counts right (index_of entries top) top_reached).exact where
-        by : ((item counts (index_of entries top) ≡ length (copies (hierarchy cells) 256 (index_of entries top)))
-            ⊎ ((item counts (index_of entries top) ≡ 4000001) × (4000001 ≤ length (copies (hierarchy cells) 256 (index_of entries top)))))
-            → item counts (index_of entries top) ≡ length (copies (hierarchy cells) 256 (index_of entries top))
-        by (inl e) = e
-        by (inr (full, large)) = absurd (few (omega (arith, full)))
-
-      pub designed : IsDesign entries top layer (index_of entries top) cells counts
-      designed = record {
-        many = many_refused;
-        few = countable;
-        same = same_copies;
-        counted = top_counted entries layer (index_of entries top) s surveyed cells built counts right (index_of entries top) top_reached;
-        number = number_is;
-      }
-
--- what the code's counts say, of the cells and the order as they are
-pub counts_right : (entries : List Entry) (layer : Layer) (t : ℕ) (s : State) → IsSurveyed (graph_of entries) t s → (cells : List Cell)
-    → AreBuilt entries layer s.steps (length entries) cells → (xs : List Cell) (ys counts : List ℕ) → xs ≡ cells → ys ≡ s.order
-    → ((g : Graph) → IsOrdered g ys → ((q : ℕ) → q < length ys → IsTied g xs (item ys q))
-    → (q : ℕ) → q < length ys → IsCount g xs (item ys q) (item counts (item ys q)))
-    → (q : ℕ) → q < length s.order → IsCount (graph_of entries) cells (item s.order q) (item counts (item s.order q))
-counts_right entries layer t s surveyed cells built xs ys counts same order right =
-    subst (λ zs. (g : Graph) → IsOrdered g zs → ((q : ℕ) → q < length zs → IsTied g cells (item zs q))
-    → (q : ℕ) → q < length zs → IsCount g cells (item zs q) (item counts (item zs q))) order
-    (subst (λ zs. (g : Graph) → IsOrdered g ys → ((q : ℕ) → q < length ys → IsTied g zs (item ys q))
-    → (q : ℕ) → q < length ys → IsCount g zs (item ys q) (item counts (item ys q))) same right)
-    (graph_of entries) surveyed.ordered (tied entries layer t s surveyed cells built)
-
 pub unsound_told : (entries : List Entry) (top : List ℕ) (layer : Layer) (t : ℕ) (g : Graph) → HasTop entries top → t ≡ index_of entries top
     → g ≡ graph_of entries → (e : FlattenError) → IsUnsound g t e → IsRefused entries top layer e
 unsound_told entries top layer t g has at is e h =
@@ -262,32 +189,52 @@ pub told_surveyed : (entries : List Entry) (top : List ℕ) (t : ℕ) (g : Graph
     → IsSurveyed g t s → IsSurveyed (graph_of entries) (index_of entries top) s
 told_surveyed entries top t g s at is h = subst (λ i. IsSurveyed (graph_of entries) i s) at (subst (λ x. IsSurveyed x t s) is h)
 
--- all that, of the values as the code has them
-pub design_told : (entries : List Entry) (top : List ℕ) (layer : Layer) (t : ℕ) (s : State) (cells xs : List Cell) (steps ys counts : List ℕ)
-    → HasTop entries top → t ≡ index_of entries top → IsSurveyed (graph_of entries) (index_of entries top) s
-    → steps ≡ s.steps → AreBuilt entries layer steps (length entries) cells → xs ≡ cells → ys ≡ s.order
-    → ((g : Graph) → IsOrdered g ys → ((q : ℕ) → q < length ys → IsTied g xs (item ys q))
-    → (q : ℕ) → q < length ys → IsCount g xs (item ys q) (item counts (item ys q)))
-    → IsDesign entries top layer t cells counts
-design_told entries top layer t s cells xs steps ys counts has at surveyed same_steps made same order right =
-    let built = subst (λ zs. AreBuilt entries layer zs (length entries) cells) same_steps made in
-    subst (λ i. IsDesign entries top layer i cells counts) (sym at)
-    (designed entries top layer has s surveyed cells built counts
-    (counts_right entries layer (index_of entries top) s surveyed cells built xs ys counts same order right))
+-- what was surveyed and built
+pub reached_told : (entries : List Entry) (top : List ℕ) (layer : Layer) (t : ℕ) (s : State) (cells : List Cell) → HasTop entries top → t ≡ index_of entries top → IsSurveyed (graph_of entries) (index_of entries top) s
+    → AreBuilt entries layer s.steps (length entries) cells → AreReached entries top layer cells t
+reached_told entries top layer t s cells has at surveyed built = subst (AreReached entries top layer cells) (sym at) (record {
+  sound = sound entries top layer has s surveyed;
+  fine = λ c reached.
+      let (q, within, is) = surveyed.all c reached in
+      let small : c < length entries = subst (λ n. c < n) (long entries top layer) (subst (λ x. x < length (graph_of entries)) is (surveyed.within q within)) in
+      (built.built c small (surveyed.found c reached)).fine;
+  same = agree entries layer (index_of entries top) s surveyed cells built 256 (index_of entries top) (0, refl);
+})
+
+pub arranged_told : (entries : List Entry) (top : List ℕ) (layer : Layer) (t : ℕ) (s : State) (cells : List Cell) → t ≡ index_of entries top → IsSurveyed (graph_of entries) (index_of entries top) s
+    → AreBuilt entries layer s.steps (length entries) cells → IsArranged cells s.order t
+arranged_told entries top layer t s cells at surveyed built = record {
+  graph = graph_of entries;
+  ordered = surveyed.ordered;
+  tied = tied entries layer (index_of entries top) s surveyed cells built;
+  shallow = λ q within. shallow entries layer (index_of entries top) s surveyed cells built (item s.order q) (surveyed.order q within);
+  here = subst (IsIn s.order) (sym at) (surveyed.all (index_of entries top) (0, refl));
+}
+
+pub countable_told : (entries : List Entry) (top : List ℕ) (layer : Layer) (t : ℕ) (cells : List Cell) (cs : List Copy) (n : ℕ) → AreReached entries top layer cells t → n ≡ length cs → cs ≡ copies_of entries top layer → n ≤ 4000000
+    → IsCountable entries top layer
+countable_told entries top layer t cells cs n reached all same few = record { sound = reached.sound; fine = reached.fine; few = subst (λ k. k ≤ 4000000) (all ∙ ap length same) few }
+
+pub many_told : (entries : List Entry) (top : List ℕ) (layer : Layer) (t : ℕ) (cells : List Cell) (cs : List Copy) → AreReached entries top layer cells t → cs ≡ copies_of entries top layer
+    → (e : FlattenError) → ((e ≡ Memory) ⊎ ((e ≡ TooManyShapes) × (4000000 < length cs))) → IsRefused entries top layer e
+many_told entries top layer t cells cs reached same e (inl m) = subst (IsRefused entries top layer) (sym m) tt
+many_told entries top layer t cells cs reached same e (inr (is, many)) = subst (IsRefused entries top layer) (sym is) (reached.sound, reached.fine, subst (λ ds. 4000000 < length ds) same many)
+
+-- ---- counts of the top
+
+pub many_copies : (n count number : ℕ) → IsCapped n count → number ≡ count → 4000001 ≤ number → 4000000 < n
+many_copies n count number capped is many = cases capped.exact where
+  cases : ((count ≡ n) ⊎ ((count ≡ 4000001) × (4000001 ≤ n))) → 4000000 < n
+  cases (inl e) = omega (arith, is, many, e)
+  cases (inr (full, large)) = omega (arith, large)
+
+pub few_copies : (n count number : ℕ) → IsCapped n count → number ≡ count → number < 4000001 → number ≡ n
+few_copies n count number capped is few = cases capped.exact where
+  cases : ((count ≡ n) ⊎ ((count ≡ 4000001) × (4000001 ≤ n))) → number ≡ n
+  cases (inl e) = is ∙ e
+  cases (inr (full, large)) = absurd (omega (arith, is, few, full))
 
 -- ---- what is carried
-
-as_they_are : (cs : List Copy) → map (carry_copy still) cs ≡ cs
-as_they_are [] = refl
-as_they_are (c ∷ cs) = λ k. record { placement = still_composed c.placement k; element = c.element } ∷ as_they_are cs k
-
--- what the walk says, of the cells and the placement as they are
-pub walked : (P : List Copy → Type 0) (cells xs : List Cell) (p : Placement) (i : ℕ) → xs ≡ cells → p ≡ still
-    → P (map (carry_copy p) (copies (hierarchy xs) 256 i)) → P (copies (hierarchy cells) 256 i)
-walked P cells xs p i same is h =
-    subst P (as_they_are (copies (hierarchy cells) 256 i))
-    (subst (λ q. P (map (carry_copy q) (copies (hierarchy cells) 256 i))) is
-    (subst (λ zs. P (map (carry_copy p) (copies (hierarchy zs) 256 i))) same h))
 
 module _ (entries : List Entry) (top : List ℕ) (layer : Layer) (cs : List Copy) (same : cs ≡ copies_of entries top layer) where
   pub all_inside : (rects : List Rect) → IsDrawn cs [] rects → AllStayInRange (copies_of entries top layer)

@@ -1,83 +1,30 @@
--- What is known of the cells, their extents and the index of the top.
-use Rattle.std.proofs.Common.{◌≡◌, ◌⊎◌, inl, inr, ℕ, ℤ, ◌<◌, ◌≤◌, arith, Bool, true, false, ◌&&◌, ◌||◌, List, [], length, refl, sym, ap, subst, ◌∙◌}
-use Rattle.std.specs.Prelude.{Option}
+-- What is answered of a part of a design, from what each step says.
+use Rattle.std.proofs.Common.{◌≡◌, inl, inr, ℕ, ℤ, ◌<◌, ◌≤◌, arith, Bool, true, false, ◌&&◌, ◌||◌, List, [], ◌∷◌, ◌++◌, length, refl, sym, ap, subst, ◌∙◌}
+use Rattle.std.specs.Prelude.{filter}
+use Rattle.std.specs.Global.{Vec}
+use Rattle.std.specs.List.{flat_map}
+use Rattle.std.specs.Vec.{vec_items}
+use Rattle.std.proofs.lemmas.Grind.{flat_map-append}
+use Rattle.std.proofs.lemmas.List.Folds.{list_any-append}
 use Rattle.fill_base.specs.declared.layer.Layer.{Layer}
-use Rattle.gds_shape.specs.declared.bounds.Bounds.{Bounds}
-use Rattle.gds_cells.specs.Designs.{Entry, index_of, graph_of, AllFine, copies_of}
-use Rattle.gds_cells.specs.declared.cell.Cell.{Cell}
-use Rattle.gds_cells.specs.Graphs.{Graph, item, IsDeep}
-use Rattle.gds_cells.specs.Copies.{Copy, copies, drawn}
-use Rattle.gds_flatten.specs.Frames.{met}
-use Rattle.gds_flatten.specs.Flattening.{HasTop, IsSound, IsCountableOn, IsRefused, IsRefusedOn}
-use Rattle.gds_cells.specs.steps.Searches.{State, IsOrdered}
-use Rattle.gds_cells.specs.steps.Surveys.{IsSurveyed}
-use Rattle.gds_cells.specs.steps.Built.{AreBuilt}
-use Rattle.gds_cells.specs.steps.Counting.{IsTied}
-use Rattle.gds_flatten.specs.steps.Framing.{IsDrawnOn, IsFound, IsRefusalOn, AreHeld, IsTight, IsExtentOf, extent_at}
-use Rattle.gds_cells.specs.steps.Walks.{hierarchy}
-use Rattle.gds_flatten.specs.declared.found.Found.{Found}
 use Rattle.fill_base.specs.declared.rect.Rect.{Rect}
 use Rattle.fill_base.specs.Squares.{squares}
 use Rattle.fill_region.specs.Squares.{covered}
+use Rattle.gds_cells.specs.declared.cell.Cell.{Cell}
 use Rattle.gds_cells.specs.declared.error.FlattenError.{FlattenError}
 use Rattle.gds_cells.specs.declared.error.FlattenError.TheVariants.{Memory, NoTop, MissingCell, Cycle, TooDeep, BadTransform, BadArray, NotManhattan, RoundEnd, OddWidth, DoublesBack, BadExtension, TooManyShapes, OutOfRange}
-use Rattle.gds_flatten.proofs.Agreeing.{agree, tied, shallow, top_held, top_tight}
-use Rattle.gds_flatten.proofs.Flattened.{sound, long}
-
-pub record IsFramed (entries : List Entry) (top : List ℕ) (layer : Layer) (t : ℕ) (cells : List Cell) (extents : List (Option Bounds)) : Type 0 where
-  pub sound : IsSound entries top
-  pub fine : AllFine entries (index_of entries top) layer
-  pub held : AreHeld cells extents 256 t
-  pub tight : IsTight (copies (hierarchy cells) 256 t) (extent_at extents t)
-  pub same : copies (hierarchy cells) 256 t ≡ copies_of entries top layer
-
-pub framed_told : (entries : List Entry) (top : List ℕ) (layer : Layer) (t : ℕ) (s : State) (cells xs : List Cell) (steps ys : List ℕ) (extents : List (Option Bounds))
-    → HasTop entries top → t ≡ index_of entries top → IsSurveyed (graph_of entries) (index_of entries top) s
-    → steps ≡ s.steps → AreBuilt entries layer steps (length entries) cells → xs ≡ cells → ys ≡ s.order
-    → ((g : Graph) → IsOrdered g ys → ((q : ℕ) → q < length ys → IsTied g xs (item ys q))
-    → (q : ℕ) → q < length ys → IsExtentOf g xs (item ys q) (extent_at extents (item ys q)))
-    → IsFramed entries top layer t cells extents
-framed_told entries top layer t s cells xs steps ys extents has at surveyed same_steps made same order right =
-    subst (λ i. IsFramed entries top layer i cells extents) (sym at) (record {
-      sound = sound entries top layer has s surveyed;
-      fine = fine;
-      held = top_held entries layer (index_of entries top) s surveyed cells built extents extents_right (index_of entries top) (0, refl);
-      tight = top_tight entries layer (index_of entries top) s surveyed cells built extents extents_right (index_of entries top) (0, refl);
-      same = agree entries layer (index_of entries top) s surveyed cells built 256 (index_of entries top) (0, refl);
-    })
-  where
-    built : AreBuilt entries layer s.steps (length entries) cells
-    built = subst (λ zs. AreBuilt entries layer zs (length entries) cells) same_steps made
-
-    fine : AllFine entries (index_of entries top) layer
-    fine c reached =
-        let (q, within, is) = surveyed.all c reached in
-        let small : c < length entries = subst (λ n. c < n) (long entries top layer) (subst (λ x. x < length (graph_of entries)) is (surveyed.within q within)) in
-        (built.built c small (surveyed.found c reached)).fine
-
-    extents_right : (q : ℕ) → q < length s.order → IsExtentOf (graph_of entries) cells (item s.order q) (extent_at extents (item s.order q))
-    extents_right =
-        subst (λ zs. (g : Graph) → IsOrdered g zs → ((q : ℕ) → q < length zs → IsTied g cells (item zs q))
-        → (q : ℕ) → q < length zs → IsExtentOf g cells (item zs q) (extent_at extents (item zs q))) order
-        (subst (λ zs. (g : Graph) → IsOrdered g ys → ((q : ℕ) → q < length ys → IsTied g zs (item ys q))
-        → (q : ℕ) → q < length ys → IsExtentOf g zs (item ys q) (extent_at extents (item ys q))) same right)
-        (graph_of entries) surveyed.ordered (tied entries layer (index_of entries top) s surveyed cells built)
-
--- chains are too short for an extent that is too far
-pub far_told : (entries : List Entry) (top : List ℕ) (layer : Layer) (s : State) (cells xs : List Cell) (steps ys : List ℕ) (e : FlattenError)
-    → HasTop entries top → IsSurveyed (graph_of entries) (index_of entries top) s
-    → steps ≡ s.steps → AreBuilt entries layer steps (length entries) cells → xs ≡ cells → ys ≡ s.order
-    → (e ≡ Memory) ⊎ ((g : Graph) → IsOrdered g ys → ((q : ℕ) → q < length ys → IsTied g xs (item ys q)) → ((q : ℕ) → q < length ys → IsDeep g 256 (item ys q) → ⊥) → ⊥)
-    → (frame : Rect) → IsRefusedOn entries top layer frame e
-far_told entries top layer s cells xs steps ys e has surveyed same_steps made same order (inl m) frame = subst (IsRefusedOn entries top layer frame) (sym m) tt
-far_told entries top layer s cells xs steps ys e has surveyed same_steps made same order (inr never) frame =
-    absurd (subst (λ zs. ((g : Graph) → IsOrdered g zs → ((q : ℕ) → q < length zs → IsTied g cells (item zs q)) → ((q : ℕ) → q < length zs → IsDeep g 256 (item zs q) → ⊥) → ⊥)) order
-    (subst (λ zs. ((g : Graph) → IsOrdered g ys → ((q : ℕ) → q < length ys → IsTied g zs (item ys q)) → ((q : ℕ) → q < length ys → IsDeep g 256 (item ys q) → ⊥) → ⊥)) same never)
-    (graph_of entries) surveyed.ordered (tied entries layer (index_of entries top) s surveyed cells built)
-    (λ q within. shallow entries layer (index_of entries top) s surveyed cells built (item s.order q) (surveyed.order q within)))
-  where
-    built : AreBuilt entries layer s.steps (length entries) cells
-    built = subst (λ zs. AreBuilt entries layer zs (length entries) cells) same_steps made
+use Rattle.gds_cells.specs.Copies.{Copy, drawn, AllStayInRange}
+use Rattle.gds_cells.specs.Designs.{Entry, copies_of}
+use Rattle.gds_cells.specs.steps.Walks.{top_copies, IsDrawn, IsRefusal}
+use Rattle.gds_flatten.specs.declared.found.Found.{Found}
+use Rattle.gds_flatten.specs.declared.found.Framed.{Framed}
+use Rattle.gds_flatten.specs.Frames.{met}
+use Rattle.gds_flatten.specs.Flattening.{IsCountableOn, IsRefused, IsRefusedOn}
+use Rattle.gds_flatten.specs.steps.Finding.{IsFound, IsKept, IsRefusalOn, inner, seen}
+use Rattle.gds_flatten.specs.steps.Idle.{is_full}
+use Rattle.gds_flatten.specs.steps.Reached.{AreReached}
+use Rattle.gds_flatten.specs.steps.Roots.{roots_copies, AreRooted}
+use Rattle.gds_flatten.proofs.Sparse.{full_drawn, full_met, full_stay, stay_full}
 
 -- what refuses a design before a copy is looked at, refuses a part of it
 pub told_on : (entries : List Entry) (top : List ℕ) (layer : Layer) (e : FlattenError) (frame : Rect) → (e ≡ TooManyShapes → ⊥) → (e ≡ OutOfRange → ⊥)
@@ -97,27 +44,78 @@ told_on entries top layer OddWidth frame many far h = h
 told_on entries top layer DoublesBack frame many far h = h
 told_on entries top layer BadExtension frame many far h = h
 
-module _ (entries : List Entry) (top : List ℕ) (layer : Layer) (cs : List Copy) (frame : Rect) (whole : IsSound entries top) (good : AllFine entries (index_of entries top) layer)
-    (same : cs ≡ copies_of entries top layer) where
-  pub walk_told : (e : FlattenError) (old : Found) → old.copies ≡ 0 → IsRefusalOn frame cs old e → IsRefusedOn entries top layer frame e
-  walk_told e old none (inl m) = subst (IsRefusedOn entries top layer frame) (sym m) tt
+-- what a walk within a frame has found from nothing on
+pub record IsPartOf (entries : List Entry) (top : List ℕ) (layer : Layer) (w : Framed) (found : Found) : Type 0 where
+  pub countable : IsCountableOn entries top layer w.frame.now
+  pub kept : IsKept w found
+  pub stay : AllStayInRange (copies_of entries top layer) → AllStayInRange (inner w found)
+  pub met : AllStayInRange (copies_of entries top layer) → (x y : ℤ) → (seen w found x y && squares w.frame.now x y) ≡ (drawn (copies_of entries top layer) x y && squares w.frame.now x y)
+
+module _ (entries : List Entry) (top : List ℕ) (layer : Layer) (cells : List Cell) (t : ℕ) (reached : AreReached entries top layer cells t) (w : Framed) (cs : List Copy)
+    (same : cs ≡ filter is_full (top_copies cells t)) where
+  all_same : cs ≡ filter is_full (copies_of entries top layer)
+  all_same = same ∙ ap (filter is_full) reached.same
+
+  met_same : met w.frame.now cs ≡ met w.frame.now (copies_of entries top layer)
+  met_same = ap (met w.frame.now) all_same ∙ full_met w.frame.now (copies_of entries top layer)
+
+  pub walk_told : (e : FlattenError) (old : Found) → old.copies ≡ 0 → IsRefusalOn w.frame.now cs old e → IsRefusedOn entries top layer w.frame.now e
+  walk_told e old none (inl m) = subst (IsRefusedOn entries top layer w.frame.now) (sym m) tt
   walk_told e old none (inr (is, many)) =
-      let here : 4000000 < met frame cs = omega (arith, none, many) in
-      subst (IsRefusedOn entries top layer frame) (sym is) (whole, good, subst (λ ds. 4000000 < met frame ds) same here)
+      let all = met_same in subst (IsRefusedOn entries top layer w.frame.now) (sym is) (reached.sound, reached.fine, omega (arith, none, many, all))
 
-  pub few_told : (old new : Found) → old.copies ≡ 0 → new.copies ≤ 4000000 → IsFound frame cs old new → IsCountableOn entries top layer frame
-  few_told old new none few found = record {
-    sound = whole;
-    fine = good;
-    few = let counted = found.counted in let here : met frame cs ≤ 4000000 = omega (arith, none, few, counted) in subst (λ ds. met frame ds ≤ 4000000) same here;
-  }
+  pub stay_told : AllStayInRange cs → AllStayInRange (copies_of entries top layer)
+  stay_told stay = stay_full (copies_of entries top layer) (subst AllStayInRange all_same stay)
 
--- what was drawn on the frame, met with it, is all that is drawn, met with it
-pub frame_met : (f : Rect) (cs ds : List Copy) (old new : List Rect) → old ≡ [] → cs ≡ ds → IsDrawnOn f cs old new → (x y : ℤ) → (covered new x y && squares f x y) ≡ (drawn ds x y && squares f x y)
-frame_met f cs ds old new none same h x y = cases (squares f x y) refl where
-  cases : (b : Bool) → squares f x y ≡ b → (covered new x y && b) ≡ (drawn ds x y && b)
-  cases true on = ap (λ c. c && true) (h x y on ∙ ap (λ rs. covered rs x y || drawn cs x y) none ∙ ap (λ es. drawn es x y) same)
-  cases false on = off (covered new x y) ∙ sym (off (drawn ds x y)) where
-    off : (b : Bool) → (b && false) ≡ false
-    off true = refl
-    off false = refl
+  pub stay_here : AllStayInRange (copies_of entries top layer) → AllStayInRange cs
+  stay_here stay = subst AllStayInRange (sym all_same) (full_stay (copies_of entries top layer) stay)
+
+  module _ (old new : Found) (none : old.copies ≡ 0) (no_rects : old.rects.items ≡ []) (no_roots : old.roots.items ≡ []) (nothing : old.inside ≡ 0) (found : IsFound w cs old new) where
+    rootless : inner w old ≡ []
+    rootless = ap (roots_copies w.cells.now) no_roots
+
+    -- what was found, met with the frame, is all that is drawn, met with it
+    frame_met : AllStayInRange (copies_of entries top layer) → (x y : ℤ) → (seen w new x y && squares w.frame.now x y) ≡ (drawn (copies_of entries top layer) x y && squares w.frame.now x y)
+    frame_met stay x y = cases (squares w.frame.now x y) refl where
+      cases : (b : Bool) → squares w.frame.now x y ≡ b → (seen w new x y && b) ≡ (drawn (copies_of entries top layer) x y && b)
+      cases true on = ap (λ c. c && true) (found.drawn (stay_here stay) x y on
+          ∙ ap (λ rs. (covered rs x y || drawn (inner w old) x y) || drawn cs x y) no_rects ∙ ap (λ ds. drawn ds x y || drawn cs x y) rootless
+          ∙ ap (λ ds. drawn ds x y) all_same ∙ full_drawn (copies_of entries top layer) x y)
+      cases false on = off (seen w new x y) ∙ sym (off (drawn (copies_of entries top layer) x y)) where
+        off : (b : Bool) → (b && false) ≡ false
+        off true = refl
+        off false = refl
+
+    pub found_told : IsPartOf entries top layer w new
+    found_told = record {
+      countable = record {
+        sound = reached.sound;
+        fine = reached.fine;
+        few = let counted = found.counted in let few = new.few in let all = met_same in omega (arith, none, few, counted, all);
+      };
+      kept = found.kept (record {
+        rooted = subst (AreRooted w.cells.now w.counts.now) (sym no_roots) (λ k d lt. absurd (omega (arith, lt)));
+        number = nothing ∙ sym (ap length rootless);
+      });
+      stay = λ stay. found.stay (stay_here stay) (subst AllStayInRange (sym rootless) (λ k d lt. absurd (omega (arith, lt))));
+      met = frame_met;
+    }
+
+-- what stays in range can't leave it
+pub memory_told : (entries : List Entry) (top : List ℕ) (layer : Layer) (frame : Rect) (cs : List Copy) → AllStayInRange cs → (e : FlattenError) → IsRefusal cs e → IsRefusedOn entries top layer frame e
+memory_told entries top layer frame cs stay e (inl m) = subst (IsRefusedOn entries top layer frame) (sym m) tt
+memory_told entries top layer frame cs stay e (inr (is, leaves)) = absurd (leaves stay)
+
+-- the rectangles of the roots, and those found beside them
+pub parts_seen : (parts : List (Vec Rect)) (rects : Vec Rect) (cs : List Copy) → IsDrawn cs [] (flat_map vec_items parts) → (x y : ℤ)
+    → covered (flat_map vec_items (parts ++ rects ∷ [])) x y ≡ (covered rects.items x y || drawn cs x y)
+parts_seen parts rects cs h x y =
+    ap (λ rs. covered rs x y) (flat_map-append vec_items parts (rects ∷ []) ∙ ap (λ xs. flat_map vec_items parts ++ xs) (nothing_more rects.items))
+    ∙ list_any-append (λ r. squares r x y) (flat_map vec_items parts) rects.items ∙ ap (λ b. b || covered rects.items x y) (h.added x y) ∙ turned (drawn cs x y) (covered rects.items x y)
+  where
+    nothing_more : (xs : List Rect) → xs ++ [] ≡ xs
+    nothing_more [] = refl
+    nothing_more (r ∷ xs) = ap (λ ys. r ∷ ys) (nothing_more xs)
+
+    turned : (a b : Bool) → (a || b) ≡ (b || a)
+    turned a b = grind arith

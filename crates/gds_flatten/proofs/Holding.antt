@@ -7,7 +7,7 @@ use Rattle.std.specs.Vec.{vec_items}
 use Rattle.std.specs.Global.{Vec}
 use Rattle.std.proofs.lemmas.Int.{ints, clamps}
 use Rattle.std.proofs.lemmas.List.{take_more, map-append}
-use Rattle.std.proofs.lemmas.List.Folds.{list_any_more}
+use Rattle.std.proofs.lemmas.List.Folds.{list_any_more, list_any-append}
 use Rattle.std.proofs.lemmas.Grind.{flat_map-append}
 use Rattle.fill_base.specs.declared.rect.Rect.{Rect}
 use Rattle.fill_base.specs.Squares.{squares}
@@ -20,14 +20,17 @@ use Rattle.gds_cells.specs.declared.link.Link.{Link}
 use Rattle.gds_cells.specs.declared.shape.Shape.{Shape}
 use Rattle.gds_cells.specs.declared.placement.Placement.{Placement}
 use Rattle.gds_cells.specs.Placements.{back_x, back_y, carried, carried_bounds, composed, still}
-use Rattle.gds_cells.specs.Copies.{Copy, own_copy, carry_copy, drawn}
+use Rattle.gds_cells.specs.declared.cell.Cell.{Cell}
+use Rattle.gds_cells.specs.Copies.{Copy, own_copy, carry_copy, copies, drawn}
 use Rattle.gds_cells.specs.Links.{single}
 use Rattle.gds_cells.specs.Shapes.{covers_of}
 use Rattle.gds_flatten.specs.Frames.{meets}
 use Rattle.gds_flatten.specs.steps.Framing.{IsUnseen, IsAround, IsFine, IsFineIf, IsHeld, links_draw}
 use Rattle.gds_cells.specs.steps.Prepared.{IsOrdered, IsPrepared, IsPart}
 use Rattle.gds_cells.specs.steps.Built.{own_of}
-use Rattle.gds_cells.specs.steps.Walks.{singles_of}
+use Rattle.gds_cells.specs.steps.Walks.{singles_of, single_copies, hierarchy}
+use Rattle.gds_flatten.specs.declared.turns.Turns.{Turns}
+use Rattle.gds_flatten.specs.steps.Roots.{turn_copies, turns_copies}
 use Rattle.gds_cells.proofs.Carrying.{bounds_back}
 use Rattle.gds_flatten.proofs.Drawing.{drawn_joins, range_more, carried_twice}
 use Rattle.gds_cells.proofs.Pointing.{near_fours}
@@ -35,17 +38,30 @@ use Rattle.gds_flatten.proofs.Seen.{drawn_carried, held_unseen, none_unseen, bot
 
 -- ---- rectangles within a frame
 
-pub clip_next : (f : Rect) (rects : List Rect) (k : ℕ) (d : Rect) (new old : Bool) (x y : ℤ) → k < length rects → d ≡ get_or rects k d
-    → new ≡ (old || (squares d x y && squares f x y)) → old ≡ (covered (take k rects) x y && squares f x y)
-    → new ≡ (covered (take (k + 1) rects) x y && squares f x y)
-clip_next f rects k d new old x y lt is e so_far =
-    e ∙ rw (so_far, list_any_more (λ r. squares r x y) rects k d lt, sym is) (stretch (covered (take k rects) x y) (squares d x y) (squares f x y))
+pub clip_next : (f : Rect) (rects : List Rect) (k : ℕ) (d : Rect) (before new old : Bool) (x y : ℤ) → k < length rects → d ≡ get_or rects k d
+    → new ≡ (old || (squares d x y && squares f x y)) → old ≡ (before || (covered (take k rects) x y && squares f x y))
+    → new ≡ (before || (covered (take (k + 1) rects) x y && squares f x y))
+clip_next f rects k d before new old x y lt is e so_far =
+    e ∙ rw (so_far, list_any_more (λ r. squares r x y) rects k d lt, sym is) (stretch before (covered (take k rects) x y) (squares d x y) (squares f x y))
   where
+    stretch : (z a b c : Bool) → ((z || (a && c)) || (b && c)) ≡ (z || ((a || b) && c))
+    stretch z a b c = grind arith
+
+pub parts_next : (f : Rect) (parts : List (Vec Rect)) (k : ℕ) (d : Vec Rect) (new old : Bool) (x y : ℤ) → k < length parts → d ≡ get_or parts k d
+    → new ≡ (old || (covered d.items x y && squares f x y)) → old ≡ (covered (flat_map vec_items (take k parts)) x y && squares f x y)
+    → new ≡ (covered (flat_map vec_items (take (k + 1) parts)) x y && squares f x y)
+parts_next f parts k d new old x y lt is e so_far =
+    let more : flat_map vec_items (take (k + 1) parts) ≡ flat_map vec_items (take k parts) ++ d.items =
+    ap (flat_map vec_items) (take_more parts k d lt ∙ ap (λ s. take k parts ++ s ∷ []) (sym is))
+    ∙ flat_map-append vec_items (take k parts) (d ∷ []) ∙ ap (λ xs. flat_map vec_items (take k parts) ++ xs) (append_none d.items) in
+    e ∙ rw (so_far, more, list_any-append (λ r. squares r x y) (flat_map vec_items (take k parts)) d.items) (stretch (covered (flat_map vec_items (take k parts)) x y) (covered d.items x y) (squares f x y))
+  where
+    append_none : {X : Type 0} (xs : List X) → xs ++ [] ≡ xs
+    append_none [] = refl
+    append_none (x ∷ xs) = ap (λ ys. x ∷ ys) (append_none xs)
+
     stretch : (a b c : Bool) → ((a && c) || (b && c)) ≡ ((a || b) && c)
-    stretch true b true = refl
-    stretch true true false = refl
-    stretch true false false = refl
-    stretch false b c = refl
+    stretch a b c = grind arith
 
 -- ---- the extent around both
 
@@ -196,10 +212,15 @@ range_joins a (suc m) n =
     let s : (a + 1) + m ≡ a + suc m = omega arith in
     ap (range_with_len a) e ∙ ap (λ xs. a ∷ xs) (range_joins (a + 1) m n ∙ ap (λ b. range_with_len (a + 1) m ++ range_with_len b n) s)
 
-pub turns_join : (f : ℕ → List Copy) (from middle to : ℕ) → from ≤ middle → middle ≤ to
-    → flat_map f (range_with_len from (to - from)) ≡ flat_map f (range_with_len from (middle - from)) ++ flat_map f (range_with_len middle (to - middle))
-turns_join f from middle to low high =
-    let whole : to - from ≡ (middle - from) + (to - middle) = omega (arith, low, high) in
-    let there : from + (middle - from) ≡ middle = omega (arith, low) in
-    ap (λ n. flat_map f (range_with_len from n)) whole ∙ ap (flat_map f) (range_joins from (middle - from) (to - middle) ∙ ap (λ b. range_with_len from (middle - from) ++ range_with_len b (to - middle)) there)
-    ∙ flat_map-append f (range_with_len from (middle - from)) (range_with_len middle (to - middle))
+pub turns_join : (f : ℕ → List Copy) (a m n : ℕ) → m ≤ n → flat_map f (range_with_len a n) ≡ flat_map f (range_with_len a m) ++ flat_map f (range_with_len (a + m) (n - m))
+turns_join f a m n le =
+    let whole : n ≡ m + (n - m) = omega (arith, le) in
+    ap (λ k. flat_map f (range_with_len a k)) whole ∙ ap (flat_map f) (range_joins a m (n - m)) ∙ flat_map-append f (range_with_len a m) (range_with_len (a + m) (n - m))
+
+pub some_turns : (cells : List Cell) (t u : Turns) (a n : ℕ) → u.link ≡ t.link → u.placement ≡ t.placement → u.depth ≡ t.depth → (u.first ≡ a) × (u.number ≡ n)
+    → turns_copies cells u ≡ flat_map (turn_copies cells t) (range_with_len a n)
+some_turns cells t u a n link placement depth range =
+    ap (λ l. flat_map (single_copies u.placement (copies (hierarchy cells) u.depth) l) (range_with_len u.first u.number)) link
+    ∙ ap (λ p. flat_map (single_copies p (copies (hierarchy cells) u.depth) t.link) (range_with_len u.first u.number)) placement
+    ∙ ap (λ d. flat_map (single_copies t.placement (copies (hierarchy cells) d) t.link) (range_with_len u.first u.number)) depth
+    ∙ ap (λ k. flat_map (turn_copies cells t) (range_with_len k u.number)) range.0 ∙ ap (λ k. flat_map (turn_copies cells t) (range_with_len a k)) range.1

@@ -1,42 +1,47 @@
--- Copies that a frame holds.
-use Rattle.std.proofs.Common.{◌≡◌, ℕ, ◌+◌, ◌-◌, ◌<◌, ℤ, ◌≤ℤ◌, ◌<ℤ◌, true, List, [], ◌∷◌, ◌++◌, length, map, take, drop, get_or, refl, sym, ap, subst, arith, ◌∙◌}
-use Rattle.std.specs.Prelude.{int_lt, Some}
+-- Copies that lie strictly within a frame are all met, and become roots.
+use Rattle.std.proofs.Common.{◌≡◌, ℕ, zero, suc, ◌+◌, ◌*◌, ◌<◌, ◌≤◌, ◌⊎◌, inl, inr, ℤ, ◌≤ℤ◌, ◌<ℤ◌, true, ◌||◌, List, [], ◌∷◌, ◌++◌, length, map, refl, sym, ap, subst, arith, ◌∙◌}
+use Rattle.std.specs.Prelude.{int_lt, Option, Some, None, All}
+use Rattle.std.specs.Int.{int_min, int_max}
 use Rattle.std.specs.List.{flat_map, range_with_len}
-use Rattle.std.proofs.lemmas.Int.{ints}
+use Rattle.std.proofs.lemmas.Int.{ints, clamps}
 use Rattle.std.proofs.lemmas.Bool.{and_from}
 use Rattle.std.proofs.lemmas.Grind.{flat_map-append}
-use Rattle.std.proofs.lemmas.List.{take-append-drop}
+use Rattle.std.proofs.lemmas.List.{length-append}
+use Rattle.std.proofs.lemmas.List.Elements.{All-append}
 use Rattle.fill_base.specs.declared.rect.Rect.{Rect}
-use Rattle.gds_grammar.specs.Values.{Shape as Element}
+use Rattle.fill_region.specs.Squares.{covered}
 use Rattle.gds_shape.specs.declared.bounds.Bounds.{Bounds}
+use Rattle.gds_shape.specs.Extents.{joined}
+use Rattle.gds_shape.proofs.Counting.{count_cons}
+use Rattle.gds_cells.specs.declared.cell.Cell.{Cell}
 use Rattle.gds_cells.specs.declared.error.FlattenError.{FlattenError}
-use Rattle.gds_flatten.specs.declared.found.Found.{Found}
+use Rattle.gds_cells.specs.declared.error.FlattenError.TheVariants.{TooManyShapes}
 use Rattle.gds_cells.specs.declared.placement.Placement.{Placement}
-use Rattle.gds_cells.specs.Placements.{carried_bounds}
-use Rattle.gds_cells.specs.Copies.{Copy, own_copy, carry_copy}
-use Rattle.gds_flatten.specs.Frames.{meets}
-use Rattle.gds_flatten.specs.steps.Framing.{IsRight, IsStrictly, AreInside, IsFound, IsRefusalOn}
-use Rattle.gds_cells.specs.steps.Prepared.{IsOrdered, IsPrepared, IsPart}
-use Rattle.gds_flatten.proofs.Drawing.{list_more, range_more}
-use Rattle.gds_flatten.proofs.Holding.{turns_join}
-use Rattle.gds_flatten.proofs.Tight.{carried_ordered, fit_first, fit_later, turn_fits, shape_tight, single_fits}
-use Rattle.gds_flatten.proofs.Missed.{itself, found_more, many_first, many_later}
+use Rattle.gds_cells.specs.Copies.{Copy, copies, drawn, AllStayInRange}
+use Rattle.gds_cells.specs.Graphs.{item}
+use Rattle.gds_cells.specs.Links.{single}
+use Rattle.gds_cells.specs.Placements.{carried_bounds, composed}
+use Rattle.gds_cells.specs.Shapes.{parts_of, StaysInRange}
+use Rattle.gds_cells.specs.steps.Counting.{IsCapped, AreCounted}
+use Rattle.gds_cells.specs.steps.Prepared.{IsOrdered, IsPart}
+use Rattle.gds_cells.specs.steps.Walks.{hierarchy}
+use Rattle.gds_cells.proofs.Capping.{count_of}
+use Rattle.gds_flatten.specs.declared.found.Found.{Found}
+use Rattle.gds_flatten.specs.declared.found.Framed.{Framed}
+use Rattle.gds_flatten.specs.declared.turns.Turns.{Turns}
+use Rattle.gds_flatten.specs.Frames.{meets, meets_if, joined_if, extent_of, is_met, met}
+use Rattle.gds_flatten.specs.steps.Finding.{IsReady, IsFound, IsRefusalOn, inner}
+use Rattle.gds_flatten.specs.steps.Framing.{Fits, FitsCopy, FitAll, IsStrictly, AreInside}
+use Rattle.gds_flatten.specs.steps.Idle.{are_some}
+use Rattle.gds_flatten.specs.steps.Roots.{turn_copies, turns_copies, roots_copies, AreRooted}
+use Rattle.gds_flatten.proofs.Chained.{nothing_more}
+use Rattle.gds_flatten.proofs.Drawing.{drawn_joins, or_joins}
+use Rattle.gds_flatten.proofs.Missed.{parts_fit}
+use Rattle.gds_flatten.proofs.Sharing.{many, single_long, shifted, turns_long}
+use Rattle.gds_flatten.proofs.Sparse.{AreAllFull, full_carried, range_full, copies_full}
+use Rattle.gds_flatten.proofs.Tight.{all_from, all_first, all_rest, carried_ordered, none_fit, fit_joins}
 
-pub inside_first : (r : Rect) (cs ds : List Copy) → AreInside r (cs ++ ds) → AreInside r cs
-inside_first r cs ds h = record { window = h.window; strictly = h.strictly; fit = fit_first h.window cs ds h.fit }
-
-pub inside_later : (r : Rect) (cs ds : List Copy) → AreInside r (cs ++ ds) → AreInside r ds
-inside_later r cs ds h = record { window = h.window; strictly = h.strictly; fit = fit_later h.window cs ds h.fit }
-
-pub inside_item : {X : Type 0} (r : Rect) (f : X → List Copy) (xs : List X) (k : ℕ) (d : X) → k < length xs → AreInside r (flat_map f xs) → AreInside r (f (get_or xs k d))
-inside_item r f xs k d within h =
-    let split : flat_map f xs ≡ flat_map f (take (k + 1) xs) ++ flat_map f (drop (k + 1) xs) =
-    ap (flat_map f) (sym (take-append-drop (k + 1) xs)) ∙ flat_map-append f (take (k + 1) xs) (drop (k + 1) xs) in
-    inside_later r (flat_map f (take k xs)) (f (get_or xs k d))
-    (subst (AreInside r) (list_more f xs k d within) (inside_first r (flat_map f (take (k + 1) xs)) (flat_map f (drop (k + 1) xs)) (subst (AreInside r) split h)))
-
-pub inside_turn : (r : Rect) (f : ℕ → List Copy) (n k : ℕ) → k < n → AreInside r (flat_map f (range_with_len 0 n)) → AreInside r (f k)
-inside_turn r f n k within h = record { window = h.window; strictly = h.strictly; fit = turn_fits h.window f n k within h.fit }
+-- ---- what lies strictly within is met, where it has parts
 
 -- a frame meets what lies strictly within it
 strictly_meets : (r : Rect) (w b : Bounds) → IsStrictly r w → IsPart w b → IsOrdered b → meets r b ≡ true
@@ -50,34 +55,82 @@ strictly_meets r w b s part o =
     high : (z w a b : ℤ) → z <ℤ w → w ≤ℤ a → a ≤ℤ b → int_lt z b ≡ true
     high z w a b h k l = grind (arith, ints)
 
-pub shape_meets : (r : Rect) (at : Placement) (e : Element) (pieces : List Rect) (b : Bounds) → IsPrepared e pieces (Some b) → AreInside r (carry_copy at (own_copy e) ∷ [])
-    → meets r (carried_bounds at b) ≡ true
-shape_meets r at e pieces b prepared h =
-    let drawn = prepared.drawn b refl in
-    let part = (single_fits at h.window b (own_copy e ∷ []) (record { wide = drawn.near.wide; tall = drawn.near.tall }) (shape_tight e pieces (Some b) prepared)).1 h.fit in
-    strictly_meets r h.window (carried_bounds at b) h.strictly part (carried_ordered at b)
+joined_meets : (r : Rect) (w b : Bounds) (o : Option Bounds) → IsStrictly r w → Fits w (joined_if b o) → IsOrdered b → meets_if r (joined_if b o) ≡ true
+joined_meets r w b None strictly fits ordered = strictly_meets r w b strictly fits ordered
+joined_meets r w b (Some c) strictly fits ordered = strictly_meets r w (joined b c) strictly fits (record { wide = order b.left b.right c.left c.right ordered.wide; tall = order b.bottom b.top c.bottom c.top ordered.tall }) where
+  order : (a c b d : ℤ) → a ≤ℤ c → int_min a b ≤ℤ int_max c d
+  order a c b d h = omega (arith, ints, clamps)
 
-pub cell_inside : (r : Rect) (at : Placement) (b : Bounds) (cs : List Copy) → IsOrdered b → IsRight cs (Some b) → IsStrictly r (carried_bounds at b) → AreInside r (map (carry_copy at) cs)
-cell_inside r at b cs ordered right strictly = record {
-  window = carried_bounds at b;
-  strictly = strictly;
-  fit = (single_fits at (carried_bounds at b) b cs ordered right.tight).0 (itself (carried_bounds at b));
-}
+copy_met : (r : Rect) (w : Bounds) (p : Placement) (parts : List Bounds) → are_some parts ≡ true → IsStrictly r w → All (λ b. IsPart w (carried_bounds p b)) parts
+    → meets_if r (extent_of (map (carried_bounds p) parts)) ≡ true
+copy_met r w p [] some strictly fit = let both = some in cc
+copy_met r w p (b ∷ parts) some strictly fit =
+    joined_meets r w (carried_bounds p b) (extent_of (map (carried_bounds p) parts)) strictly ((parts_fit w p (b ∷ parts)).1 fit) (carried_ordered p b)
 
--- ---- turns of a link, one after another
+inside_met : (r : Rect) (w : Bounds) (cs : List Copy) → IsStrictly r w → FitAll w cs → AreAllFull cs → met r cs ≡ length cs
+inside_met r w [] strictly fit full = refl
+inside_met r w (c ∷ cs) strictly fit full =
+    let one : is_met r c ≡ true = copy_met r w c.placement (parts_of c.element) full.0 strictly (all_first (FitsCopy w) c cs fit) in
+    rw (count_cons (is_met r) c cs, one, inside_met r w cs strictly (all_rest (FitsCopy w) c cs fit) full.1) (omega arith)
 
-pub found_turn : (r : Rect) (f : ℕ → List Copy) (k : ℕ) (old mid new : Found) → IsFound r (flat_map f (range_with_len 0 k)) old mid → IsFound r (f k) mid new
-    → IsFound r (flat_map f (range_with_len 0 (k + 1))) old new
-found_turn r f k old mid new before next = rw (range_more f k) (found_more r (flat_map f (range_with_len 0 k)) (f k) old mid new before next)
+-- ---- single references within
 
-pub many_turn : (r : Rect) (f : ℕ → List Copy) (n k : ℕ) (old mid : Found) (e : FlattenError) → k < n → IsFound r (flat_map f (range_with_len 0 k)) old mid → IsRefusalOn r (f k) mid e
-    → IsRefusalOn r (flat_map f (range_with_len 0 n)) old e
-many_turn r f n k old mid e within before refused =
-    let join = turns_join f 0 (k + 1) n (omega arith) (omega (arith, within)) in
-    let all : n - 0 ≡ n = omega arith in
-    let some : (k + 1) - 0 ≡ k + 1 = omega arith in
-    let here : IsRefusalOn r (flat_map f (range_with_len 0 (k + 1))) old e = subst (λ cs. IsRefusalOn r cs old e) (sym (range_more f k)) (many_later r (flat_map f (range_with_len 0 k)) (f k) old mid e before refused) in
-    subst (λ m. IsRefusalOn r (flat_map f (range_with_len 0 m)) old e) all
-    (subst (λ cs. IsRefusalOn r cs old e) (sym join)
-    (many_first r (flat_map f (range_with_len 0 ((k + 1) - 0))) (flat_map f (range_with_len (k + 1) (n - (k + 1)))) old e
-    (subst (λ m. IsRefusalOn r (flat_map f (range_with_len 0 m)) old e) (sym some) here)))
+pub range_fit : (w : Bounds) (f : ℕ → List Copy) (a n : ℕ) → ((k : ℕ) → a ≤ k → k < a + n → FitAll w (f k)) → FitAll w (flat_map f (range_with_len a n))
+range_fit w f a zero each = none_fit w
+range_fit w f a (suc n) each =
+    fit_joins w (f a) (flat_map f (range_with_len (a + 1) n)) (each a (omega arith) (omega arith)) (range_fit w f (a + 1) n (λ k ge lt. each k (omega (arith, ge)) (omega (arith, lt))))
+
+-- ---- one root more
+
+roots_more : (cells : List Cell) (roots : List Turns) (t : Turns) → roots_copies cells (roots ++ t ∷ []) ≡ roots_copies cells roots ++ turns_copies cells t
+roots_more cells roots t =
+    flat_map-append (turns_copies cells) roots (t ∷ []) ∙ ap (λ (cs : List Copy). roots_copies cells roots ++ cs) (nothing_more (turns_copies cells t))
+
+-- the number of copies of single references, where it's not too large
+module _ (w : Framed) (t : Turns) (ready : IsReady w) (counted : AreCounted w.cells.now w.counts.now t.depth t.link.cell) (inside : AreInside w.frame.now (turns_copies w.cells.now t)) (each more : ℕ)
+    (each_is : each ≡ item w.counts.now t.link.cell) (more_is : more ≡ t.number * each) where
+  all_met : met w.frame.now (turns_copies w.cells.now t) ≡ length (turns_copies w.cells.now t)
+  all_met = inside_met w.frame.now inside.window (turns_copies w.cells.now t) inside.strictly inside.fit
+      (range_full (turn_copies w.cells.now t) t.first t.number (λ k. full_carried (composed t.placement (single t.link k)) (copies (hierarchy w.cells.now) t.depth t.link.cell) (copies_full w.cells.now ready.full t.depth t.link.cell)))
+
+  capped : (more ≡ length (turns_copies w.cells.now t)) ⊎ ((4000001 ≤ more) × (4000001 ≤ length (turns_copies w.cells.now t)))
+  capped =
+      let long : length (turns_copies w.cells.now t) ≡ t.number * length (copies (hierarchy w.cells.now) t.depth t.link.cell) =
+      ap length (shifted (turn_copies w.cells.now t) t.first t.number)
+      ∙ turns_long (λ k. turn_copies w.cells.now t (t.first + k)) (length (copies (hierarchy w.cells.now) t.depth t.link.cell))
+      (λ k. single_long t.placement (copies (hierarchy w.cells.now) t.depth) t.link (t.first + k)) t.number in
+      let one = count_of w.cells.now w.counts.now t.depth t.link.cell counted in
+      cases long (many t.number (length (copies (hierarchy w.cells.now) t.depth t.link.cell)) each (subst (IsCapped (length (copies (hierarchy w.cells.now) t.depth t.link.cell))) (sym each_is) one))
+    where
+      cases : {n m : ℕ} → m ≡ n → ((t.number * each ≡ n) ⊎ ((4000001 ≤ t.number * each) × (4000001 ≤ n))) → (more ≡ m) ⊎ ((4000001 ≤ more) × (4000001 ≤ m))
+      cases long (inl e) = inl (more_is ∙ e ∙ sym long)
+      cases long (inr (a, b)) = inr (omega (arith, a, more_is), omega (arith, b, long))
+
+  pub root_many : (old : Found) (e : FlattenError) → (e ≡ TooManyShapes) × (4000000 < old.copies + more) → IsRefusalOn w.frame.now (turns_copies w.cells.now t) old e
+  root_many old e (is, large) = inr (is, cases capped) where
+    cases : ((more ≡ length (turns_copies w.cells.now t)) ⊎ ((4000001 ≤ more) × (4000001 ≤ length (turns_copies w.cells.now t)))) → 4000000 < old.copies + met w.frame.now (turns_copies w.cells.now t)
+    cases (inl e) = let all = all_met in omega (arith, large, all, e)
+    cases (inr (a, b)) = let all = all_met in omega (arith, b, all)
+
+  pub root_found : (old new : Found) → new.copies ≡ old.copies + more → new.copies ≤ 4000000 → new.inside ≡ old.inside + more → new.roots.items ≡ old.roots.items ++ t ∷ [] → new.rects.items ≡ old.rects.items
+      → IsFound w (turns_copies w.cells.now t) old new
+  root_found old new total few now roots rects = record {
+    counted = let all = all_met in let e = exact in omega (arith, total, all, e);
+    drawn = λ stay x y on.
+        ap (λ rs. covered rs x y || drawn (inner w new) x y) rects ∙ ap (λ cs. covered old.rects.items x y || drawn cs x y) joined
+        ∙ rw (drawn_joins (inner w old) (turns_copies w.cells.now t) x y) (sym (or_joins (covered old.rects.items x y) (drawn (inner w old) x y) (drawn (turns_copies w.cells.now t) x y)));
+    stay = λ stay all. subst AllStayInRange (sym joined) (All-append (λ (c : Copy). StaysInRange c.placement c.element) (inner w old) (turns_copies w.cells.now t) all stay);
+    kept = λ k. record {
+      rooted = subst (AreRooted w.cells.now w.counts.now) (sym roots)
+          (All-append (λ (u : Turns). AreCounted w.cells.now w.counts.now u.depth u.link.cell) old.roots.items (t ∷ []) k.rooted (all_from (λ (u : Turns). AreCounted w.cells.now w.counts.now u.depth u.link.cell) t [] counted (λ j d lt. absurd (omega (arith, lt)))));
+      number = let e = exact in let was = k.number in let long = ap length joined ∙ length-append (inner w old) (turns_copies w.cells.now t) in omega (arith, now, e, was, long);
+    };
+  } where
+    joined : inner w new ≡ inner w old ++ turns_copies w.cells.now t
+    joined = ap (roots_copies w.cells.now) roots ∙ roots_more w.cells.now old.roots.items t
+
+    exact : more ≡ length (turns_copies w.cells.now t)
+    exact = cases capped where
+      cases : ((more ≡ length (turns_copies w.cells.now t)) ⊎ ((4000001 ≤ more) × (4000001 ≤ length (turns_copies w.cells.now t)))) → more ≡ length (turns_copies w.cells.now t)
+      cases (inl e) = e
+      cases (inr (a, b)) = absurd (omega (arith, a, total, few))

@@ -9,6 +9,7 @@ pub mod Sparse
 pub mod Drawing
 pub mod Sharing
 pub mod Agreeing
+pub mod Arranged
 pub mod Flattened
 pub mod Leaving
 pub mod Seen

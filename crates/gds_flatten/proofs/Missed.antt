@@ -13,14 +13,17 @@ use Rattle.gds_shape.proofs.Counting.{count_cons}
 use Rattle.gds_cells.specs.declared.error.FlattenError.{FlattenError}
 use Rattle.gds_cells.specs.declared.error.FlattenError.TheVariants.{TooManyShapes}
 use Rattle.gds_flatten.specs.declared.found.Found.{Found}
+use Rattle.gds_flatten.specs.declared.found.Framed.{Framed}
+use Rattle.gds_flatten.specs.steps.Finding.{IsFound, IsRefusalOn, inner, seen}
+use Rattle.gds_flatten.specs.steps.Roots.{roots_copies, AreRooted}
 use Rattle.gds_cells.specs.declared.link.Link.{Link}
 use Rattle.gds_cells.specs.declared.placement.Placement.{Placement}
 use Rattle.gds_cells.specs.Placements.{carried_bounds, composed, still}
-use Rattle.gds_cells.specs.Copies.{Copy, own_copy, carry_copy, AllStayInRange}
+use Rattle.gds_cells.specs.Copies.{Copy, own_copy, carry_copy, drawn, AllStayInRange}
 use Rattle.gds_flatten.specs.Frames.{meets, meets_if, joined_if, extent_of, parts_at, is_met, met}
 use Rattle.gds_cells.specs.Links.{single}
 use Rattle.gds_cells.specs.Shapes.{parts_of}
-use Rattle.gds_flatten.specs.steps.Framing.{Fits, FitsCopy, FitAll, IsRight, IsFine, IsMissed, IsFound, IsRefusalOn}
+use Rattle.gds_flatten.specs.steps.Framing.{Fits, FitsCopy, FitAll, IsRight, IsFine, IsMissed}
 use Rattle.gds_cells.specs.steps.Prepared.{IsOrdered, IsPrepared, IsPart}
 use Rattle.gds_flatten.proofs.Drawing.{carried_twice, list_more, shape_drawn}
 use Rattle.gds_cells.proofs.Composing.{composed_still}
@@ -146,6 +149,9 @@ bare_missed r at cs right = record {
   none = all_apart r (beyond r) (map (carry_copy at) cs) (nothing_fits at (beyond r) cs right.tight) (beyond_apart r);
 }
 
+or_turned : (a b c : Bool) → ((a || b) || c) ≡ ((a || c) || b)
+or_turned a b c = grind arith
+
 -- a shape that the frame doesn't meet, one that it does, and one more than there may be
 pub shape_missed : (r : Rect) (at : Placement) (e : Element) (pieces : List Rect) (b : Bounds) → IsPrepared e pieces (Some b) → meets r (carried_bounds at b) ≡ false
     → IsMissed r (carry_copy at (own_copy e) ∷ [])
@@ -165,35 +171,45 @@ one_shape : (r : Rect) (at : Placement) (e : Element) (pieces : List Rect) (b : 
     → met r (carry_copy at (own_copy e) ∷ []) ≡ 1
 one_shape r at e pieces b prepared here = one_met r (carry_copy at (own_copy e)) (ap (meets_if r) (shape_extent e pieces b at prepared) ∙ here)
 
-pub shape_found : (r : Rect) (at : Placement) (e : Element) (pieces : List Rect) (b : Bounds) (old new : Found) → IsPrepared e pieces (Some b) → meets r (carried_bounds at b) ≡ true
-    → new.copies ≡ old.copies + 1
+pub shape_found : (w : Framed) (at : Placement) (e : Element) (pieces : List Rect) (b : Bounds) (old new : Found) → IsPrepared e pieces (Some b) → meets w.frame.now (carried_bounds at b) ≡ true
+    → new.copies ≡ old.copies + 1 → new.roots.items ≡ old.roots.items → new.inside ≡ old.inside
     → (StaysInRange at e → (x y : ℤ) → covered new.rects.items x y ≡ (covered old.rects.items x y || carried at (covers_of e) x y))
-    → IsFound r (carry_copy at (own_copy e) ∷ []) old new
-shape_found r at e pieces b old new prepared here more added =
-    let one = one_shape r at e pieces b prepared here in record {
+    → IsFound w (carry_copy at (own_copy e) ∷ []) old new
+shape_found w at e pieces b old new prepared here more roots inside added =
+    let one = one_shape w.frame.now at e pieces b prepared here in
+    let same : inner w new ≡ inner w old = ap (roots_copies w.cells.now) roots in record {
       counted = omega (arith, one, more);
       drawn = λ stay x y on.
-          let inside = subst (λ (p : Placement). StaysInRange p e) (composed_still at) (stay 0 (carry_copy at (own_copy e)) (grind (arith, common_steps))) in
-          (shape_drawn at e old.rects.items new.rects.items inside (added inside)).added x y;
+          let within = subst (λ (p : Placement). StaysInRange p e) (composed_still at) (stay 0 (carry_copy at (own_copy e)) (grind (arith, common_steps))) in
+          ap (λ c. c || drawn (inner w new) x y) ((shape_drawn at e old.rects.items new.rects.items within (added within)).added x y)
+          ∙ ap (λ cs. (covered old.rects.items x y || drawn (carry_copy at (own_copy e) ∷ []) x y) || drawn cs x y) same
+          ∙ or_turned (covered old.rects.items x y) (drawn (carry_copy at (own_copy e) ∷ []) x y) (drawn (inner w old) x y);
+      stay = λ stay all. subst AllStayInRange (sym same) all;
+      kept = λ k. record { rooted = subst (AreRooted w.cells.now w.counts.now) (sym roots) k.rooted; number = inside ∙ k.number ∙ ap length (sym same) };
     }
 
 pub shape_many : (r : Rect) (at : Placement) (e : Element) (pieces : List Rect) (b : Bounds) (old : Found) (f : FlattenError) → IsPrepared e pieces (Some b) → meets r (carried_bounds at b) ≡ true
-    → (f ≡ TooManyShapes) × (old.copies ≡ 4000000) → IsRefusalOn r (carry_copy at (own_copy e) ∷ []) old f
+    → (f ≡ TooManyShapes) × (4000000 < old.copies + 1) → IsRefusalOn r (carry_copy at (own_copy e) ∷ []) old f
 shape_many r at e pieces b old f prepared here (is, full) = let one = one_shape r at e pieces b prepared here in inr (is, omega (arith, one, full))
 
 -- none of some single references is seen where none of an extent is seen that holds them
 fit_wider : (w v : Bounds) (cs : List Copy) → IsPart w v → FitAll v cs → FitAll w cs
 fit_wider w v cs part all = λ k d lt j e small. part_of_part w v _ part (all k d lt j e small)
 
+pub single_fit : (at : Placement) (l : Link) (k : ℕ) (b all : Bounds) (cs : List Copy) → IsFine b → IsRight cs (Some b) → IsPart all (carried_bounds (single l k) b)
+    → IsOrdered all → FitAll (carried_bounds at all) (map (carry_copy (composed at (single l k))) cs)
+single_fit at l k b all cs fine right part ordered =
+    let w = carried_bounds at all in
+    subst (FitAll w) (carried_twice at (single l k) cs)
+    (carry_forth at w (map (carry_copy (single l k)) cs) (fit_wider (window at w) all (map (carry_copy (single l k)) cs) ((back_fits at w all ordered).0 (itself w))
+    ((single_fits (single l k) all b cs fine.ordered right.tight).0 part)))
+
 pub single_missed : (r : Rect) (at : Placement) (l : Link) (k : ℕ) (b all : Bounds) (cs : List Copy) → IsFine b → IsRight cs (Some b) → IsPart all (carried_bounds (single l k) b)
     → IsOrdered all → meets r (carried_bounds at all) ≡ false → IsMissed r (map (carry_copy (composed at (single l k))) cs)
-single_missed r at l k b all cs fine right part ordered apart =
-    let w = carried_bounds at all in record {
-      dark = single_unseen r at l k b all cs fine right.held part ordered apart;
-      none = subst (λ ds. met r ds ≡ 0) (carried_twice at (single l k) cs) (all_apart r w (map (carry_copy at) (map (carry_copy (single l k)) cs))
-          (carry_forth at w (map (carry_copy (single l k)) cs) (fit_wider (window at w) all (map (carry_copy (single l k)) cs) ((back_fits at w all ordered).0 (itself w))
-          ((single_fits (single l k) all b cs fine.ordered right.tight).0 part))) apart);
-    }
+single_missed r at l k b all cs fine right part ordered apart = record {
+  dark = single_unseen r at l k b all cs fine right.held part ordered apart;
+  none = all_apart r (carried_bounds at all) (map (carry_copy (composed at (single l k))) cs) (single_fit at l k b all cs fine right part ordered) apart;
+}
 
 pub none_missed : (r : Rect) → IsMissed r []
 none_missed r = record { dark = none_unseen r; none = refl }
@@ -217,30 +233,37 @@ stays_first cs ds all = fit_stay cs (fit_first all_coordinates cs ds (stay_fit (
 stays_later : (cs ds : List Copy) → AllStayInRange (cs ++ ds) → AllStayInRange ds
 stays_later cs ds all = fit_stay ds (fit_later all_coordinates cs ds (stay_fit (cs ++ ds) all))
 
-pub found_none : (r : Rect) (old : Found) → IsFound r [] old old
-found_none r old = record { counted = omega arith; drawn = λ stay. none_on r old.rects.items }
+pub found_none : (w : Framed) (old : Found) → IsFound w [] old old
+found_none w old = record { counted = omega arith; drawn = λ stay. none_on w.frame.now (seen w old); stay = λ stay all. all; kept = λ k. k }
 
-pub found_missed : (r : Rect) (cs : List Copy) (old : Found) → IsMissed r cs → IsFound r cs old old
-found_missed r cs old missed = let none = missed.none in record { counted = omega (arith, none); drawn = λ stay. unseen_on r cs old.rects.items missed.dark }
+pub found_missed : (w : Framed) (cs : List Copy) (old : Found) → IsMissed w.frame.now cs → IsFound w cs old old
+found_missed w cs old missed = let none = missed.none in record {
+  counted = omega (arith, none);
+  drawn = λ stay. unseen_on w.frame.now cs (seen w old) missed.dark;
+  stay = λ stay all. all;
+  kept = λ k. k;
+}
 
-pub found_more : (r : Rect) (cs ds : List Copy) (old mid new : Found) → IsFound r cs old mid → IsFound r ds mid new → IsFound r (cs ++ ds) old new
-found_more r cs ds old mid new first then =
+pub found_more : (w : Framed) (cs ds : List Copy) (old mid new : Found) → IsFound w cs old mid → IsFound w ds mid new → IsFound w (cs ++ ds) old new
+found_more w cs ds old mid new first then =
     let one = first.counted in
     let two = then.counted in
-    let both = met_joins r cs ds in record {
+    let both = met_joins w.frame.now cs ds in record {
       counted = omega (arith, one, two, both);
-      drawn = λ stay. more_on r cs ds old.rects.items mid.rects.items new.rects.items (first.drawn (stays_first cs ds stay)) (then.drawn (stays_later cs ds stay));
+      drawn = λ stay. more_on w.frame.now cs ds (seen w old) (seen w mid) (seen w new) (first.drawn (stays_first cs ds stay)) (then.drawn (stays_later cs ds stay));
+      stay = λ stay all. then.stay (stays_later cs ds stay) (first.stay (stays_first cs ds stay) all);
+      kept = λ k. then.kept (first.kept k);
     }
 
-pub found_next : {X : Type 0} (r : Rect) (f : X → List Copy) (xs : List X) (k : ℕ) (d : X) (old mid new : Found) → k < length xs
-    → IsFound r (flat_map f (take k xs)) old mid → IsFound r (f (get_or xs k d)) mid new → IsFound r (flat_map f (take (k + 1) xs)) old new
-found_next r f xs k d old mid new within before next =
-    rw (list_more f xs k d within) (found_more r (flat_map f (take k xs)) (f (get_or xs k d)) old mid new before next)
+pub found_next : {X : Type 0} (w : Framed) (f : X → List Copy) (xs : List X) (k : ℕ) (d : X) (old mid new : Found) → k < length xs
+    → IsFound w (flat_map f (take k xs)) old mid → IsFound w (f (get_or xs k d)) mid new → IsFound w (flat_map f (take (k + 1) xs)) old new
+found_next w f xs k d old mid new within before next =
+    rw (list_more f xs k d within) (found_more w (flat_map f (take k xs)) (f (get_or xs k d)) old mid new before next)
 
-pub found_all : {X : Type 0} (r : Rect) (f : X → List Copy) (xs : List X) (k : ℕ) (old new : Found) → (k < length xs → ⊥)
-    → IsFound r (flat_map f (take k xs)) old new → IsFound r (flat_map f xs) old new
-found_all r f xs k old new ended h =
-    let whole : take k xs ≡ xs = grind (arith, common_steps, ended) in subst (λ ys. IsFound r (flat_map f ys) old new) whole h
+pub found_all : {X : Type 0} (w : Framed) (f : X → List Copy) (xs : List X) (k : ℕ) (old new : Found) → (k < length xs → ⊥)
+    → IsFound w (flat_map f (take k xs)) old new → IsFound w (flat_map f xs) old new
+found_all w f xs k old new ended h =
+    let whole : take k xs ≡ xs = grind (arith, common_steps, ended) in subst (λ ys. IsFound w (flat_map f ys) old new) whole h
 
 -- ---- refusals
 
@@ -248,17 +271,17 @@ pub many_first : (r : Rect) (cs ds : List Copy) (old : Found) (e : FlattenError)
 many_first r cs ds old e (inl m) = inl m
 many_first r cs ds old e (inr (is, many)) = let both = met_joins r cs ds in inr (is, omega (arith, many, both))
 
-pub many_later : (r : Rect) (cs ds : List Copy) (old mid : Found) (e : FlattenError) → IsFound r cs old mid → IsRefusalOn r ds mid e → IsRefusalOn r (cs ++ ds) old e
-many_later r cs ds old mid e first (inl m) = inl m
-many_later r cs ds old mid e first (inr (is, many)) = let both = met_joins r cs ds in let one = first.counted in inr (is, omega (arith, many, both, one))
+pub many_later : (w : Framed) (cs ds : List Copy) (old mid : Found) (e : FlattenError) → IsFound w cs old mid → IsRefusalOn w.frame.now ds mid e → IsRefusalOn w.frame.now (cs ++ ds) old e
+many_later w cs ds old mid e first (inl m) = inl m
+many_later w cs ds old mid e first (inr (is, many)) = let both = met_joins w.frame.now cs ds in let one = first.counted in inr (is, omega (arith, many, both, one))
 
-pub many_next : {X : Type 0} (r : Rect) (f : X → List Copy) (xs : List X) (k : ℕ) (d : X) (old mid : Found) (e : FlattenError) → k < length xs
-    → IsFound r (flat_map f (take k xs)) old mid → IsRefusalOn r (f (get_or xs k d)) mid e → IsRefusalOn r (flat_map f xs) old e
-many_next r f xs k d old mid e within before refused =
+pub many_next : {X : Type 0} (w : Framed) (f : X → List Copy) (xs : List X) (k : ℕ) (d : X) (old mid : Found) (e : FlattenError) → k < length xs
+    → IsFound w (flat_map f (take k xs)) old mid → IsRefusalOn w.frame.now (f (get_or xs k d)) mid e → IsRefusalOn w.frame.now (flat_map f xs) old e
+many_next w f xs k d old mid e within before refused =
     let split : flat_map f xs ≡ flat_map f (take (k + 1) xs) ++ flat_map f (drop (k + 1) xs) =
     ap (flat_map f) (sym (take-append-drop (k + 1) xs)) ∙ flat_map-append f (take (k + 1) xs) (drop (k + 1) xs) in
-    subst (λ cs. IsRefusalOn r cs old e) (sym split) (many_first r (flat_map f (take (k + 1) xs)) (flat_map f (drop (k + 1) xs)) old e
-    (subst (λ cs. IsRefusalOn r cs old e) (sym (list_more f xs k d within)) (many_later r (flat_map f (take k xs)) (f (get_or xs k d)) old mid e before refused)))
+    subst (λ cs. IsRefusalOn w.frame.now cs old e) (sym split) (many_first w.frame.now (flat_map f (take (k + 1) xs)) (flat_map f (drop (k + 1) xs)) old e
+    (subst (λ cs. IsRefusalOn w.frame.now cs old e) (sym (list_more f xs k d within)) (many_later w (flat_map f (take k xs)) (f (get_or xs k d)) old mid e before refused)))
 
 -- ---- one single reference of a link
 

@@ -1,6 +1,6 @@
 -- What copies draw within an extent in range is in range.
 use Rattle.std.proofs.Common.{◌≡◌, ℤ, ◌≤ℤ◌, ◌<ℤ◌, true, List, Option, arith, ◌∙◌}
-use Rattle.std.specs.Prelude.{int_le, int_lt}
+use Rattle.std.specs.Prelude.{int_le, int_lt, filter}
 use Rattle.std.proofs.lemmas.Bool.{and_parts}
 use Rattle.std.proofs.lemmas.Int.{ints}
 use Rattle.fill_base.specs.Coordinates.{IsInRange, highest, lowest}
@@ -9,8 +9,8 @@ use Rattle.gds_shape.specs.declared.bounds.Bounds.{Bounds}
 use Rattle.gds_shape.specs.Paths.{AreInRange, in_bounds}
 use Rattle.gds_cells.specs.Copies.{Copy, drawn}
 use Rattle.gds_flatten.specs.steps.Framing.{IsHeld, in_if}
-use Rattle.gds_flatten.specs.steps.Idle.{AreBut}
-use Rattle.gds_flatten.proofs.Sparse.{but_drawn}
+use Rattle.gds_flatten.specs.steps.Idle.{is_full}
+use Rattle.gds_flatten.proofs.Sparse.{full_drawn}
 
 pub bounds_range : (b : Bounds) → AreInRange b → (x y : ℤ) → in_bounds b x y ≡ true → IsInRange x y
 bounds_range b range x y within =
@@ -30,5 +30,5 @@ bounds_range b range x y within =
         to : (h z : ℤ) → int_lt z h ≡ true → h ≤ℤ highest → z <ℤ highest
         to h z t high = let g : z <ℤ h = grind (arith, ints, t) in omega (arith, ints)
 
-pub all_in_range : (ks bs : List Copy) (o : Option Bounds) → AreBut ks bs → IsHeld ks o → ((x y : ℤ) → in_if o x y ≡ true → IsInRange x y) → (x y : ℤ) → drawn bs x y ≡ true → IsInRange x y
-all_in_range ks bs o but held range x y on = range x y (held x y (but_drawn ks bs x y but ∙ on))
+pub all_in_range : (cs : List Copy) (o : Option Bounds) → IsHeld (filter is_full cs) o → ((x y : ℤ) → in_if o x y ≡ true → IsInRange x y) → (x y : ℤ) → drawn cs x y ≡ true → IsInRange x y
+all_in_range cs o held range x y on = range x y (held x y (full_drawn cs x y ∙ on))

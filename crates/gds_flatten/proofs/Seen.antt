@@ -6,7 +6,7 @@ use Rattle.std.proofs.lemmas.Int.{ints}
 use Rattle.std.proofs.lemmas.Bool.{and_parts, and_from}
 use Rattle.fill_base.specs.declared.rect.Rect.{Rect}
 use Rattle.fill_base.specs.Squares.{squares}
-use Rattle.fill_region.specs.Squares.{covered}
+use Rattle.gds_flatten.specs.steps.Finding.{IsDrawnOn}
 use Rattle.gds_shape.specs.declared.bounds.Bounds.{Bounds}
 use Rattle.gds_shape.specs.Paths.{in_bounds}
 use Rattle.gds_shape.specs.Extents.{LiesWithin}
@@ -17,7 +17,7 @@ use Rattle.gds_cells.specs.Placements.{back_x, back_y, carried, carried_bounds}
 use Rattle.gds_cells.specs.Copies.{Copy, carry_copy, copy_covers, drawn, copies}
 use Rattle.gds_cells.specs.Shapes.{covers_of}
 use Rattle.gds_flatten.specs.Frames.{meets}
-use Rattle.gds_flatten.specs.steps.Framing.{IsUnseen, IsDrawnOn, IsFine, IsFineIf, IsHeld, IsRight, AreHeld, extent_at}
+use Rattle.gds_flatten.specs.steps.Framing.{IsUnseen, IsFine, IsFineIf, IsHeld, IsRight, AreHeld, extent_at}
 use Rattle.gds_cells.specs.steps.Ranges.{IsWithin}
 use Rattle.gds_cells.specs.steps.Prepared.{IsOrdered}
 use Rattle.gds_cells.specs.steps.Walks.{hierarchy}
@@ -28,17 +28,17 @@ use Rattle.gds_flatten.proofs.Drawing.{drawn_joins, or_joins, or_false}
 
 -- ---- one after another
 
-pub none_on : (r : Rect) (old : List Rect) → IsDrawnOn r [] old old
-none_on r old x y on = or_false (covered old x y)
+pub none_on : (r : Rect) (old : ℤ → ℤ → Bool) → IsDrawnOn r [] old old
+none_on r old x y on = or_false (old x y)
 
-pub more_on : (r : Rect) (cs ds : List Copy) (old mid new : List Rect) → IsDrawnOn r cs old mid → IsDrawnOn r ds mid new → IsDrawnOn r (cs ++ ds) old new
+pub more_on : (r : Rect) (cs ds : List Copy) (old mid new : ℤ → ℤ → Bool) → IsDrawnOn r cs old mid → IsDrawnOn r ds mid new → IsDrawnOn r (cs ++ ds) old new
 more_on r cs ds old mid new first then x y on =
-    then x y on ∙ rw (first x y on, drawn_joins cs ds x y) (or_joins (covered old x y) (drawn cs x y) (drawn ds x y))
+    then x y on ∙ rw (first x y on, drawn_joins cs ds x y) (or_joins (old x y) (drawn cs x y) (drawn ds x y))
 
 -- ---- what isn't seen
 
-pub unseen_on : (r : Rect) (cs : List Copy) (old : List Rect) → IsUnseen r cs → IsDrawnOn r cs old old
-unseen_on r cs old unseen x y on = rw (unseen x y on) (or_false (covered old x y))
+pub unseen_on : (r : Rect) (cs : List Copy) (old : ℤ → ℤ → Bool) → IsUnseen r cs → IsDrawnOn r cs old old
+unseen_on r cs old unseen x y on = rw (unseen x y on) (or_false (old x y))
 
 -- a square of both is one where they meet
 stretch : (r : Rect) (b : Bounds) (x y : ℤ) → in_bounds b x y ≡ true → squares r x y ≡ true → meets r b ≡ true

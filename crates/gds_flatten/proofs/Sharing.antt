@@ -94,7 +94,7 @@ module _ (at : Placement) where
 
 -- ---- counts that stop at 4,000,001 count as much of a stretch as all do
 
-many : (m n each : ℕ) → IsCapped n each → (m * each ≡ m * n) ⊎ ((4000001 ≤ m * each) × (4000001 ≤ m * n))
+pub many : (m n each : ℕ) → IsCapped n each → (m * each ≡ m * n) ⊎ ((4000001 ≤ m * each) × (4000001 ≤ m * n))
 many zero n each h = inl (grind (arith, common_steps))
 many (suc m) n each h = cases h.exact where
   at_least : (x : ℕ) → 4000001 ≤ x → 4000001 ≤ suc m * x
@@ -119,85 +119,90 @@ behind_many : (t a b : ℕ) → t ≤ 4000000 → t ≤ a → ((a ≡ b) ⊎ ((4
 behind_many t a b few h (inl e) = omega (arith, h, e)
 behind_many t a b few h (inr (large, more)) = omega (arith, few, more)
 
--- ---- a link
+-- ---- single references
 
-module _ (at : Placement) (below : ℕ → List Copy) (l : Link) where
-  single_long : (k : ℕ) → length (single_copies at below l k) ≡ length (below l.cell)
-  single_long k = grind (arith, common_steps)
+pub single_long : (at : Placement) (below : ℕ → List Copy) (l : Link) (k : ℕ) → length (single_copies at below l k) ≡ length (below l.cell)
+single_long at below l k = grind (arith, common_steps)
 
-  pub turns_long : (k : ℕ) → length (flat_map (single_copies at below l) (range_with_len 0 k)) ≡ k * length (below l.cell)
-  turns_long zero = none (length (below l.cell)) where
-    none : (n : ℕ) → length (flat_map (single_copies at below l) (range_with_len 0 0)) ≡ 0 * n
+-- those from a number on, counted from there
+pub shifted : (draw : ℕ → List Copy) (a n : ℕ) → flat_map draw (range_with_len a n) ≡ flat_map (λ k. draw (a + k)) (range_with_len 0 n)
+shifted draw a n = let none : a ≡ a + 0 = omega arith in ap (λ b. flat_map draw (range_with_len b n)) none ∙ from 0 n where
+  from : (b m : ℕ) → flat_map draw (range_with_len (a + b) m) ≡ flat_map (λ k. draw (a + k)) (range_with_len b m)
+  from b zero = refl
+  from b (suc m) =
+      let next : (a + b) + 1 ≡ a + (b + 1) = omega arith in
+      ap (λ cs. draw (a + b) ++ cs) (ap (λ x. flat_map draw (range_with_len x m)) next ∙ from (b + 1) m)
+
+-- all draw as many copies
+module _ (draw : ℕ → List Copy) (one : ℕ) (long : (k : ℕ) → length (draw k) ≡ one) where
+  pub turns_long : (k : ℕ) → length (flat_map draw (range_with_len 0 k)) ≡ k * one
+  turns_long zero = none one where
+    none : (n : ℕ) → length (flat_map draw (range_with_len 0 0)) ≡ 0 * n
     none n = grind (arith, common_steps)
   turns_long (suc k) =
       let more : suc k ≡ k + 1 = omega arith in
-      ap (λ n. length (flat_map (single_copies at below l) (range_with_len 0 n))) more ∙ ap length (range_more (single_copies at below l) k)
-      ∙ (length-append (flat_map (single_copies at below l) (range_with_len 0 k)) (single_copies at below l k)
-      ∙ joined k (length (below l.cell)) _ _ (turns_long k) (single_long k))
+      ap (λ n. length (flat_map draw (range_with_len 0 n))) more ∙ ap length (range_more draw k)
+      ∙ (length-append (flat_map draw (range_with_len 0 k)) (draw k) ∙ joined k one _ _ (turns_long k) (long k))
     where
       joined : (m n a b : ℕ) → a ≡ m * n → b ≡ n → a + b ≡ suc m * n
       joined m n a b e g = grind (arith, common_steps, e, g)
 
-  module _ (each : ℕ) (capped : IsCapped (length (below l.cell)) each) (f t : ℕ) (first_few : f ≤ 4000000) (last_few : t ≤ 4000000) where
+  module _ (each : ℕ) (capped : IsCapped one each) (f t : ℕ) (first_few : f ≤ 4000000) (last_few : t ≤ 4000000) where
     -- no copies of the stretch come before its first turn
-    pub turns_begin : (k : ℕ) → k * each ≤ f → part f t (flat_map (single_copies at below l) (range_with_len 0 k)) ≡ []
+    pub turns_begin : (k : ℕ) → k * each ≤ f → part f t (flat_map draw (range_with_len 0 k)) ≡ []
     turns_begin k h =
         let long = turns_long k in
-        part_before f t (flat_map (single_copies at below l) (range_with_len 0 k))
-        (subst (λ n. n ≤ f) (sym long) (before_many f (k * each) (k * length (below l.cell)) first_few h (many k (length (below l.cell)) each capped)))
+        part_before f t (flat_map draw (range_with_len 0 k))
+        (subst (λ n. n ≤ f) (sym long) (before_many f (k * each) (k * one) first_few h (many k one each capped)))
 
-    pub turns_begun : (k : ℕ) → k * each ≤ f → (old : List Rect) → IsDrawn (part f t (flat_map (single_copies at below l) (range_with_len 0 k))) old old
+    pub turns_begun : (k : ℕ) → k * each ≤ f → (old : List Rect) → IsDrawn (part f t (flat_map draw (range_with_len 0 k))) old old
     turns_begun k h old = rw (turns_begin k h) (nothing_drawn old)
 
     pub turn_shared : (k g u : ℕ) (old mid new : List Rect) → g ≡ f - k * each → u ≡ t - k * each
-        → IsDrawn (part f t (flat_map (single_copies at below l) (range_with_len 0 k))) old mid
-        → IsDrawn (part g u (single_copies at below l k)) mid new
-        → IsDrawn (part f t (flat_map (single_copies at below l) (range_with_len 0 (k + 1)))) old new
+        → IsDrawn (part f t (flat_map draw (range_with_len 0 k))) old mid
+        → IsDrawn (part g u (draw k)) mid new
+        → IsDrawn (part f t (flat_map draw (range_with_len 0 (k + 1)))) old new
     turn_shared k g u old mid new first last before next =
-        let done = flat_map (single_copies at below l) (range_with_len 0 k) in
-        let passed = many k (length (below l.cell)) each capped in
-        let gs : g ≡ f - length done = first ∙ less_many f (k * each) (k * length (below l.cell)) first_few passed ∙ ap (λ n. f - n) (sym (turns_long k)) in
-        let us : u ≡ t - length done = last ∙ less_many t (k * each) (k * length (below l.cell)) last_few passed ∙ ap (λ n. t - n) (sym (turns_long k)) in
-        rw (ap (part f t) (range_more (single_copies at below l) k) ∙ part_joins f t done (single_copies at below l k))
-        (drawn_more (part f t done) (part (f - length done) (t - length done) (single_copies at below l k)) old mid new before
-        (subst (λ cs. IsDrawn cs mid new) (same_part g u (f - length done) (t - length done) (single_copies at below l k) gs us) next))
+        let done = flat_map draw (range_with_len 0 k) in
+        let passed = many k one each capped in
+        let gs : g ≡ f - length done = first ∙ less_many f (k * each) (k * one) first_few passed ∙ ap (λ n. f - n) (sym (turns_long k)) in
+        let us : u ≡ t - length done = last ∙ less_many t (k * each) (k * one) last_few passed ∙ ap (λ n. t - n) (sym (turns_long k)) in
+        rw (ap (part f t) (range_more draw k) ∙ part_joins f t done (draw k))
+        (drawn_more (part f t done) (part (f - length done) (t - length done) (draw k)) old mid new before
+        (subst (λ cs. IsDrawn cs mid new) (same_part g u (f - length done) (t - length done) (draw k) gs us) next))
 
-    later : (k d : ℕ) → t ≤ k * length (below l.cell)
-        → part f t (flat_map (single_copies at below l) (range_with_len 0 (k + d))) ≡ part f t (flat_map (single_copies at below l) (range_with_len 0 k))
-    later k zero h = ap (λ n. part f t (flat_map (single_copies at below l) (range_with_len 0 n))) (let same : k + 0 ≡ k = omega arith in same)
+    later : (k d : ℕ) → t ≤ k * one
+        → part f t (flat_map draw (range_with_len 0 (k + d))) ≡ part f t (flat_map draw (range_with_len 0 k))
+    later k zero h = ap (λ n. part f t (flat_map draw (range_with_len 0 n))) (let same : k + 0 ≡ k = omega arith in same)
     later k (suc d) h =
         let one_more : k + suc d ≡ (k + d) + 1 = omega arith in
-        let most = times_more k (k + d) (length (below l.cell)) (omega arith) in
-        let done = flat_map (single_copies at below l) (range_with_len 0 (k + d)) in
-        ap (λ n. part f t (flat_map (single_copies at below l) (range_with_len 0 n))) one_more
-        ∙ (ap (part f t) (range_more (single_copies at below l) (k + d))
-        ∙ (part_front f t done (single_copies at below l (k + d)) (subst (λ n. t ≤ n) (sym (turns_long (k + d))) (omega (arith, h, most)))
+        let most = times_more k (k + d) one (omega arith) in
+        let done = flat_map draw (range_with_len 0 (k + d)) in
+        ap (λ n. part f t (flat_map draw (range_with_len 0 n))) one_more
+        ∙ (ap (part f t) (range_more draw (k + d))
+        ∙ (part_front f t done (draw (k + d)) (subst (λ n. t ≤ n) (sym (turns_long (k + d))) (omega (arith, h, most)))
         ∙ later k d h))
 
     -- nor do any come behind its last
-    pub turns_done : (k end turns : ℕ) (old new : List Rect) → k ≤ turns → (k < end → ⊥) → ((end ≡ turns) ⊎ (t ≤ end * each)) → turns ≡ l.columns * l.rows
-        → IsDrawn (part f t (flat_map (single_copies at below l) (range_with_len 0 k))) old new
-        → IsDrawn (part f t (link_copies at below l)) old new
-    turns_done k end turns old new within ended behind all h = subst (λ n. IsDrawn (part f t (flat_map (single_copies at below l) (range_with_len 0 n))) old new) all (cases behind) where
-      cases : ((end ≡ turns) ⊎ (t ≤ end * each)) → IsDrawn (part f t (flat_map (single_copies at below l) (range_with_len 0 turns))) old new
-      cases (inl e) = subst (λ n. IsDrawn (part f t (flat_map (single_copies at below l) (range_with_len 0 n))) old new) (let same : k ≡ turns = omega (arith, within, ended, e) in same) h
+    pub turns_done : (k end turns : ℕ) (old new : List Rect) → k ≤ turns → (k < end → ⊥) → ((end ≡ turns) ⊎ (t ≤ end * each))
+        → IsDrawn (part f t (flat_map draw (range_with_len 0 k))) old new
+        → IsDrawn (part f t (flat_map draw (range_with_len 0 turns))) old new
+    turns_done k end turns old new within ended behind h = cases behind where
+      cases : ((end ≡ turns) ⊎ (t ≤ end * each)) → IsDrawn (part f t (flat_map draw (range_with_len 0 turns))) old new
+      cases (inl e) = subst (λ n. IsDrawn (part f t (flat_map draw (range_with_len 0 n))) old new) (let same : k ≡ turns = omega (arith, within, ended, e) in same) h
       cases (inr past) =
           let most = times_more end k each (omega (arith, ended)) in
           let split : k + (turns - k) ≡ turns = omega (arith, within) in
-          subst (λ n. IsDrawn (part f t (flat_map (single_copies at below l) (range_with_len 0 n))) old new) split
-          (rw (later k (turns - k) (behind_many t (k * each) (k * length (below l.cell)) last_few (omega (arith, past, most)) (many k (length (below l.cell)) each capped))) h)
+          subst (λ n. IsDrawn (part f t (flat_map draw (range_with_len 0 n))) old new) split
+          (rw (later k (turns - k) (behind_many t (k * each) (k * one) last_few (omega (arith, past, most)) (many k one each capped))) h)
 
-    -- a link that comes before the stretch adds nothing
-    pub link_before : (old : List Rect) → (l.columns * l.rows) * each ≤ f → IsDrawn (part f t (link_copies at below l)) old old
-    link_before old h = turns_begun (l.columns * l.rows) h old
-
-    -- what's left of a stretch behind a link
-    pub link_passed : (passed g u : ℕ) → passed ≡ (l.columns * l.rows) * each → g ≡ f - passed → u ≡ t - passed
-        → (g ≡ f - length (link_copies at below l)) × (u ≡ t - length (link_copies at below l))
-    link_passed passed g u is first last =
-        let turns = many (l.columns * l.rows) (length (below l.cell)) each capped in (
-          first ∙ ap (λ n. f - n) is ∙ less_many f _ _ first_few turns ∙ ap (λ n. f - n) (sym (turns_long (l.columns * l.rows))),
-          last ∙ ap (λ n. t - n) is ∙ less_many t _ _ last_few turns ∙ ap (λ n. t - n) (sym (turns_long (l.columns * l.rows))),
+    -- what's left of a stretch behind them
+    pub turns_passed : (n passed g u : ℕ) → passed ≡ n * each → g ≡ f - passed → u ≡ t - passed
+        → (g ≡ f - length (flat_map draw (range_with_len 0 n))) × (u ≡ t - length (flat_map draw (range_with_len 0 n)))
+    turns_passed n passed g u is first last =
+        let turns = many n one each capped in (
+          first ∙ ap (λ x. f - x) is ∙ less_many f _ _ first_few turns ∙ ap (λ x. f - x) (sym (turns_long n)),
+          last ∙ ap (λ x. t - x) is ∙ less_many t _ _ last_few turns ∙ ap (λ x. t - x) (sym (turns_long n)),
         )
 
 -- ---- links of a cell, one after another

@@ -1,32 +1,42 @@
--- Cells without the links to cells that draw nothing draw the same, but for copies whose shapes have no parts.
-use Rattle.std.proofs.Common.{◌≡◌, ℕ, zero, suc, ◌+◌, ◌<◌, inl, inr, ℤ, pos, ◌+ℤ◌, Bool, true, false, ◌||◌, cond, List, [], ◌∷◌, ◌++◌, length, map, refl, sym, ap, subst, arith, ◌∙◌}
+-- Cells without the shapes that have no parts draw the same, but for copies of those.
+use Rattle.std.proofs.Common.{◌≡◌, ℕ, zero, suc, ◌+◌, ◌<◌, ℤ, pos, ◌+ℤ◌, ◌≤ℤ◌, Bool, true, false, ◌||◌, cond, List, [], ◌∷◌, ◌++◌, length, map, refl, sym, ap, subst, arith, ◌∙◌}
 use Rattle.std.specs.Prelude.{filter, slice_get, is_some, Option, Some, None, All, ◌↔◌}
-use Rattle.std.specs.List.{flat_map}
+use Rattle.std.specs.List.{AllZip, flat_map, range_with_len}
+use Rattle.std.specs.Global.{Vec}
+use Rattle.std.specs.Vec.{vec_items}
 use Rattle.std.proofs.lemmas.Grind.{common_steps, flat_map-append}
 use Rattle.std.proofs.lemmas.Int.{ints, clamps}
-use Rattle.std.proofs.lemmas.List.Elements.{All-filter}
+use Rattle.std.proofs.lemmas.List.Elements.{filter-append}
 use Rattle.fill_base.specs.declared.rect.Rect.{Rect}
-use Rattle.fill_region.specs.Squares.{covered}
-use Rattle.gds_grammar.specs.Values.{Shape as Element, boundary, path, reference, array}
+use Rattle.gds_grammar.specs.Values.{Shape as Element, boundary, path, reference, array, shape_of}
 use Rattle.gds_shape.specs.declared.bounds.Bounds.{Bounds}
+use Rattle.gds_shape.specs.Extents.{IsExtent}
 use Rattle.gds_shape.proofs.Counting.{count_cons}
 use Rattle.gds_cells.specs.declared.cell.Cell.{Cell}
-use Rattle.gds_cells.specs.declared.error.FlattenError.{FlattenError}
-use Rattle.gds_flatten.specs.declared.found.Found.{Found}
 use Rattle.gds_cells.specs.declared.link.Link.{Link}
 use Rattle.gds_cells.specs.declared.placement.Placement.{Placement}
+use Rattle.gds_cells.specs.declared.shape.Shape.{Shape}
 use Rattle.gds_cells.specs.Copies.{Copy, own_copy, carry_copy, copies, copy_covers, drawn, AllStayInRange}
-use Rattle.gds_flatten.specs.Frames.{meets_if, extent_of, is_met, met}
-use Rattle.gds_cells.specs.Links.{singles}
 use Rattle.gds_cells.specs.Placements.{back_x, back_y, carried_bounds}
 use Rattle.gds_cells.specs.Shapes.{covers_of, parts_of}
 use Rattle.gds_cells.specs.steps.Counting.{links_in}
-use Rattle.gds_flatten.specs.steps.Framing.{FitsCopy, FitAll, IsRight, AreHeld, IsFound, IsRefusalOn, extent_at}
-use Rattle.gds_cells.specs.steps.Prepared.{IsPart}
-use Rattle.gds_flatten.specs.steps.Idle.{is_seen, AreBusy, IsBare, AreBut}
-use Rattle.gds_cells.specs.steps.Walks.{singles_of, own_in, hierarchy}
+use Rattle.gds_cells.specs.steps.Filled.{extent_in, rects_in}
+use Rattle.gds_cells.specs.steps.Prepared.{IsPart, IsPrepared}
+use Rattle.gds_cells.specs.steps.Walks.{singles_of, singles_in, own_in, shapes_in, hierarchy}
+use Rattle.gds_flatten.specs.Frames.{meets_if, extent_of, is_met, met}
+use Rattle.gds_flatten.specs.steps.Framing.{FitsCopy, FitAll}
+use Rattle.gds_flatten.specs.steps.Idle.{are_some, has_parts, is_drawn, is_full, IsFilled, AreFull}
 use Rattle.gds_flatten.proofs.Busy.{through, single_links}
 use Rattle.gds_flatten.proofs.Tight.{all_from, all_first, all_rest, all_coordinates, fit_stay, stay_fit}
+
+abbrev IsBare : Copy → Type 0
+IsBare c = parts_of c.element ≡ []
+
+bare_of : (c : Copy) → is_full c ≡ false → IsBare c
+bare_of c not_full = empty (parts_of c.element) not_full where
+  empty : (xs : List Bounds) → are_some xs ≡ false → xs ≡ []
+  empty [] h = refl
+  empty (x ∷ xs) h = let both : true ≡ false = h in cc
 
 -- ---- a copy whose shape has no parts
 
@@ -46,160 +56,164 @@ bare_met r c bare = ap (λ (bs : List Bounds). meets_if r (extent_of (map (carri
 bare_fits : (w : Bounds) (c : Copy) → IsBare c → FitsCopy w c
 bare_fits w c bare = subst (All (λ b. IsPart w (carried_bounds c.placement b))) (sym bare) (λ k d lt. absurd (grind (arith, common_steps, lt)))
 
--- a window that the extent passes
-right_of : Bounds → Bounds
-right_of b = record { left = b.left +ℤ pos 1; bottom = b.bottom; right = b.right; top = b.top }
+-- ---- copies without those
 
-past_it : (b : Bounds) → IsPart (right_of b) b → ⊥
-unfolding right_of
-past_it b part = let left = part.left in omega (arith, ints, clamps, left)
+pub full_drawn : (cs : List Copy) (x y : ℤ) → drawn (filter is_full cs) x y ≡ drawn cs x y
+full_drawn [] x y = refl
+full_drawn (c ∷ cs) x y = cases (full_drawn cs x y) (is_full c) refl where
+  cases : drawn (filter is_full cs) x y ≡ drawn cs x y → (b : Bool) → is_full c ≡ b → drawn (cond b (c ∷ filter is_full cs) (filter is_full cs)) x y ≡ (copy_covers c x y || drawn cs x y)
+  cases rest true is = ap (λ d. copy_covers c x y || d) rest
+  cases rest false is = rest ∙ sym (ap (λ d. d || drawn cs x y) (bare_drawn c x y (bare_of c is)))
 
-no_parts : (p : Placement) (parts : List Bounds) → ((w : Bounds) → All (λ b. IsPart w (carried_bounds p b)) parts) → parts ≡ []
-no_parts p [] all = refl
-no_parts p (b ∷ bs) all =
-    let w = right_of (carried_bounds p b) in
-    absurd (past_it (carried_bounds p b) (all_first (λ c. IsPart w (carried_bounds p c)) b bs (all w)))
+pub full_met : (r : Rect) (cs : List Copy) → met r (filter is_full cs) ≡ met r cs
+full_met r [] = refl
+full_met r (c ∷ cs) = cases (full_met r cs) (is_full c) refl ∙ sym (count_cons (is_met r) c cs) where
+  cases : met r (filter is_full cs) ≡ met r cs → (b : Bool) → is_full c ≡ b → met r (cond b (c ∷ filter is_full cs) (filter is_full cs)) ≡ cond (is_met r c) 1 0 + met r cs
+  cases rest true is = count_cons (is_met r) c (filter is_full cs) ∙ ap (λ n. cond (is_met r c) 1 0 + n) rest
+  cases rest false is = rest ∙ none_first (met r cs) ∙ sym (ap (λ t. cond t 1 0 + met r cs) (bare_met r c (bare_of c is))) where
+    none_first : (k : ℕ) → k ≡ 0 + k
+    none_first k = omega arith
 
-abbrev AreBare : List Copy → Type 0
-AreBare [] = Unit {0}
-AreBare (c ∷ cs) = IsBare c × AreBare cs
+full_fit : (w : Bounds) (cs : List Copy) → FitAll w (filter is_full cs) → FitAll w cs
+full_fit w [] fit = fit
+full_fit w (c ∷ cs) fit = cases (full_fit w cs) (is_full c) refl fit where
+  cases : (FitAll w (filter is_full cs) → FitAll w cs) → (b : Bool) → is_full c ≡ b → FitAll w (cond b (c ∷ filter is_full cs) (filter is_full cs)) → FitAll w (c ∷ cs)
+  cases rest true is all = all_from (FitsCopy w) c cs (all_first (FitsCopy w) c (filter is_full cs) all) (rest (all_rest (FitsCopy w) c (filter is_full cs) all))
+  cases rest false is all = all_from (FitsCopy w) c cs (bare_fits w c (bare_of c is)) (rest all)
 
-fit_bare : (cs : List Copy) → ((w : Bounds) → FitAll w cs) → AreBare cs
-fit_bare [] all = tt
-fit_bare (c ∷ cs) all = (no_parts c.placement (parts_of c.element) (λ w. all_first (FitsCopy w) c cs (all w)), fit_bare cs (λ w. all_rest (FitsCopy w) c cs (all w)))
+fit_full : (w : Bounds) (cs : List Copy) → FitAll w cs → FitAll w (filter is_full cs)
+fit_full w [] fit = fit
+fit_full w (c ∷ cs) fit = cases (fit_full w cs (all_rest (FitsCopy w) c cs fit)) (is_full c) where
+  cases : FitAll w (filter is_full cs) → (b : Bool) → FitAll w (cond b (c ∷ filter is_full cs) (filter is_full cs))
+  cases rest true = all_from (FitsCopy w) c (filter is_full cs) (all_first (FitsCopy w) c cs fit) rest
+  cases rest false = rest
 
-bare_joins : (cs ds : List Copy) → AreBare cs → AreBare ds → AreBare (cs ++ ds)
-bare_joins [] ds h k = k
-bare_joins (c ∷ cs) ds h k = (h.0, bare_joins cs ds h.1 k)
+pub full_stay : (cs : List Copy) → AllStayInRange cs → AllStayInRange (filter is_full cs)
+full_stay cs stay = fit_stay (filter is_full cs) (fit_full all_coordinates cs (stay_fit cs stay))
 
-bare_carried : (p : Placement) (cs : List Copy) → AreBare cs → AreBare (map (carry_copy p) cs)
-bare_carried p [] h = tt
-bare_carried p (c ∷ cs) h = (h.0, bare_carried p cs h.1)
+pub stay_full : (cs : List Copy) → AllStayInRange (filter is_full cs) → AllStayInRange cs
+stay_full cs stay = fit_stay cs (full_fit all_coordinates cs (stay_fit (filter is_full cs) stay))
 
--- ---- without some of them
+-- ---- shapes of a cell
 
-but_same : (cs : List Copy) → AreBut cs cs
-but_same [] = refl
-but_same (c ∷ cs) = inl (cs, refl, but_same cs)
+some_parts : (parts : List Bounds) (b : Bounds) → IsExtent parts b → are_some parts ≡ true
+some_parts [] b is = absurd (never b.left ((is.left (b.left +ℤ pos 1)).1 (λ k d lt. absurd (grind (arith, common_steps, lt))))) where
+  never : (a : ℤ) → (a +ℤ pos 1) ≤ℤ a → ⊥
+  never a h = omega (arith, ints, clamps, h)
+some_parts (p ∷ parts) b is = refl
 
-but_none : (cs : List Copy) → AreBare cs → AreBut [] cs
-but_none [] h = refl
-but_none (c ∷ cs) h = inr (h.0, but_none cs h.1)
+drawn_parts : (s : Shape) → has_parts (shape_of s.element.now) ≡ is_drawn s
+drawn_parts s = by (extent_in s.filled) s.prepared where
+  by : (o : Option Bounds) → IsPrepared (shape_of s.element.now) (rects_in s.filled) o → has_parts (shape_of s.element.now) ≡ is_some o
+  by (Some b) prepared = some_parts (parts_of (shape_of s.element.now)) b ((prepared.drawn b refl).extent)
+  by None prepared = none (parts_of (shape_of s.element.now)) (prepared.bare refl) where
+    none : (parts : List Bounds) → length parts ≡ 0 → are_some parts ≡ false
+    none [] h = refl
+    none (p ∷ parts) h = absurd (omega (arith, h))
 
-but_joins : (ks bs cs ds : List Copy) → AreBut ks bs → AreBut cs ds → AreBut (ks ++ cs) (bs ++ ds)
-but_joins ks [] cs ds h k = subst (λ xs. AreBut (xs ++ cs) ds) (sym h) k
-but_joins ks (b ∷ bs) cs ds (inl (es, is, rest)) k = subst (λ xs. AreBut (xs ++ cs) (b ∷ (bs ++ ds))) (sym is) (inl (es ++ cs, refl, but_joins es bs cs ds rest k))
-but_joins ks (b ∷ bs) cs ds (inr (bare, rest)) k = inr (bare, but_joins ks bs cs ds rest k)
+own_filtered : (shapes : List Shape) → map (λ (s : Shape). shape_of s.element.now) (filter is_drawn shapes) ≡ filter has_parts (map (λ (s : Shape). shape_of s.element.now) shapes)
+own_filtered [] = refl
+own_filtered (s ∷ shapes) = cases (own_filtered shapes) (is_drawn s) (drawn_parts s) where
+  cases : map (λ (z : Shape). shape_of z.element.now) (filter is_drawn shapes) ≡ filter has_parts (map (λ (z : Shape). shape_of z.element.now) shapes) → (b : Bool) → has_parts (shape_of s.element.now) ≡ b → map (λ (z : Shape). shape_of z.element.now) (cond b (s ∷ filter is_drawn shapes) (filter is_drawn shapes))
+      ≡ filter has_parts (map (λ (z : Shape). shape_of z.element.now) (s ∷ shapes))
+  cases rest true is = rw is (ap (λ es. shape_of s.element.now ∷ es) rest)
+  cases rest false is = rw is rest
 
-but_carried : (p : Placement) (ks bs : List Copy) → AreBut ks bs → AreBut (map (carry_copy p) ks) (map (carry_copy p) bs)
-but_carried p ks [] h = ap (map (carry_copy p)) h
-but_carried p ks (b ∷ bs) (inl (es, is, rest)) =
-    subst (λ xs. AreBut (map (carry_copy p) xs) (carry_copy p b ∷ map (carry_copy p) bs)) (sym is) (inl (map (carry_copy p) es, refl, but_carried p es bs rest))
-but_carried p ks (b ∷ bs) (inr (bare, rest)) = inr (bare, but_carried p ks bs rest)
+pub chunks_filtered : (old new : List (Vec Shape)) → AllZip (λ (v w : Vec Shape). w.items ≡ filter is_drawn v.items) old new → flat_map vec_items new ≡ filter is_drawn (flat_map vec_items old)
+chunks_filtered [] [] all = refl
+chunks_filtered (v ∷ old) (w ∷ new) all = rw (all.0, chunks_filtered old new all.1) (sym (filter-append is_drawn v.items (flat_map vec_items old)))
+chunks_filtered [] (w ∷ new) all = absurd all
+chunks_filtered (v ∷ old) [] all = absurd all
 
-pub but_drawn : (ks bs : List Copy) (x y : ℤ) → AreBut ks bs → drawn ks x y ≡ drawn bs x y
-but_drawn ks [] x y h = ap (λ cs. drawn cs x y) h
-but_drawn ks (b ∷ bs) x y (inl (es, is, rest)) = ap (λ cs. drawn cs x y) is ∙ ap (λ d. copy_covers b x y || d) (but_drawn es bs x y rest)
-but_drawn ks (b ∷ bs) x y (inr (bare, rest)) = but_drawn ks bs x y rest ∙ sym (ap (λ d. d || drawn bs x y) (bare_drawn b x y bare))
+-- ---- cells
 
-none_first : (k : ℕ) → 0 + k ≡ k
-none_first k = omega arith
+module _ (old new : List Cell) (filled : AllZip IsFilled old new) where
+  pub filled_own : (c : ℕ) → own_in (slice_get new c) ≡ filter has_parts (own_in (slice_get old c))
+  filled_own c = at old new filled c where
+    at : (xs ys : List Cell) → AllZip IsFilled xs ys → (k : ℕ) → own_in (slice_get ys k) ≡ filter has_parts (own_in (slice_get xs k))
+    at [] [] all k = refl
+    at (x ∷ xs) (y ∷ ys) all zero = ap (map (λ (s : Shape). shape_of s.element.now)) all.0.shapes ∙ own_filtered (shapes_in x)
+    at (x ∷ xs) (y ∷ ys) all (suc k) = at xs ys all.1 k
+    at [] (y ∷ ys) all k = absurd all
+    at (x ∷ xs) [] all k = absurd all
 
-but_met : (r : Rect) (ks bs : List Copy) → AreBut ks bs → met r ks ≡ met r bs
-but_met r ks [] h = ap (met r) h
-but_met r ks (b ∷ bs) (inl (es, is, rest)) = ap (met r) is ∙ count_cons (is_met r) b es ∙ ap (λ n. cond (is_met r b) 1 0 + n) (but_met r es bs rest) ∙ sym (count_cons (is_met r) b bs)
-but_met r ks (b ∷ bs) (inr (bare, rest)) = but_met r ks bs rest ∙ sym (count_cons (is_met r) b bs ∙ ap (λ t. cond t 1 0 + met r bs) (bare_met r b bare) ∙ none_first (met r bs))
+  pub filled_links : (c : ℕ) → links_in (slice_get new c) ≡ links_in (slice_get old c)
+  filled_links c = at old new filled c where
+    at : (xs ys : List Cell) → AllZip IsFilled xs ys → (k : ℕ) → links_in (slice_get ys k) ≡ links_in (slice_get xs k)
+    at [] [] all k = refl
+    at (x ∷ xs) (y ∷ ys) all zero = ap (λ (v : Vec Link). v.items) all.0.links
+    at (x ∷ xs) (y ∷ ys) all (suc k) = at xs ys all.1 k
+    at [] (y ∷ ys) all k = absurd all
+    at (x ∷ xs) [] all k = absurd all
 
-but_fit : (w : Bounds) (ks bs : List Copy) → AreBut ks bs → FitAll w ks ↔ FitAll w bs
-but_fit w ks [] h = (subst (FitAll w) h, subst (FitAll w) (sym h))
-but_fit w ks (b ∷ bs) (inl (es, is, rest)) =
-    let below = but_fit w es bs rest in (
-      λ all. let here = subst (FitAll w) is all in all_from (FitsCopy w) b bs (all_first (FitsCopy w) b es here) (below.0 (all_rest (FitsCopy w) b es here)),
-      λ all. subst (FitAll w) (sym is) (all_from (FitsCopy w) b es (all_first (FitsCopy w) b bs all) (below.1 (all_rest (FitsCopy w) b bs all))),
-    )
-but_fit w ks (b ∷ bs) (inr (bare, rest)) =
-    let below = but_fit w ks bs rest in (λ all. all_from (FitsCopy w) b bs (bare_fits w b bare) (below.0 all), λ all. below.1 (all_rest (FitsCopy w) b bs all))
+  own_full : (es : List Element) → map own_copy (filter has_parts es) ≡ filter is_full (map own_copy es)
+  own_full [] = refl
+  own_full (e ∷ es) = cases (own_full es) (has_parts e) where
+    cases : map own_copy (filter has_parts es) ≡ filter is_full (map own_copy es) → (b : Bool) → map own_copy (cond b (e ∷ filter has_parts es) (filter has_parts es)) ≡ cond b (own_copy e ∷ filter is_full (map own_copy es)) (filter is_full (map own_copy es))
+    cases rest true = ap (λ cs. own_copy e ∷ cs) rest
+    cases rest false = rest
 
-but_stay : (ks bs : List Copy) → AreBut ks bs → AllStayInRange bs → AllStayInRange ks
-but_stay ks bs but stay = fit_stay ks ((but_fit all_coordinates ks bs but).1 (stay_fit bs stay))
+  carried_full : (p : Placement) (cs : List Copy) → map (carry_copy p) (filter is_full cs) ≡ filter is_full (map (carry_copy p) cs)
+  carried_full p [] = refl
+  carried_full p (c ∷ cs) = cases (carried_full p cs) (is_full c) where
+    cases : map (carry_copy p) (filter is_full cs) ≡ filter is_full (map (carry_copy p) cs) → (b : Bool) → map (carry_copy p) (cond b (c ∷ filter is_full cs) (filter is_full cs)) ≡ cond b (carry_copy p c ∷ filter is_full (map (carry_copy p) cs)) (filter is_full (map (carry_copy p) cs))
+    cases rest true = ap (λ ds. carry_copy p c ∷ ds) rest
+    cases rest false = rest
 
-but_right : (ks bs : List Copy) (o : Option Bounds) → AreBut ks bs → IsRight bs o → IsRight ks o
-but_right ks bs o but right = record {
-  held = λ x y on. right.held x y (sym (but_drawn ks bs x y but) ∙ on);
-  tight = λ w. (λ fits. (but_fit w ks bs but).1 ((right.tight w).0 fits), λ all. (right.tight w).1 ((but_fit w ks bs but).0 all));
-}
+  singles_full : (f g : ℕ → List Copy) → ((c : ℕ) → f c ≡ filter is_full (g c)) → (ss : List (ℕ × Placement)) → flat_map (through f) ss ≡ filter is_full (flat_map (through g) ss)
+  singles_full f g same [] = refl
+  singles_full f g same (s ∷ ss) =
+      rw (same s.0, carried_full s.1 (g s.0), singles_full f g same ss) (sym (filter-append is_full (map (carry_copy s.1) (g s.0)) (flat_map (through g) ss)))
 
--- what was found of the fewer copies was found of all
-pub but_found : (r : Rect) (ks bs : List Copy) (old new : Found) → AreBut ks bs → IsFound r ks old new → IsFound r bs old new
-but_found r ks bs old new but found = record {
-  counted = found.counted ∙ ap (λ n. old.copies + n) (but_met r ks bs but);
-  drawn = λ stay x y on. found.drawn (but_stay ks bs but stay) x y on ∙ ap (λ d. covered old.rects.items x y || d) (but_drawn ks bs x y but);
-}
+  pub filled_copies : (n c : ℕ) → copies (hierarchy new) n c ≡ filter is_full (copies (hierarchy old) n c)
+  unfolding copies
+  filled_copies zero c = refl
+  filled_copies (suc n) c =
+      rw (
+        filled_own c,
+        single_links (slice_get new c),
+        single_links (slice_get old c),
+        filled_links c,
+        own_full (own_in (slice_get old c)),
+        singles_full (copies (hierarchy new) n) (copies (hierarchy old) n) (filled_copies n) (flat_map singles_of (links_in (slice_get old c))),
+      )
+      (sym (filter-append is_full (map own_copy (own_in (slice_get old c))) (flat_map (through (copies (hierarchy old) n)) (flat_map singles_of (links_in (slice_get old c))))))
 
-pub but_refused : (r : Rect) (ks bs : List Copy) (old : Found) (e : FlattenError) → AreBut ks bs → IsRefusalOn r ks old e → IsRefusalOn r bs old e
-but_refused r ks bs old e but (inl m) = inl m
-but_refused r ks bs old e but (inr (is, many)) = inr (is, subst (λ n. 4000000 < old.copies + n) (but_met r ks bs but) many)
+  pub filled_full : AreFull new
+  filled_full c = rw (filled_own c) (all_pass (own_in (slice_get old c))) where
+    all_pass : (es : List Element) → All (λ e. has_parts e ≡ true) (filter has_parts es)
+    all_pass [] = λ k d lt. absurd (grind (arith, common_steps, lt))
+    all_pass (e ∷ es) = cases (all_pass es) (has_parts e) refl where
+      cases : All (λ z. has_parts z ≡ true) (filter has_parts es) → (b : Bool) → has_parts e ≡ b → All (λ z. has_parts z ≡ true) (cond b (e ∷ filter has_parts es) (filter has_parts es))
+      cases rest true is = all_from (λ z. has_parts z ≡ true) e (filter has_parts es) is rest
+      cases rest false is = rest
 
--- ---- the links of a cell
+-- ---- all copies have parts
 
-singles_but : (f g : ℕ → List Copy) (c : ℕ) (ps : List Placement) → AreBut (f c) (g c)
-    → AreBut (flat_map (through f) (map (λ p. (c, p)) ps)) (flat_map (through g) (map (λ p. (c, p)) ps))
-singles_but f g c [] but = refl
-singles_but f g c (p ∷ ps) but =
-    but_joins (map (carry_copy p) (f c)) (map (carry_copy p) (g c)) (flat_map (through f) (map (λ p. (c, p)) ps)) (flat_map (through g) (map (λ p. (c, p)) ps))
-    (but_carried p (f c) (g c) but) (singles_but f g c ps but)
+abbrev pub AreAllFull : List Copy → Type 0
+AreAllFull [] = Unit {0}
+AreAllFull (c ∷ cs) = (is_full c ≡ true) × AreAllFull cs
 
-singles_bare : (g : ℕ → List Copy) (c : ℕ) (ps : List Placement) → AreBare (g c) → AreBare (flat_map (through g) (map (λ p. (c, p)) ps))
-singles_bare g c [] bare = tt
-singles_bare g c (p ∷ ps) bare = bare_joins (map (carry_copy p) (g c)) (flat_map (through g) (map (λ p. (c, p)) ps)) (bare_carried p (g c) bare) (singles_bare g c ps bare)
+full_joins : (cs ds : List Copy) → AreAllFull cs → AreAllFull ds → AreAllFull (cs ++ ds)
+full_joins [] ds h k = k
+full_joins (c ∷ cs) ds h k = (h.0, full_joins cs ds h.1 k)
 
-none_seen : (o : Option Bounds) → is_some o ≡ false → o ≡ None
-none_seen None is = refl
-none_seen (Some b) is = absurd (grind (arith, is))
+pub full_carried : (p : Placement) (cs : List Copy) → AreAllFull cs → AreAllFull (map (carry_copy p) cs)
+full_carried p [] h = tt
+full_carried p (c ∷ cs) h = (h.0, full_carried p cs h.1)
 
-right_bare : (cs : List Copy) (o : Option Bounds) → IsRight cs o → is_some o ≡ false → AreBare cs
-right_bare cs o right is = let bare = subst (IsRight cs) (none_seen o is) right in fit_bare cs (λ w. (bare.tight w).0 tt)
+pub range_full : (f : ℕ → List Copy) (a n : ℕ) → ((k : ℕ) → AreAllFull (f k)) → AreAllFull (flat_map f (range_with_len a n))
+range_full f a zero each = tt
+range_full f a (suc n) each = full_joins (f a) (flat_map f (range_with_len (a + 1) n)) (each a) (range_full f (a + 1) n each)
 
-module _ (extents : List (Option Bounds)) (old new : List Cell) (seen : AreBusy (is_seen extents) old new) where
-  link_but : (f g : ℕ → List Copy) (l : Link) (links : List Link) (b : Bool) → is_seen extents l ≡ b → AreBut (f l.cell) (g l.cell) → (is_seen extents l ≡ false → AreBare (g l.cell))
-      → AreBut (flat_map (through f) (flat_map singles_of (filter (is_seen extents) links))) (flat_map (through g) (flat_map singles_of links))
-      → AreBut (flat_map (through f) (flat_map singles_of (filter (is_seen extents) (l ∷ links)))) (flat_map (through g) (flat_map singles_of (l ∷ links)))
-  link_but f g l links true is but bare rest =
-      rw (is, flat_map-append (through f) (singles_of l) (flat_map singles_of (filter (is_seen extents) links)), flat_map-append (through g) (singles_of l) (flat_map singles_of links))
-      (but_joins (flat_map (through f) (singles_of l)) (flat_map (through g) (singles_of l)) _ _ (singles_but f g l.cell (singles l) but) rest)
-  link_but f g l links false is but bare rest =
-      rw (is, flat_map-append (through g) (singles_of l) (flat_map singles_of links))
-      (but_joins [] (flat_map (through g) (singles_of l)) _ _ (but_none _ (singles_bare g l.cell (singles l) (bare is))) rest)
+pub copies_full : (cells : List Cell) → AreFull cells → (n c : ℕ) → AreAllFull (copies (hierarchy cells) n c)
+unfolding copies
+copies_full cells full zero c = tt
+copies_full cells full (suc n) c = full_joins (map own_copy (own_in (slice_get cells c))) _ (own (own_in (slice_get cells c)) (full c)) (below (copies_full cells full n) (singles_in (slice_get cells c))) where
+  own : (es : List Element) → All (λ e. has_parts e ≡ true) es → AreAllFull (map own_copy es)
+  own [] all = tt
+  own (e ∷ es) all = (all_first (λ z. has_parts z ≡ true) e es all, own es (all_rest (λ z. has_parts z ≡ true) e es all))
 
-  held_here : (n c : ℕ) → AreHeld old extents n c → IsRight (copies (hierarchy old) n c) (extent_at extents c)
-  unfolding AreHeld copies
-  held_here zero c h = h
-  held_here (suc n) c h = h.0
-
-  links_but : (n : ℕ) (links : List Link) → All (λ l. AreHeld old extents n l.cell) links
-      → ((c : ℕ) → AreHeld old extents n c → AreBut (copies (hierarchy new) n c) (copies (hierarchy old) n c))
-      → AreBut (flat_map (through (copies (hierarchy new) n)) (flat_map singles_of (filter (is_seen extents) links)))
-      (flat_map (through (copies (hierarchy old) n)) (flat_map singles_of links))
-  links_but n [] held but = refl
-  links_but n (l ∷ links) held but =
-      let here = all_first (λ m. AreHeld old extents n m.cell) l links held in
-      link_but (copies (hierarchy new) n) (copies (hierarchy old) n) l links (is_seen extents l) refl (but l.cell here)
-      (right_bare (copies (hierarchy old) n l.cell) (extent_at extents l.cell) (held_here n l.cell here))
-      (links_but n links (all_rest (λ m. AreHeld old extents n m.cell) l links held) but)
-
-  pub seen_but : (n c : ℕ) → AreHeld old extents n c → AreBut (copies (hierarchy new) n c) (copies (hierarchy old) n c)
-  unfolding AreHeld copies
-  seen_but zero c h = refl
-  seen_but (suc n) c h =
-      rw (seen.own c, single_links (slice_get new c), single_links (slice_get old c), seen.links c)
-      (but_joins (map own_copy (own_in (slice_get old c))) (map own_copy (own_in (slice_get old c))) _ _ (but_same (map own_copy (own_in (slice_get old c))))
-      (links_but n (links_in (slice_get old c)) h.1 (seen_but n)))
-
-  pub seen_held : (n c : ℕ) → AreHeld old extents n c → AreHeld new extents n c
-  unfolding AreHeld
-  seen_held zero c h = h
-  seen_held (suc n) c h = (
-    but_right (copies (hierarchy new) (suc n) c) (copies (hierarchy old) (suc n) c) (extent_at extents c) (seen_but (suc n) c h) h.0,
-    subst (All (λ l. AreHeld new extents n l.cell)) (sym (seen.links c))
-        (All-filter (is_seen extents) (λ l. AreHeld new extents n l.cell) (links_in (slice_get old c)) (λ k d lt. seen_held n _ (h.1 k d lt))),
-  )
+  below : ((k : ℕ) → AreAllFull (copies (hierarchy cells) n k)) → (ss : List (ℕ × Placement)) → AreAllFull (flat_map (through (copies (hierarchy cells) n)) ss)
+  below each [] = tt
+  below each (s ∷ ss) = full_joins (map (carry_copy s.1) (copies (hierarchy cells) n s.0)) _ (full_carried s.1 (copies (hierarchy cells) n s.0) (each s.0)) (below each ss)

@@ -1,4 +1,7 @@
 -- What the contracts of private functions say.
 pub mod Chains
+pub mod Finding
 pub mod Framing
 pub mod Idle
+pub mod Reached
+pub mod Roots

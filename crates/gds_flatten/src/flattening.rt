@@ -1,183 +1,56 @@
 //! Flattening: what the top draws on a layer.
 
-ghost use Rattle.std.specs.Prelude.{◌≡◌, ◌⊎◌, ◌&&◌, ℤ, true, false, List, All, IfOk, IfErr, map};
+ghost use Rattle.std.specs.Prelude.{◌≡◌, ◌⊎◌, ◌&&◌, ◌<◌, ◌≤◌, ℤ, true, false, ℤ, List, length, IfOk, IfErr};
 ghost use Rattle.std.specs.List.{flat_map};
 ghost use Rattle.std.specs.Vec.{vec_items};
-ghost use Rattle.fill_region.specs.Runs.{holds, AreRuns};
-ghost use Rattle.fill_region.specs.Squares.{covered};
-ghost use Rattle.gds_grammar.specs.Values.{cell_of, contents_of};
-ghost use Rattle.gds_cells.specs.Copies.{Copy, drawn, AllStayInRange};
-ghost use Rattle.gds_cells.specs.Designs.{index_of, AllFine, copies_of};
-ghost use Rattle.gds_flatten.specs.Flattening.{HasTop, IsSound, IsCountable, IsCountableOn, IsRefused, IsRefusedOn};
-ghost use Rattle.gds_cells.specs.steps.Counting.{AreCounted};
-ghost use Rattle.gds_flatten.specs.steps.Framing.{IsFineIf, IsTight, AreHeld, extent_at, in_if};
-ghost use Rattle.gds_flatten.specs.steps.Idle.{AreBut};
-ghost use Rattle.gds_cells.specs.steps.Walks.{top_copies};
 ghost use Rattle.fill_base.specs.Coordinates.{IsInRange};
 ghost use Rattle.fill_base.specs.Squares.{squares};
+ghost use Rattle.fill_region.specs.Runs.{holds, AreRuns};
+ghost use Rattle.fill_region.specs.Squares.{covered};
+ghost use Rattle.gds_grammar.specs.Values.{contents_of};
+ghost use Rattle.gds_cells.specs.Copies.{Copy, drawn, AllStayInRange};
+ghost use Rattle.gds_cells.specs.Designs.{copies_of};
+ghost use Rattle.gds_cells.specs.steps.Counting.{AreCounted};
+ghost use Rattle.gds_cells.specs.steps.Walks.{top_copies};
+ghost use Rattle.gds_flatten.specs.Flattening.{IsCountable, IsCountableOn, IsRefused, IsRefusedOn};
+ghost use Rattle.gds_flatten.specs.steps.Framing.{IsFineIf, IsTight, in_if};
+ghost use Rattle.gds_flatten.specs.steps.Roots.{roots_copies, AreRooted};
 
-use crate::design::{DEEPEST, Design};
-use crate::extents::extents_of;
-use crate::found::Found;
-use crate::framed::{carry_cell_on, clipped, extent_at};
-use crate::idle::drop_unseen;
+use crate::design::Design;
+use crate::found::{Found, Framed};
+use crate::framed::{clipped, extent_at, find_turns};
+use crate::reached::{Counted, reached_by};
+use crate::walk::top_turns;
 use fill_base::{Layer, Rect};
 use fill_region::Region;
-use gds_cells::{
-    Cell, FlattenError, Placement, TOO_MANY, cells_of, counts_of, graph_of, index_of, number_at,
-    survey,
-};
-use gds_grammar::{Cells, Element, Library};
+use gds_cells::{FlattenError, TOO_MANY, number_at};
+use gds_grammar::Library;
 use gds_shape::{Bounds, is_in_range};
 use std::alloc::Global;
 use std::thread::Threads;
 
-/// The index of the top.
-fn top_of(cells: &Cells<'_>, top: &[u8]) -> Result<usize, FlattenError>
-    ensures found { IfOk result (λ c. HasTop (map cell_of cells.now.entries) top.now × (c ≡ index_of (map cell_of cells.now.entries) top.now)) }
-    ensures refused { IfErr result (λ e. (e ≡ FlattenError.NoTop) × (HasTop (map cell_of cells.now.entries) top.now → ⊥)) }
-{
-    let index = index_of(cells, top);
-    if index < cells.len() {
-        Ok(index)
-    } else {
-        Err(FlattenError::NoTop)
-    }
-}
-
-/// The design of the top on the layer, its copies counted.
-fn counted_of<'a, 'b>(
-    rt: &(impl Threads + Sync),
-    alloc: Global,
-    library: &'a Library<'b>,
-    top: &[u8],
-    layer: Layer,
-) -> Result<Design<'a, 'b>, FlattenError>
-    ensures fine { IfOk result (λ d. IsCountable (contents_of library.now).cells top.now layer) }
-    ensures counted { IfOk result (λ d. AreCounted d.cells.items d.counts.items 256 d.top) }
-    ensures same { IfOk result (λ d. top_copies d.cells.items d.top
-        ≡ copies_of (contents_of library.now).cells top.now layer) }
-    ensures refused { IfErr result (λ e. IsRefused (contents_of library.now).cells top.now layer e) }
-{
-    let cells = &library.cells;
-    let top = top_of(cells, top)?;
-    let graph = graph_of(alloc, cells)?;
-    let found = survey(alloc, &graph, top)?;
-    let built = cells_of(rt, alloc, cells, &graph, &found.steps, layer)?;
-    let counts = counts_of(alloc, &built, &found.order)?;
-    let number = number_at(&counts, top);
-    if number >= TOO_MANY {
-        return Err(FlattenError::TooManyShapes);
-    }
-    Ok(Design {
-        cells: built,
-        counts,
-        top,
-        number,
-    })
-}
-
-/// The design of the top on the layer, its copies counted, without links to cells that draw nothing.
-fn design_of<'a, 'b>(
-    rt: &(impl Threads + Sync),
-    alloc: Global,
-    library: &'a Library<'b>,
-    top: &[u8],
-    layer: Layer,
-) -> Result<Design<'a, 'b>, FlattenError>
-    ensures fine { IfOk result (λ d. IsCountable (contents_of library.now).cells top.now layer) }
-    ensures counted { IfOk result (λ d. AreCounted d.cells.items d.counts.items 256 d.top) }
-    ensures same { IfOk result (λ d. top_copies d.cells.items d.top
-        ≡ copies_of (contents_of library.now).cells top.now layer) }
-    ensures refused { IfErr result (λ e. IsRefused (contents_of library.now).cells top.now layer e) }
-{
-    let design = counted_of(rt, alloc, library, top, layer)?;
-    Ok(design.without_idle())
-}
-
-/// The cells that a top reaches, with their extents.
-#[derive(Drop)]
-struct Framed<'a, 'b> {
-    /// The cells of the library; those that the top doesn't reach are empty.
-    cells: Vec<Cell<'a, 'b>>,
-    /// How far what each cell draws goes.
-    extents: Vec<Option<Bounds>>,
-    /// The index of the top.
-    top: usize,
-}
-
-impl Framed<'_, '_> {
-    /// The cells without the links to cells that have no extent, which the walk would pass over copy by copy.
-    fn without_unseen(self) -> Self
-        requires { AreHeld self.cells.items self.extents.items 256 self.top }
-        ensures held { AreHeld result.cells.items result.extents.items 256 result.top }
-        ensures but { AreBut (top_copies result.cells.items result.top) (top_copies self.entry.cells.items self.entry.top) }
-        ensures extents { result.extents.items ≡ self.entry.extents.items }
-        ensures top { result.top ≡ self.entry.top }
+impl<'a, 'b> Counted<'a, 'b> {
+    /// All that the top draws.
+    fn whole(self, alloc: Global) -> Result<Design<'a, 'b>, FlattenError>
+        requires { AreCounted self.cells.items self.counts.items 256 self.top }
+        ensures counted { IfOk result (λ d. AreRooted d.cells.items d.counts.items d.roots.items) }
+        ensures same { IfOk result (λ d. roots_copies d.cells.items d.roots.items ≡ top_copies self.entry.cells.items self.entry.top) }
+        ensures refused { IfErr result (λ e. (e ≡ FlattenError.Memory)
+            ⊎ ((e ≡ FlattenError.TooManyShapes) × (4000000 < length (top_copies self.entry.cells.items self.entry.top)))) }
     {
-        let Framed {
-            mut cells,
-            extents,
-            top,
-        } = self;
-        drop_unseen(&mut cells, &extents);
-        Framed {
-            cells,
-            extents,
-            top,
+        let number = number_at(&self.counts, self.top);
+        if number >= TOO_MANY {
+            return Err(FlattenError::TooManyShapes);
         }
+        let mut roots = Vec::new(alloc);
+        roots.push(top_turns(self.top))?;
+        Ok(Design {
+            cells: self.cells,
+            counts: self.counts,
+            roots,
+            number,
+        })
     }
-}
-
-/// The cells of the top on the layer, with their extents.
-fn extended_of<'a, 'b>(
-    rt: &(impl Threads + Sync),
-    alloc: Global,
-    library: &'a Library<'b>,
-    top: &[u8],
-    layer: Layer,
-) -> Result<Framed<'a, 'b>, FlattenError>
-    ensures sound { IfOk result (λ d. IsSound (contents_of library.now).cells top.now) }
-    ensures fine { IfOk result (λ d. AllFine (contents_of library.now).cells (index_of (contents_of library.now).cells top.now) layer) }
-    ensures extents { IfOk result (λ d. All IsFineIf d.extents.items) }
-    ensures held { IfOk result (λ d. AreHeld d.cells.items d.extents.items 256 d.top) }
-    ensures tight { IfOk result (λ d. IsTight (top_copies d.cells.items d.top) (extent_at d.extents.items d.top)) }
-    ensures same { IfOk result (λ d. top_copies d.cells.items d.top
-        ≡ copies_of (contents_of library.now).cells top.now layer) }
-    ensures refused { IfErr result (λ e. (frame : Rect) → IsRefusedOn (contents_of library.now).cells top.now layer frame e) }
-{
-    let cells = &library.cells;
-    let top = top_of(cells, top)?;
-    let graph = graph_of(alloc, cells)?;
-    let found = survey(alloc, &graph, top)?;
-    let built = cells_of(rt, alloc, cells, &graph, &found.steps, layer)?;
-    let extents = extents_of(alloc, &built, &found.order)?;
-    Ok(Framed {
-        cells: built,
-        extents,
-        top,
-    })
-}
-
-/// The same, without links to cells that have no extent, and so without copies whose shapes have no parts.
-fn framed_of<'a, 'b>(
-    rt: &(impl Threads + Sync),
-    alloc: Global,
-    library: &'a Library<'b>,
-    top: &[u8],
-    layer: Layer,
-) -> Result<Framed<'a, 'b>, FlattenError>
-    ensures sound { IfOk result (λ d. IsSound (contents_of library.now).cells top.now) }
-    ensures fine { IfOk result (λ d. AllFine (contents_of library.now).cells (index_of (contents_of library.now).cells top.now) layer) }
-    ensures extents { IfOk result (λ d. All IsFineIf d.extents.items) }
-    ensures held { IfOk result (λ d. AreHeld d.cells.items d.extents.items 256 d.top) }
-    ensures tight { IfOk result (λ d. IsTight (copies_of (contents_of library.now).cells top.now layer) (extent_at d.extents.items d.top)) }
-    ensures but { IfOk result (λ d. AreBut (top_copies d.cells.items d.top)
-        (copies_of (contents_of library.now).cells top.now layer)) }
-    ensures refused { IfErr result (λ e. (frame : Rect) → IsRefusedOn (contents_of library.now).cells top.now layer frame e) }
-{
-    let framed = extended_of(rt, alloc, library, top, layer)?;
-    Ok(framed.without_unseen())
 }
 
 /// Whether the extent lies within the coordinates.
@@ -214,22 +87,32 @@ pub fn flatten_within(
     ensures range { IfOk result (λ v. (x y : ℤ) → drawn (copies_of (contents_of library.now).cells top.now layer) x y ≡ true → IsInRange x y) }
     ensures refused { IfErr result (λ e. IsRefusedOn (contents_of library.now).cells top.now layer frame.now e) }
 {
-    let framed = framed_of(rt, alloc, library, top, layer)?;
-    let mut found = Found::new(alloc);
-    carry_cell_on(
-        &framed.cells,
-        &framed.extents,
-        DEEPEST,
-        framed.top,
-        &Placement::shift(0, 0),
+    let built = reached_by(rt, alloc, library, top, layer)?;
+    let reached = built.without_bare();
+    let extents = reached.extents(alloc)?;
+    let counted = reached.counted(alloc)?;
+    let Counted { cells, counts, top } = counted;
+    let framed = Framed {
+        cells: &cells,
+        counts: &counts,
+        extents: &extents,
         frame,
-        &mut found,
-    )?;
-    if !is_inside(extent_at(&framed.extents, framed.top)) {
+    };
+    let mut found = Found::new(alloc);
+    find_turns(&framed, &top_turns(top), &mut found)?;
+    if !is_inside(extent_at(&extents, top)) {
         return Err(FlattenError::OutOfRange);
     }
-    let rects = clipped(alloc, &found.rects, frame)?;
-    Ok(rects)
+    let design = Design {
+        cells,
+        counts,
+        roots: found.roots,
+        number: found.inside,
+    };
+    let mut rects = design.parts(rt, alloc)?;
+    rects.push(found.rects)?;
+    let kept = clipped(alloc, &rects, frame)?;
+    Ok(kept)
 }
 
 /// The rectangles that the top draws on the layer, in parts, as several threads carry them: those of
@@ -254,7 +137,9 @@ pub fn flatten_parts(
         ≡ drawn (copies_of (contents_of library.now).cells top.now layer) x y) }
     ensures refused { IfErr result (λ e. IsRefused (contents_of library.now).cells top.now layer e) }
 {
-    let design = design_of(rt, alloc, library, top, layer)?;
+    let reached = reached_by(rt, alloc, library, top, layer)?;
+    let counted = reached.counted(alloc)?;
+    let design = counted.whole(alloc)?;
     design.parts(rt, alloc)
 }
 

@@ -1,24 +1,30 @@
-//! Finds what a cell draws within a frame: only copies of cells whose extent meets it are entered.
+//! Finds what lies within a frame: only copies of cells whose extent meets it are entered, and what lies within as a whole is kept to be carried.
 
-ghost use Rattle.std.specs.Prelude.{◌≡◌, ◌-◌, ◌*◌, ◌<◌, ◌<ℤ◌, ◌≤◌, ◌&&◌, ◌||◌, ℤ, true, false, List, map, All, Some, IfOk, IfErr, OnOk};
-ghost use Rattle.std.specs.List.{flat_map, range_with_len};
+ghost use Rattle.std.specs.Prelude.{◌≡◌, ◌+◌, ◌-◌, ◌<◌, ◌<ℤ◌, ◌≤◌, ◌^◌, ◌&&◌, ◌||◌, ◌++◌, ℤ, true, false, List, map, IfOk, IfErr, OnOk};
+ghost use Rattle.std.specs.List.{flat_map};
 ghost use Rattle.std.specs.Vec.{vec_items};
 ghost use Rattle.fill_base.specs.Squares.{squares};
 ghost use Rattle.fill_region.specs.Squares.{covered};
-ghost use Rattle.gds_cells.specs.Copies.{Copy, carry_copy, copies};
-ghost use Rattle.gds_flatten.specs.Frames.{overlap, meets};
+ghost use Rattle.gds_grammar.specs.Values.{shape_of};
+ghost use Rattle.gds_cells.specs.declared.cell.Cell.{Cell};
+ghost use Rattle.gds_cells.specs.Copies.{carry_copy, copies};
 ghost use Rattle.gds_cells.specs.Placements.{carried, carried_bounds};
-ghost use Rattle.gds_flatten.specs.steps.Framing.{extent_at, IsFound, IsRefusalOn, IsMissed, IsStrictly, AreInside, IsFine, IsFineIf, IsRight, AreHeld};
+ghost use Rattle.gds_cells.specs.Shapes.{covers_of, StaysInRange};
+ghost use Rattle.gds_cells.specs.steps.Counting.{AreCounted};
 ghost use Rattle.gds_cells.specs.steps.Prepared.{IsOrdered};
 ghost use Rattle.gds_cells.specs.steps.Ranges.{IsWithin};
-ghost use Rattle.gds_cells.specs.steps.Walks.{shape_copies, single_copies, link_copies, hierarchy};
+ghost use Rattle.gds_cells.specs.steps.Walks.{shape_copies, hierarchy};
+ghost use Rattle.gds_flatten.specs.Frames.{overlap, meets};
+ghost use Rattle.gds_flatten.specs.steps.Finding.{IsReady, IsFound, IsRefusalOn};
+ghost use Rattle.gds_flatten.specs.steps.Framing.{extent_at, IsMissed, IsStrictly, AreInside, IsFine, AreHeld};
+ghost use Rattle.gds_flatten.specs.steps.Roots.{turns_copies};
 
 use crate::corners::{are_close, turns_extent};
-use crate::found::Found;
-use crate::walk::cell_at;
-use crate::whole::{carry_cell_in, carry_if_inside, count_copy};
+use crate::found::{Found, Framed, MOST};
+use crate::turns::Turns;
+use crate::walk::{cell_at, turns_of};
 use fill_base::Rect;
-use gds_cells::{Cell, FlattenError, Link, Placement, Shape, carried_bounds};
+use gds_cells::{FlattenError, Placement, Shape, carried_bounds, carry_shape, number_at};
 use gds_shape::Bounds;
 use std::alloc::{AllocError, Global};
 
@@ -47,13 +53,23 @@ fn put_common(out: &mut Vec<Rect>, rect: &Rect, frame: &Rect) -> Result<(), Allo
     Ok(())
 }
 
-/// The squares of the rectangles that the frame holds too.
-pub fn clipped(alloc: Global, rects: &[Rect], frame: &Rect) -> Result<Vec<Rect>, AllocError>
-    ensures { IfOk result (λ v. (x y : ℤ) → covered v.items x y ≡ (covered rects.now x y && squares frame.now x y)) }
+/// Appends the squares of the rectangles that the frame holds too.
+fn put_clipped(out: &mut Vec<Rect>, rects: &[Rect], frame: &Rect) -> Result<(), AllocError>
+    ensures { OnOk result ((x y : ℤ) → covered out.new.items x y ≡ (covered out.old.items x y || (covered rects.now x y && squares frame.now x y))) }
+{
+    'rects: for rect in rects {
+        put_common(out, rect, frame)?;
+    }
+    Ok(())
+}
+
+/// The squares of all these rectangles that the frame holds too.
+pub fn clipped(alloc: Global, parts: &[Vec<Rect>], frame: &Rect) -> Result<Vec<Rect>, AllocError>
+    ensures { IfOk result (λ v. (x y : ℤ) → covered v.items x y ≡ (covered (flat_map vec_items parts.now) x y && squares frame.now x y)) }
 {
     let mut kept = Vec::new(alloc);
-    'rects: for rect in rects {
-        put_common(&mut kept, rect, frame)?;
+    'parts: for part in parts {
+        put_clipped(&mut kept, part, frame)?;
     }
     Ok(kept)
 }
@@ -80,58 +96,94 @@ pub fn carried_extent(at: &Placement, bounds: &Bounds) -> Bounds
     }
 }
 
-/// Counts the shape, carried so, and appends what it covers, where its extent meets the frame.
-fn carry_shape_on(
+/// Counts so many copies more.
+///
+/// # Errors
+/// `TooManyShapes` where there are more than 4,000,000 then.
+fn count_copies(copies: usize, more: usize) -> Result<usize, FlattenError>
+    requires before { copies ≤ 4000000 }
+    requires more { more ≤ 2 ^ 60 }
+    ensures counted { IfOk result (λ n. n ≡ copies + more) }
+    ensures few { IfOk result (λ n. n ≤ 4000000) }
+    ensures refused { IfErr result (λ e. (e ≡ FlattenError.TooManyShapes) × (4000000 < copies + more)) }
+{
+    let total = copies + more;
+    if total > MOST {
+        return Err(FlattenError::TooManyShapes);
+    }
+    Ok(total)
+}
+
+/// Appends what the shape covers, carried so, unless it passes the range: then the design is refused for it, and nothing is appended.
+fn carry_if_inside(
     shape: &Shape<'_, '_>,
     at: &Placement,
-    frame: &Rect,
+    out: &mut Vec<Rect>,
+) -> Result<(), FlattenError>
+    requires { IsWithin 257 at.now }
+    ensures added { OnOk result (StaysInRange at.now (shape_of shape.now.element.now) → (x y : ℤ) → covered out.new.items x y
+        ≡ (covered out.old.items x y || carried at.now (covers_of (shape_of shape.now.element.now)) x y)) }
+    ensures refused { IfErr result (λ e. e ≡ FlattenError.Memory) }
+{
+    match carry_shape(shape, at, out) {
+        Ok(()) => Ok(()),
+        Err(FlattenError::OutOfRange) => Ok(()),
+        Err(error) => Err(error),
+    }
+}
+
+/// Counts the shape, carried so, and appends what it covers, where its extent meets the frame.
+fn find_shape(
+    framed: &Framed<'_, '_, '_>,
+    shape: &Shape<'_, '_>,
+    at: &Placement,
     found: &mut Found,
 ) -> Result<(), FlattenError>
     requires { IsWithin 257 at.now }
-    ensures found { OnOk result (IsFound frame.now (shape_copies at.now shape.now) found.old found.new) }
-    ensures refused { IfErr result (IsRefusalOn frame.now (shape_copies at.now shape.now) found.old) }
+    ensures found { OnOk result (IsFound framed.now (shape_copies at.now shape.now) found.old found.new) }
+    ensures refused { IfErr result (IsRefusalOn framed.now.frame.now (shape_copies at.now shape.now) found.old) }
 {
     let Some(extent) = shape.filled.extent() else {
         return Ok(());
     };
-    if !meets(frame, &carried_bounds(at, &extent)) {
+    if !meets(framed.frame, &carried_bounds(at, &extent)) {
         return Ok(());
     }
-    found.copies = count_copy(found.copies)?;
+    found.copies = count_copies(found.copies, 1)?;
     carry_if_inside(shape, at, &mut found.rects)?;
     Ok(())
 }
 
 /// The same of all these shapes.
-fn carry_shapes_on(
+fn find_shapes(
+    framed: &Framed<'_, '_, '_>,
     shapes: &[Shape<'_, '_>],
     at: &Placement,
-    frame: &Rect,
     found: &mut Found,
 ) -> Result<(), FlattenError>
     requires { IsWithin 257 at.now }
-    ensures found { OnOk result (IsFound frame.now (flat_map (shape_copies at.now) shapes.now) found.old found.new) }
-    ensures refused { IfErr result (IsRefusalOn frame.now (flat_map (shape_copies at.now) shapes.now) found.old) }
+    ensures found { OnOk result (IsFound framed.now (flat_map (shape_copies at.now) shapes.now) found.old found.new) }
+    ensures refused { IfErr result (IsRefusalOn framed.now.frame.now (flat_map (shape_copies at.now) shapes.now) found.old) }
 {
     'shapes: for shape in shapes {
-        carry_shape_on(shape, at, frame, found)?;
+        find_shape(framed, shape, at, found)?;
     }
     Ok(())
 }
 
 /// The same of the shapes of all chunks.
-fn carry_own_on(
+fn find_own(
+    framed: &Framed<'_, '_, '_>,
     chunks: &[Vec<Shape<'_, '_>>],
     at: &Placement,
-    frame: &Rect,
     found: &mut Found,
 ) -> Result<(), FlattenError>
     requires { IsWithin 257 at.now }
-    ensures found { OnOk result (IsFound frame.now (flat_map (shape_copies at.now) (flat_map vec_items chunks.now)) found.old found.new) }
-    ensures refused { IfErr result (IsRefusalOn frame.now (flat_map (shape_copies at.now) (flat_map vec_items chunks.now)) found.old) }
+    ensures found { OnOk result (IsFound framed.now (flat_map (shape_copies at.now) (flat_map vec_items chunks.now)) found.old found.new) }
+    ensures refused { IfErr result (IsRefusalOn framed.now.frame.now (flat_map (shape_copies at.now) (flat_map vec_items chunks.now)) found.old) }
 {
     'chunks: for chunk in chunks {
-        carry_shapes_on(chunk, at, frame, found)?;
+        find_shapes(framed, chunk, at, found)?;
     }
     Ok(())
 }
@@ -143,30 +195,6 @@ pub fn extent_at(extents: &[Option<Bounds>], index: usize) -> Option<Bounds>
     match extents.get(index) {
         Some(extent) => *extent,
         None => None,
-    }
-}
-
-/// Whether what lies in the extent, carried so, shares no square with the frame.
-fn is_apart(extent: &Bounds, at: &Placement, frame: &Rect) -> bool
-    requires within { IsWithin 258 at.now }
-    requires ordered { IsOrdered extent.now }
-    ensures { result ≡ true → meets frame.now (carried_bounds at.now extent.now) ≡ false }
-{
-    if !are_close(extent) {
-        return false;
-    }
-    !meets(frame, &carried_extent(at, extent))
-}
-
-/// Whether an extent, carried so, shares no square with the frame; so it is where there is none.
-fn is_missed(extent: Option<Bounds>, at: &Placement, frame: &Rect) -> bool
-    requires within { IsWithin 258 at.now }
-    requires fine { IsFineIf extent }
-    ensures { result ≡ true → (cs : List Copy) → IsRight cs extent → IsMissed frame.now (map (carry_copy at.now) cs) }
-{
-    match extent {
-        Some(extent) => !meets(frame, &carried_extent(at, &extent)),
-        None => true,
     }
 }
 
@@ -185,126 +213,143 @@ fn are_between(a: i64, b: i64, c: i64, d: i64) -> bool
     a < b && c < d
 }
 
-/// Whether an extent, carried so, lies strictly within the frame.
-fn is_inside(extent: Option<Bounds>, at: &Placement, frame: &Rect) -> bool
+/// How what single references draw lies to a frame.
+#[derive(Clone, Copy, Debug, PartialEq, Eq)]
+enum Sight {
+    /// None of it meets the frame.
+    Apart,
+    /// All of it lies strictly within.
+    Inside,
+    /// Neither is known.
+    Across,
+}
+
+/// How what lies in the extent, carried so, lies to the frame.
+fn sight_of(extent: &Bounds, at: &Placement, frame: &Rect) -> Sight
     requires within { IsWithin 258 at.now }
-    requires fine { IsFineIf extent }
-    ensures { result ≡ true → (cs : List Copy) → IsRight cs extent → AreInside frame.now (map (carry_copy at.now) cs) }
+    requires ordered { IsOrdered extent.now }
+    ensures apart { result ≡ Sight.Apart → meets frame.now (carried_bounds at.now extent.now) ≡ false }
+    ensures inside { result ≡ Sight.Inside → IsStrictly frame.now (carried_bounds at.now extent.now) }
 {
-    match extent {
-        Some(extent) => holds(frame, &carried_extent(at, &extent)),
-        None => false,
+    if !are_close(extent) {
+        return Sight::Across;
+    }
+    let carried = carried_extent(at, extent);
+    if !meets(frame, &carried) {
+        Sight::Apart
+    } else if holds(frame, &carried) {
+        Sight::Inside
+    } else {
+        Sight::Across
     }
 }
 
-/// Finds what a link draws on the frame, carried so, where its cell draws by chains of so many cells.
-#[cycle(carry_on)]
-fn carry_link_on(
-    cells: &[Cell<'_, '_>],
-    extents: &[Option<Bounds>],
-    depth: u32,
-    link: &Link,
-    at: &Placement,
-    frame: &Rect,
-    found: &mut Found,
-) -> Result<(), FlattenError>
-    requires deep { depth ≤ 255 }
-    requires within { IsWithin (256 - depth) at.now }
-    requires fine { All IsFineIf extents.now }
-    requires held { AreHeld cells.now extents.now depth link.now.cell }
-    ensures found { OnOk result (IsFound frame.now (link_copies at.now (copies (hierarchy cells.now) depth) link.now) found.old found.new) }
-    ensures refused { IfErr result (IsRefusalOn frame.now (link_copies at.now (copies (hierarchy cells.now) depth) link.now) found.old) }
+/// How what the single references draw lies to the frame.
+fn sight_at(framed: &Framed<'_, '_, '_>, turns: &Turns) -> Sight
+    requires ready { IsReady framed.now }
+    requires held { AreHeld framed.now.cells.now framed.now.extents.now turns.now.depth turns.now.link.cell }
+    ensures apart { result ≡ Sight.Apart → IsMissed framed.now.frame.now (turns_copies framed.now.cells.now turns.now) }
+    ensures inside { result ≡ Sight.Inside → AreInside framed.now.frame.now (turns_copies framed.now.cells.now turns.now) }
 {
-    let Some(extent) = extent_at(extents, link.cell) else {
-        return Ok(());
+    let Some(extent) = extent_at(framed.extents, turns.link.cell) else {
+        return Sight::Apart;
     };
-    let turns = link.columns * link.rows;
-    carry_turns_on(
-        cells, extents, depth, link, 0, turns, extent, at, frame, found,
-    )?;
-    Ok(())
+    let all = turns_extent(
+        &turns.link,
+        turns.first,
+        turns.first + turns.number,
+        &extent,
+    );
+    sight_of(&all, &turns.placement, framed.frame)
 }
 
-/// Finds what the single references of a link from one number up to another draw on the frame, carried so. Where an extent that
-/// holds those of several doesn't meet the frame, none of them is looked at, else those of each half.
-#[cycle(carry_on)]
-fn carry_turns_on(
-    cells: &[Cell<'_, '_>],
-    extents: &[Option<Bounds>],
-    depth: u32,
-    link: &Link,
-    from: u32,
-    to: u32,
-    extent: Bounds,
-    at: &Placement,
-    frame: &Rect,
+/// Counts the copies that the single references draw, which become one of the roots.
+fn put_root(
+    framed: &Framed<'_, '_, '_>,
+    turns: &Turns,
     found: &mut Found,
 ) -> Result<(), FlattenError>
-    requires deep { depth ≤ 255 }
-    requires within { IsWithin (256 - depth) at.now }
-    requires fine { All IsFineIf extents.now }
-    requires held { AreHeld cells.now extents.now depth link.now.cell }
-    requires some { from < to }
-    requires turns { to ≤ link.now.columns * link.now.rows }
-    requires extent { extent_at extents.now link.now.cell ≡ Some extent }
-    requires near { IsFine extent }
-    ensures found { OnOk result (IsFound frame.now (flat_map (single_copies at.now (copies (hierarchy cells.now) depth) link.now) (range_with_len from (to - from)))
-        found.old found.new) }
-    ensures refused { IfErr result (IsRefusalOn frame.now (flat_map (single_copies at.now (copies (hierarchy cells.now) depth) link.now) (range_with_len from (to - from)))
-        found.old) }
+    requires counted { AreCounted framed.now.cells.now framed.now.counts.now turns.now.depth turns.now.link.cell }
+    requires ready { IsReady framed.now }
+    requires inside { AreInside framed.now.frame.now (turns_copies framed.now.cells.now turns.now) }
+    ensures found { OnOk result (IsFound framed.now (turns_copies framed.now.cells.now turns.now) found.old found.new) }
+    ensures refused { IfErr result (IsRefusalOn framed.now.frame.now (turns_copies framed.now.cells.now turns.now) found.old) }
 {
-    if to - from == 1 {
-        let inner = at.after(&link.single(from));
-        carry_cell_on(cells, extents, depth, link.cell, &inner, frame, found)?;
-        return Ok(());
-    }
-    if is_apart(&turns_extent(link, from, to, &extent), at, frame) {
-        return Ok(());
-    }
-    let middle = from + (to - from) / 2;
-    carry_turns_on(
-        cells, extents, depth, link, from, middle, extent, at, frame, found,
-    )?;
-    carry_turns_on(
-        cells, extents, depth, link, middle, to, extent, at, frame, found,
-    )?;
+    let more = turns.count(number_at(framed.counts, turns.link.cell));
+    let copies = count_copies(found.copies, more)?;
+    found.roots.push(*turns)?;
+    found.copies = copies;
+    found.inside += more;
     Ok(())
 }
 
-/// Finds what a cell draws on the frame by chains of so many cells, carried so. It is entered only if its extent meets the frame,
-/// and if that lies within the frame, nothing below it is looked at again.
-#[cycle(carry_on)]
-pub fn carry_cell_on(
-    cells: &[Cell<'_, '_>],
-    extents: &[Option<Bounds>],
+/// The first half of single references, and the second.
+fn halves(turns: &Turns) -> (Turns, Turns)
+    requires { 1 < turns.now.number }
+    ensures cells { (result.0.link.cell ≡ turns.now.link.cell) × (result.1.link.cell ≡ turns.now.link.cell) }
+    ensures depths { (result.0.depth ≡ turns.now.depth) × (result.1.depth ≡ turns.now.depth) }
+    ensures fewer { (result.0.number < turns.now.number) × (result.1.number < turns.now.number) }
+    ensures copies { (cells : List Cell) → turns_copies cells turns.now ≡ turns_copies cells result.0 ++ turns_copies cells result.1 }
+{
+    let half = turns.number / 2;
+    (
+        turns.some(turns.first, half),
+        turns.some(turns.first + half, turns.number - half),
+    )
+}
+
+/// Finds what single references draw on the frame. Where an extent that holds what all of them draw doesn't meet the frame, none
+/// is looked at; where it lies within, all are a root; else each half is looked at, and a single one is entered.
+#[cycle(find)]
+pub fn find_turns(
+    framed: &Framed<'_, '_, '_>,
+    turns: &Turns,
+    found: &mut Found,
+) -> Result<(), FlattenError>
+    requires ready { IsReady framed.now }
+    requires counted { AreCounted framed.now.cells.now framed.now.counts.now turns.now.depth turns.now.link.cell }
+    requires held { AreHeld framed.now.cells.now framed.now.extents.now turns.now.depth turns.now.link.cell }
+    ensures found { OnOk result (IsFound framed.now (turns_copies framed.now.cells.now turns.now) found.old found.new) }
+    ensures refused { IfErr result (IsRefusalOn framed.now.frame.now (turns_copies framed.now.cells.now turns.now) found.old) }
+{
+    match sight_at(framed, turns) {
+        Sight::Apart => return Ok(()),
+        Sight::Inside => return put_root(framed, turns, found),
+        Sight::Across => {}
+    }
+    if turns.number == 1 {
+        let inner = turns.placement.after(&turns.link.single(turns.first));
+        return find_cell(framed, turns.depth, turns.link.cell, &inner, found);
+    }
+    let (front, back) = halves(turns);
+    find_turns(framed, &front, found)?;
+    find_turns(framed, &back, found)
+}
+
+/// Finds what a cell draws on the frame by chains of so many cells, carried so.
+#[cycle(find)]
+fn find_cell(
+    framed: &Framed<'_, '_, '_>,
     depth: u32,
     index: usize,
     at: &Placement,
-    frame: &Rect,
     found: &mut Found,
 ) -> Result<(), FlattenError>
     requires deep { depth ≤ 256 }
     requires within { IsWithin (257 - depth) at.now }
-    requires fine { All IsFineIf extents.now }
-    requires held { AreHeld cells.now extents.now depth index }
-    ensures found { OnOk result (IsFound frame.now (map (carry_copy at.now) (copies (hierarchy cells.now) depth index)) found.old found.new) }
-    ensures refused { IfErr result (IsRefusalOn frame.now (map (carry_copy at.now) (copies (hierarchy cells.now) depth index)) found.old) }
+    requires ready { IsReady framed.now }
+    requires counted { AreCounted framed.now.cells.now framed.now.counts.now depth index }
+    requires held { AreHeld framed.now.cells.now framed.now.extents.now depth index }
+    ensures found { OnOk result (IsFound framed.now (map (carry_copy at.now) (copies (hierarchy framed.now.cells.now) depth index)) found.old found.new) }
+    ensures refused { IfErr result (IsRefusalOn framed.now.frame.now (map (carry_copy at.now) (copies (hierarchy framed.now.cells.now) depth index)) found.old) }
 {
-    let extent = extent_at(extents, index);
-    if is_missed(extent, at, frame) {
-        return Ok(());
-    }
-    if is_inside(extent, at, frame) {
-        carry_cell_in(cells, depth, index, at, found)?;
-        return Ok(());
-    }
-    let Some(cell) = cell_at(cells, depth, index) else {
+    let Some(cell) = cell_at(framed.cells, depth, index) else {
         return Ok(());
     };
-    carry_own_on(cell.shapes.as_slice(), at, frame, found)?;
+    find_own(framed, cell.shapes.as_slice(), at, found)?;
     let links = cell.links.as_slice();
     'links: for link in links {
-        carry_link_on(cells, extents, depth - 1, link, at, frame, found)?;
+        find_turns(framed, &turns_of(link, at, depth - 1), found)?;
     }
     Ok(())
 }

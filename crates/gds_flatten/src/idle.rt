@@ -1,11 +1,10 @@
-//! Links to cells that draw nothing on the layer. They are dropped before the walk, which would pass them over in each copy of their cell.
+//! What cells have that draws nothing on the layer. It is dropped before the walk, which would pass it over in each copy of its cell.
 
-ghost use Rattle.std.specs.Prelude.{◌≡◌};
-ghost use Rattle.gds_flatten.specs.steps.Idle.{is_busy, is_seen, IsBusy, AreBusy};
+ghost use Rattle.std.specs.Prelude.{◌≡◌, filter};
+ghost use Rattle.std.specs.List.{AllZip};
+ghost use Rattle.gds_flatten.specs.steps.Idle.{is_busy, is_drawn, IsBusy, IsFilled};
 
-use crate::framed::extent_at;
-use gds_cells::{Cell, Link, number_at};
-use gds_shape::Bounds;
+use gds_cells::{Cell, Link, Shape, number_at};
 
 /// Whether the cell that the link refers to has copies of shapes.
 fn is_busy(counts: &[usize], link: &Link) -> bool
@@ -14,41 +13,50 @@ fn is_busy(counts: &[usize], link: &Link) -> bool
     0 < number_at(counts, link.cell)
 }
 
-/// Whether the cell that the link refers to has an extent: none of its shapes may have a part.
-fn is_seen(extents: &[Option<Bounds>], link: &Link) -> bool
-    ensures { result ≡ is_seen extents.now link.now }
+/// Whether the shape has an extent.
+fn is_drawn(shape: &Shape<'_, '_>) -> bool
+    ensures { result ≡ is_drawn shape.now }
 {
-    extent_at(extents, link.cell).is_some()
+    shape.filled.extent().is_some()
 }
 
 /// Drops the cell's links to cells without copies.
-fn drop_from(cell: &mut Cell<'_, '_>, counts: &[usize])
-    ensures { IsBusy (is_busy counts.now) cell.old cell.new }
+fn drop_idle_from(cell: &mut Cell<'_, '_>, counts: &[usize])
+    ensures { IsBusy counts.now cell.old cell.new }
 {
     cell.links.retain(|link| is_busy(counts, link));
 }
 
 /// Drops all links to cells without copies, by the cells' counts.
 pub fn drop_idle(cells: &mut [Cell<'_, '_>], counts: &[usize])
-    ensures { AreBusy (is_busy counts.now) cells.old cells.new }
+    ensures { AllZip (IsBusy counts.now) cells.old cells.new }
 {
     'cells: for cell in cells.iter_mut() {
-        drop_from(cell, counts);
+        drop_idle_from(cell, counts);
     }
 }
 
-/// Drops the cell's links to cells without an extent.
-fn drop_unseen_from(cell: &mut Cell<'_, '_>, extents: &[Option<Bounds>])
-    ensures { IsBusy (is_seen extents.now) cell.old cell.new }
+/// Drops the shapes that have no extent.
+fn drop_bare_shapes(shapes: &mut Vec<Shape<'_, '_>>)
+    ensures { shapes.new.items ≡ filter is_drawn shapes.old.items }
 {
-    cell.links.retain(|link| is_seen(extents, link));
+    shapes.retain(|shape| is_drawn(shape));
 }
 
-/// Drops all links to cells without an extent.
-pub fn drop_unseen(cells: &mut [Cell<'_, '_>], extents: &[Option<Bounds>])
-    ensures { AreBusy (is_seen extents.now) cells.old cells.new }
+/// Drops the cell's shapes that have no extent.
+fn drop_bare_from(cell: &mut Cell<'_, '_>)
+    ensures { IsFilled cell.old cell.new }
+{
+    'chunks: for chunk in cell.shapes.iter_mut() {
+        drop_bare_shapes(chunk);
+    }
+}
+
+/// Drops all shapes that have no extent.
+pub fn drop_bare(cells: &mut [Cell<'_, '_>])
+    ensures { AllZip IsFilled cells.old cells.new }
 {
     'cells: for cell in cells.iter_mut() {
-        drop_unseen_from(cell, extents);
+        drop_bare_from(cell);
     }
 }

@@ -12,9 +12,10 @@ mod found;
 mod framed;
 mod idle;
 pub mod laws;
+mod reached;
 mod stretch;
+mod turns;
 mod walk;
-mod whole;
 
 pub use flattening::{flatten, flatten_parts, flatten_within};
 pub use gds_cells::FlattenError;

@@ -1,17 +1,23 @@
 //! Carries what a cell draws, with all that it refers to: all of its copies, or a stretch of them.
 
-ghost use Rattle.std.specs.Prelude.{◌≡◌, ◌⊎◌, ◌-◌, ◌*◌, ◌≤◌, ◌<◌, [], length, Some, map, slice_get, IfOk, IfErr, IfNone, IfSome, OnOk};
+ghost use Rattle.std.specs.Prelude.{◌≡◌, ◌⊎◌, ◌-◌, ◌*◌, ◌≤◌, ◌<◌, List, [], length, Some, map, slice_get, IfOk, IfErr, IfNone, IfSome, OnOk};
 ghost use Rattle.std.specs.List.{flat_map};
 ghost use Rattle.std.specs.Vec.{vec_items};
 ghost use Rattle.gds_cells.specs.Copies.{carry_copy, copies};
 ghost use Rattle.gds_cells.specs.steps.Counting.{AreCounted};
 ghost use Rattle.gds_cells.specs.steps.Ranges.{IsWithin};
-ghost use Rattle.gds_cells.specs.steps.Walks.{shape_copies, link_copies, hierarchy, part, IsDrawn, IsRefusal};
+ghost use Rattle.gds_cells.specs.declared.cell.Cell.{Cell};
+ghost use Rattle.gds_cells.specs.steps.Walks.{shape_copies, link_copies, hierarchy, part, top_copies, IsDrawn, IsRefusal};
+ghost use Rattle.gds_flatten.specs.steps.Roots.{turns_copies, roots_copies, AreRooted};
 
 use crate::chain::chain_from;
 use crate::stretch::Stretch;
-use fill_base::Rect;
-use gds_cells::{Cell, FlattenError, Link, Placement, Shape, carry_shape, count_link, number_at};
+use crate::turns::Turns;
+use fill_base::{Point, Rect};
+use gds_cells::{Cell, FlattenError, Link, Placement, Shape, carry_shape, number_at};
+
+/// How many cells a chain may have, the top among them.
+const DEEPEST: u32 = 256;
 
 /// Appends what the shapes cover, carried so.
 fn carry_shapes(
@@ -79,54 +85,48 @@ pub fn cell_at<'a, 'b, 's>(
     }
 }
 
-/// The first single reference of the link of which the stretch has copies, where each has so many.
-fn first_turn(link: &Link, each: usize, stretch: Stretch) -> u32
-    requires { 0 < each }
-    ensures few { result ≤ link.now.columns * link.now.rows }
-    ensures before { result * each ≤ stretch.from }
+/// All single references of a link, carried so.
+pub fn turns_of(link: &Link, at: &Placement, depth: u32) -> Turns
+    requires deep { depth ≤ 256 }
+    requires within { IsWithin (256 - depth) at.now }
+    ensures cell { result.link.cell ≡ link.now.cell }
+    ensures depth { result.depth ≡ depth }
+    ensures number { result.number ≡ link.now.columns * link.now.rows }
+    ensures copies { (cells : List Cell) → turns_copies cells result ≡ link_copies at.now (copies (hierarchy cells) depth) link.now }
 {
-    let turns = link.columns * link.rows;
-    (stretch.from / each).min(turns as usize) as u32
+    Turns {
+        link: *link,
+        first: 0,
+        number: link.columns * link.rows,
+        placement: *at,
+        depth,
+    }
 }
 
-/// The single reference of the link behind the last of which the stretch has copies, where each has so many.
-fn end_turn(link: &Link, each: usize, stretch: Stretch) -> u32
-    requires { 0 < each }
-    ensures few { result ≤ link.now.columns * link.now.rows }
-    ensures behind { (result ≡ link.now.columns * link.now.rows) ⊎ (stretch.to ≤ result * each) }
-{
-    let turns = link.columns * link.rows;
-    stretch.to.div_ceil(each).min(turns as usize) as u32
-}
-
-/// Appends a stretch of what a link draws, carried so, where its cell draws by chains of so many cells.
-/// Only the single references of which the stretch has copies are followed.
+/// Appends a stretch of what single references draw. Only those are followed of which the stretch has copies.
 #[cycle(carry)]
-fn carry_link(
+pub fn carry_turns(
     cells: &[Cell<'_, '_>],
     counts: &[usize],
-    depth: u32,
-    link: &Link,
-    at: &Placement,
+    turns: &Turns,
     stretch: Stretch,
     out: &mut Vec<Rect>,
 ) -> Result<(), FlattenError>
-    requires deep { depth ≤ 255 }
-    requires within { IsWithin (256 - depth) at.now }
-    requires counted { AreCounted cells.now counts.now depth link.now.cell }
-    ensures drawn { OnOk result (IsDrawn (part stretch.from stretch.to (link_copies at.now (copies (hierarchy cells.now) depth) link.now))
-        out.old.items out.new.items) }
-    ensures refused { IfErr result (IsRefusal (link_copies at.now (copies (hierarchy cells.now) depth) link.now)) }
+    requires counted { AreCounted cells.now counts.now turns.now.depth turns.now.link.cell }
+    ensures drawn { OnOk result (IsDrawn (part stretch.from stretch.to (turns_copies cells.now turns.now)) out.old.items out.new.items) }
+    ensures refused { IfErr result (IsRefusal (turns_copies cells.now turns.now)) }
 {
-    let each = number_at(counts, link.cell);
-    if count_link(link, each) <= stretch.from {
+    let each = number_at(counts, turns.link.cell);
+    if turns.count(each) <= stretch.from {
         return Ok(());
     }
-    let first = first_turn(link, each, stretch);
-    let end = end_turn(link, each, stretch);
-    let chain = chain_from(cells, counts, depth, link.cell);
-    'turns: for turn in first..end {
-        let single = at.after(&link.single(turn));
+    let begin = turns.begin(each, stretch);
+    let end = turns.end(each, stretch);
+    let chain = chain_from(cells, counts, turns.depth, turns.link.cell);
+    'turns: for turn in begin..end {
+        let single = turns
+            .placement
+            .after(&turns.link.single(turns.first + turn));
         let inner = single.after(&chain.placement);
         let rest = stretch.behind(turn as usize * each);
         carry_cell(cells, counts, chain.depth, chain.cell, &inner, rest, out)?;
@@ -137,7 +137,7 @@ fn carry_link(
 /// Appends a stretch of what a cell draws by chains of so many cells, carried so. What comes before and
 /// behind the stretch is passed by its count.
 #[cycle(carry)]
-pub fn carry_cell(
+fn carry_cell(
     cells: &[Cell<'_, '_>],
     counts: &[usize],
     depth: u32,
@@ -162,8 +162,51 @@ pub fn carry_cell(
         if rest.to == 0 {
             return Ok(());
         }
-        carry_link(cells, counts, depth - 1, link, at, rest, out)?;
-        rest = rest.behind(count_link(link, number_at(counts, link.cell)));
+        let turns = turns_of(link, at, depth - 1);
+        carry_turns(cells, counts, &turns, rest, out)?;
+        rest = rest.behind(turns.count(number_at(counts, link.cell)));
     }
     Ok(())
+}
+
+/// Appends a stretch of what the roots draw, one after another.
+pub fn carry_roots(
+    cells: &[Cell<'_, '_>],
+    counts: &[usize],
+    roots: &[Turns],
+    stretch: Stretch,
+    out: &mut Vec<Rect>,
+) -> Result<(), FlattenError>
+    requires { AreRooted cells.now counts.now roots.now }
+    ensures drawn { OnOk result (IsDrawn (part stretch.from stretch.to (roots_copies cells.now roots.now)) out.old.items out.new.items) }
+    ensures refused { IfErr result (IsRefusal (roots_copies cells.now roots.now)) }
+{
+    let mut rest = stretch;
+    'roots: for root in roots {
+        if rest.to == 0 {
+            return Ok(());
+        }
+        carry_turns(cells, counts, root, rest, out)?;
+        rest = rest.behind(root.count(number_at(counts, root.link.cell)));
+    }
+    Ok(())
+}
+
+/// The top, as a single reference to it.
+pub fn top_turns(top: usize) -> Turns
+    ensures cell { result.link.cell ≡ top }
+    ensures depth { result.depth ≡ 256 }
+    ensures copies { (cells : List Cell) → turns_copies cells result ≡ top_copies cells top }
+{
+    let still = Placement::shift(0, 0);
+    let step = Point { x: 0, y: 0 };
+    let link = Link {
+        cell: top,
+        placement: still,
+        columns: 1,
+        rows: 1,
+        column_step: step,
+        row_step: step,
+    };
+    turns_of(&link, &still, DEEPEST)
 }

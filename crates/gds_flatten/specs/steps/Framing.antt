@@ -3,7 +3,6 @@ use Rattle.std.specs.Prelude.{◌≤ℤ◌, ◌<ℤ◌, ◌≡◌, ◌⊎◌, �
 use Rattle.std.specs.List.{flat_map}
 use Rattle.fill_base.specs.declared.rect.Rect.{Rect}
 use Rattle.fill_base.specs.Squares.{squares}
-use Rattle.fill_region.specs.Squares.{covered}
 use Rattle.gds_shape.specs.declared.bounds.Bounds.{Bounds}
 use Rattle.gds_shape.specs.Paths.{in_bounds}
 use Rattle.gds_cells.specs.declared.cell.Cell.{Cell}
@@ -13,22 +12,10 @@ use Rattle.gds_cells.specs.Placements.{carried_bounds}
 use Rattle.gds_cells.specs.Shapes.{parts_of}
 use Rattle.gds_cells.specs.Copies.{Copy, own_copy, carry_copy, copies, drawn, AllStayInRange}
 use Rattle.gds_flatten.specs.Frames.{met}
-use Rattle.gds_flatten.specs.declared.found.Found.{Found}
-use Rattle.gds_cells.specs.declared.error.FlattenError.{FlattenError}
-use Rattle.gds_cells.specs.declared.error.FlattenError.TheVariants.{Memory, TooManyShapes}
 use Rattle.gds_cells.specs.steps.Prepared.{IsOrdered, IsPart}
 use Rattle.gds_cells.specs.steps.Ranges.{IsClose}
 use Rattle.gds_cells.specs.steps.Counting.{links_in}
 use Rattle.gds_cells.specs.steps.Walks.{own_in, singles_of, hierarchy}
-
--- on the squares of the rectangle these copies were added, and nothing else
-abbrev pub IsDrawnOn : Rect → List Copy → List Rect → List Rect → Type 0
-IsDrawnOn r cs old new = (x y : ℤ) → squares r x y ≡ true → covered new x y ≡ (covered old x y || drawn cs x y)
-
--- the copies that meet the frame were counted, and if all stay in range, what they draw on it was added
-pub record IsFound (r : Rect) (cs : List Copy) (old new : Found) : Type 0 where
-  pub counted : new.copies ≡ old.copies + met r cs
-  pub drawn : AllStayInRange cs → IsDrawnOn r cs old.rects.items new.rects.items
 
 -- the frame sees nothing of the copies
 abbrev pub IsUnseen : Rect → List Copy → Type 0
@@ -38,10 +25,6 @@ IsUnseen r cs = (x y : ℤ) → squares r x y ≡ true → drawn cs x y ≡ fals
 pub record IsMissed (r : Rect) (cs : List Copy) : Type 0 where
   pub dark : IsUnseen r cs
   pub none : met r cs ≡ 0
-
--- why they weren't: memory is refused, or more than 4,000,000 meet the frame
-abbrev pub IsRefusalOn : Rect → List Copy → Found → FlattenError → Type 0
-IsRefusalOn r cs old e = (e ≡ Memory) ⊎ ((e ≡ TooManyShapes) × (4000000 < old.copies + met r cs))
 
 -- edges in order, far from where sums of 64 bits end
 pub record IsFine (b : Bounds) : Type 0 where

@@ -1,83 +1,186 @@
-use Rattle.std.proofs.Common.{◌≡◌, sym, ap, subst, refl, map, ◌∙◌, ◌&&◌}
+use Rattle.std.proofs.Common.{◌≡◌, ◌⊎◌, inl, inr, map, length, sym, ap, subst, arith, ◌∙◌}
+use Rattle.std.specs.Prelude.{All, filter, ◌&&◌, ◌||◌}
+use Rattle.std.specs.List.{flat_map}
+use Rattle.std.specs.Vec.{vec_items}
 use Rattle.std.proofs.lemmas.Result.{err_from_is_err_and}
 use Rattle.fill_base.specs.Squares.{squares}
 use Rattle.fill_region.specs.Squares.{covered}
 use Rattle.gds_grammar.specs.Values.{cell_of}
+use Rattle.gds_cells.specs.declared.error.FlattenError.TheVariants.{Memory, OutOfRange}
+use Rattle.gds_cells.specs.Copies.{drawn, AllStayInRange}
 use Rattle.gds_cells.specs.Designs.{copies_of}
-use Rattle.gds_flatten.specs.steps.Framing.{IsFound, IsHeld, IsRefusalOn, IsTight, extent_at}
 use Rattle.gds_cells.specs.steps.Walks.{top_copies}
-use Rattle.gds_flatten.proofs.Flattened.{walked}
-use Rattle.gds_flatten.proofs.Framing.{frame_met, walk_told, few_told}
-use Rattle.gds_flatten.proofs.Seen.{held_here}
+use Rattle.gds_flatten.specs.declared.found.Framed.{Framed}
+use Rattle.gds_flatten.specs.Flattening.{IsRefusedOn}
+use Rattle.gds_flatten.specs.steps.Finding.{inner}
+use Rattle.gds_flatten.specs.steps.Framing.{IsFineIf, IsHeld, IsRight, extent_at}
+use Rattle.gds_flatten.specs.steps.Idle.{is_full, AreFull}
+use Rattle.gds_flatten.specs.steps.Roots.{turns_copies, roots_copies, AreRooted}
+use Rattle.gds_flatten.proofs.Framing.{walk_told, stay_told, stay_here, found_told, parts_seen, memory_told}
 use Rattle.gds_flatten.proofs.Ranged.{all_in_range}
-use Rattle.gds_flatten.proofs.Sparse.{but_found, but_refused}
+use Rattle.gds_flatten.proofs.Seen.{held_here}
 use Rattle.gds_flatten.proofs.flattening.flatten_within.Goals as goal
 
-pub returns-in_err-framed-clause-refused : goal.returns-in_err-framed-clause-refused
-returns-in_err-framed-clause-refused g c =
+pub returns-in_err-built-clause-refused : goal.returns-in_err-built-clause-refused
+returns-in_err-built-clause-refused g c =
     let p = err_from_is_err_and c.from_residual.result c.from_residual.ensures.1 in
-    rw (p.1, p.2) (c.in_err-framed.ensures.refused c.args.frame.now)
+    rw (p.1, p.2) (c.in_err-built.ensures.refused.1 c.args.frame.now)
 
-pub returns-in_err-carry_cell_on-clause-refused : goal.returns-in_err-carry_cell_on-clause-refused
-returns-in_err-carry_cell_on-clause-refused g c =
-    let p = err_from_is_err_and c.from_residual-in_err-carry_cell_on.result c.from_residual-in_err-carry_cell_on.ensures.1 in
-    let d = c.in_ok-framed.framed in
-    let told = c.in_ok-framed.ensures in
-    let e = c.in_err-carry_cell_on.field-0.0 in
-    let f = c.args.frame.now in
-    let all = copies_of (map cell_of c.args.library.now.cells.entries) c.args.top.now c.args.layer in
-    let refusal = walked (λ cs. IsRefusalOn f cs c.new-found.result e) d.cells.items c.deref.result.now c.shift.result d.top c.deref.ensures.value c.shift.ensures c.in_err-carry_cell_on.ensures.refused in
-    rw (p.1, p.2) (walk_told (map cell_of c.args.library.now.cells.entries) c.args.top.now c.args.layer all f told.sound told.fine refl e c.new-found.result c.new-found.ensures.none
-    (but_refused f (top_copies d.cells.items d.top) all c.new-found.result e told.but refusal))
+pub find_turns-requires-clause-ready : goal.find_turns-requires-clause-ready
+find_turns-requires-clause-ready g c =
+    record {
+      fine = subst (All IsFineIf) (sym c.deref-3.ensures.value) c.in_ok-extents.ensures.fine;
+      full = subst AreFull (sym c.deref.ensures.value) (c.in_ok-counted.ensures.full c.without_bare-reached.ensures.full);
+    }
+
+pub returns-in_err-find_turns-clause-refused : goal.returns-in_err-find_turns-clause-refused
+returns-in_err-find_turns-clause-refused g c =
+    let p = err_from_is_err_and c.from_residual-in_err-find_turns.result c.from_residual-in_err-find_turns.ensures.1 in
+    let entries = map cell_of c.args.library.now.cells.entries in
+    let built = c.in_ok-built.built in
+    let w : Framed = record { cells = c.deref.result; counts = c.deref-2.result; extents = c.deref-3.result; frame = c.args.frame } in
+    let d = c.in_ok-counted.counted in
+    let same : turns_copies w.cells.now c.top_turns.result ≡ filter is_full (top_copies built.cells.items built.top) =
+    c.top_turns.ensures.copies w.cells.now ∙ ap (λ xs. top_copies xs d.top) c.deref.ensures.value ∙ c.in_ok-counted.ensures.same ∙ c.without_bare-reached.ensures.same in
+    rw (p.1, p.2) (walk_told entries c.args.top.now c.args.layer built.cells.items built.top c.in_ok-built.ensures.reached w (turns_copies w.cells.now c.top_turns.result) same
+    c.in_err-find_turns.field-0.0 c.new-found.result c.new-found.ensures.none c.in_err-find_turns.ensures.refused)
 
 pub returns-then-not-is_inside-clause-refused : goal.returns-then-not-is_inside-clause-refused
 returns-then-not-is_inside-clause-refused g c =
-    let d = c.in_ok-framed.framed in
-    let told = c.in_ok-framed.ensures in
-    let f = c.args.frame.now in
-    let all = copies_of (map cell_of c.args.library.now.cells.entries) c.args.top.now c.args.layer in
-    let at : c.extent_at.result ≡ extent_at d.extents.items d.top = c.extent_at.ensures ∙ ap (λ es. extent_at es d.top) c.deref-3.ensures.value in
-    let found = walked (λ cs. IsFound f cs c.new-found.result c.carry_cell_on.new.found) d.cells.items c.deref.result.now c.shift.result d.top c.deref.ensures.value c.shift.ensures c.in_ok-carry_cell_on.ensures.found in (
-      few_told (map cell_of c.args.library.now.cells.entries) c.args.top.now c.args.layer all f told.sound told.fine refl c.new-found.result c.carry_cell_on.new.found c.new-found.ensures.none c.carry_cell_on.new.found.few
-          (but_found f (top_copies d.cells.items d.top) all c.new-found.result c.carry_cell_on.new.found told.but found),
-      c.is_inside.ensures.no c.if-not-is_inside.true all (subst (IsTight all) (sym at) told.tight),
+    let entries = map cell_of c.args.library.now.cells.entries in
+    let built = c.in_ok-built.built in
+    let w : Framed = record { cells = c.deref.result; counts = c.deref-2.result; extents = c.deref-3.result; frame = c.args.frame } in
+    let d = c.in_ok-counted.counted in
+    let same : turns_copies w.cells.now c.top_turns.result ≡ filter is_full (top_copies built.cells.items built.top) =
+    c.top_turns.ensures.copies w.cells.now ∙ ap (λ xs. top_copies xs d.top) c.deref.ensures.value ∙ c.in_ok-counted.ensures.same ∙ c.without_bare-reached.ensures.same in
+    let none = c.new-found.ensures in
+    let told = found_told entries c.args.top.now c.args.layer built.cells.items built.top c.in_ok-built.ensures.reached w (turns_copies w.cells.now c.top_turns.result) same
+    c.new-found.result c.find_turns.new.found none.none none.empty none.rootless none.nothing c.in_ok-find_turns.ensures.found in
+    let extents = c.in_ok-extents.extents.items in
+    let at : c.extent_at.result ≡ extent_at extents d.top = c.extent_at.ensures ∙ ap (λ es. extent_at es d.top) c.deref-4.ensures.value in
+    let right = subst (IsRight (top_copies d.cells.items d.top)) (sym at) (held_here d.cells.items extents 256 d.top (c.in_ok-counted.ensures.held extents c.in_ok-extents.ensures.held)) in
+    let here : turns_copies w.cells.now c.top_turns.result ≡ top_copies d.cells.items d.top = c.top_turns.ensures.copies w.cells.now ∙ ap (λ xs. top_copies xs d.top) c.deref.ensures.value in (
+      told.countable,
+      λ stay. c.is_inside.ensures.no c.if-not-is_inside.true (top_copies d.cells.items d.top) right.tight
+          (subst AllStayInRange here (stay_here entries c.args.top.now c.args.layer built.cells.items built.top c.in_ok-built.ensures.reached w (turns_copies w.cells.now c.top_turns.result) same stay)),
     )
+
+pub invariant_of-design : goal.invariant_of-design
+invariant_of-design g c =
+    let entries = map cell_of c.args.library.now.cells.entries in
+    let built = c.in_ok-built.built in
+    let w : Framed = record { cells = c.deref.result; counts = c.deref-2.result; extents = c.deref-3.result; frame = c.args.frame } in
+    let d = c.in_ok-counted.counted in
+    let same : turns_copies w.cells.now c.top_turns.result ≡ filter is_full (top_copies built.cells.items built.top) =
+    c.top_turns.ensures.copies w.cells.now ∙ ap (λ xs. top_copies xs d.top) c.deref.ensures.value ∙ c.in_ok-counted.ensures.same ∙ c.without_bare-reached.ensures.same in
+    let none = c.new-found.ensures in
+    let told = found_told entries c.args.top.now c.args.layer built.cells.items built.top c.in_ok-built.ensures.reached w (turns_copies w.cells.now c.top_turns.result) same
+    c.new-found.result c.find_turns.new.found none.none none.empty none.rootless none.nothing c.in_ok-find_turns.ensures.found in
+    let found = c.find_turns.new.found in
+    let number = told.kept.number ∙ ap (λ xs. length (roots_copies xs found.roots.items)) c.deref.ensures.value in
+    let fewer = found.fewer in
+    let few = found.few in
+    record { all = number; few = omega (arith, fewer, few) }
+
+pub parts-requires-clause-counted : goal.parts-requires-clause-counted
+parts-requires-clause-counted g c =
+    let entries = map cell_of c.args.library.now.cells.entries in
+    let built = c.in_ok-built.built in
+    let w : Framed = record { cells = c.deref.result; counts = c.deref-2.result; extents = c.deref-3.result; frame = c.args.frame } in
+    let d = c.in_ok-counted.counted in
+    let same : turns_copies w.cells.now c.top_turns.result ≡ filter is_full (top_copies built.cells.items built.top) =
+    c.top_turns.ensures.copies w.cells.now ∙ ap (λ xs. top_copies xs d.top) c.deref.ensures.value ∙ c.in_ok-counted.ensures.same ∙ c.without_bare-reached.ensures.same in
+    let none = c.new-found.ensures in
+    let told = found_told entries c.args.top.now c.args.layer built.cells.items built.top c.in_ok-built.ensures.reached w (turns_copies w.cells.now c.top_turns.result) same
+    c.new-found.result c.find_turns.new.found none.none none.empty none.rootless none.nothing c.in_ok-find_turns.ensures.found in
+    λ κs within. subst (λ xs. AreRooted xs d.counts.items c.find_turns.new.found.roots.items) c.deref.ensures.value
+    (subst (λ ns. AreRooted c.deref.result.now ns c.find_turns.new.found.roots.items) c.deref-2.ensures.value told.kept.rooted)
+
+pub returns-in_err-rects-clause-refused : goal.returns-in_err-rects-clause-refused
+returns-in_err-rects-clause-refused g c =
+    let p = err_from_is_err_and c.from_residual-in_err-rects.result c.from_residual-in_err-rects.ensures.1 in
+    let entries = map cell_of c.args.library.now.cells.entries in
+    let built = c.in_ok-built.built in
+    let w : Framed = record { cells = c.deref.result; counts = c.deref-2.result; extents = c.deref-3.result; frame = c.args.frame } in
+    let d = c.in_ok-counted.counted in
+    let same : turns_copies w.cells.now c.top_turns.result ≡ filter is_full (top_copies built.cells.items built.top) =
+    c.top_turns.ensures.copies w.cells.now ∙ ap (λ xs. top_copies xs d.top) c.deref.ensures.value ∙ c.in_ok-counted.ensures.same ∙ c.without_bare-reached.ensures.same in
+    let none = c.new-found.ensures in
+    let told = found_told entries c.args.top.now c.args.layer built.cells.items built.top c.in_ok-built.ensures.reached w (turns_copies w.cells.now c.top_turns.result) same
+    c.new-found.result c.find_turns.new.found none.none none.empty none.rootless none.nothing c.in_ok-find_turns.ensures.found in
+    let extents = c.in_ok-extents.extents.items in
+    let at : c.extent_at.result ≡ extent_at extents d.top = c.extent_at.ensures ∙ ap (λ es. extent_at es d.top) c.deref-4.ensures.value in
+    let right = subst (IsRight (top_copies d.cells.items d.top)) (sym at) (held_here d.cells.items extents 256 d.top (c.in_ok-counted.ensures.held extents c.in_ok-extents.ensures.held)) in
+    let here : turns_copies w.cells.now c.top_turns.result ≡ top_copies d.cells.items d.top = c.top_turns.ensures.copies w.cells.now ∙ ap (λ xs. top_copies xs d.top) c.deref.ensures.value in
+    let stay = stay_told entries c.args.top.now c.args.layer built.cells.items built.top c.in_ok-built.ensures.reached w (turns_copies w.cells.now c.top_turns.result) same
+    (subst AllStayInRange (sym here) (c.is_inside.ensures.yes c.if-not-is_inside.false (top_copies d.cells.items d.top) right.tight)) in
+    rw (p.1, p.2) (memory_told entries c.args.top.now c.args.layer c.args.frame.now (roots_copies d.cells.items c.find_turns.new.found.roots.items)
+    (subst (λ xs. AllStayInRange (roots_copies xs c.find_turns.new.found.roots.items)) c.deref.ensures.value (told.stay stay)) c.in_err-rects.field-0.0 c.in_err-rects.ensures.refused)
 
 pub returns-clause-fine : goal.returns-clause-fine
 returns-clause-fine g c =
-    let d = c.in_ok-framed.framed in
-    let told = c.in_ok-framed.ensures in
-    let f = c.args.frame.now in
-    let all = copies_of (map cell_of c.args.library.now.cells.entries) c.args.top.now c.args.layer in
-    let found = walked (λ cs. IsFound f cs c.new-found.result c.carry_cell_on.new.found) d.cells.items c.deref.result.now c.shift.result d.top c.deref.ensures.value c.shift.ensures c.in_ok-carry_cell_on.ensures.found in
-    few_told (map cell_of c.args.library.now.cells.entries) c.args.top.now c.args.layer all f told.sound told.fine refl c.new-found.result c.carry_cell_on.new.found c.new-found.ensures.none c.carry_cell_on.new.found.few
-    (but_found f (top_copies d.cells.items d.top) all c.new-found.result c.carry_cell_on.new.found told.but found)
+    let entries = map cell_of c.args.library.now.cells.entries in
+    let built = c.in_ok-built.built in
+    let w : Framed = record { cells = c.deref.result; counts = c.deref-2.result; extents = c.deref-3.result; frame = c.args.frame } in
+    let d = c.in_ok-counted.counted in
+    let same : turns_copies w.cells.now c.top_turns.result ≡ filter is_full (top_copies built.cells.items built.top) =
+    c.top_turns.ensures.copies w.cells.now ∙ ap (λ xs. top_copies xs d.top) c.deref.ensures.value ∙ c.in_ok-counted.ensures.same ∙ c.without_bare-reached.ensures.same in
+    let none = c.new-found.ensures in
+    let told = found_told entries c.args.top.now c.args.layer built.cells.items built.top c.in_ok-built.ensures.reached w (turns_copies w.cells.now c.top_turns.result) same
+    c.new-found.result c.find_turns.new.found none.none none.empty none.rootless none.nothing c.in_ok-find_turns.ensures.found in
+    told.countable
 
 pub returns-clause-inside : goal.returns-clause-inside
 returns-clause-inside g c =
-    let d = c.in_ok-framed.framed in
-    let all = copies_of (map cell_of c.args.library.now.cells.entries) c.args.top.now c.args.layer in
-    let at : c.extent_at.result ≡ extent_at d.extents.items d.top = c.extent_at.ensures ∙ ap (λ es. extent_at es d.top) c.deref-3.ensures.value in
-    c.is_inside.ensures.yes c.if-not-is_inside.false all (subst (IsTight all) (sym at) c.in_ok-framed.ensures.tight)
+    let entries = map cell_of c.args.library.now.cells.entries in
+    let built = c.in_ok-built.built in
+    let w : Framed = record { cells = c.deref.result; counts = c.deref-2.result; extents = c.deref-3.result; frame = c.args.frame } in
+    let d = c.in_ok-counted.counted in
+    let same : turns_copies w.cells.now c.top_turns.result ≡ filter is_full (top_copies built.cells.items built.top) =
+    c.top_turns.ensures.copies w.cells.now ∙ ap (λ xs. top_copies xs d.top) c.deref.ensures.value ∙ c.in_ok-counted.ensures.same ∙ c.without_bare-reached.ensures.same in
+    let extents = c.in_ok-extents.extents.items in
+    let at : c.extent_at.result ≡ extent_at extents d.top = c.extent_at.ensures ∙ ap (λ es. extent_at es d.top) c.deref-4.ensures.value in
+    let right = subst (IsRight (top_copies d.cells.items d.top)) (sym at) (held_here d.cells.items extents 256 d.top (c.in_ok-counted.ensures.held extents c.in_ok-extents.ensures.held)) in
+    let here : turns_copies w.cells.now c.top_turns.result ≡ top_copies d.cells.items d.top = c.top_turns.ensures.copies w.cells.now ∙ ap (λ xs. top_copies xs d.top) c.deref.ensures.value in
+    let stay = stay_told entries c.args.top.now c.args.layer built.cells.items built.top c.in_ok-built.ensures.reached w (turns_copies w.cells.now c.top_turns.result) same
+    (subst AllStayInRange (sym here) (c.is_inside.ensures.yes c.if-not-is_inside.false (top_copies d.cells.items d.top) right.tight)) in
+    stay
 
 pub returns-clause-squares : goal.returns-clause-squares
-returns-clause-squares g c = λ x y.
-    let d = c.in_ok-framed.framed in
-    let told = c.in_ok-framed.ensures in
-    let f = c.args.frame.now in
-    let all = copies_of (map cell_of c.args.library.now.cells.entries) c.args.top.now c.args.layer in
-    let at : c.extent_at.result ≡ extent_at d.extents.items d.top = c.extent_at.ensures ∙ ap (λ es. extent_at es d.top) c.deref-3.ensures.value in
-    let stay = c.is_inside.ensures.yes c.if-not-is_inside.false all (subst (IsTight all) (sym at) told.tight) in
-    let found = walked (λ cs. IsFound f cs c.new-found.result c.carry_cell_on.new.found) d.cells.items c.deref.result.now c.shift.result d.top c.deref.ensures.value c.shift.ensures c.in_ok-carry_cell_on.ensures.found in
-    let drawn = (but_found f (top_copies d.cells.items d.top) all c.new-found.result c.carry_cell_on.new.found told.but found).drawn stay in
-    c.in_ok-rects.ensures x y ∙ ap (λ rs. covered rs x y && squares f x y) c.deref-4.ensures.value
-    ∙ frame_met f all all c.new-found.result.rects.items c.carry_cell_on.new.found.rects.items c.new-found.ensures.empty refl drawn x y
+returns-clause-squares g c =
+    let entries = map cell_of c.args.library.now.cells.entries in
+    let built = c.in_ok-built.built in
+    let w : Framed = record { cells = c.deref.result; counts = c.deref-2.result; extents = c.deref-3.result; frame = c.args.frame } in
+    let d = c.in_ok-counted.counted in
+    let same : turns_copies w.cells.now c.top_turns.result ≡ filter is_full (top_copies built.cells.items built.top) =
+    c.top_turns.ensures.copies w.cells.now ∙ ap (λ xs. top_copies xs d.top) c.deref.ensures.value ∙ c.in_ok-counted.ensures.same ∙ c.without_bare-reached.ensures.same in
+    let none = c.new-found.ensures in
+    let told = found_told entries c.args.top.now c.args.layer built.cells.items built.top c.in_ok-built.ensures.reached w (turns_copies w.cells.now c.top_turns.result) same
+    c.new-found.result c.find_turns.new.found none.none none.empty none.rootless none.nothing c.in_ok-find_turns.ensures.found in
+    let extents = c.in_ok-extents.extents.items in
+    let at : c.extent_at.result ≡ extent_at extents d.top = c.extent_at.ensures ∙ ap (λ es. extent_at es d.top) c.deref-4.ensures.value in
+    let right = subst (IsRight (top_copies d.cells.items d.top)) (sym at) (held_here d.cells.items extents 256 d.top (c.in_ok-counted.ensures.held extents c.in_ok-extents.ensures.held)) in
+    let here : turns_copies w.cells.now c.top_turns.result ≡ top_copies d.cells.items d.top = c.top_turns.ensures.copies w.cells.now ∙ ap (λ xs. top_copies xs d.top) c.deref.ensures.value in
+    let stay = stay_told entries c.args.top.now c.args.layer built.cells.items built.top c.in_ok-built.ensures.reached w (turns_copies w.cells.now c.top_turns.result) same
+    (subst AllStayInRange (sym here) (c.is_inside.ensures.yes c.if-not-is_inside.false (top_copies d.cells.items d.top) right.tight)) in
+    let found = c.find_turns.new.found in
+    λ x y.
+    c.in_ok-kept.ensures x y ∙ ap (λ rs. covered (flat_map vec_items rs) x y && squares c.args.frame.now x y) (c.deref-5.ensures.value ∙ c.in_ok-push.ensures.items)
+    ∙ ap (λ b. b && squares c.args.frame.now x y) (parts_seen c.in_ok-rects.rects.items found.rects (roots_copies d.cells.items found.roots.items) c.in_ok-rects.ensures.drawn x y
+    ∙ ap (λ xs. covered found.rects.items x y || drawn (roots_copies xs found.roots.items) x y) (sym c.deref.ensures.value)) ∙ told.met stay x y
 
 pub returns-clause-range : goal.returns-clause-range
 returns-clause-range g c =
-    let d = c.in_ok-framed.framed in
-    let told = c.in_ok-framed.ensures in
-    let all = copies_of (map cell_of c.args.library.now.cells.entries) c.args.top.now c.args.layer in
-    let at : c.extent_at.result ≡ extent_at d.extents.items d.top = c.extent_at.ensures ∙ ap (λ es. extent_at es d.top) c.deref-3.ensures.value in
-    all_in_range (top_copies d.cells.items d.top) all c.extent_at.result told.but (subst (IsHeld (top_copies d.cells.items d.top)) (sym at) (held_here d.cells.items d.extents.items 256 d.top told.held).held)
-    (c.is_inside.ensures.range c.if-not-is_inside.false)
+    let entries = map cell_of c.args.library.now.cells.entries in
+    let built = c.in_ok-built.built in
+    let w : Framed = record { cells = c.deref.result; counts = c.deref-2.result; extents = c.deref-3.result; frame = c.args.frame } in
+    let d = c.in_ok-counted.counted in
+    let same : turns_copies w.cells.now c.top_turns.result ≡ filter is_full (top_copies built.cells.items built.top) =
+    c.top_turns.ensures.copies w.cells.now ∙ ap (λ xs. top_copies xs d.top) c.deref.ensures.value ∙ c.in_ok-counted.ensures.same ∙ c.without_bare-reached.ensures.same in
+    let extents = c.in_ok-extents.extents.items in
+    let at : c.extent_at.result ≡ extent_at extents d.top = c.extent_at.ensures ∙ ap (λ es. extent_at es d.top) c.deref-4.ensures.value in
+    let right = subst (IsRight (top_copies d.cells.items d.top)) (sym at) (held_here d.cells.items extents 256 d.top (c.in_ok-counted.ensures.held extents c.in_ok-extents.ensures.held)) in
+    let here : turns_copies w.cells.now c.top_turns.result ≡ top_copies d.cells.items d.top = c.top_turns.ensures.copies w.cells.now ∙ ap (λ xs. top_copies xs d.top) c.deref.ensures.value in
+    let all = copies_of entries c.args.top.now c.args.layer in
+    λ x y. all_in_range all c.extent_at.result (subst (λ cs. IsHeld cs c.extent_at.result) (sym here ∙ same ∙ ap (filter is_full) c.in_ok-built.ensures.reached.same) right.held)
+    (c.is_inside.ensures.range c.if-not-is_inside.false) x y

@@ -1,19 +1,19 @@
 use Rattle.std.proofs.Common.{◌<◌, subst, sym, arith}
-use Rattle.gds_flatten.specs.steps.Idle.{is_busy, IsBusy}
-use Rattle.gds_flatten.proofs.Busy.{dropped_none, dropped_next, dropped_all}
+use Rattle.gds_flatten.specs.steps.Idle.{IsBusy}
+use Rattle.gds_flatten.proofs.Busy.{changed_none, changed_next, changed_all}
 use Rattle.gds_flatten.proofs.idle.drop_idle.Goals as goal
 
 pub cells-init : goal.cells-init
-cells-init c = dropped_none (is_busy c.args.counts.now) c.args.cells.now
+cells-init c = changed_none (IsBusy c.args.counts.now) c.args.cells.now
 
 pub cells-preserved : goal.cells-preserved
 cells-preserved c =
-    dropped_next (is_busy c.args.counts.now) c.args.cells.now c.cells.cells c.cells.cell-index c.drop_from.new.cell c.cell-item.result
+    changed_next (IsBusy c.args.counts.now) c.args.cells.now c.cells.cells c.cells.cell-index c.drop_idle_from.new.cell c.cell-item.result
     (subst (λ n. c.cells.cell-index < n) (sym c.cells.auto.cells) c.cells-test.true) c.cells.invariant c.cell-item.is
-    (subst (λ x. IsBusy (is_busy c.args.counts.now) x c.drop_from.new.cell) (sym c.cell-item.is) c.drop_from.ensures)
+    (subst (λ x. (IsBusy c.args.counts.now) x c.drop_idle_from.new.cell) (sym c.cell-item.is) c.drop_idle_from.ensures)
 
 pub returns : goal.returns
 returns c =
     let long = c.cells.auto.cells in
     let ended = c.cells-test.false in
-    dropped_all (is_busy c.args.counts.now) c.args.cells.now c.cells.cells c.cells.cell-index (λ lt. omega (arith, lt, long, ended)) c.cells.invariant
+    changed_all (IsBusy c.args.counts.now) c.args.cells.now c.cells.cells c.cells.cell-index (λ lt. omega (arith, lt, long, ended)) c.cells.invariant

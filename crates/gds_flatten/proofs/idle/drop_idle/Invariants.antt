@@ -1,6 +1,6 @@
-use Rattle.gds_flatten.specs.steps.Idle.{is_busy}
-use Rattle.gds_flatten.proofs.Busy.{AreDropped}
+use Rattle.gds_flatten.specs.steps.Idle.{IsBusy}
+use Rattle.gds_flatten.proofs.Busy.{AreChanged}
 use Rattle.gds_flatten.proofs.idle.drop_idle.Given as goal
 
 abbrev pub invariant-cells : goal.invariant-cells
-invariant-cells l = AreDropped (is_busy l.counts) l.fn.cells l.cells l.cell-index
+invariant-cells l = AreChanged (IsBusy l.counts) l.fn.cells l.cells l.cell-index

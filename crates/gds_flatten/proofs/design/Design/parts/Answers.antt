@@ -10,17 +10,17 @@ use Rattle.rayon.proofs.ListFacts.{AllZip-weaken}
 use Rattle.rayon.proofs.ToStd.{nat_range-All}
 use Rattle.fill_base.specs.declared.rect.Rect.{Rect}
 use Rattle.fill_region.proofs.Collecting.{collected, range_begins, refused_by}
-use Rattle.gds_cells.specs.Copies.{copies}
 use Rattle.gds_flatten.specs.declared.design.Design.{Design}
 use Rattle.gds_cells.specs.declared.error.FlattenError.{FlattenError}
-use Rattle.gds_cells.specs.steps.Walks.{hierarchy, part, top_copies, IsDrawn, IsRefusal}
+use Rattle.gds_cells.specs.steps.Walks.{part, IsDrawn, IsRefusal}
+use Rattle.gds_flatten.specs.steps.Roots.{roots_copies}
 use Rattle.gds_flatten.proofs.Sharing.{parts_joined}
 use Rattle.gds_flatten.proofs.design.Design.parts.Goals as goal
 
 -- what came of the stretch at an index, where the closure holds the design and the size of a stretch
 abbrev Came : Bor Design × Global × ℕ → ℕ → Result (Vec Rect) FlattenError → Type 0
 Came f k came =
-    let cs = top_copies f.0.now.cells.items f.0.now.top in
+    let cs = roots_copies f.0.now.cells.items f.0.now.roots.items in
     IfOk came (λ v. IsDrawn (part (k * f.2) (k * f.2 + f.2) cs) [] v.items) × IfErr came (IsRefusal cs)
 
 pub collect-requires-clause-ready : goal.collect-requires-clause-ready
@@ -38,7 +38,7 @@ returns-clause-drawn g c =
     let ends = c.into_par_iter.ensures in
     let design = c.args.self.now in
     let size = c.max-size.result in
-    let cs = copies (hierarchy design.cells.items) 256 design.top in
+    let cs = roots_copies design.cells.items design.roots.items in
     let count = div_ceil design.number size in
     let some : 0 < size = omega (arith, c.max-size.ensures) in
     let whole : count - 0 ≡ count = omega arith in
@@ -57,4 +57,4 @@ returns-clause-refused g c =
     let design = c.args.self.now in
     let h = c.in_ok-collect.ensures in
     let came = subst (λ f. AllZip (Came f) h.1.0 h.0) c.map.ensures.f h.1.2 in
-    refused_by (IsRefusal (top_copies design.cells.items design.top)) _ h.1.0 h.0 c.in_ok-collect.field-0 (AllZip-weaken _ _ (λ k one came. came.1) h.1.0 h.0 came) h.2
+    refused_by (IsRefusal (roots_copies design.cells.items design.roots.items)) _ h.1.0 h.0 c.in_ok-collect.field-0 (AllZip-weaken _ _ (λ k one came. came.1) h.1.0 h.0 came) h.2

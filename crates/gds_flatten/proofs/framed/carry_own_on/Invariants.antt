@@ -1,8 +1,0 @@
-use Rattle.std.proofs.Common.{take}
-use Rattle.std.specs.List.{flat_map}
-use Rattle.gds_flatten.specs.steps.Framing.{IsFound}
-use Rattle.gds_flatten.proofs.Sharing.{chunk_copies}
-use Rattle.gds_flatten.proofs.framed.carry_own_on.Given as goal
-
-abbrev pub invariant-chunks : goal.invariant-chunks
-invariant-chunks l = IsFound l.frame (flat_map (chunk_copies l.at) (take l.chunk-index l.chunks)) l.fn.found l.found
