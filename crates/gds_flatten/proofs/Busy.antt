@@ -159,3 +159,7 @@ changed_all {X = X} R old new i ended h = zipped old new h.long (λ k d lt. h.do
 -- a list that was written through a slice of all of it
 pub written_back : {X : Type 0} (n : ℕ) (new old : List X) → length new ≡ n → length old ≡ n → take n (new ++ drop (length new) old) ≡ new
 written_back n new old long was = grind (arith, common_steps, long, was)
+
+pub changed_back : {X : Type 0} (R : X → X → Type 0) (n : ℕ) (new old xs : List X) → length new ≡ length xs → length xs ≡ n → xs ≡ old → AllZip R xs new
+    → (take n (new ++ drop (length new) old) ≡ new) × AllZip R old new
+changed_back R n new old xs same long is all = (written_back n new old (same ∙ long) (sym (ap length is) ∙ long), subst (λ ys. AllZip R ys new) is all)

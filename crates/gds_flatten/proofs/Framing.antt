@@ -1,6 +1,6 @@
 -- What is answered of a part of a design, from what each step says.
 use Rattle.std.proofs.Common.{◌≡◌, inl, inr, ℕ, ℤ, ◌<◌, ◌≤◌, arith, Bool, true, false, ◌&&◌, ◌||◌, List, [], ◌∷◌, ◌++◌, length, refl, sym, ap, subst, ◌∙◌}
-use Rattle.std.specs.Prelude.{filter}
+use Rattle.std.specs.Prelude.{filter, Option}
 use Rattle.std.specs.Global.{Vec}
 use Rattle.std.specs.List.{flat_map}
 use Rattle.std.specs.Vec.{vec_items}
@@ -10,6 +10,7 @@ use Rattle.fill_base.specs.declared.layer.Layer.{Layer}
 use Rattle.fill_base.specs.declared.rect.Rect.{Rect}
 use Rattle.fill_base.specs.Squares.{squares}
 use Rattle.fill_region.specs.Squares.{covered}
+use Rattle.gds_shape.specs.declared.bounds.Bounds.{Bounds}
 use Rattle.gds_cells.specs.declared.cell.Cell.{Cell}
 use Rattle.gds_cells.specs.declared.error.FlattenError.{FlattenError}
 use Rattle.gds_cells.specs.declared.error.FlattenError.TheVariants.{Memory, NoTop, MissingCell, Cycle, TooDeep, BadTransform, BadArray, NotManhattan, RoundEnd, OddWidth, DoublesBack, BadExtension, TooManyShapes, OutOfRange}
@@ -21,10 +22,12 @@ use Rattle.gds_flatten.specs.declared.found.Framed.{Framed}
 use Rattle.gds_flatten.specs.Frames.{met}
 use Rattle.gds_flatten.specs.Flattening.{IsCountableOn, IsRefused, IsRefusedOn}
 use Rattle.gds_flatten.specs.steps.Finding.{IsFound, IsKept, IsRefusalOn, inner, seen}
+use Rattle.gds_flatten.specs.steps.Framing.{IsRight, AreHeld, extent_at}
 use Rattle.gds_flatten.specs.steps.Idle.{is_full}
 use Rattle.gds_flatten.specs.steps.Reached.{AreReached}
 use Rattle.gds_flatten.specs.steps.Roots.{roots_copies, AreRooted}
-use Rattle.gds_flatten.proofs.Sparse.{full_drawn, full_met, full_stay, stay_full}
+use Rattle.gds_flatten.proofs.Seen.{held_here}
+use Rattle.gds_flatten.proofs.Sparse.{full_drawn, full_met, full_stay}
 
 -- what refuses a design before a copy is looked at, refuses a part of it
 pub told_on : (entries : List Entry) (top : List ℕ) (layer : Layer) (e : FlattenError) (frame : Rect) → (e ≡ TooManyShapes → ⊥) → (e ≡ OutOfRange → ⊥)
@@ -45,61 +48,71 @@ told_on entries top layer DoublesBack frame many far h = h
 told_on entries top layer BadExtension frame many far h = h
 
 -- what a walk within a frame has found from nothing on
-pub record IsPartOf (entries : List Entry) (top : List ℕ) (layer : Layer) (w : Framed) (found : Found) : Type 0 where
-  pub countable : IsCountableOn entries top layer w.frame.now
-  pub kept : IsKept w found
-  pub stay : AllStayInRange (copies_of entries top layer) → AllStayInRange (inner w found)
-  pub met : AllStayInRange (copies_of entries top layer) → (x y : ℤ) → (seen w found x y && squares w.frame.now x y) ≡ (drawn (copies_of entries top layer) x y && squares w.frame.now x y)
+pub record IsPartOf (entries : List Entry) (top : List ℕ) (layer : Layer) (r : Rect) (cells : List Cell) (counts : List ℕ) (found : Found) : Type 0 where
+  pub countable : IsCountableOn entries top layer r
+  pub rooted : AreRooted cells counts found.roots.items
+  pub number : found.inside ≡ length (roots_copies cells found.roots.items)
+  pub stay : AllStayInRange (copies_of entries top layer) → AllStayInRange (roots_copies cells found.roots.items)
+  pub met : AllStayInRange (copies_of entries top layer) → (x y : ℤ)
+      → ((covered found.rects.items x y || drawn (roots_copies cells found.roots.items) x y) && squares r x y) ≡ (drawn (copies_of entries top layer) x y && squares r x y)
 
-module _ (entries : List Entry) (top : List ℕ) (layer : Layer) (cells : List Cell) (t : ℕ) (reached : AreReached entries top layer cells t) (w : Framed) (cs : List Copy)
-    (same : cs ≡ filter is_full (top_copies cells t)) where
-  all_same : cs ≡ filter is_full (copies_of entries top layer)
-  all_same = same ∙ ap (filter is_full) reached.same
+module _ (entries : List Entry) (top : List ℕ) (layer : Layer) (cells : List Cell) (t : ℕ) (reached : AreReached entries top layer cells t)
+    (ds : List Cell) (u : ℕ) (fewer : top_copies ds u ≡ filter is_full (top_copies cells t)) where
+  pub right_told : (extents : List (Option Bounds)) (o : Option Bounds) → o ≡ extent_at extents u → AreHeld ds extents 256 u → IsRight (filter is_full (copies_of entries top layer)) o
+  right_told extents o is held =
+      subst (λ cs. IsRight cs o) (fewer ∙ ap (filter is_full) reached.same) (subst (IsRight (top_copies ds u)) (sym is) (held_here ds extents 256 u held))
 
-  met_same : met w.frame.now cs ≡ met w.frame.now (copies_of entries top layer)
-  met_same = ap (met w.frame.now) all_same ∙ full_met w.frame.now (copies_of entries top layer)
+  module _ (w : Framed) (cells_are : w.cells.now ≡ ds) (cs : List Copy) (cs_are : cs ≡ top_copies w.cells.now u) where
+    all_same : cs ≡ filter is_full (copies_of entries top layer)
+    all_same = cs_are ∙ ap (λ xs. top_copies xs u) cells_are ∙ fewer ∙ ap (filter is_full) reached.same
 
-  pub walk_told : (e : FlattenError) (old : Found) → old.copies ≡ 0 → IsRefusalOn w.frame.now cs old e → IsRefusedOn entries top layer w.frame.now e
-  walk_told e old none (inl m) = subst (IsRefusedOn entries top layer w.frame.now) (sym m) tt
-  walk_told e old none (inr (is, many)) =
-      let all = met_same in subst (IsRefusedOn entries top layer w.frame.now) (sym is) (reached.sound, reached.fine, omega (arith, none, many, all))
+    met_same : met w.frame.now cs ≡ met w.frame.now (copies_of entries top layer)
+    met_same = ap (met w.frame.now) all_same ∙ full_met w.frame.now (copies_of entries top layer)
 
-  pub stay_told : AllStayInRange cs → AllStayInRange (copies_of entries top layer)
-  stay_told stay = stay_full (copies_of entries top layer) (subst AllStayInRange all_same stay)
+    stay_here : AllStayInRange (copies_of entries top layer) → AllStayInRange cs
+    stay_here stay = subst AllStayInRange (sym all_same) (full_stay (copies_of entries top layer) stay)
 
-  pub stay_here : AllStayInRange (copies_of entries top layer) → AllStayInRange cs
-  stay_here stay = subst AllStayInRange (sym all_same) (full_stay (copies_of entries top layer) stay)
+    pub walk_told : (e : FlattenError) (old : Found) → old.copies ≡ 0 → IsRefusalOn w.frame.now cs old e → IsRefusedOn entries top layer w.frame.now e
+    walk_told e old none (inl m) = subst (IsRefusedOn entries top layer w.frame.now) (sym m) tt
+    walk_told e old none (inr (is, many)) =
+        let all = met_same in subst (IsRefusedOn entries top layer w.frame.now) (sym is) (reached.sound, reached.fine, omega (arith, none, many, all))
 
-  module _ (old new : Found) (none : old.copies ≡ 0) (no_rects : old.rects.items ≡ []) (no_roots : old.roots.items ≡ []) (nothing : old.inside ≡ 0) (found : IsFound w cs old new) where
-    rootless : inner w old ≡ []
-    rootless = ap (roots_copies w.cells.now) no_roots
+    module _ (counts : List ℕ) (counts_are : w.counts.now ≡ counts) (old new : Found) (none : old.copies ≡ 0) (no_rects : old.rects.items ≡ []) (no_roots : old.roots.items ≡ []) (nothing : old.inside ≡ 0)
+        (found : IsFound w cs old new) where
+      rootless : inner w old ≡ []
+      rootless = ap (roots_copies w.cells.now) no_roots
 
-    -- what was found, met with the frame, is all that is drawn, met with it
-    frame_met : AllStayInRange (copies_of entries top layer) → (x y : ℤ) → (seen w new x y && squares w.frame.now x y) ≡ (drawn (copies_of entries top layer) x y && squares w.frame.now x y)
-    frame_met stay x y = cases (squares w.frame.now x y) refl where
-      cases : (b : Bool) → squares w.frame.now x y ≡ b → (seen w new x y && b) ≡ (drawn (copies_of entries top layer) x y && b)
-      cases true on = ap (λ c. c && true) (found.drawn (stay_here stay) x y on
-          ∙ ap (λ rs. (covered rs x y || drawn (inner w old) x y) || drawn cs x y) no_rects ∙ ap (λ ds. drawn ds x y || drawn cs x y) rootless
-          ∙ ap (λ ds. drawn ds x y) all_same ∙ full_drawn (copies_of entries top layer) x y)
-      cases false on = off (seen w new x y) ∙ sym (off (drawn (copies_of entries top layer) x y)) where
-        off : (b : Bool) → (b && false) ≡ false
-        off true = refl
-        off false = refl
+      -- what was found, met with the frame, is all that is drawn, met with it
+      frame_met : AllStayInRange (copies_of entries top layer) → (x y : ℤ) → (seen w new x y && squares w.frame.now x y) ≡ (drawn (copies_of entries top layer) x y && squares w.frame.now x y)
+      frame_met stay x y = cases (squares w.frame.now x y) refl where
+        cases : (b : Bool) → squares w.frame.now x y ≡ b → (seen w new x y && b) ≡ (drawn (copies_of entries top layer) x y && b)
+        cases true on = ap (λ c. c && true) (found.drawn (stay_here stay) x y on
+            ∙ ap (λ rs. (covered rs x y || drawn (inner w old) x y) || drawn cs x y) no_rects ∙ ap (λ ds. drawn ds x y || drawn cs x y) rootless
+            ∙ ap (λ ds. drawn ds x y) all_same ∙ full_drawn (copies_of entries top layer) x y)
+        cases false on = off (seen w new x y) ∙ sym (off (drawn (copies_of entries top layer) x y)) where
+          off : (b : Bool) → (b && false) ≡ false
+          off true = refl
+          off false = refl
 
-    pub found_told : IsPartOf entries top layer w new
-    found_told = record {
-      countable = record {
-        sound = reached.sound;
-        fine = reached.fine;
-        few = let counted = found.counted in let few = new.few in let all = met_same in omega (arith, none, few, counted, all);
-      };
+      kept : IsKept w new
       kept = found.kept (record {
         rooted = subst (AreRooted w.cells.now w.counts.now) (sym no_roots) (λ k d lt. absurd (omega (arith, lt)));
         number = nothing ∙ sym (ap length rootless);
-      });
-      stay = λ stay. found.stay (stay_here stay) (subst AllStayInRange (sym rootless) (λ k d lt. absurd (omega (arith, lt))));
-      met = frame_met;
-    }
+      })
+
+      pub found_told : IsPartOf entries top layer w.frame.now ds counts new
+      found_told =
+          subst (λ ns. IsPartOf entries top layer w.frame.now ds ns new) counts_are (subst (λ xs. IsPartOf entries top layer w.frame.now xs w.counts.now new) cells_are (record {
+            countable = record {
+              sound = reached.sound;
+              fine = reached.fine;
+              few = let counted = found.counted in let few = new.few in let all = met_same in omega (arith, none, few, counted, all);
+            };
+            rooted = kept.rooted;
+            number = kept.number;
+            stay = λ stay. found.stay (stay_here stay) (subst AllStayInRange (sym rootless) (λ k d lt. absurd (omega (arith, lt))));
+            met = frame_met;
+          }))
 
 -- what stays in range can't leave it
 pub memory_told : (entries : List Entry) (top : List ℕ) (layer : Layer) (frame : Rect) (cs : List Copy) → AllStayInRange cs → (e : FlattenError) → IsRefusal cs e → IsRefusedOn entries top layer frame e

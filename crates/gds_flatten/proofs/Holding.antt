@@ -20,17 +20,14 @@ use Rattle.gds_cells.specs.declared.link.Link.{Link}
 use Rattle.gds_cells.specs.declared.shape.Shape.{Shape}
 use Rattle.gds_cells.specs.declared.placement.Placement.{Placement}
 use Rattle.gds_cells.specs.Placements.{back_x, back_y, carried, carried_bounds, composed, still}
-use Rattle.gds_cells.specs.declared.cell.Cell.{Cell}
-use Rattle.gds_cells.specs.Copies.{Copy, own_copy, carry_copy, copies, drawn}
+use Rattle.gds_cells.specs.Copies.{Copy, own_copy, carry_copy, drawn}
 use Rattle.gds_cells.specs.Links.{single}
 use Rattle.gds_cells.specs.Shapes.{covers_of}
 use Rattle.gds_flatten.specs.Frames.{meets}
 use Rattle.gds_flatten.specs.steps.Framing.{IsUnseen, IsAround, IsFine, IsFineIf, IsHeld, links_draw}
 use Rattle.gds_cells.specs.steps.Prepared.{IsOrdered, IsPrepared, IsPart}
 use Rattle.gds_cells.specs.steps.Built.{own_of}
-use Rattle.gds_cells.specs.steps.Walks.{singles_of, single_copies, hierarchy}
-use Rattle.gds_flatten.specs.declared.turns.Turns.{Turns}
-use Rattle.gds_flatten.specs.steps.Roots.{turn_copies, turns_copies}
+use Rattle.gds_cells.specs.steps.Walks.{singles_of}
 use Rattle.gds_cells.proofs.Carrying.{bounds_back}
 use Rattle.gds_flatten.proofs.Drawing.{drawn_joins, range_more, carried_twice}
 use Rattle.gds_cells.proofs.Pointing.{near_fours}
@@ -216,11 +213,3 @@ pub turns_join : (f : ℕ → List Copy) (a m n : ℕ) → m ≤ n → flat_map 
 turns_join f a m n le =
     let whole : n ≡ m + (n - m) = omega (arith, le) in
     ap (λ k. flat_map f (range_with_len a k)) whole ∙ ap (flat_map f) (range_joins a m (n - m)) ∙ flat_map-append f (range_with_len a m) (range_with_len (a + m) (n - m))
-
-pub some_turns : (cells : List Cell) (t u : Turns) (a n : ℕ) → u.link ≡ t.link → u.placement ≡ t.placement → u.depth ≡ t.depth → (u.first ≡ a) × (u.number ≡ n)
-    → turns_copies cells u ≡ flat_map (turn_copies cells t) (range_with_len a n)
-some_turns cells t u a n link placement depth range =
-    ap (λ l. flat_map (single_copies u.placement (copies (hierarchy cells) u.depth) l) (range_with_len u.first u.number)) link
-    ∙ ap (λ p. flat_map (single_copies p (copies (hierarchy cells) u.depth) t.link) (range_with_len u.first u.number)) placement
-    ∙ ap (λ d. flat_map (single_copies t.placement (copies (hierarchy cells) d) t.link) (range_with_len u.first u.number)) depth
-    ∙ ap (λ k. flat_map (turn_copies cells t) (range_with_len k u.number)) range.0 ∙ ap (λ k. flat_map (turn_copies cells t) (range_with_len a k)) range.1

@@ -34,10 +34,6 @@ use Rattle.gds_flatten.proofs.Seen.{not_true, none_on, more_on, unseen_on, held_
 use Rattle.gds_flatten.proofs.Holding.{single_unseen}
 use Rattle.gds_flatten.proofs.Tight.{joined_fits, part_of_part, all_from, all_first, all_rest, none_fit, fit_first, fit_later, four_same, shape_tight, back_fits, window, carry_forth, nothing_fits, single_fits, all_coordinates, fit_stay, stay_fit}
 
-pub is_false : (b : Bool) → not b ≡ true → b ≡ false
-is_false true h = absurd cc
-is_false false h = refl
-
 -- ---- the extent of parts
 
 pub itself : (b : Bounds) → IsPart b b
@@ -136,13 +132,7 @@ beyond_apart r = rw (never r.x2) refl where
   never : (a : ℤ) → int_lt a a ≡ false
   never a = grind (arith, ints)
 
--- a cell that has an extent, and one that has none
-pub cell_missed : (r : Rect) (at : Placement) (b : Bounds) (cs : List Copy) → IsOrdered b → IsRight cs (Some b) → meets r (carried_bounds at b) ≡ false → IsMissed r (map (carry_copy at) cs)
-cell_missed r at b cs ordered right apart = record {
-  dark = held_unseen r at b cs ordered right.held apart;
-  none = all_apart r (carried_bounds at b) (map (carry_copy at) cs) ((single_fits at (carried_bounds at b) b cs ordered right.tight).0 (itself (carried_bounds at b))) apart;
-}
-
+-- a cell that has no extent
 pub bare_missed : (r : Rect) (at : Placement) (cs : List Copy) → IsRight cs None → IsMissed r (map (carry_copy at) cs)
 bare_missed r at cs right = record {
   dark = nothing_unseen r at cs (nothing_held cs None refl right.held);
@@ -282,11 +272,3 @@ many_next w f xs k d old mid e within before refused =
     ap (flat_map f) (sym (take-append-drop (k + 1) xs)) ∙ flat_map-append f (take (k + 1) xs) (drop (k + 1) xs) in
     subst (λ cs. IsRefusalOn w.frame.now cs old e) (sym split) (many_first w.frame.now (flat_map f (take (k + 1) xs)) (flat_map f (drop (k + 1) xs)) old e
     (subst (λ cs. IsRefusalOn w.frame.now cs old e) (sym (list_more f xs k d within)) (many_later w (flat_map f (take k xs)) (f (get_or xs k d)) old mid e before refused)))
-
--- ---- one single reference of a link
-
-pub one_turn : (f : ℕ → List Copy) (from n : ℕ) → n ≡ 1 → flat_map f (range_with_len from n) ≡ f from
-one_turn f from n is = ap (λ m. flat_map f (range_with_len from m)) is ∙ all (f from) where
-  all : (cs : List Copy) → cs ++ [] ≡ cs
-  all [] = refl
-  all (c ∷ cs) = ap (λ ds. c ∷ ds) (all cs)

@@ -76,10 +76,6 @@ held_unseen r at b cs ordered lies apart x y on = drawn_carried at cs x y ∙ wi
 pub nothing_unseen : (r : Rect) (at : Placement) (cs : List Copy) → ((x y : ℤ) → drawn cs x y ≡ false) → IsUnseen r (map (carry_copy at) cs)
 nothing_unseen r at cs nothing x y on = drawn_carried at cs x y ∙ nothing (back_x at x y) (back_y at x y)
 
-pub all_unseen : (r : Rect) (f : ℕ → List Copy) (ks : List ℕ) → ((k : ℕ) → IsUnseen r (f k)) → IsUnseen r (flat_map f ks)
-all_unseen r f [] unseen x y on = refl
-all_unseen r f (k ∷ ks) unseen x y on = drawn_joins (f k) (flat_map f ks) x y ∙ rw (unseen k x y on, all_unseen r f ks unseen x y on) refl
-
 pub none_unseen : (r : Rect) → IsUnseen r []
 none_unseen r x y on = refl
 

@@ -74,6 +74,13 @@ part_taken f t s e xs e_is s_is =
     begins (inl h) = ap (λ n. drop n (take t xs)) (let same : s ≡ f = omega (arith, s_is, h) in same)
     begins (inr h) = drop_all s (take t xs) (omega (arith, long, s_is, h)) ∙ sym (drop_all f (take t xs) (omega (arith, long, h)))
 
+-- a part that ends where the list does
+pub part_ends : {X : Type 0} (f t u : ℕ) (xs : List X) → u ≡ min t (length xs) → part f u xs ≡ part f t xs
+part_ends f t u xs is = ap (drop f) (ends (cases_lt t (length xs))) where
+  ends : ((t < length xs) ⊎ (length xs ≤ t)) → take u xs ≡ take t xs
+  ends (inl h) = ap (λ n. take n xs) (let same : u ≡ t = omega (arith, is, h) in same)
+  ends (inr h) = take_all u xs (omega (arith, is, h)) ∙ sym (take_all t xs h)
+
 pub part_stays : (f t : ℕ) (cs : List Copy) → AllStayInRange cs → AllStayInRange (part f t cs)
 part_stays f t cs all = All-drop (λ (c : Copy). StaysInRange c.placement c.element) f (take t cs) (All-take (λ (c : Copy). StaysInRange c.placement c.element) t cs all)
 

@@ -37,17 +37,6 @@ pub struct Design<'a, 'b> {
 }
 
 impl Design<'_, '_> {
-    /// The rectangles of a stretch of the copies.
-    fn carried(&self, alloc: Global, stretch: Stretch) -> Result<Vec<Rect>, FlattenError>
-        requires counted { AreRooted self.now.cells.items self.now.counts.items self.now.roots.items }
-        ensures drawn { IfOk result (λ v. IsDrawn (part stretch.from stretch.to (roots_copies self.now.cells.items self.now.roots.items)) [] v.items) }
-        ensures refused { IfErr result (IsRefusal (roots_copies self.now.cells.items self.now.roots.items)) }
-    {
-        let mut rects = Vec::with_capacity(alloc, stretch.to - stretch.from)?;
-        carry_roots(&self.cells, &self.counts, &self.roots, stretch, &mut rects)?;
-        Ok(rects)
-    }
-
     /// The rectangles of all copies in parts, each of a stretch of them that a thread carries.
     pub fn parts(
         &self,
@@ -89,6 +78,8 @@ impl Design<'_, '_> {
             from,
             to: (from + size).min(self.number),
         };
-        self.carried(alloc, stretch)
+        let mut rects = Vec::with_capacity(alloc, stretch.to - stretch.from)?;
+        carry_roots(&self.cells, &self.counts, &self.roots, stretch, &mut rects)?;
+        Ok(rects)
     }
 }

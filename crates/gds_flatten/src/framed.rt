@@ -254,12 +254,8 @@ fn sight_at(framed: &Framed<'_, '_, '_>, turns: &Turns) -> Sight
     let Some(extent) = extent_at(framed.extents, turns.link.cell) else {
         return Sight::Apart;
     };
-    let all = turns_extent(
-        &turns.link,
-        turns.first,
-        turns.first + turns.number,
-        &extent,
-    );
+    let end = turns.first + turns.number;
+    let all = turns_extent(&turns.link, turns.first, end, &extent);
     sight_of(&all, &turns.placement, framed.frame)
 }
 
@@ -292,10 +288,21 @@ fn halves(turns: &Turns) -> (Turns, Turns)
     ensures copies { (cells : List Cell) → turns_copies cells turns.now ≡ turns_copies cells result.0 ++ turns_copies cells result.1 }
 {
     let half = turns.number / 2;
-    (
-        turns.some(turns.first, half),
-        turns.some(turns.first + half, turns.number - half),
-    )
+    let front = Turns {
+        link: turns.link,
+        first: turns.first,
+        number: half,
+        placement: turns.placement,
+        depth: turns.depth,
+    };
+    let back = Turns {
+        link: turns.link,
+        first: turns.first + half,
+        number: turns.number - half,
+        placement: turns.placement,
+        depth: turns.depth,
+    };
+    (front, back)
 }
 
 /// Finds what single references draw on the frame. Where an extent that holds what all of them draw doesn't meet the frame, none

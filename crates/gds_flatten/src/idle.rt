@@ -2,29 +2,15 @@
 
 ghost use Rattle.std.specs.Prelude.{◌≡◌, filter};
 ghost use Rattle.std.specs.List.{AllZip};
-ghost use Rattle.gds_flatten.specs.steps.Idle.{is_busy, is_drawn, IsBusy, IsFilled};
+ghost use Rattle.gds_flatten.specs.steps.Idle.{is_drawn, IsBusy, IsFilled};
 
-use gds_cells::{Cell, Link, Shape, number_at};
-
-/// Whether the cell that the link refers to has copies of shapes.
-fn is_busy(counts: &[usize], link: &Link) -> bool
-    ensures { result ≡ is_busy counts.now link.now }
-{
-    0 < number_at(counts, link.cell)
-}
-
-/// Whether the shape has an extent.
-fn is_drawn(shape: &Shape<'_, '_>) -> bool
-    ensures { result ≡ is_drawn shape.now }
-{
-    shape.filled.extent().is_some()
-}
+use gds_cells::{Cell, Shape, number_at};
 
 /// Drops the cell's links to cells without copies.
 fn drop_idle_from(cell: &mut Cell<'_, '_>, counts: &[usize])
     ensures { IsBusy counts.now cell.old cell.new }
 {
-    cell.links.retain(|link| is_busy(counts, link));
+    cell.links.retain(|link| 0 < number_at(counts, link.cell));
 }
 
 /// Drops all links to cells without copies, by the cells' counts.
@@ -40,7 +26,7 @@ pub fn drop_idle(cells: &mut [Cell<'_, '_>], counts: &[usize])
 fn drop_bare_shapes(shapes: &mut Vec<Shape<'_, '_>>)
     ensures { shapes.new.items ≡ filter is_drawn shapes.old.items }
 {
-    shapes.retain(|shape| is_drawn(shape));
+    shapes.retain(|shape| shape.filled.extent().is_some());
 }
 
 /// Drops the cell's shapes that have no extent.

@@ -26,24 +26,6 @@ pub struct Turns {
 }
 
 impl Turns {
-    /// So many single references of the link from the number on, carried so too.
-    pub fn some(&self, first: u32, number: u32) -> Turns
-        requires some { 0 < number }
-        requires within { first + number ≤ self.now.link.columns * self.now.link.rows }
-        ensures link { result.link ≡ self.now.link }
-        ensures placement { result.placement ≡ self.now.placement }
-        ensures depth { result.depth ≡ self.now.depth }
-        ensures range { (result.first ≡ first) × (result.number ≡ number) }
-    {
-        Turns {
-            link: self.link,
-            first,
-            number,
-            placement: self.placement,
-            depth: self.depth,
-        }
-    }
-
     /// How many copies they draw, where each draws so many.
     pub fn count(&self, each: usize) -> usize
         requires { each ≤ 4000001 }

@@ -13,7 +13,7 @@ use Rattle.gds_flatten.specs.steps.Finding.{IsFound, IsRefusalOn}
 use Rattle.gds_flatten.specs.steps.Framing.{AreHeld}
 use Rattle.gds_flatten.specs.steps.Roots.{turn_copies, turns_copies}
 use Rattle.gds_flatten.proofs.Drawing.{deeper, all_copies}
-use Rattle.gds_flatten.proofs.Missed.{found_none, found_missed, found_more, found_next, found_all, many_first, many_later, many_next, one_turn}
+use Rattle.gds_flatten.proofs.Missed.{found_none, found_missed, found_more, found_next, found_all, many_first, many_later, many_next}
 use Rattle.gds_flatten.proofs.Seen.{held_below}
 use Rattle.gds_flatten.proofs.framed.+find.Goals as goal
 
