@@ -1,12 +1,12 @@
 //! The cells that a top reaches.
 
-ghost use Rattle.std.specs.Prelude.{◌≡◌, ◌⊎◌, ℕ, ◌<◌, ◌≤◌, List, All, Option, map, length, filter, IfOk, IfErr};
+ghost use Rattle.std.specs.Prelude.{◌≡◌, ◌⊎◌, ◌<◌, ◌≤◌, List, All, Option, map, filter, IfOk, IfErr};
 ghost use Rattle.gds_shape.specs.declared.bounds.Bounds.{Bounds};
 ghost use Rattle.gds_grammar.specs.Values.{cell_of, contents_of};
 ghost use Rattle.gds_cells.specs.Copies.{copies};
 ghost use Rattle.gds_cells.specs.Designs.{index_of};
 ghost use Rattle.gds_cells.specs.steps.Counting.{AreCounted};
-ghost use Rattle.gds_cells.specs.steps.Walks.{hierarchy, top_copies};
+ghost use Rattle.gds_cells.specs.steps.Walks.{top_copies};
 ghost use Rattle.gds_flatten.specs.Flattening.{HasTop};
 ghost use Rattle.gds_flatten.specs.steps.Framing.{IsFineIf, AreHeld};
 ghost use Rattle.gds_flatten.specs.steps.Idle.{is_full, AreFull};
