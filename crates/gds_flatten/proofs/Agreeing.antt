@@ -1,15 +1,13 @@
 -- The cells as they were built draw what the library says, as far as the top reaches.
-use Rattle.std.proofs.Common.{◌≡◌, ℕ, zero, suc, ◌+◌, ◌<◌, ◌≤◌, List, [], ◌∷◌, ◌++◌, length, map, get_or, refl, sym, ap, subst, arith, ◌∙◌}
+use Rattle.std.proofs.Common.{◌≡◌, ℕ, zero, suc, ◌+◌, ◌<◌, ◌≤◌, List, [], ◌∷◌, ◌++◌, length, map, refl, sym, ap, subst, arith, ◌∙◌}
 use Rattle.std.specs.Prelude.{slice_get, Option, Some, None}
 use Rattle.std.specs.List.{flat_map}
 use Rattle.std.specs.Str.{bytes_eq}
-use Rattle.std.proofs.lemmas.List.{length-map}
 use Rattle.std.proofs.lemmas.Grind.{common_steps}
 use Rattle.fill_base.specs.declared.layer.Layer.{Layer}
 use Rattle.gds_grammar.specs.Values.{Shape as Element}
 use Rattle.gds_cells.specs.Designs.{Entry}
 use Rattle.gds_cells.specs.declared.cell.Cell.{Cell}
-use Rattle.gds_cells.specs.declared.link.Link.{Link}
 use Rattle.gds_cells.specs.declared.placement.Placement.{Placement}
 use Rattle.gds_cells.specs.Graphs.{next, item, IsReached, IsDeep, IsWhole}
 use Rattle.gds_cells.specs.References.{placements_of, name_of}

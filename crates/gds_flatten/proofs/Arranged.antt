@@ -8,12 +8,10 @@ use Rattle.gds_cells.specs.declared.cell.Cell.{Cell}
 use Rattle.gds_cells.specs.declared.link.Link.{Link}
 use Rattle.gds_cells.specs.declared.error.FlattenError.{FlattenError}
 use Rattle.gds_cells.specs.declared.error.FlattenError.TheVariants.{Memory}
-use Rattle.gds_cells.specs.Copies.{copies}
 use Rattle.gds_cells.specs.Graphs.{Graph, next, item, IsDeep}
-use Rattle.gds_cells.specs.steps.Counting.{IsCapped, links_in, IsTied, IsCount, AreCounted}
+use Rattle.gds_cells.specs.steps.Counting.{links_in, IsTied, IsCount, AreCounted}
 use Rattle.gds_cells.specs.steps.Searches.{IsIn, IsOrdered}
-use Rattle.gds_cells.specs.steps.Walks.{hierarchy}
-use Rattle.gds_flatten.specs.steps.Framing.{IsRight, AreHeld, IsExtentOf, extent_at}
+use Rattle.gds_flatten.specs.steps.Framing.{AreHeld, IsExtentOf, extent_at}
 use Rattle.gds_flatten.specs.steps.Reached.{IsArranged}
 
 in_row : (links : List Link) (row : List ℕ) → map (λ l. l.cell) links ≡ row → (k : ℕ) (d : Link) → k < length links

@@ -1,5 +1,5 @@
 -- Why a design is refused, and what is answered, from what each step says.
-use Rattle.std.proofs.Common.{◌≡◌, ℕ, ◌<◌, ◌≤◌, ◌⊎◌, inl, inr, Bool, true, false, List, [], ◌∷◌, length, map, refl, sym, ap, subst, arith, ◌∙◌, ℤ}
+use Rattle.std.proofs.Common.{◌≡◌, ℕ, ◌<◌, ◌≤◌, ◌⊎◌, inl, inr, Bool, true, false, List, [], ◌∷◌, length, refl, sym, ap, subst, arith, ◌∙◌, ℤ}
 use Rattle.std.specs.Prelude.{Option, Some, None, if◌then◌else◌, cond}
 use Rattle.std.specs.List.{list_any}
 use Rattle.std.proofs.lemmas.Grind.{common_steps}
@@ -15,17 +15,16 @@ use Rattle.gds_shape.specs.Paths.{is_slanted, is_drawn, corners_of, has_round_en
 use Rattle.gds_cells.specs.declared.cell.Cell.{Cell}
 use Rattle.gds_cells.specs.declared.error.FlattenError.{FlattenError}
 use Rattle.gds_cells.specs.declared.error.FlattenError.TheVariants.{Memory, NoTop, MissingCell, Cycle, TooDeep, BadTransform, BadArray, NotManhattan, RoundEnd, OddWidth, DoublesBack, BadExtension, TooManyShapes, OutOfRange}
-use Rattle.gds_cells.specs.declared.placement.Placement.{Placement}
 use Rattle.gds_cells.specs.Graphs.{Graph, item, IsReached}
 use Rattle.gds_cells.specs.References.{reference_fault, is_bad_transform, is_bad_array}
 use Rattle.gds_cells.specs.Shapes.{is_shape, shape_fault, refusal_if}
-use Rattle.gds_cells.specs.Copies.{Copy, carry_copy, copies, drawn, AllStayInRange}
-use Rattle.gds_cells.specs.Designs.{index_of, graph_of, element_fault, IsFirstFault, AllFine}
+use Rattle.gds_cells.specs.Copies.{Copy, drawn, AllStayInRange}
+use Rattle.gds_cells.specs.Designs.{index_of, graph_of, element_fault, IsFirstFault}
 use Rattle.gds_flatten.specs.Flattening.{HasTop, LacksCell, IsSound, IsCountable, IsRefused}
 use Rattle.gds_flatten.specs.steps.Reached.{IsArranged, AreReached}
 use Rattle.gds_cells.specs.steps.Searches.{State, IsIn}
 use Rattle.gds_cells.specs.steps.Surveys.{IsSurveyed, IsUnsound}
-use Rattle.gds_cells.specs.steps.Walks.{hierarchy, IsDrawn}
+use Rattle.gds_cells.specs.steps.Walks.{IsDrawn}
 use Rattle.gds_cells.specs.steps.Built.{AreBuilt, IsFaultAmong}
 use Rattle.gds_cells.specs.steps.Counting.{IsCapped}
 use Rattle.gds_flatten.proofs.Agreeing.{agree, tied, shallow}

@@ -1,6 +1,6 @@
 -- How many copies a frame meets.
 use Rattle.std.proofs.Common.{◌≡◌, ℕ, zero, suc, ◌+◌, ◌<◌, ◌≤◌, inl, inr, ℤ, pos, ◌+ℤ◌, ◌≤ℤ◌, Bool, true, false, ◌||◌, List, [], ◌∷◌, ◌++◌, length, map, take, drop, get_or, refl, sym, ap, subst, arith, ◌∙◌}
-use Rattle.std.specs.Prelude.{not, int_lt, Option, Some, None, All, ◌↔◌}
+use Rattle.std.specs.Prelude.{int_lt, Option, Some, None, All, ◌↔◌}
 use Rattle.std.specs.List.{flat_map, range_with_len}
 use Rattle.std.proofs.lemmas.Int.{ints, clamps}
 use Rattle.std.proofs.lemmas.Bool.{and_parts, and_from}
@@ -30,7 +30,7 @@ use Rattle.gds_cells.proofs.Composing.{composed_still}
 use Rattle.fill_region.specs.Squares.{covered}
 use Rattle.gds_cells.specs.Placements.{carried}
 use Rattle.gds_cells.specs.Shapes.{covers_of, StaysInRange}
-use Rattle.gds_flatten.proofs.Seen.{not_true, none_on, more_on, unseen_on, held_unseen, nothing_held, nothing_unseen, none_unseen, both_unseen, shape_unseen, bare_unseen}
+use Rattle.gds_flatten.proofs.Seen.{not_true, none_on, more_on, unseen_on, nothing_held, nothing_unseen, none_unseen, both_unseen, shape_unseen, bare_unseen}
 use Rattle.gds_flatten.proofs.Holding.{single_unseen}
 use Rattle.gds_flatten.proofs.Tight.{joined_fits, part_of_part, all_from, all_first, all_rest, none_fit, fit_first, fit_later, four_same, shape_tight, back_fits, window, carry_forth, nothing_fits, single_fits, all_coordinates, fit_stay, stay_fit}
 

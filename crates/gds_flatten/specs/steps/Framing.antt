@@ -1,5 +1,5 @@
 -- The walk within a rectangle: cells whose extent doesn't meet it are not entered.
-use Rattle.std.specs.Prelude.{◌≤ℤ◌, ◌<ℤ◌, ◌≡◌, ◌⊎◌, ℕ, zero, suc, ◌<◌, ℤ, pos, ◌-ℤ◌, ◌+◌, ◌*◌, Bool, true, false, ◌||◌, List, [], ◌++◌, map, get_or, slice_get, Option, Some, None, All, ◌↔◌}
+use Rattle.std.specs.Prelude.{◌<ℤ◌, ◌≡◌, ℕ, zero, suc, ℤ, pos, ◌-ℤ◌, ◌*◌, Bool, true, false, List, [], ◌++◌, map, get_or, slice_get, Option, Some, None, All, ◌↔◌}
 use Rattle.std.specs.List.{flat_map}
 use Rattle.fill_base.specs.declared.rect.Rect.{Rect}
 use Rattle.fill_base.specs.Squares.{squares}
@@ -10,7 +10,7 @@ use Rattle.gds_cells.specs.declared.link.Link.{Link}
 use Rattle.gds_cells.specs.Graphs.{Graph, IsDeep}
 use Rattle.gds_cells.specs.Placements.{carried_bounds}
 use Rattle.gds_cells.specs.Shapes.{parts_of}
-use Rattle.gds_cells.specs.Copies.{Copy, own_copy, carry_copy, copies, drawn, AllStayInRange}
+use Rattle.gds_cells.specs.Copies.{Copy, own_copy, carry_copy, copies, drawn}
 use Rattle.gds_flatten.specs.Frames.{met}
 use Rattle.gds_cells.specs.steps.Prepared.{IsOrdered, IsPart}
 use Rattle.gds_cells.specs.steps.Ranges.{IsClose}

@@ -1,6 +1,6 @@
 -- Shapes without parts, and links to cells that draw nothing on the layer.
 use Rattle.std.specs.Prelude.{◌≡◌, ℕ, Bool, true, false, List, [], ◌∷◌, filter, slice_get, nat_lt, is_some, All}
-use Rattle.gds_grammar.specs.Values.{shape_of, Shape as Element}
+use Rattle.gds_grammar.specs.Values.{Shape as Element}
 use Rattle.gds_shape.specs.declared.bounds.Bounds.{Bounds}
 use Rattle.gds_cells.specs.declared.cell.Cell.{Cell}
 use Rattle.gds_cells.specs.declared.link.Link.{Link}

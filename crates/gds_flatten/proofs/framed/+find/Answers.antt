@@ -1,19 +1,15 @@
-use Rattle.std.proofs.Common.{◌≡◌, ◌<◌, ◌+◌, ◌-◌, map, length, get_or, subst, sym, ap, arith, ◌∙◌}
+use Rattle.std.proofs.Common.{◌≡◌, ◌<◌, ◌-◌, map, length, get_or, subst, sym, arith}
 use Rattle.std.specs.List.{flat_map}
 use Rattle.std.specs.Vec.{vec_items}
 use Rattle.std.proofs.lemmas.Result.{err_from_is_err_and, IfOk-weaker, IfErr-weaker}
-use Rattle.gds_cells.specs.Placements.{composed}
 use Rattle.gds_cells.specs.Copies.{carry_copy, copies}
-use Rattle.gds_cells.specs.Links.{single}
-use Rattle.gds_cells.specs.steps.Counting.{AreCounted}
 use Rattle.gds_cells.specs.steps.Ranges.{IsWithin}
 use Rattle.gds_cells.specs.steps.Walks.{hierarchy, shapes_in, shape_copies, link_copies}
 use Rattle.gds_cells.proofs.Capping.{counts_below}
 use Rattle.gds_flatten.specs.steps.Finding.{IsFound, IsRefusalOn}
-use Rattle.gds_flatten.specs.steps.Framing.{AreHeld}
-use Rattle.gds_flatten.specs.steps.Roots.{turn_copies, turns_copies}
+use Rattle.gds_flatten.specs.steps.Roots.{turns_copies}
 use Rattle.gds_flatten.proofs.Drawing.{deeper, all_copies}
-use Rattle.gds_flatten.proofs.Missed.{found_none, found_missed, found_more, found_next, found_all, many_first, many_later, many_next}
+use Rattle.gds_flatten.proofs.Missed.{found_none, found_more, found_next, found_all, many_first, many_later, many_next}
 use Rattle.gds_flatten.proofs.Seen.{held_below}
 use Rattle.gds_flatten.proofs.framed.+find.Goals as goal
 

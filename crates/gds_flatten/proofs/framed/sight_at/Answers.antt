@@ -1,5 +1,4 @@
-use Rattle.std.proofs.Common.{◌≡◌, ◌∙◌, ◌-◌, ◌+◌, ◌≤◌, sym, ap, subst, arith}
-use Rattle.std.specs.Prelude.{Some}
+use Rattle.std.proofs.Common.{◌∙◌, ◌-◌, sym, subst, arith}
 use Rattle.gds_cells.specs.Copies.{copies}
 use Rattle.gds_cells.specs.Links.{single}
 use Rattle.gds_cells.specs.Placements.{carried_bounds, composed}

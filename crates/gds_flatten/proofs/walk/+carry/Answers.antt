@@ -1,9 +1,9 @@
-use Rattle.std.proofs.Common.{subst, sym, ap, arith, refl, ℕ, ◌+◌, ◌-◌, ◌*◌, ◌<◌, ◌≤◌, ◌≡◌, ◌∙◌, length, get_or, map}
+use Rattle.std.proofs.Common.{subst, sym, ap, arith, refl, ℕ, ◌+◌, ◌-◌, ◌*◌, ◌<◌, ◌≤◌, ◌≡◌, ◌∙◌, length, get_or}
 use Rattle.std.specs.List.{flat_map}
 use Rattle.std.specs.Vec.{vec_items}
 use Rattle.std.proofs.lemmas.Result.{err_from_is_err_and}
 use Rattle.gds_cells.specs.Placements.{composed}
-use Rattle.gds_cells.specs.Copies.{carry_copy, copies, AllStayInRange}
+use Rattle.gds_cells.specs.Copies.{copies, AllStayInRange}
 use Rattle.gds_cells.specs.steps.Counting.{IsCapped}
 use Rattle.gds_cells.specs.steps.Ranges.{IsWithin}
 use Rattle.gds_cells.specs.steps.Walks.{hierarchy, shape_copies, single_copies, link_copies, part, IsDrawn, IsRefusal}

@@ -1,4 +1,3 @@
-use Rattle.std.proofs.Common.{◌≡◌, ℕ, List, subst}
 use Rattle.gds_flatten.proofs.Chained.{chain_goes_on}
 use Rattle.gds_flatten.proofs.chain.Chain.longer.Goals as goal
 

@@ -1,7 +1,5 @@
-use Rattle.std.proofs.Common.{◌≡◌, ◌<◌, ◌⊎◌, inl, inr, length, subst, sym}
+use Rattle.std.proofs.Common.{subst}
 use Rattle.std.proofs.lemmas.Result.{IfOk-weaker, IfErr-weaker}
-use Rattle.gds_cells.specs.declared.error.FlattenError.{FlattenError}
-use Rattle.gds_cells.specs.declared.error.FlattenError.TheVariants.{Memory}
 use Rattle.gds_flatten.proofs.Arranged.{AreExtentsOf, IsTooFar, top_held, never_far}
 use Rattle.gds_flatten.proofs.reached.Reached.extents.Goals as goal
 

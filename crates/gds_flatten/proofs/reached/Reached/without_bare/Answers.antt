@@ -1,4 +1,4 @@
-use Rattle.std.proofs.Common.{◌≡◌, length, subst, sym, ap, ◌∙◌}
+use Rattle.std.proofs.Common.{length, subst, sym, ap, ◌∙◌}
 use Rattle.gds_cells.specs.steps.Walks.{top_copies}
 use Rattle.gds_flatten.specs.steps.Idle.{IsFilled, AreFull}
 use Rattle.gds_flatten.specs.steps.Reached.{IsArranged}
