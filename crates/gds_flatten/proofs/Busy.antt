@@ -48,24 +48,21 @@ pub single_links : (o : Option Cell) → singles_in o ≡ flat_map singles_of (l
 single_links None = refl
 single_links (Some c) = refl
 
+-- what is told of cells place by place is told of what stands at an index
+pub zipped_at : {X : Type 0} (R : Cell → Cell → Type 0) (f g : Option Cell → X) → f None ≡ g None → ((x y : Cell) → R x y → f (Some y) ≡ g (Some x)) → (old new : List Cell) → AllZip R old new
+    → (c : ℕ) → f (slice_get new c) ≡ g (slice_get old c)
+zipped_at R f g none some [] [] all c = none
+zipped_at R f g none some (x ∷ xs) (y ∷ ys) all zero = some x y all.0
+zipped_at R f g none some (x ∷ xs) (y ∷ ys) all (suc c) = zipped_at R f g none some xs ys all.1 c
+zipped_at R f g none some [] (y ∷ ys) all c = absurd all
+zipped_at R f g none some (x ∷ xs) [] all c = absurd all
+
 module _ (counts : List ℕ) (old new : List Cell) (busy : AllZip (IsBusy counts) old new) where
   pub busy_own : (c : ℕ) → own_in (slice_get new c) ≡ own_in (slice_get old c)
-  busy_own c = at old new busy c where
-    at : (xs ys : List Cell) → AllZip (IsBusy counts) xs ys → (k : ℕ) → own_in (slice_get ys k) ≡ own_in (slice_get xs k)
-    at [] [] all k = refl
-    at (x ∷ xs) (y ∷ ys) all zero = ap (λ ss. map (λ (s : Shape). shape_of s.element.now) (flat_map vec_items ss.items)) all.0.shapes
-    at (x ∷ xs) (y ∷ ys) all (suc k) = at xs ys all.1 k
-    at [] (y ∷ ys) all k = absurd all
-    at (x ∷ xs) [] all k = absurd all
+  busy_own = zipped_at (IsBusy counts) own_in own_in refl (λ x y b. ap (λ ss. map (λ (s : Shape). shape_of s.element.now) (flat_map vec_items ss.items)) b.shapes) old new busy
 
   busy_links : (c : ℕ) → links_in (slice_get new c) ≡ filter (is_busy counts) (links_in (slice_get old c))
-  busy_links c = at old new busy c where
-    at : (xs ys : List Cell) → AllZip (IsBusy counts) xs ys → (k : ℕ) → links_in (slice_get ys k) ≡ filter (is_busy counts) (links_in (slice_get xs k))
-    at [] [] all k = refl
-    at (x ∷ xs) (y ∷ ys) all zero = all.0.links
-    at (x ∷ xs) (y ∷ ys) all (suc k) = at xs ys all.1 k
-    at [] (y ∷ ys) all k = absurd all
-    at (x ∷ xs) [] all k = absurd all
+  busy_links = zipped_at (IsBusy counts) links_in (λ o. filter (is_busy counts) (links_in o)) refl (λ x y b. b.links) old new busy
 
   link_step : (f g : ℕ → List Copy) (l : Link) (links : List Link) (b : Bool) → is_busy counts l ≡ b → f l.cell ≡ g l.cell → (is_busy counts l ≡ false → g l.cell ≡ [])
       → flat_map (through f) (flat_map singles_of (filter (is_busy counts) links)) ≡ flat_map (through g) (flat_map singles_of links)

@@ -26,7 +26,7 @@ use Rattle.gds_cells.specs.steps.Walks.{singles_of, singles_in, own_in, shapes_i
 use Rattle.gds_flatten.specs.Frames.{meets_if, extent_of, is_met, met}
 use Rattle.gds_flatten.specs.steps.Framing.{FitsCopy, FitAll}
 use Rattle.gds_flatten.specs.steps.Idle.{are_some, has_parts, is_drawn, is_full, IsFilled, AreFull}
-use Rattle.gds_flatten.proofs.Busy.{through, single_links}
+use Rattle.gds_flatten.proofs.Busy.{through, single_links, zipped_at}
 use Rattle.gds_flatten.proofs.Tight.{all_from, all_first, all_rest, all_coordinates, fit_stay, stay_fit}
 
 abbrev IsBare : Copy → Type 0
@@ -129,22 +129,10 @@ chunks_filtered (v ∷ old) [] all = absurd all
 
 module _ (old new : List Cell) (filled : AllZip IsFilled old new) where
   pub filled_own : (c : ℕ) → own_in (slice_get new c) ≡ filter has_parts (own_in (slice_get old c))
-  filled_own c = at old new filled c where
-    at : (xs ys : List Cell) → AllZip IsFilled xs ys → (k : ℕ) → own_in (slice_get ys k) ≡ filter has_parts (own_in (slice_get xs k))
-    at [] [] all k = refl
-    at (x ∷ xs) (y ∷ ys) all zero = ap (map (λ (s : Shape). shape_of s.element.now)) all.0.shapes ∙ own_filtered (shapes_in x)
-    at (x ∷ xs) (y ∷ ys) all (suc k) = at xs ys all.1 k
-    at [] (y ∷ ys) all k = absurd all
-    at (x ∷ xs) [] all k = absurd all
+  filled_own = zipped_at IsFilled own_in (λ o. filter has_parts (own_in o)) refl (λ x y f. ap (map (λ (s : Shape). shape_of s.element.now)) f.shapes ∙ own_filtered (shapes_in x)) old new filled
 
   pub filled_links : (c : ℕ) → links_in (slice_get new c) ≡ links_in (slice_get old c)
-  filled_links c = at old new filled c where
-    at : (xs ys : List Cell) → AllZip IsFilled xs ys → (k : ℕ) → links_in (slice_get ys k) ≡ links_in (slice_get xs k)
-    at [] [] all k = refl
-    at (x ∷ xs) (y ∷ ys) all zero = ap (λ (v : Vec Link). v.items) all.0.links
-    at (x ∷ xs) (y ∷ ys) all (suc k) = at xs ys all.1 k
-    at [] (y ∷ ys) all k = absurd all
-    at (x ∷ xs) [] all k = absurd all
+  filled_links = zipped_at IsFilled links_in links_in refl (λ x y f. ap (λ (v : Vec Link). v.items) f.links) old new filled
 
   own_full : (es : List Element) → map own_copy (filter has_parts es) ≡ filter is_full (map own_copy es)
   own_full [] = refl

@@ -90,6 +90,9 @@ pub fn turns_extent(link: &Link, from: u32, to: u32, extent: &Bounds) -> Bounds
     ensures ordered { IsOrdered result }
     ensures around { (k : ℕ) → from ≤ k → k < to → IsPart result (carried_bounds (single link.now k) extent.now) }
 {
+    if to - from == 1 {
+        return carried_extent(&link.single(from), extent);
+    }
     let (left, right) = columns_of(link, from, to);
     let (first, last) = (from / link.columns, (to - 1) / link.columns);
     corners_extent(link, left, right, first, last, extent)
