@@ -15,7 +15,7 @@ use Rattle.fill_region.proofs.Apart.{in_range}
 use Rattle.fill_region.proofs.Intervals.{and_first, and_second}
 use Rattle.fill_raster.specs.Lattice.{Lattice, in_halo, tile_left, tile_right, tile_bottom, tile_top}
 use Rattle.fill_job.specs.Plans.{PointSet}
-use Rattle.fill_state.specs.Pieces.{ArePieces, IsPiece}
+use Rattle.fill_state.specs.Pieces.{IsPiece}
 use Rattle.fill_state.specs.steps.Halves.{ArePiecesFrom, HoldsHalos}
 
 -- ---- pieces

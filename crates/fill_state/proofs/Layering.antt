@@ -1,14 +1,13 @@
 -- What edits make of a layer, square by square, and its area.
-use Rattle.std.proofs.Common.{◌≡◌, ℕ, ◌+◌, ◌≤◌, ◌<◌, ◌^◌, ℤ, pos, ◌+ℤ◌, ◌-ℤ◌, Bool, true, false, ◌&&◌, ◌||◌, refl, sym, ap, arith, ◌∙◌, w64, FitsSigned}
+use Rattle.std.proofs.Common.{◌≡◌, ℕ, ◌+◌, ◌≤◌, ◌^◌, ℤ, pos, ◌+ℤ◌, ◌-ℤ◌, Bool, true, false, ◌&&◌, ◌||◌, refl, ap, arith, ◌∙◌, w64, FitsSigned}
 use Rattle.std.specs.Prelude.{not}
 use Rattle.std.proofs.Math.Path.{fun_ext}
-use Rattle.std.proofs.lemmas.Int.{ints, clamps}
+use Rattle.std.proofs.lemmas.Int.{ints}
 use Rattle.fill_base.specs.declared.rect.Rect.{Rect}
 use Rattle.fill_base.specs.Squares.{area_of}
 use Rattle.fill_base.proofs.Covering.{area_either}
 use Rattle.fill_base.proofs.Signed.{read, read_is, pos_fits}
 use Rattle.fill_job.specs.Plans.{PointSet}
-use Rattle.fill_state.proofs.BoxSums.{few_squares}
 
 -- ---- one square: whether it was there at the opening, is cut, is added, and lies in the rectangle of an edit
 

@@ -22,6 +22,9 @@ use rayon::join;
 use std::alloc::{AllocError, Global};
 use std::thread::Threads;
 
+/// The tiles are halved for threads until there are about so many shares.
+const MOST_SHARES: u32 = 64;
+
 /// The tiles of a raster, each with the bounding rectangle of its boxes grown by a distance on all sides, its halo.
 #[derive(Drop)]
 struct Halos {
@@ -29,6 +32,8 @@ struct Halos {
     distance: i64,
     /// The piece without squares.
     none: Piece,
+    /// How many tiles are one thread's share.
+    share: u32,
 }
 
 impl Halos {
@@ -70,11 +75,10 @@ impl Halos {
     }
 }
 
-/// The pieces of the tiles from one on and before another, of which there are some. The runs that meet the halos of the lower and of
-/// the upper half of them go to threads of their own.
-#[cycle(pieces)]
-fn pieces_between<R: Threads + Sync>(
-    rt: &R,
+/// The pieces of the tiles from one on and before another, of which there are some, by the calling thread alone: those of the lower
+/// half by the runs that meet its halos, then those of the upper half.
+#[cycle(alone)]
+fn pieces_alone(
     alloc: Global,
     halos: &Halos,
     runs: &[Rect],
@@ -92,6 +96,36 @@ fn pieces_between<R: Threads + Sync>(
         let mut pieces = Vec::new(alloc);
         pieces.push(halos.piece(alloc, runs, from)?)?;
         return Ok(pieces);
+    }
+    let middle = from + (to - from) / 2;
+    let lower = runs_near(alloc, runs, &halos.around(from, middle))?;
+    let upper = runs_near(alloc, runs, &halos.around(middle, to))?;
+    let mut pieces = pieces_alone(alloc, halos, &lower, from, middle)?;
+    let mut others = pieces_alone(alloc, halos, &upper, middle, to)?;
+    pieces.append(&mut others)?;
+    Ok(pieces)
+}
+
+/// The same, where the runs that meet the halos of the lower and of the upper half go to threads of their own, as long as these are
+/// more than one thread's share.
+#[cycle(pieces)]
+fn pieces_between<R: Threads + Sync>(
+    rt: &R,
+    alloc: Global,
+    halos: &Halos,
+    runs: &[Rect],
+    from: u32,
+    to: u32,
+) -> Result<Vec<Piece>, AllocError>
+    requires distance { IsSpacing halos.now.distance }
+    requires none { (x y : ℤ) → holds halos.now.none x y ≡ false }
+    requires runs { AreSomeRuns runs.now }
+    requires some { from < to }
+    requires tiles { to ≤ tiles halos.now.raster }
+    ensures { IfOk result (λ v. ArePiecesFrom halos.now.raster halos.now.distance (covered runs.now) from to v.items) }
+{
+    if to - from == 1 || to - from <= halos.share {
+        return pieces_alone(alloc, halos, runs, from, to);
     }
     let middle = from + (to - from) / 2;
     let lower = runs_near(alloc, runs, &halos.around(from, middle))?;
@@ -133,15 +167,16 @@ fn pieces_of<R: Threads + Sync>(
     ensures { IfOk result (λ v. ArePieces raster distance (holds region.now) v.items) }
 {
     let none = Piece::new(alloc, Region::empty(alloc))?;
+    let tiles = raster.tiles();
+    if tiles == 0 {
+        return Ok(Vec::new(alloc));
+    }
     let halos = Halos {
         raster,
         distance,
         none,
+        share: tiles / MOST_SHARES,
     };
-    let tiles = halos.raster.tiles();
-    if tiles == 0 {
-        return Ok(Vec::new(alloc));
-    }
     pieces_between(rt, alloc, &halos, region.runs(), 0, tiles)
 }
 

@@ -1,13 +1,8 @@
-use Rattle.std.proofs.Common.{◌≡◌, ◌+◌, ◌-◌, ◌/◌, ◌≤◌, arith}
+use Rattle.std.proofs.Common.{◌+◌, ◌-◌, ◌/◌, arith}
 use Rattle.std.proofs.lemmas.Result.{IfOk-at_ok}
 use Rattle.fill_region.specs.Squares.{covered}
-use Rattle.fill_state.proofs.Halving.{both_halves, one_piece, pieces_within}
+use Rattle.fill_state.proofs.Halving.{both_halves, pieces_within}
 use Rattle.fill_state.proofs.pieces.+pieces.Goals as goal
-
-pub returns-then-to-from-eq1 : goal.returns-then-to-from-eq1
-returns-then-to-from-eq1 g t c =
-    let one : c.args.to ≡ c.args.from + 1 = omega (arith, c.if-to-from-eq1.true, c.requires.some) in
-    rw (c.in_ok-push.ensures.items, c.new-pieces.ensures.items) (one_piece c.args.halos.now.raster c.args.halos.now.distance (covered c.args.runs.now) c.args.from c.args.to c.in_ok-piece.field-0 one c.in_ok-piece.ensures)
 
 pub returns : goal.returns
 returns g t c =

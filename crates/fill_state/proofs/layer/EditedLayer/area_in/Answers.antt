@@ -1,4 +1,4 @@
-use Rattle.std.proofs.Common.{◌≡◌, ◌∙◌, ap, pos}
+use Rattle.std.proofs.Common.{◌∙◌, ap, pos}
 use Rattle.fill_base.specs.Squares.{area_of}
 use Rattle.fill_region.specs.Runs.{holds}
 use Rattle.fill_state.specs.Layers.{in_layer}
