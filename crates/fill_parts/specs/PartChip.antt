@@ -13,7 +13,7 @@ use Rattle.fill_parts.specs.Needs.{has_windows, needs_tile}
 use Rattle.fill_parts.specs.Smaller.{Rows, AreSome, IsHeldBy}
 use Rattle.fill_parts.specs.SmallerRules.{Cover, rules_alone}
 
--- the least of the numbers below `n` that pass a test, and the one past the greatest
+-- the least of the numbers below `n` that pass a test, or the last of them where none does; and the one past the greatest, or 0
 unfoldable pub first_of : (ℕ → Bool) → ℕ → ℕ
 first_of p zero = zero
 first_of p (suc n) = if some_below p n then first_of p n else n

@@ -246,8 +246,8 @@ impl Region {
         &self.runs
     }
 
-    /// The runs that have squares in the rows from `bottom` on and below `top`, whole and in their order, found by a search. Some
-    /// that end below these rows may be among them.
+    /// Runs that hold all squares of the region in the rows from `bottom` on and below `top`, and none beside it, found by a search.
+    /// Some that end below these rows may be among them; no two share a square.
     pub fn runs_level(&self, bottom: i64, top: i64) -> &[Rect]
         ensures cover { (x y : ℤ) → bottom ≤ℤ y → y <ℤ top → covered result.now x y ≡ holds self.now x y }
         ensures inside { (x y : ℤ) → covered result.now x y ≡ true → holds self.now x y ≡ true }

@@ -31,8 +31,8 @@ fn are_near(a: i64, b: i64, c: i64, d: i64, spacing: i64) -> bool
     (a < d + spacing) & (c < b + spacing)
 }
 
-/// Whether no square of the region is too near to the rectangle: by a look at each run that is level with it, without memory. The spacing is 0
-/// to 2^20 database units.
+/// Whether no square of the region is too near to the rectangle: by a look at each run that is level with it, without memory. The
+/// spacing is 0 to 2^20 database units.
 pub fn is_clear(region: &Region, rect: &Rect, spacing: i64) -> bool
     requires { IsSpacing spacing }
     ensures { IsTrue result ↔ ¬ InConflict (holds region.now) (squares rect.now) spacing }

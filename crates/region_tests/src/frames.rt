@@ -198,3 +198,18 @@ fn runs_near_a_frame_are_whole(rt: HostRuntime) -> Result<(), Fail> {
     assert!(rt; near.as_slice() == wanted.as_slice());
     Ok(())
 }
+
+/// Runs level with some rows are found whole, also one that begins far below, and none that begins above or ends long before.
+#[test]
+fn runs_level_with_rows_are_whole(rt: HostRuntime) -> Result<(), Fail> {
+    let alloc = rt.alloc();
+    let runs = rects_of(alloc, &[[0, 0, 10, 2], [20, 1, 30, 9], [0, 8, 10, 10]])?;
+    let region = Region::from_rects(alloc, &runs)?;
+    let upper = rects_of(alloc, &[[20, 1, 30, 9], [0, 8, 10, 10]])?;
+    let lowest = rects_of(alloc, &[[0, 0, 10, 2]])?;
+    assert!(rt; region.runs_level(8, 9) == upper.as_slice());
+    assert!(rt; region.runs_level(-5, 1) == lowest.as_slice());
+    assert!(rt; region.runs_level(0, 20) == runs.as_slice());
+    assert!(rt; region.runs_level(18, 19).is_empty());
+    Ok(())
+}
