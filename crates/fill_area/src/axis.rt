@@ -96,7 +96,7 @@ impl Axis {
     }
 
     /// The indexes of the spans that share a number with the range from `lo` on and below `hi`.
-    pub(crate) fn touching(self, lo: i64, hi: i64) -> Range<u32>
+    pub fn touching(self, lo: i64, hi: i64) -> Range<u32>
         requires axis { IsAxis self }
         requires low { IsCoordinate lo }
         requires high { IsCoordinate hi }

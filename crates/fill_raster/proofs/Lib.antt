@@ -7,6 +7,7 @@ pub mod Halos
 pub mod Blocks
 pub mod Setting
 pub mod Points
+pub mod Levels
 pub mod Marking
 pub mod RasterLaws
 pub mod Nearness

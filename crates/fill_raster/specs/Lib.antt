@@ -1,4 +1,5 @@
 pub mod Axes
+pub mod Level
 pub mod Lattice
 pub mod Bits
 pub mod Marks

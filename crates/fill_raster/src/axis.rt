@@ -86,7 +86,7 @@ impl Axis {
     }
 
     /// How many bands there are.
-    pub(crate) fn bands(self) -> u32
+    pub fn bands(self) -> u32
         requires { IsAxis self }
         ensures { result ≡ spec.bands self }
     {
@@ -121,7 +121,7 @@ impl Axis {
     }
 
     /// Where the first box of a band begins.
-    pub(crate) fn band_begin(self, g: u32) -> i64
+    pub fn band_begin(self, g: u32) -> i64
         requires axis { IsAxis self }
         requires index { g < spec.bands self }
         ensures { result ≡ spec.band_begin self g }
@@ -130,7 +130,7 @@ impl Axis {
     }
 
     /// Where the last box of a band ends.
-    pub(crate) fn band_end(self, g: u32) -> i64
+    pub fn band_end(self, g: u32) -> i64
         requires axis { IsAxis self }
         requires index { g < spec.bands self }
         ensures { result ≡ spec.band_end self g }

@@ -7,6 +7,7 @@ mod axis;
 mod bits;
 mod block;
 pub mod laws;
+mod level;
 mod marks;
 mod near;
 mod raster;
