@@ -35,7 +35,7 @@ fill_of_chip values k layers axes some looks i j = both _ _ into back
     alike on own =
         let plan = plan_of values in let tile = tile_of plan.raster i j in
         (filled_alike plan (chip_plan values k) (part_tiles plan k) (part_windows plan k) layers axes chip.rows chip.windows.within (chip_smaller values k axes chip) i j on
-        (held_by plan k tile (place_tile plan.raster i j axes.places_across axes.places_up on) (true_or (has_tile plan k tile) _ own))).filled
+        (held_by plan k tile axes (place_tile plan.raster i j axes.places_across axes.places_up on) (true_or (has_tile plan k tile) _ own))).filled
 
     row : in_raster (plan_of values).raster i j ≡ true → has_tile (plan_of values) k (tile_of (plan_of values).raster i j) ≡ has_row k (bands (plan_of values).raster.up) (band_of (plan_of values).raster.up j)
     row on = ap (has_row k (bands (plan_of values).raster.up)) (place_row (plan_of values).raster i j axes.places_across (and_parts (is_on (plan_of values).raster.across i) _ on).0)
@@ -65,7 +65,7 @@ lines_of_chip values k layers axes part some looks =
     let back : (part_windows plan k).from + (b - (part_windows plan k).from) ≡ b = there b (part_windows plan k).from row.0 in
     let inside : b - (part_windows plan k).from < (chip_plan values k).windows.up.count = rw is.rows (less b (part_windows plan k).from (part_windows plan k).to row.0 row.1) in
     sym (measures_same plan (chip_plan values k) (part_tiles plan k) (part_windows plan k) layers axes chip.rows chip.windows.within is a (b - (part_windows plan k).from) inside
-    (λ tile lt level. held_by plan k tile lt (or_second (has_tile plan k tile) _ (some_below_has (λ c. has_windows plan k c && is_level plan tile c) plan.windows.up.count b below (and_from _ _ own (ap (is_level plan tile) (sym back) ∙ level)))))
+    (λ tile lt level. held_by plan k tile axes lt (or_second (has_tile plan k tile) _ (some_below_has (λ c. has_windows plan k c && is_level plan tile c) plan.windows.up.count b below (and_from _ _ own (ap (is_level plan tile) (sym back) ∙ level)))))
     ∙ ap (λ n. measures_of layers.metal (boxes_of plan (low_fill plan layers)) plan.windows a n) back))
   where
     there : (b f : ℕ) → f ≤ b → f + (b - f) ≡ b

@@ -1,12 +1,15 @@
 -- The rows that a part has as a smaller chip.
-use Rattle.std.proofs.Common.{◌≡◌, refl, sym, subst, ◌∙◌, ℕ, zero, suc, ◌+◌, ◌-◌, ◌≤◌, ◌<◌, ◌==◌, inl, inr, ◌⊎◌, ℤ, ◌≤ℤ◌, arith, Bool, true, false, ◌&&◌, ◌||◌, max}
-use Rattle.std.specs.Prelude.{int_le, nat_le, if◌then◌else◌}
+use Rattle.std.proofs.Common.{◌≡◌, refl, sym, subst, ◌∙◌, ℕ, zero, suc, ◌+◌, ◌-◌, ◌≤◌, ◌<◌, ◌==◌, inl, inr, ◌⊎◌, ℤ, pos, ◌+ℤ◌, ◌≤ℤ◌, ◌<ℤ◌, arith, Bool, true, false, ◌&&◌, ◌||◌, min}
+use Rattle.std.specs.Prelude.{int_le, int_lt, nat_le, nat_lt, if◌then◌else◌}
 use Rattle.std.specs.Int.{int_max, int_min}
 use Rattle.std.proofs.lemmas.Bool.{and_from, and_parts, cases_Bool, cases_lt, eq-eqb, false_from_ne_true}
 use Rattle.std.proofs.lemmas.Bool.Decides.{nat_tests}
 use Rattle.std.proofs.lemmas.Int.{ints, clamps}
+use Rattle.fill_area.specs.Axes as areas
+use Rattle.fill_area.specs.Axes.{axis_begin, axis_end}
 use Rattle.fill_area.specs.Grid.{window_bottom, window_top}
-use Rattle.fill_raster.specs.Axes.{bands, band_begin, band_end}
+use Rattle.fill_area.specs.declared.axis.Axis as spans
+use Rattle.fill_raster.specs.Axes.{IsAxis, bands, band_begin, band_end}
 use Rattle.fill_raster.specs.Lattice.{in_raster, tile_of, tiles}
 use Rattle.fill_raster.specs.declared.axis.Axis.{Axis}
 use Rattle.fill_raster.proofs.Blocks.{tile_parts}
@@ -17,11 +20,15 @@ use Rattle.fill_job.proofs.Searching.{some_below_finds, some_below_has}
 use Rattle.fill_core.specs.Boxes.{low_fill}
 use Rattle.fill_parts.specs.Cuts.{Part}
 use Rattle.fill_parts.specs.Laws.{PartIsASmallerChip, PartOfNoWindowHasNothing}
-use Rattle.fill_parts.specs.Needs.{has_tile, has_windows, needs_tile, row_of}
-use Rattle.fill_parts.specs.PartChip.{down_to, first_of, first_tiles, is_row_level, looks_at, needs_row, part_tiles, part_windows, past_of, up_to}
+use Rattle.fill_parts.specs.Needs.{has_tile, has_windows, is_level, needs_tile, row_of}
+use Rattle.fill_parts.specs.PartChip.{looks_at, part_tiles, part_windows}
 use Rattle.fill_parts.specs.PartFill.{part_fill}
-use Rattle.fill_parts.specs.Smaller.{IsHeldBy, bands_alone}
+use Rattle.fill_parts.specs.PartRows.{counted_bottom, counted_top, first_of, first_tiles, is_tile_row_level, is_window_row_level, needed_tiles, needs_row, own_rows, past_of, past_tiles}
+use Rattle.fill_parts.specs.Smaller.{AreAxes, IsHeldBy, Rows, bands_alone}
+use Rattle.fill_parts.proofs.Cutting.{row_of_is}
 use Rattle.fill_parts.proofs.Leveling.{level_holding, place_tile}
+use Rattle.fill_parts.proofs.RulesAlone.{rises}
+use Rattle.fill_parts.proofs.TileRows.{band_begin_le, band_end_le}
 
 -- ---- the least and the greatest number that passes
 
@@ -43,10 +50,25 @@ first_before p (suc n) k lt holds = elim (cases_Bool (some_below p n)) [
         let here = first_before p n found.0 found.1 found.2 in
         let below = found.1 in omega (arith, here, below, at))
   ]
-  | inr none ↦ rw none (elim (cases_lt k n) [
+  | inr none ↦ elim (cases_lt k n) [
     | inl less ↦ absurd (let e : false ≡ true = sym none ∙ some_below_has p n k less holds in cc)
-    | inr at ↦ at
-  ])
+    | inr at ↦ (let same : k ≡ n = omega (arith, at, lt) in let passes : p n ≡ true = subst (λ m. p m ≡ true) same holds in rw (none, passes) at)
+  ]
+]
+
+-- the first is past all, or it passes
+pub first_passes : (p : ℕ → Bool) (n : ℕ) → (first_of p n ≡ n) ⊎ ((first_of p n < n) × (p (first_of p n) ≡ true))
+unfolding first_of
+first_passes p zero = inl refl
+first_passes p (suc n) = elim (cases_Bool (some_below p n)) [
+  | inl some ↦ rw some (inr (elim (first_passes p n) [
+    | inl all ↦ absurd (let found = some_below_finds p n some in let here = first_before p n found.0 found.1 found.2 in let below = found.1 in omega (arith, all, here, below))
+    | inr passes ↦ ((let lt = passes.0 in omega (arith, lt)), passes.1)
+  ]))
+  | inr none ↦ elim (cases_Bool (p n)) [
+    | inl passes ↦ rw (none, passes) (inr ((omega arith), passes))
+    | inr fails ↦ rw (none, fails) (inl refl)
+  ]
 ]
 
 pub past_behind : (p : ℕ → Bool) (n k : ℕ) → k < n → p k ≡ true → k < past_of p n
@@ -68,56 +90,136 @@ past_within p (suc n) = elim (cases_Bool (p n)) [
   | inr fails ↦ rw fails (let h = past_within p n in omega (arith, h))
 ]
 
--- with one more row than none, the first is one of them
-pub first_within : (p : ℕ → Bool) (n : ℕ) → 0 < n → first_of p n < n
-unfolding first_of
-first_within p zero lt = absurd (omega (arith, lt))
-first_within p (suc n) lt = elim (cases_Bool (some_below p n)) [
-  | inl some ↦ rw some (let found = some_below_finds p n some in let here = first_before p n found.0 found.1 found.2 in let below = found.1 in omega (arith, here, below))
-  | inr none ↦ rw none (omega arith)
+-- the one before the last is 0 where none passes, or it passes
+pub past_passes : (p : ℕ → Bool) (n : ℕ) → (past_of p n ≡ 0) ⊎ ((0 < past_of p n) × (p (past_of p n - 1) ≡ true))
+unfolding past_of
+past_passes p zero = inl refl
+past_passes p (suc n) = elim (cases_Bool (p n)) [
+  | inl passes ↦ (let back : suc n - 1 ≡ n = omega arith in let last : p (suc n - 1) ≡ true = subst (λ m. p m ≡ true) (sym back) passes in rw passes (inr ((omega arith), last)))
+  | inr fails ↦ rw fails (past_passes p n)
 ]
 
--- ---- from a band down and up
+-- ---- tests
 
--- it is no higher, and the lowest or one that begins no higher than the number
-pub record IsDown (a : Axis) (z : ℤ) (t s : ℕ) : Type 0 where
-  pub below : s ≤ t
-  pub begins : (s ≡ 0) ⊎ (band_begin a s ≤ℤ z)
+le_is : (a b : ℕ) → nat_le a b ≡ true → a ≤ b
+le_is a b h = grind (arith, nat_tests)
+
+lt_holds : (a b : ℕ) → a < b → nat_lt a b ≡ true
+lt_holds a b h = grind (arith, nat_tests)
 
 true_le : (a b : ℤ) → int_le a b ≡ true → a ≤ℤ b
 true_le a b h = grind (arith, ints)
 
-pub is_down : (a : Axis) (z : ℤ) (t : ℕ) → IsDown a z t (down_to a z t)
-unfolding down_to
-is_down a z zero = record { below = omega arith; begins = inl refl }
-is_down a z (suc t) = elim (cases_Bool (int_le (band_begin a (suc t)) z)) [
-  | inl passes ↦ rw passes (record { below = omega arith; begins = inr (true_le (band_begin a (suc t)) z passes) })
-  | inr fails ↦ rw fails (let h = is_down a z t in record { below = (let b = h.below in omega (arith, b)); begins = h.begins })
-]
+true_lt : (a b : ℤ) → int_lt a b ≡ true → a <ℤ b
+true_lt a b h = grind (arith, ints)
 
--- there are no fewer, and they are all or end no lower than the number
-pub record IsUp (a : Axis) (z : ℤ) (t n m : ℕ) : Type 0 where
-  pub least : t ≤ n → t ≤ m
-  pub most : m ≤ n
-  pub ends : (m ≡ n) ⊎ (z ≤ℤ band_end a (m - 1))
+lt_true : (a b : ℤ) → a <ℤ b → int_lt a b ≡ true
+lt_true a b h = grind (arith, ints)
 
-pub is_up : (a : Axis) (z : ℤ) (t n : ℕ) → IsUp a z t n (up_to a z t n)
-unfolding up_to
-is_up a z t zero = record { least = λ le. le; most = omega arith; ends = inl refl }
-is_up a z t (suc n) = elim (cases_Bool (nat_le t n && int_le z (band_end a (n - 1)))) [
-  | inl passes ↦ rw passes (let h = is_up a z t n in let parts = and_parts (nat_le t n) (int_le z (band_end a (n - 1))) passes in record {
-    least = λ le. h.least (nat_le_is t n parts.0);
-    most = (let m = h.most in omega (arith, m));
-    ends = inr (elim h.ends [
-      | inl all ↦ subst (λ (m : ℕ). z ≤ℤ band_end a (m - 1)) (sym all) (true_le z (band_end a (n - 1)) parts.1)
-      | inr less ↦ less
-    ]);
-  })
-  | inr fails ↦ rw fails (record { least = λ le. le; most = omega arith; ends = inl refl })
+le_lt : (a b c : ℤ) → a ≤ℤ b → b <ℤ c → a <ℤ c
+le_lt a b c h k = omega (arith, ints)
+
+lt_le : (a b c : ℤ) → a <ℤ b → b ≤ℤ c → a <ℤ c
+lt_le a b c h k = omega (arith, ints)
+
+-- ---- level with one of some rows, and so with these
+
+axis_end_le : (s : spans.Axis) (m n : ℕ) → pos 1 ≤ℤ s.step → m ≤ n → axis_end s m ≤ℤ axis_end s n
+axis_end_le s m n one le = on (axis_begin s m) (axis_begin s n) s.length (rises s m n one le)
+  where
+    on : (x y l : ℤ) → x ≤ℤ y → (x +ℤ l) ≤ℤ (y +ℤ l)
+    on x y l h = omega (arith, ints)
+
+before_last : (b to : ℕ) → b < to → b ≤ to - 1
+before_last b to lt = omega (arith, lt)
+
+pub tile_row_level : (a : Axis) (s : spans.Axis) (rows : Rows) (t b : ℕ) → areas.IsAxis s → rows.from ≤ b → b < rows.to → axis_begin s b <ℤ band_end a t → band_begin a t <ℤ axis_end s b → is_tile_row_level a s rows t ≡ true
+tile_row_level a s rows t b is from to above below =
+    and_from _ _ (lt_holds _ _ (some rows.from rows.to b from to))
+    (and_from _ _ (lt_true _ _ (le_lt _ _ _ (rises s rows.from b is.step_is.least from) above)) (lt_true _ _ (lt_le _ _ _ below (axis_end_le s b (rows.to - 1) is.step_is.least (before_last b rows.to to)))))
+  where
+    some : (f t b : ℕ) → f ≤ b → b < t → f < t
+    some f t b h k = omega (arith, h, k)
+
+pub window_row_level : (a : Axis) (s : spans.Axis) (rows : Rows) (t b : ℕ) → IsAxis a → rows.from ≤ t → t < rows.to → axis_begin s b <ℤ band_end a t → band_begin a t <ℤ axis_end s b → is_window_row_level a s rows b ≡ true
+window_row_level a s rows t b is from to above below =
+    and_from _ _ (lt_holds _ _ (some rows.from rows.to t from to))
+    (and_from _ _ (lt_true _ _ (lt_le _ _ _ above (band_end_le a t (rows.to - 1) is (before_last t rows.to to)))) (lt_true _ _ (le_lt _ _ _ (band_begin_le a rows.from t is from) below)))
+  where
+    some : (f t b : ℕ) → f ≤ b → b < t → f < t
+    some f t b h k = omega (arith, h, k)
+
+-- ---- the rows of tiles of the chip
+
+-- the first one is no higher than the first that is needed, and is the lowest or begins no higher than what may count
+record IsFirst (k : Part) (a : Axis) (s : spans.Axis) (t : ℕ) : Type 0 where
+  below : t ≤ (needed_tiles k a s).from
+  begins : (t ≡ 0) ⊎ (band_begin a t ≤ℤ counted_bottom k a s)
+
+is_first : (k : Part) (a : Axis) (s : spans.Axis) → IsFirst k a s (first_tiles k a s)
+is_first k a s = elim (past_passes (λ t. nat_le t (needed_tiles k a s).from && int_le (band_begin a t) (counted_bottom k a s)) (bands a)) [
+  | inl none ↦ (let e : first_tiles k a s ≡ 0 = before _ none in record { below = none_below (first_tiles k a s) _ e; begins = inl e })
+  | inr some ↦ (let parts = and_parts _ _ some.1 in record { below = le_is _ _ parts.0; begins = inr (true_le _ _ parts.1) })
 ]
   where
-    nat_le_is : (a b : ℕ) → nat_le a b ≡ true → a ≤ b
-    nat_le_is a b h = grind (arith, nat_tests)
+    before : (n : ℕ) → n ≡ 0 → n - 1 ≡ 0
+    before n e = omega (arith, e)
+
+    none_below : (t n : ℕ) → t ≡ 0 → t ≤ n
+    none_below t n e = omega (arith, e)
+
+first_few : (k : Part) (a : Axis) (s : spans.Axis) → 0 < bands a → first_tiles k a s < bands a
+first_few k a s some = less (past_of (λ t. nat_le t (needed_tiles k a s).from && int_le (band_begin a t) (counted_bottom k a s)) (bands a)) (bands a) (past_within _ (bands a)) some
+  where
+    less : (p n : ℕ) → p ≤ n → 0 < n → p - 1 < n
+    less p n h k = omega (arith, h, k)
+
+-- the one past the last lies behind all that are needed and behind the first one, and is past all or the last ends no lower than what may count
+record IsPast (k : Part) (a : Axis) (s : spans.Axis) (t : ℕ) : Type 0 where
+  needed : (needed_tiles k a s).to ≤ t
+  some : first_tiles k a s < t
+  most : t ≤ bands a
+  ends : (t ≡ bands a) ⊎ (counted_top k a s ≤ℤ band_end a (t - 1))
+
+is_past : (k : Part) (a : Axis) (s : spans.Axis) → 0 < bands a → IsPast k a s (past_tiles k a s)
+is_past k a s some = elim (first_passes q (bands a)) [
+  | inl all ↦ (let e : past_tiles k a s ≡ bands a = whole (first_of q (bands a)) (bands a) all in rw e (record {
+    needed = past_within (needs_row k a s) (bands a);
+    some = first_few k a s some;
+    most = same (bands a);
+    ends = inl refl;
+  }))
+  | inr found ↦ (let e : past_tiles k a s ≡ first_of q (bands a) + 1 = next (first_of q (bands a)) (bands a) found.0 in
+      let parts = and_parts _ _ found.1 in let rows = and_parts _ _ parts.0 in
+      let back : first_of q (bands a) + 1 - 1 ≡ first_of q (bands a) = again (first_of q (bands a)) in
+      rw e (record {
+        needed = le_is _ _ rows.0;
+        some = later _ _ (le_is _ _ rows.1);
+        most = up _ _ found.0;
+        ends = inr (rw back (true_le _ _ parts.1));
+      }))
+]
+  where
+    q : ℕ → Bool
+    q t = (nat_le (needed_tiles k a s).to (t + 1) && nat_le (first_tiles k a s) t) && int_le (counted_top k a s) (band_end a t)
+
+    same : (n : ℕ) → n ≤ n
+    same n = omega arith
+
+    whole : (f n : ℕ) → f ≡ n → min n (f + 1) ≡ n
+    whole f n e = omega (arith, e)
+
+    next : (f n : ℕ) → f < n → min n (f + 1) ≡ f + 1
+    next f n lt = omega (arith, lt)
+
+    again : (f : ℕ) → f + 1 - 1 ≡ f
+    again f = omega arith
+
+    later : (t f : ℕ) → t ≤ f → t < f + 1
+    later t f h = omega (arith, h)
+
+    up : (f n : ℕ) → f < n → f + 1 ≤ n
+    up f n h = omega (arith, h)
 
 -- ---- a part's rows
 
@@ -158,57 +260,77 @@ window_found plan low i j is =
 pub chip_windows : (plan : Plan) (k : Part) (b : ℕ) → b < plan.windows.up.count → looks_at plan k b ≡ true → ((part_windows plan k).from ≤ b) × (b < (part_windows plan k).to)
 chip_windows plan k b lt looks = (first_before (looks_at plan k) plan.windows.up.count b lt looks, past_behind (looks_at plan k) plan.windows.up.count b lt looks)
 
-chip_tiles : (plan : Plan) (k : Part) (t : ℕ) → t < bands plan.raster.up → needs_row plan k t ≡ true → ((part_tiles plan k).from ≤ t) × (t < (part_tiles plan k).to)
-chip_tiles plan k t lt needs =
-    let a = plan.raster.up in
-    let down = is_down a (int_max a.low (window_bottom plan.windows (part_windows plan k).from)) (first_of (needs_row plan k) (bands a)) in
-    let up = is_up a (int_min a.high (window_top plan.windows ((part_windows plan k).to - 1))) (max (past_of (needs_row plan k) (bands a)) (first_tiles plan k + 1)) (bands a) in
-    let low = first_before (needs_row plan k) (bands a) t lt needs in
-    let high = past_behind (needs_row plan k) (bands a) t lt needs in
-    let within = past_within (needs_row plan k) (bands a) in
-    let below = down.below in
-    let least = up.least (both (past_of (needs_row plan k) (bands a)) (first_tiles plan k) (bands a) within (omega (arith, below, low, lt))) in
-    (omega (arith, below, low), behind t (past_of (needs_row plan k) (bands a)) (first_tiles plan k) _ high least)
-  where
-    both : (p f n : ℕ) → p ≤ n → f < n → max p (f + 1) ≤ n
-    both p f n h l = omega (arith, h, l)
+-- a row of tiles that is needed is one of those that are, and of the chip's
+needed_row : (plan : Plan) (k : Part) (t : ℕ) → t < bands plan.raster.up → needs_row k plan.raster.up plan.windows.up t ≡ true
+    → ((needed_tiles k plan.raster.up plan.windows.up).from ≤ t) × (t < (needed_tiles k plan.raster.up plan.windows.up).to)
+needed_row plan k t lt needs = (first_before (needs_row k plan.raster.up plan.windows.up) (bands plan.raster.up) t lt needs, past_behind (needs_row k plan.raster.up plan.windows.up) (bands plan.raster.up) t lt needs)
 
-    behind : (t p f m : ℕ) → t < p → max p (f + 1) ≤ m → t < m
-    behind t p f m h l = omega (arith, h, l)
+chip_row : (plan : Plan) (k : Part) (t : ℕ) → t < bands plan.raster.up → needs_row k plan.raster.up plan.windows.up t ≡ true → ((part_tiles plan k).from ≤ t) × (t < (part_tiles plan k).to)
+chip_row plan k t lt needs =
+    let row = needed_row plan k t lt needs in
+    let first = is_first k plan.raster.up plan.windows.up in
+    let past = is_past k plan.raster.up plan.windows.up (positive t (bands plan.raster.up) lt) in
+    (down _ _ t first.below row.0, behind t _ _ row.1 past.needed)
+  where
+    positive : (t n : ℕ) → t < n → 0 < n
+    positive t n lt = omega (arith, lt)
+
+    down : (f n t : ℕ) → f ≤ n → n ≤ t → f ≤ t
+    down f n t h k = omega (arith, h, k)
+
+    behind : (t n p : ℕ) → t < n → n ≤ p → t < p
+    behind t n p h k = omega (arith, h, k)
 
 -- a tile needs what its row does
 row_below : (plan : Plan) (tile : ℕ) → tile < tiles plan.raster → row_of plan.raster tile < bands plan.raster.up
 row_below plan tile lt = (tile_parts plan.raster tile lt).row_below
 
-pub held_by : (plan : Plan) (k : Part) (tile : ℕ) → tile < tiles plan.raster → needs_tile plan k tile ≡ true → IsHeldBy plan (part_tiles plan k) (part_windows plan k) tile
-held_by plan k tile lt needs =
-    let row = row_below plan tile lt in
-    let rows = chip_tiles plan k (row_of plan.raster tile) row needs in
+tile_row : (plan : Plan) (k : Part) (tile : ℕ) → AreAxes plan → needs_tile plan k tile ≡ true → needs_row k plan.raster.up plan.windows.up (row_of plan.raster tile) ≡ true
+tile_row plan k tile are needs = elim (cases_Bool (has_tile plan k tile)) [
+  | inl own ↦ true_or (has_tile plan k tile) _ own
+  | inr other ↦ (let found = some_below_finds (λ b. has_windows plan k b && is_level plan tile b) plan.windows.up.count (second _ _ other needs) in
+      let parts = and_parts (has_windows plan k found.0) (is_level plan tile found.0) found.2 in
+      let level = and_parts _ _ parts.1 in
+      let rows = row_of_is k plan.windows.up.count found.0 parts.0 in
+      or_second (has_tile plan k tile) _ (tile_row_level plan.raster.up plan.windows.up (own_rows k plan.windows.up.count) (row_of plan.raster tile) found.0 are.windows_up rows.low rows.high (true_lt _ _ level.0) (true_lt _ _ level.1)))
+]
+  where
+    second : (a b : Bool) → a ≡ false → a || b ≡ true → b ≡ true
+    second true b none is = absurd (let e : true ≡ false = none in cc)
+    second false b none is = is
+
+pub level_looked_at : (plan : Plan) (k : Part) (tile b : ℕ) → AreAxes plan → tile < tiles plan.raster → needs_row k plan.raster.up plan.windows.up (row_of plan.raster tile) ≡ true → is_level plan tile b ≡ true → looks_at plan k b ≡ true
+level_looked_at plan k tile b are lt needs level =
+    let row = needed_row plan k (row_of plan.raster tile) (row_below plan tile lt) needs in
+    let parts = and_parts _ _ level in
+    or_second (has_windows plan k b) _ (window_row_level plan.raster.up plan.windows.up (needed_tiles k plan.raster.up plan.windows.up) (row_of plan.raster tile) b are.places_up row.0 row.1 (true_lt _ _ parts.0) (true_lt _ _ parts.1))
+
+pub held_by : (plan : Plan) (k : Part) (tile : ℕ) → AreAxes plan → tile < tiles plan.raster → needs_tile plan k tile ≡ true → IsHeldBy plan (part_tiles plan k) (part_windows plan k) tile
+held_by plan k tile are lt needs =
+    let needed = tile_row plan k tile are needs in
+    let rows = chip_row plan k (row_of plan.raster tile) (row_below plan tile lt) needed in
     record {
       from = rows.0;
       to = rows.1;
-      level = λ b below level. chip_windows plan k b below (or_second (has_windows plan k b) _ (some_below_has (λ t. needs_row plan k t && is_row_level plan t b) (bands plan.raster.up) (row_of plan.raster tile) row (and_from _ _ needs level)));
+      level = λ b below level. chip_windows plan k b below (level_looked_at plan k tile b are lt needed level);
     }
 
 -- ---- the chip of a part
 
 pub part_chip : PartIsASmallerChip
 part_chip values k is some looks = record {
-  rows = record {
-    some = least_is (past_of (needs_row plan k) (bands a)) (first_tiles plan k) _ least;
-    within = up.most;
-  };
+  rows = record { some = past.some; within = past.most };
   windows = record {
     some = (let w = chip_windows plan k found.0 found.1 found.2 in let from = w.0 in let to = w.1 in omega (arith, from, to));
     within = past_within (looks_at plan k) plan.windows.up.count;
   };
   cover = record {
     below = subst (λ (z : ℤ). (bands_alone a (part_tiles (plan_of values) k)).low ≤ℤ int_max a.low z) (same_bottom values.ignores (part_windows (plan_of values) k).from)
-        (begins_below a (first_tiles (plan_of values) k) _ (low_max a.low _) down.begins);
+        (begins_below a (part_tiles (plan_of values) k).from _ (low_max a.low _) first.begins);
     above = subst (λ (z : ℤ). int_min a.high z ≤ℤ (bands_alone a (part_tiles (plan_of values) k)).high) (same_top values.ignores ((part_windows (plan_of values) k).to - 1))
-        (ends_above a (part_tiles (plan_of values) k).to (bands a) _ (high_min a.high _) up.ends);
+        (ends_above a (part_tiles (plan_of values) k).to (bands a) _ (high_min a.high _) past.ends);
   };
-  held = λ tile lt needs. held_by plan k tile lt needs;
+  held = λ tile lt needs. held_by plan k tile is lt needs;
 }
   where
     plan : Plan
@@ -220,20 +342,11 @@ part_chip values k is some looks = record {
     found : (b : ℕ) × (b < (plan_of values).windows.up.count) × (looks_at (plan_of values) k b ≡ true)
     found = some_below_finds (looks_at (plan_of values) k) (plan_of values).windows.up.count looks
 
-    down : IsDown a (int_max a.low (window_bottom (plan_of values).windows (part_windows (plan_of values) k).from)) (first_of (needs_row (plan_of values) k) (bands a)) (first_tiles (plan_of values) k)
-    down = is_down a (int_max a.low (window_bottom (plan_of values).windows (part_windows (plan_of values) k).from)) (first_of (needs_row (plan_of values) k) (bands a))
+    first : IsFirst k a (plan_of values).windows.up (part_tiles (plan_of values) k).from
+    first = is_first k a (plan_of values).windows.up
 
-    up : IsUp a (int_min a.high (window_top (plan_of values).windows ((part_windows (plan_of values) k).to - 1))) (max (past_of (needs_row (plan_of values) k) (bands a)) (first_tiles (plan_of values) k + 1)) (bands a) (part_tiles (plan_of values) k).to
-    up = is_up a (int_min a.high (window_top (plan_of values).windows ((part_windows (plan_of values) k).to - 1))) (max (past_of (needs_row (plan_of values) k) (bands a)) (first_tiles (plan_of values) k + 1)) (bands a)
-
-    least : max (past_of (needs_row (plan_of values) k) (bands a)) (first_tiles (plan_of values) k + 1) ≤ (part_tiles (plan_of values) k).to
-    least = up.least (both (past_of (needs_row (plan_of values) k) (bands a)) (first_tiles (plan_of values) k) (first_of (needs_row (plan_of values) k) (bands a)) (bands a) (past_within (needs_row (plan_of values) k) (bands a)) down.below (first_within (needs_row (plan_of values) k) (bands a) some))
-      where
-        both : (p f g n : ℕ) → p ≤ n → f ≤ g → g < n → max p (f + 1) ≤ n
-        both p f g n h k l = omega (arith, h, k, l)
-
-    least_is : (p f m : ℕ) → max p (f + 1) ≤ m → f < m
-    least_is p f m h = omega (arith, h)
+    past : IsPast k a (plan_of values).windows.up (part_tiles (plan_of values) k).to
+    past = is_past k a (plan_of values).windows.up some
 
     same_bottom : (i : Bool) (b : ℕ) → window_bottom (windows_with values.numbers i) b ≡ window_bottom (whole_windows values.numbers) b
     same_bottom true b = refl
@@ -265,8 +378,7 @@ nothing values k is none = record {
       let tile = tile_of plan.raster i j in
       let lt = place_tile plan.raster i j is.places_across is.places_up on in
       let level = level_holding plan window.column window.row i j is on window.holds in
-      looked window.row window.below (or_second (has_windows plan k window.row) _ (some_below_has (λ t. needs_row plan k t && is_row_level plan t window.row) (bands plan.raster.up) (row_of plan.raster tile) (row_below plan tile lt)
-      (and_from _ _ (true_or (has_tile plan k tile) _ parts.1) level))));
+      looked window.row window.below (level_looked_at plan k tile window.row is lt (true_or (has_tile plan k tile) _ parts.1) level));
   windows = λ b lt. false_from_ne_true (has_windows plan k b) (λ has. looked b lt (true_or (has_windows plan k b) _ has));
 }
   where

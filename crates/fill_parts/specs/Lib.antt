@@ -3,6 +3,7 @@ pub mod Needs
 pub mod PartReport
 pub mod PartFill
 pub mod Smaller
+pub mod PartRows
 pub mod SmallerRules
 pub mod PartChip
 pub mod Laws
