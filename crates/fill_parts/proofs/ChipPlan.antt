@@ -17,7 +17,7 @@ use Rattle.fill_parts.specs.PartChip.{IsChipOf, chip_plan, part_tiles, part_wind
 use Rattle.fill_parts.specs.Smaller.{AreSome, IsSmaller, Rows, bands_alone, spans_alone}
 use Rattle.fill_parts.specs.SmallerRules.{rules_alone}
 use Rattle.fill_parts.proofs.BandsAlone.{framed_alone}
-use Rattle.fill_parts.proofs.PartRows.{part_chip}
+use Rattle.fill_parts.proofs.Looking.{part_chip}
 use Rattle.fill_parts.proofs.RowsAlone.{further}
 use Rattle.fill_parts.proofs.RulesAlone.{rises, smaller_chip}
 

@@ -21,6 +21,7 @@ pub mod RowsAlone
 pub mod RulesAlone
 pub mod WindowsAlone
 pub mod SmallCases
-pub mod PartRows
+pub mod Looking
+pub mod Chipping
 pub mod PartOfChip
 pub mod ChipPlan

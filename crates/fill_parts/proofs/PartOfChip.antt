@@ -18,7 +18,7 @@ use Rattle.fill_parts.specs.PartFill.{part_fill}
 use Rattle.fill_parts.specs.Smaller.{AreAxes, IsSmaller}
 use Rattle.fill_parts.proofs.Leveling.{place_row, place_tile}
 use Rattle.fill_parts.proofs.Lines.{lines_by}
-use Rattle.fill_parts.proofs.PartRows.{chip_windows, held_by, or_second, part_chip, true_or}
+use Rattle.fill_parts.proofs.Looking.{chip_windows, held_by, or_second, part_chip, true_or}
 use Rattle.fill_parts.proofs.RulesAlone.{smaller_chip}
 use Rattle.fill_parts.proofs.WindowsAlone.{filled_alike, filled_on, measures_same, on_whole}
 

@@ -3,11 +3,13 @@
 //! knows the metal between sides that are enough has the lines and the places of the whole.
 #![tactic(auto)]
 
+mod chip;
 mod cover;
 mod hull;
 pub mod laws;
 mod needs;
 mod part;
 
+pub use chip::PartRows;
 pub use hull::Hull;
 pub use part::Part;

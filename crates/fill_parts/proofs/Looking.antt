@@ -101,19 +101,19 @@ past_passes p (suc n) = elim (cases_Bool (p n)) [
 
 -- ---- tests
 
-le_is : (a b : ℕ) → nat_le a b ≡ true → a ≤ b
+pub le_is : (a b : ℕ) → nat_le a b ≡ true → a ≤ b
 le_is a b h = grind (arith, nat_tests)
 
-lt_holds : (a b : ℕ) → a < b → nat_lt a b ≡ true
+pub lt_holds : (a b : ℕ) → a < b → nat_lt a b ≡ true
 lt_holds a b h = grind (arith, nat_tests)
 
-true_le : (a b : ℤ) → int_le a b ≡ true → a ≤ℤ b
+pub true_le : (a b : ℤ) → int_le a b ≡ true → a ≤ℤ b
 true_le a b h = grind (arith, ints)
 
-true_lt : (a b : ℤ) → int_lt a b ≡ true → a <ℤ b
+pub true_lt : (a b : ℤ) → int_lt a b ≡ true → a <ℤ b
 true_lt a b h = grind (arith, ints)
 
-lt_true : (a b : ℤ) → a <ℤ b → int_lt a b ≡ true
+pub lt_true : (a b : ℤ) → a <ℤ b → int_lt a b ≡ true
 lt_true a b h = grind (arith, ints)
 
 le_lt : (a b c : ℤ) → a ≤ℤ b → b <ℤ c → a <ℤ c
