@@ -1,7 +1,8 @@
 -- The first of several faults, and how far a text has been found to have none.
-use Rattle.std.proofs.Common.{◌≡◌, ◌∙◌, ℕ, zero, suc, Bool, true, false, List, [], ◌∷◌, ◌++◌, get_or, Option, Some, None, Result, Ok, Err, append_assoc, inr, refl, sym}
+use Rattle.std.proofs.Common.{◌≡◌, ◌⊎◌, ◌∙◌, ℕ, zero, suc, Bool, true, false, List, [], ◌∷◌, ◌++◌, get_or, Option, Some, None, Result, Ok, Err, append_assoc, inl, inr, refl, sym}
 use Rattle.std.specs.Prelude.{find, if◌then◌else◌}
 use Rattle.std.proofs.lemmas.List.{append-nil}
+use Rattle.fill_base.specs.Sequence.{◌>>=◌}
 use Rattle.fill_text.specs.Refusals.{Gives, each_fault, fault_unless, first_some, refused_or, seen}
 
 pub first_stays : {E : Type 0} (a b : List (Option E)) (x : E) → first_some a ≡ Some x → first_some (a ++ b) ≡ Some x
@@ -27,6 +28,29 @@ not_refused (Some f) x y e = cc e
 pub gives_seen : {A B E : Type 0} (memory : E) (view : A → B) (r : Result A E) (read : Result B E) → seen view r ≡ read → Gives memory view r read
 gives_seen memory view (Ok x) read e = sym e
 gives_seen memory view (Err why) read e = inr (sym e)
+
+-- faults that are asked for behind others
+pub asked_in_turn : {A E : Type 0} (a : List (Option E)) (faults : A → List (Option E)) (x : A)
+    → refused_or (first_some (a ++ faults x)) x ≡ (refused_or (first_some a) x >>= λ v. refused_or (first_some (faults v)) v)
+asked_in_turn [] faults x = refl
+asked_in_turn (None ∷ a) faults x = asked_in_turn a faults x
+asked_in_turn (Some e ∷ a) faults x = refl
+
+-- the same steps behind the same answer
+pub same_behind : {A B E : Type 0} (r : Result A E) (f g : A → Result B E) → ((x : A) → f x ≡ g x) → (r >>= f) ≡ (r >>= g)
+same_behind (Ok x) f g same = same x
+same_behind (Err e) f g same = refl
+
+-- what refuses a first answer refuses the whole
+pub refused_before : {A B E : Type 0} (memory e : E) (first : Result A E) (next : A → Result B E) (whole : Result B E) → whole ≡ (first >>= next)
+    → (e ≡ memory) ⊎ (first ≡ Err e) → (e ≡ memory) ⊎ (whole ≡ Err e)
+refused_before memory e first next whole same (inl out) = inl out
+refused_before memory e first next whole same (inr refused) = inr (same ∙ rw refused refl)
+
+-- what is given behind a first answer is the whole
+pub given_behind : {A B C E : Type 0} (memory : E) (view : C → B) (r : Result C E) (x : A) (first : Result A E) (next : A → Result B E) (whole : Result B E) → whole ≡ (first >>= next)
+    → first ≡ Ok x → seen view r ≡ next x → Gives memory view r whole
+given_behind memory view r x first next whole same is given = gives_seen memory view r whole (given ∙ sym (same ∙ rw is refl))
 
 -- the first fault of the rows is that of the rest, for the rows before have none
 pub record IsSoundUpTo {R E : Type 0} (fault : List R → R → Option E) (rows before rest : List R) : Type 0 where

@@ -1,15 +1,16 @@
 -- Once every record is taken: the entries give the value of each key, and the first fault of the file is known.
-use Rattle.std.proofs.Common.{◌≡◌, ◌∙◌, ℕ, ℤ, Bool, true, false, List, [], ◌∷◌, ◌++◌, length, get_or, map, Option, Some, None, option_map, Result, Ok, Err, ap, sym, refl}
-use Rattle.std.specs.Prelude.{bytes_eq, int_lt, is_some, ok_or, option_and_then, pos, unwrap_or, if◌then◌else◌}
+use Rattle.std.proofs.Common.{◌≡◌, ◌∙◌, ◌&&◌, ℕ, ℤ, Bool, true, false, List, [], ◌∷◌, ◌++◌, length, get_or, map, Option, Some, None, option_map, Result, Ok, Err, ap, sym, refl}
+use Rattle.std.specs.Prelude.{⊤, bytes_eq, int_lt, is_some, ok_or, option_and_then, pos, unwrap_or, if◌then◌else◌}
 use Rattle.std.proofs.lemmas.List.FromFn.{fill_by_all}
 use Rattle.fill_base.specs.Sequence.{◌>>=◌}
+use Rattle.fill_text.specs.Chips.{chip_faults, chip_of, judged}
 use Rattle.fill_text.specs.RectTests.{is_rect, rect_with}
-use Rattle.fill_text.specs.Grids.{grid_with, is_grid}
+use Rattle.fill_text.specs.Grids.{grid_with, is_axis, is_grid}
 use Rattle.fill_text.specs.Rasters.{has_few_places, keeps_pitch, raster_with}
 use Rattle.fill_text.specs.Keys.{all_number_keys, all_text_keys}
 use Rattle.fill_text.specs.Numbers.{number_of}
 use Rattle.fill_text.specs.Refusals.{each_fault, fault_if, fault_unless, first_some, refused_or}
-use Rattle.fill_text.specs.Rules.{Values, frame_of, joint_faults, key_faults, missing, number_for, padding_of, pair, pair_faults, raster_of, record_fault, rule_faults, rules_of, value_of, values_for, whole_windows, word_for}
+use Rattle.fill_text.specs.Rules.{Values, entry_faults, frame_of, joint_faults, key_faults, missing, number_for, padding_of, pair, pair_faults, raster_of, record_fault, rules_of, value_of, values_for, whole_windows, word_for}
 use Rattle.fill_text.specs.Rows.{rows_of}
 use Rattle.fill_text.specs.declared.keys.Key.TheVariants.{Number, Text, Optional, Padding}
 use Rattle.fill_text.specs.declared.keys.NumberKey.{NumberKey}
@@ -18,8 +19,8 @@ use Rattle.fill_text.specs.declared.keys.OptionalKey.TheVariants.{KeepLayer, Kee
 use Rattle.fill_text.specs.declared.keys.TextKey.TheVariants as text
 use Rattle.fill_text.specs.declared.rule_error.RuleError.{RuleError}
 use Rattle.fill_text.specs.declared.rule_error.RuleError.TheVariants.{BadPitch, BadRect, BadRule, BadWindows, TooManyPlaces}
-use Rattle.fill_text.specs.steps.Entries.{Found, all_numbers, all_values, checked, number_found, optional_found, pair_found, rules_found, with_front}
-use Rattle.fill_text.proofs.FirstFaults.{first_stays, later_first}
+use Rattle.fill_text.specs.steps.Entries.{Found, all_numbers, all_values, checked, checked_chip, densities_and_cells, number_found, optional_found, pair_found, values_in, with_front}
+use Rattle.fill_text.proofs.FirstFaults.{asked_in_turn, first_stays, later_first, not_refused, same_behind}
 use Rattle.fill_text.proofs.Holding.{Holds}
 
 -- the numbers of these keys, or the first key that is missing
@@ -118,15 +119,15 @@ values_given rows found held = by (first_some (map (missing rows) (map Number al
         (texts_given (map (number_for rows) all_number_keys) (word_for (Text text.Top) rows) (word_for (Text text.FillLib) rows) (word_for (Text text.FillCell) rows) (word_for (Text text.FillTop) rows) _ _ _ _
         (pair_given (word_for (Optional KeepLayer) rows) (word_for (Optional KeepDatatype) rows) (optional_found found.optionals KeepLayer) (optional_found found.optionals KeepDatatype) (held.optionals KeepLayer) (held.optionals KeepDatatype)))
 
-checked_given : (values : Values) → checked values ≡ refused_or (first_some (joint_faults values)) values
-unfolding checked rect_with grid_with raster_with
+pub checked_given : (values : Values) → checked values ≡ judged values
+unfolding checked densities_and_cells rect_with grid_with raster_with
 checked_given values = by (int_lt (value_of values number.Max) (value_of values number.Min)) (bytes_eq values.fill_top values.fill_cell) (is_rect (frame_of values.numbers)) (is_grid (whole_windows values.numbers))
     (keeps_pitch (raster_of values.numbers) (value_of values number.FillSpacing)) (has_few_places (raster_of values.numbers))
   where
     by : (less same rect grid pitch few : Bool)
-        → (if less then Err (BadRule (Number number.Max)) else if same then Err (BadRule (Text text.FillTop))
-        else (ok_or (if rect then Some (frame_of values.numbers) else None) BadRect >>= λ _. ok_or (if grid then Some (whole_windows values.numbers) else None) BadWindows >>= λ _.
-        (if pitch then (if few then Ok (raster_of values.numbers) else Err TooManyPlaces) else Err BadPitch) >>= λ _. Ok values))
+        → (let fine : Result ⊤ RuleError = Ok tt in (if less then Err (BadRule (Number number.Max)) else if same then Err (BadRule (Text text.FillTop)) else fine) >>= λ _.
+        ok_or (if rect then Some (frame_of values.numbers) else None) BadRect >>= λ _. ok_or (if grid then Some (whole_windows values.numbers) else None) BadWindows >>= λ _.
+        (if pitch then (if few then Ok (raster_of values.numbers) else Err TooManyPlaces) else Err BadPitch) >>= λ _. Ok values)
         ≡ refused_or (first_some (fault_if less (BadRule (Number number.Max)) ∷ fault_if same (BadRule (Text text.FillTop)) ∷ fault_unless rect BadRect ∷ fault_unless grid BadWindows ∷ fault_unless pitch BadPitch ∷ fault_unless few TooManyPlaces ∷ [])) values
     by true same rect grid pitch few = refl
     by false true rect grid pitch few = refl
@@ -136,28 +137,58 @@ checked_given values = by (int_lt (value_of values number.Max) (value_of values 
     by false false true true true false = refl
     by false false true true true true = refl
 
+chip_given : (values : Values) → checked_chip values ≡ refused_or (first_some (chip_faults values)) values
+unfolding checked_chip densities_and_cells rect_with
+chip_given values = by (int_lt (value_of values number.Max) (value_of values number.Min)) (bytes_eq values.fill_top values.fill_cell) (is_rect (frame_of values.numbers))
+    (is_axis (whole_windows values.numbers).across && is_axis (whole_windows values.numbers).up) (keeps_pitch (raster_of values.numbers) (value_of values number.FillSpacing))
+  where
+    by : (less same rect axes pitch : Bool)
+        → (let fine : Result ⊤ RuleError = Ok tt in (if less then Err (BadRule (Number number.Max)) else if same then Err (BadRule (Text text.FillTop)) else fine) >>= λ _.
+        ok_or (if rect then Some (frame_of values.numbers) else None) BadRect >>= λ _.
+        (if axes then (if pitch then Ok values else Err BadPitch) else Err BadWindows))
+        ≡ refused_or (first_some (fault_if less (BadRule (Number number.Max)) ∷ fault_if same (BadRule (Text text.FillTop)) ∷ fault_unless rect BadRect ∷ fault_unless axes BadWindows ∷ fault_unless pitch BadPitch ∷ [])) values
+    by true same rect axes pitch = refl
+    by false true rect axes pitch = refl
+    by false false false axes pitch = refl
+    by false false true false pitch = refl
+    by false false true true false = refl
+    by false false true true true = refl
+
+-- two cells of two names
+pub names_apart : (values : Values) (done : ⊤) → densities_and_cells values ≡ Ok done → bytes_eq values.fill_top values.fill_cell ≡ false
+unfolding densities_and_cells
+names_apart values done e = by (int_lt (value_of values number.Max) (value_of values number.Min)) (bytes_eq values.fill_top values.fill_cell) e
+  where
+    by : (less same : Bool) → (let fine : Result ⊤ RuleError = Ok tt in if less then Err (BadRule (Number number.Max)) else if same then Err (BadRule (Text text.FillTop)) else fine) ≡ Ok done → same ≡ false
+    by true same e = cc e
+    by false true e = cc e
+    by false false e = refl
+
+-- a chip's values that are kept have no fault
+pub chip_faultless : (values : Values) → checked_chip values ≡ Ok values → first_some (chip_faults values) ≡ None
+chip_faultless values e = (not_refused _ values values (sym (chip_given values) ∙ e)).0
+
 -- a file with a record at fault
-pub refused_at : (file : List ℕ) (e : RuleError) → first_some (each_fault record_fault [] (rows_of file)) ≡ Some e → rules_of file ≡ Err e
-unfolding rules_of
-refused_at file e first =
-    let rows = rows_of file in
-    let keys = key_faults rows in
-    let each = each_fault record_fault [] rows in
-    rw (first_stays (each ++ keys) (joint_faults (values_for rows)) e (first_stays each keys e first)) refl
+pub record_refused : (file : List ℕ) (e : RuleError) → first_some (each_fault record_fault [] (rows_of file)) ≡ Some e → values_in file ≡ Err e
+unfolding values_in
+record_refused file e first = rw (first_stays (each_fault record_fault [] (rows_of file)) (key_faults (rows_of file)) e first) refl
 
 -- a file with none
-pub rules_given : (file : List ℕ) (found : Found) → first_some (each_fault record_fault [] (rows_of file)) ≡ None → Holds found (rows_of file)
-    → rules_of file ≡ rules_found found
-unfolding rules_of
-rules_given file found sound held = by (first_some (key_faults (rows_of file))) refl (values_given (rows_of file) found held)
-  where
-    by : (o : Option RuleError) → first_some (key_faults (rows_of file)) ≡ o → all_values found ≡ refused_or o (values_for (rows_of file))
-        → refused_or (first_some (rule_faults (rows_of file))) (values_for (rows_of file)) ≡ (all_values found >>= checked)
-    by (Some e) first given =
-        let each = each_fault record_fault [] (rows_of file) in
-        let keys = key_faults (rows_of file) in
-        rw (first_stays (each ++ keys) (joint_faults (values_for (rows_of file))) e (later_first each keys sound ∙ first), given) refl
-    by None first given =
-        let each = each_fault record_fault [] (rows_of file) in
-        let keys = key_faults (rows_of file) in
-        rw (later_first (each ++ keys) (joint_faults (values_for (rows_of file))) (later_first each keys sound ∙ first), given) (sym (checked_given (values_for (rows_of file))))
+pub values_found : (file : List ℕ) (found : Found) → first_some (each_fault record_fault [] (rows_of file)) ≡ None → Holds found (rows_of file)
+    → values_in file ≡ all_values found
+unfolding values_in
+values_found file found sound held =
+    rw (later_first (each_fault record_fault [] (rows_of file)) (key_faults (rows_of file)) sound) (sym (values_given (rows_of file) found held))
+
+-- the values of a file are asked what rules are asked, or what a chip's are
+pub rules_given : (file : List ℕ) → rules_of file ≡ (values_in file >>= checked)
+unfolding rules_of values_in
+rules_given file =
+    asked_in_turn (entry_faults (rows_of file)) joint_faults (values_for (rows_of file))
+    ∙ same_behind (values_in file) judged checked (λ v. sym (checked_given v))
+
+pub chip_rules_given : (file : List ℕ) → chip_of file ≡ (values_in file >>= checked_chip)
+unfolding chip_of values_in
+chip_rules_given file =
+    asked_in_turn (entry_faults (rows_of file)) chip_faults (values_for (rows_of file))
+    ∙ same_behind (values_in file) (λ v. refused_or (first_some (chip_faults v)) v) checked_chip (λ v. sym (chip_given v))

@@ -1,6 +1,6 @@
 -- The numbers make a grid of windows exactly where the test of them says so.
-use Rattle.std.proofs.Common.{negsuc, Fits, w32, if◌then◌else◌, ◌↔◌, ◌≡◌, ◌≤◌, ◌*◌, ◌-◌, ℕ, ℤ, pos, ◌≤ℤ◌, Bool, true, false, Result, Ok, Err, Some, None, IsOk, IfOk, arith, refl, inl, inr}
-use Rattle.std.specs.Prelude.{int_le, nat_le, unsigned_abs}
+use Rattle.std.proofs.Common.{negsuc, Fits, w32, if◌then◌else◌, ◌↔◌, ◌≡◌, ◌≤◌, ◌*◌, ◌-◌, ℕ, ℤ, pos, ◌≤ℤ◌, Bool, true, false, Result, Ok, Err, Some, None, IsOk, IfOk, arith, refl, sym, inl, inr}
+use Rattle.std.specs.Prelude.{IsTrue, int_le, nat_le, unsigned_abs}
 use Rattle.std.specs.Int.{IsNonNegative}
 use Rattle.std.specs.Result.{result_ok}
 use Rattle.std.proofs.lemmas.Bool.{cases_Bool}
@@ -55,7 +55,7 @@ is_axis_true axis h =
       int_le_true (axis_end axis (axis.count - 1)) highest h.last,
     ) refl
 
-is_axis_facts : (axis : Axis) → is_axis axis ≡ true → IsAxis axis
+pub is_axis_facts : (axis : Axis) → is_axis axis ≡ true → IsAxis axis
 is_axis_facts axis test =
     let (four, last) = both _ _ test in
     let (three, at) = both _ _ four in
@@ -68,6 +68,14 @@ is_axis_facts axis test =
       first_is = is_coordinate_facts axis.first at;
       last = int_le_facts _ highest last;
     }
+
+-- what a test of an axis answers
+pub axis_decided : (axis : Axis) (b : Bool) → (IsTrue b ↔ IsAxis axis) → b ≡ is_axis axis
+axis_decided axis true h = sym (is_axis_true axis (h.0 refl))
+axis_decided axis false h = elim (cases_Bool (is_axis axis)) [
+  | inl test ↦ let never : false ≡ true = h.1 (is_axis_facts axis test) in cc never
+  | inr test ↦ sym test
+]
 
 is_grid_true : (g : Grid) → IsGrid g → is_grid g ≡ true
 is_grid_true g h = rw (is_axis_true g.across h.across, is_axis_true g.up h.up, nat_le_true (g.across.count * g.up.count) 1048576 h.few) refl

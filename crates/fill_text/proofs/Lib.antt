@@ -14,6 +14,7 @@ pub mod GridTests
 pub mod RasterTests
 pub mod Standing
 pub mod Accepted
+pub mod Chips
 pub mod Written
 pub mod Once
 pub mod WrittenEdits

@@ -3,7 +3,7 @@ use Rattle.std.proofs.Common.{◌≡◌, ◌⊎◌, ◌<◌, ◌≤ℤ◌, ℕ, 
 use Rattle.std.proofs.lemmas.List.{get_or-replicate}
 use Rattle.std.specs.Prelude.{int_le}
 use Rattle.std.proofs.lemmas.Int.{ints}
-use Rattle.fill_text.specs.Keys.{all_number_keys, number_rule}
+use Rattle.fill_text.specs.Keys.{IsWithin, all_number_keys, number_rule}
 use Rattle.fill_text.specs.Rules.{is_in_range, number_in}
 use Rattle.fill_text.specs.steps.Entries.{AreRanged, all_numbers, nothing_found, number_found, with_front}
 use Rattle.fill_text.specs.declared.keys.NumberKey.{NumberKey}
@@ -20,17 +20,24 @@ pub nothing_here : (key : NumberKey) → number_found nothing_found.numbers key 
 nothing_here key = get_or-replicate 28 (number_rule key).index None None (index_below key)
 
 -- a write changes the number at its index alone
-get_or_set : (numbers : List (Option ℤ)) (i j : ℕ) (n : Option ℤ)
-    → (get_or (set numbers i n) j None ≡ get_or numbers j None) ⊎ ((j ≡ i) × (get_or (set numbers i n) j None ≡ n))
-get_or_set [] i j n = inl refl
-get_or_set (m ∷ numbers) zero zero n = inr (refl, refl)
-get_or_set (m ∷ numbers) zero (suc j) n = inl refl
-get_or_set (m ∷ numbers) (suc i) zero n = inl refl
-get_or_set (m ∷ numbers) (suc i) (suc j) n = elim (get_or_set numbers i j n) [ inl same ↦ inl same | inr (e, this) ↦ inr (ap suc e, this) ]
+get_or_set : {A : Type 0} (numbers : List A) (i j : ℕ) (n other : A)
+    → (get_or (set numbers i n) j other ≡ get_or numbers j other) ⊎ ((j ≡ i) × (get_or (set numbers i n) j other ≡ n))
+get_or_set [] i j n other = inl refl
+get_or_set (m ∷ numbers) zero zero n other = inr (refl, refl)
+get_or_set (m ∷ numbers) zero (suc j) n other = inl refl
+get_or_set (m ∷ numbers) (suc i) zero n other = inl refl
+get_or_set (m ∷ numbers) (suc i) (suc j) n other = elim (get_or_set numbers i j n other) [ inl same ↦ inl same | inr (e, this) ↦ inr (ap suc e, this) ]
 
 pub set_ranged : (numbers : List (Option ℤ)) (key : NumberKey) (n : ℤ) → AreRanged numbers → ((number_rule key).low ≤ℤ n) × (n ≤ℤ (number_rule key).high)
     → AreRanged (set numbers (number_rule key).index (Some n))
-set_ranged numbers key n ranged within other = elim (get_or_set numbers (number_rule key).index (number_rule other).index (Some n)) [
+set_ranged numbers key n ranged within other = elim (get_or_set numbers (number_rule key).index (number_rule other).index (Some n) None) [
+  | inl same ↦ rw same (ranged other)
+  | inr (e, this) ↦ rw (this, same_index other key e) within
+]
+
+pub set_within : (numbers : List ℤ) (key : NumberKey) (n : ℤ) → ((key : NumberKey) → IsWithin key (number_in numbers key)) → IsWithin key n
+    → (other : NumberKey) → IsWithin other (number_in (set numbers (number_rule key).index n) other)
+set_within numbers key n ranged within other = elim (get_or_set numbers (number_rule key).index (number_rule other).index n (pos 0)) [
   | inl same ↦ rw same (ranged other)
   | inr (e, this) ↦ rw (this, same_index other key e) within
 ]

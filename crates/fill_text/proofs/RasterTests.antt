@@ -1,9 +1,9 @@
 -- The numbers make a raster exactly where the tests of them say so.
 use Rattle.std.proofs.Common.{negsuc, Fits, FitsSigned, w32, w64, ◌≡◌, ℕ, ℤ, pos, ◌≤ℤ◌, Bool, true, false, Ok, Err, if◌then◌else◌, arith, refl, inl, inr, sym}
-use Rattle.std.specs.Prelude.{unsigned_abs}
+use Rattle.std.specs.Prelude.{◌+ℤ◌, unsigned_abs}
 use Rattle.std.specs.Int.{IsNonNegative}
 use Rattle.std.proofs.lemmas.Bool.{cases_Bool}
-use Rattle.std.proofs.lemmas.Int.{ints}
+use Rattle.std.proofs.lemmas.Int.{clamps, ints}
 use Rattle.fill_base.specs.Coordinates.{lowest, highest, IsCoordinate}
 use Rattle.fill_base.specs.Limits.{IsLength, IsSpacing}
 use Rattle.fill_base.specs.Sides.{Sides}
@@ -60,6 +60,10 @@ raster_same r given s e = by (keeps_pitch r s) (has_few_places r) refl e
     by false few test e = cc e
 
 -- ---- as the code reads them
+
+-- a side and a spacing
+pub sum_fits : (l s : ℤ) → pos 1 ≤ℤ l → l ≤ℤ pos 1048576 → pos 0 ≤ℤ s → s ≤ℤ pos 1048576 → FitsSigned w64 (l +ℤ s)
+sum_fits l s least most low high = omega (arith, ints, clamps)
 
 pub length_in : (v n : ℤ) → v ≡ n → pos 1 ≤ℤ n → n ≤ℤ pos 1048576 → IsLength (read v)
 length_in v n e least most = rw (e, read_is n (fits n least most)) (record { least = least; most = most })

@@ -3,6 +3,7 @@ pub mod RectTests
 pub mod Grids
 pub mod Rasters
 pub mod Keys
+pub mod Chips
 pub mod Limits
 pub mod Laws
 pub mod Numbers
@@ -11,4 +12,5 @@ pub mod Rows
 pub mod Rules
 pub mod Script
 pub mod ValuesOfRules
+pub mod ValuesOfChips
 pub mod steps

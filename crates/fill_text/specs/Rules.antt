@@ -217,9 +217,13 @@ joint_faults values =
     ∷ fault_unless (has_few_places (raster_of values.numbers)) TooManyPlaces
     ∷ []
 
--- every fault of a rule file, in the order in which it is refused: of each record, of each key in table order, of the values
+-- every fault of the records and of the keys, in the order in which it is refused: of each record, of each key in table order
+abbrev pub entry_faults : List (List (List ℕ)) → List (Option RuleError)
+entry_faults rows = each_fault record_fault [] rows ++ key_faults rows
+
+-- every fault of a rule file: those, and behind them those of the values together
 abbrev pub rule_faults : List (List (List ℕ)) → List (Option RuleError)
-rule_faults rows = each_fault record_fault [] rows ++ key_faults rows ++ joint_faults (values_for rows)
+rule_faults rows = entry_faults rows ++ joint_faults (values_for rows)
 
 -- the values that a rule file gives, or its first fault
 unfoldable pub rules_of : List ℕ → Result Values RuleError

@@ -5,9 +5,13 @@
 //! number of [`Rules`] is in the range of its key. The [`laws`] say the same in the words of the files: each key stands in
 //! one record and nothing else stands there, each value is in a record of its own key, and each record of a script is one
 //! edit.
+//!
+//! [`read_chip_rules`] gives [`ChipRules`], those of a chip of any size, which give the [`Rules`] of its part with some
+//! [`ChipRows`].
 #![tactic(auto)]
 
 mod accessors;
+mod chip;
 mod entries;
 mod keys;
 pub mod laws;
@@ -20,9 +24,10 @@ mod rules;
 mod script;
 mod sides;
 
+pub use chip::{ChipRows, ChipRules};
 pub use keys::{Key, NumberKey, OptionalKey, TextKey};
 pub use limits::Limits;
 pub use rule_error::RuleError;
-pub use rule_file::read_rules;
+pub use rule_file::{read_chip_rules, read_rules};
 pub use rules::{Numbers, Rules, Texts};
 pub use script::{Edit, ScriptError, read_script};

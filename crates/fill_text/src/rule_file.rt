@@ -1,5 +1,6 @@
 //! The reader of a rule file.
 ghost use Rattle.std.specs.Prelude.{◌≡◌, true, get_or, None, option_map, IfOk, if◌then◌else◌};
+ghost use Rattle.fill_text.specs.Chips.{chip_of};
 ghost use Rattle.fill_text.specs.Refusals.{seen, Gives};
 ghost use Rattle.fill_base.specs.Sides.{sides_of};
 ghost use Rattle.fill_area.specs.Grid.{clipped_to};
@@ -10,13 +11,15 @@ ghost use Rattle.fill_text.specs.Rules as spec;
 ghost use Rattle.fill_text.specs.Rules.{are_layers};
 ghost use Rattle.fill_text.specs.steps.Entries as step;
 ghost use Rattle.fill_text.specs.steps.Entries.{found_in};
-ghost use Rattle.fill_text.specs.ValuesOfRules.{values_from, values_of};
+ghost use Rattle.fill_text.specs.ValuesOfChips.{chip_values};
+ghost use Rattle.fill_text.specs.ValuesOfRules.{key_values, values_of};
 
+use crate::chip::ChipRules;
 use crate::entries::Entries;
 use crate::keys::{Key, NumberKey, OptionalKey, TextKey};
 use crate::rows::rows;
 use crate::rule_error::RuleError;
-use crate::rules::{Numbers, Rules, Texts};
+use crate::rules::{KeyValues, Numbers, Rules, Texts};
 use crate::sides::rect_from;
 use fill_area::Windows;
 use fill_base::{Point, Rect};
@@ -92,27 +95,38 @@ fn counted(windows: Windows, ignores: bool, frame: &Rect) -> Windows
     }
 }
 
-/// What is asked of the values together.
-#[tactic(auto, unfolding(crate::specs::steps::Entries::checked))]
-fn checked(
-    numbers: Numbers,
-    texts: Texts,
-    keep: Option<(i64, i64)>,
-    ignores: bool,
-) -> Result<Rules, RuleError>
-    requires { are_layers keep ≡ true }
-    ensures { seen values_of result ≡ step.checked (values_from numbers texts keep ignores) }
+/// What is asked of the densities and of the two cells' names.
+#[tactic(auto, unfolding(crate::specs::steps::Entries::densities_and_cells))]
+fn densities_and_cells(values: &KeyValues) -> Result<(), RuleError>
+    ensures { result ≡ step.densities_and_cells (key_values values.now) }
 {
+    let numbers = &values.numbers;
     if numbers.value(NumberKey::Max) < numbers.value(NumberKey::Min) {
         return Err(RuleError::BadRule {
             key: Key::Number(NumberKey::Max),
         });
     }
+    let texts = &values.texts;
     if texts.fill_top == texts.fill_cell {
         return Err(RuleError::BadRule {
             key: Key::Text(TextKey::FillTop),
         });
     }
+    Ok(())
+}
+
+/// What is asked of the values together.
+#[tactic(auto, unfolding(crate::specs::steps::Entries::checked))]
+pub(crate) fn checked(values: KeyValues) -> Result<Rules, RuleError>
+    ensures { seen values_of result ≡ step.checked (key_values values) }
+{
+    densities_and_cells(&values)?;
+    let KeyValues {
+        numbers,
+        texts,
+        keep,
+        ignores,
+    } = values;
     let frame = frame_in(&numbers).ok_or(RuleError::BadRect)?;
     let windows = windows_in(&numbers).ok_or(RuleError::BadWindows)?;
     let raster = raster_in(&numbers, frame)?;
@@ -127,13 +141,40 @@ fn checked(
     })
 }
 
-/// The rules that were found, none of which may miss.
+/// What is asked of a chip's values together: as of rules, but not how many windows and places there are.
+#[tactic(auto, unfolding(crate::specs::steps::Entries::checked_chip))]
+fn checked_chip(values: KeyValues) -> Result<ChipRules, RuleError>
+    ensures { seen chip_values result ≡ step.checked_chip (key_values values) }
+{
+    densities_and_cells(&values)?;
+    let KeyValues {
+        numbers,
+        texts,
+        keep,
+        ignores,
+    } = values;
+    frame_in(&numbers).ok_or(RuleError::BadRect)?;
+    if !numbers.has_windows_within() {
+        return Err(RuleError::BadWindows);
+    }
+    if !numbers.keeps_pitch() {
+        return Err(RuleError::BadPitch);
+    }
+    Ok(ChipRules {
+        numbers,
+        texts,
+        keep,
+        ignores,
+    })
+}
+
+/// The values that were found, none of which may miss.
 #[tactic(auto, unfolding(crate::specs::steps::Entries::all_values))]
-fn rules_found(entries: Entries) -> Result<Rules, RuleError>
+fn all_values(entries: Entries) -> Result<KeyValues, RuleError>
     requires numbers { step.AreRanged (found_in entries).numbers }
     requires texts { step.AreAllowed (found_in entries).texts }
     requires optionals { step.AreOptional (found_in entries).optionals }
-    ensures { seen values_of result ≡ step.rules_found (found_in entries) }
+    ensures { seen key_values result ≡ step.all_values (found_in entries) }
 {
     let numbers = Numbers::new(entries.all_numbers()?);
     let Entries {
@@ -150,17 +191,17 @@ fn rules_found(entries: Entries) -> Result<Rules, RuleError>
     let fill_cell = fill_cell.ok_or(missing(TextKey::FillCell))?;
     let fill_top = fill_top.ok_or(missing(TextKey::FillTop))?;
     let keep = keep_found(optionals)?;
-    checked(
+    Ok(KeyValues {
         numbers,
-        Texts {
+        texts: Texts {
             top,
             fill_lib,
             fill_cell,
             fill_top,
         },
         keep,
-        padding.unwrap_or(false),
-    )
+        ignores: padding.unwrap_or(false),
+    })
 }
 
 /// The layer and the data type of the keep-outs, both or neither of which were found.
@@ -189,6 +230,20 @@ fn missing(key: TextKey) -> RuleError
     }
 }
 
+/// The values that the records of a rule file give, each of which its key allows.
+fn values_in(alloc: Global, text: &[u8]) -> Result<KeyValues, RuleError>
+    ensures { Gives RuleError.Memory key_values result (step.values_in text.now) }
+{
+    let mut entries = Entries::new();
+    let mut line = 0u64;
+    for row in rows(alloc, text) {
+        let row = row?;
+        line += 1;
+        entries.take_row(alloc, line, &row)?;
+    }
+    all_values(entries)
+}
+
 /// The rules of a rule file: records `key,value` of comma-separated fields with no header, each key exactly once and
 /// in any order (this project's profile).
 ///
@@ -202,12 +257,16 @@ fn missing(key: TextKey) -> RuleError
 pub fn read_rules(alloc: Global, text: &[u8]) -> Result<Rules, RuleError>
     ensures { Gives RuleError.Memory values_of result (spec.rules_of text.now) }
 {
-    let mut entries = Entries::new();
-    let mut line = 0u64;
-    for row in rows(alloc, text) {
-        let row = row?;
-        line += 1;
-        entries.take_row(alloc, line, &row)?;
-    }
-    rules_found(entries)
+    checked(values_in(alloc, text)?)
+}
+
+/// The rules of a chip of any size, of a rule file as [`read_rules`] reads it, however many windows and places it asks for.
+///
+/// # Errors
+/// The first refusal, in the order of [`read_rules`]; but `BadWindows` comes only for a window that leaves the coordinates,
+/// and `TooManyPlaces` never. `Memory` where memory runs out.
+pub fn read_chip_rules(alloc: Global, text: &[u8]) -> Result<ChipRules, RuleError>
+    ensures { Gives RuleError.Memory chip_values result (chip_of text.now) }
+{
+    checked_chip(values_in(alloc, text)?)
 }

@@ -1,8 +1,10 @@
 //! The rules that a rule file gives: a number or a text for each key.
-ghost use Rattle.std.specs.Prelude.{◌≡◌, ◌≤ℤ◌, ◌↔◌, true, false, bytes_eq, IfOk, IsTrue, unsigned_abs};
+ghost use Rattle.std.specs.Prelude.{◌≡◌, ◌≤ℤ◌, ◌↔◌, ◌&&◌, true, false, bytes_eq, slice_set, IfOk, IsTrue, unsigned_abs};
 ghost use Rattle.fill_base.specs.Sides.{sides_of};
 ghost use Rattle.fill_raster.specs.Lattice.{KeepsPitch};
-ghost use Rattle.fill_text.specs.Keys.{number_rule};
+ghost use Rattle.fill_text.specs.Grids.{is_axis};
+ghost use Rattle.fill_text.specs.Keys.{IsWithin, number_rule};
+ghost use Rattle.fill_text.specs.Rasters as pitch;
 ghost use Rattle.fill_text.specs.Rules as spec;
 ghost use Rattle.fill_text.specs.declared.keys.NumberKey.{NumberKey};
 ghost use Rattle.fill_text.specs.declared.keys.TextKey.TheVariants as TextKey;
@@ -52,6 +54,71 @@ impl Numbers {
         self.value(NumberKey::WinNy) as u32
     }
 
+    /// The windows of a row, from left to right.
+    pub(crate) fn windows_across(&self) -> fill_area::Axis
+        ensures { result ≡ (spec.whole_windows self.now.values).across }
+    {
+        fill_area::Axis {
+            first: self.value(NumberKey::WinX),
+            length: self.value(NumberKey::WinW),
+            step: self.value(NumberKey::WinStepX),
+            count: self.window_columns(),
+        }
+    }
+
+    /// The windows of a column, upwards.
+    pub(crate) fn windows_up(&self) -> fill_area::Axis
+        ensures { result ≡ (spec.whole_windows self.now.values).up }
+    {
+        fill_area::Axis {
+            first: self.value(NumberKey::WinY),
+            length: self.value(NumberKey::WinH),
+            step: self.value(NumberKey::WinStepY),
+            count: self.window_rows(),
+        }
+    }
+
+    /// The places of a column of the raster, upwards.
+    pub(crate) fn places_up(&self) -> fill_raster::Axis
+        ensures { result ≡ (spec.raster_of self.now.values).up }
+    {
+        fill_raster::Axis {
+            low: self.value(NumberKey::FrameY1),
+            high: self.value(NumberKey::FrameY2),
+            length: self.value(NumberKey::BoxH),
+            step: self.value(NumberKey::StepY),
+            origin: self.value(NumberKey::OriginY),
+            band: self.tile_rows(),
+        }
+    }
+
+    /// Whether each window lies within the coordinates.
+    pub(crate) fn has_windows_within(&self) -> bool
+        ensures { result ≡ (is_axis (spec.whole_windows self.now.values).across && is_axis (spec.whole_windows self.now.values).up) }
+    {
+        self.windows_across().is_within() & self.windows_up().is_within()
+    }
+
+    /// Whether both steps are at least the side of a box and the fill spacing.
+    pub(crate) fn keeps_pitch(&self) -> bool
+        ensures { result ≡ pitch.keeps_pitch (spec.raster_of self.now.values) (spec.number_in self.now.values NumberKey.FillSpacing) }
+    {
+        let spacing = self.value(NumberKey::FillSpacing);
+        let across = self.value(NumberKey::BoxW) + spacing <= self.value(NumberKey::StepX);
+        let up = self.value(NumberKey::BoxH) + spacing <= self.value(NumberKey::StepY);
+        across & up
+    }
+
+    /// The same numbers, but this one for a key.
+    pub(crate) fn with_value(&self, key: NumberKey, number: i64) -> Numbers
+        requires { IsWithin key number }
+        ensures { result.values ≡ slice_set self.now.values (number_rule key).index number }
+    {
+        let mut values = self.values;
+        values[key.index()] = number;
+        Numbers::new(values)
+    }
+
     /// How many columns of places a tile has.
     pub fn tile_columns(&self) -> u32
         ensures { result ≡ unsigned_abs (spec.number_in self.now.values NumberKey.TileNx) }
@@ -84,6 +151,16 @@ pub struct Texts {
     pub ghost fill_top_allowed: { spec.is_text TextKey.FillTop fill_top.items ≡ true },
 }
 
+/// The value of each key of a rule file, before anything is asked of them together.
+#[derive(Drop)]
+pub(crate) struct KeyValues {
+    pub(crate) numbers: Numbers,
+    pub(crate) texts: Texts,
+    pub(crate) keep: Option<(i64, i64)>,
+    pub(crate) ignores: bool,
+    pub ghost layered: { spec.are_layers keep ≡ true },
+}
+
 /// The rules of a check and a fill: the value of each key of a rule file, and the frame, the windows and the raster that
 /// they make.
 #[derive(Drop)]
@@ -111,7 +188,8 @@ pub struct Rules {
 impl Texts {
     ghost use Rattle.fill_text.specs.ValuesOfRules.{SameTexts};
 
-    fn copy(&self, alloc: Global) -> Result<Texts, AllocError>
+    /// The same texts once more.
+    pub(crate) fn copy(&self, alloc: Global) -> Result<Texts, AllocError>
         ensures { IfOk result (λ t. SameTexts t self.now) }
     {
         Ok(Texts {

@@ -1,13 +1,15 @@
 -- How a rule file is read: what each record adds to the entries, and what the entries then give. This serves the private
 -- functions; what a rule file says is `rules_of`.
-use Rattle.std.specs.Prelude.{◌≡◌, unwrap_or, false, true, ◌≤ℤ◌, IfSome, ℕ, ℤ, ◌==◌, Bool, List, [], ◌∷◌, ◌++◌, length, get_or, map, replicate, slice_set, Option, Some, None, option_map, ok_or, is_some, Result, Ok, Err, bytes_eq, int_lt, if◌then◌else◌}
+use Rattle.std.specs.Prelude.{⊤, ◌&&◌, ◌≡◌, unwrap_or, false, true, ◌≤ℤ◌, IfSome, ℕ, ℤ, ◌==◌, Bool, List, [], ◌∷◌, ◌++◌, length, get_or, map, replicate, slice_set, Option, Some, None, option_map, ok_or, is_some, Result, Ok, Err, bytes_eq, int_lt, if◌then◌else◌}
 use Rattle.fill_base.specs.Sequence.{◌>>=◌}
 use Rattle.fill_text.specs.RectTests.{rect_with}
-use Rattle.fill_text.specs.Grids.{grid_with}
-use Rattle.fill_text.specs.Rasters.{raster_with}
+use Rattle.fill_text.specs.Grids.{grid_with, is_axis}
+use Rattle.fill_text.specs.Rasters.{keeps_pitch, raster_with}
 use Rattle.fill_text.specs.Keys.{all_number_keys, key_named, number_rule, optional_index}
 use Rattle.fill_text.specs.Numbers.{number_of}
-use Rattle.fill_text.specs.Rules.{Values, frame_of, is_in_range, is_layer, is_text, padding_of, value_of, raster_of, whole_windows}
+use Rattle.fill_text.specs.Refusals.{first_some, refused_or}
+use Rattle.fill_text.specs.Rows.{rows_of}
+use Rattle.fill_text.specs.Rules.{Values, entry_faults, frame_of, is_in_range, is_layer, is_text, padding_of, value_of, values_for, raster_of, whole_windows}
 use Rattle.fill_text.specs.declared.keys.Key.{Key}
 use Rattle.fill_text.specs.declared.keys.Key.TheVariants.{Number, Text, Optional, Padding}
 use Rattle.fill_text.specs.declared.keys.NumberKey.{NumberKey}
@@ -17,7 +19,7 @@ use Rattle.fill_text.specs.declared.keys.OptionalKey.TheVariants.{KeepLayer, Kee
 use Rattle.fill_text.specs.declared.keys.TextKey.{TextKey}
 use Rattle.fill_text.specs.declared.keys.TextKey.TheVariants as text
 use Rattle.fill_text.specs.declared.rule_error.RuleError.{RuleError}
-use Rattle.fill_text.specs.declared.rule_error.RuleError.TheVariants.{BadRow, BadNumber, BadRule, BadRect, BadWindows}
+use Rattle.fill_text.specs.declared.rule_error.RuleError.TheVariants.{BadRow, BadNumber, BadRule, BadRect, BadWindows, BadPitch}
 use Rattle.fill_text.specs.declared.entries.Entries.{Entries}
 
 -- an answer that begins with this list
@@ -139,20 +141,34 @@ all_values found = do
   keep ← pair_found (optional_found found.optionals KeepLayer) (optional_found found.optionals KeepDatatype)
   Ok (record { numbers = numbers; top = top; fill_lib = fill_lib; fill_cell = fill_cell; fill_top = fill_top; keep = keep; ignores = unwrap_or found.padding false })
 
--- what is asked of the values together, in this order
-unfoldable pub checked : Values → Result Values RuleError
-checked values =
+-- the values that a rule file gives, whatever holds of them together, or the first fault of a record or a key
+unfoldable pub values_in : List ℕ → Result Values RuleError
+values_in file = let rows = rows_of file in refused_or (first_some (entry_faults rows)) (values_for rows)
+
+-- the densities are in order, and the two cells have two names
+unfoldable pub densities_and_cells : Values → Result ⊤ RuleError
+densities_and_cells values =
     if int_lt (value_of values number.Max) (value_of values number.Min) then Err (BadRule (Number number.Max))
     else if bytes_eq values.fill_top values.fill_cell then Err (BadRule (Text text.FillTop))
-    else (do
-      frame ← ok_or (rect_with (frame_of values.numbers)) BadRect
-      windows ← ok_or (grid_with (whole_windows values.numbers)) BadWindows
-      raster ← raster_with (raster_of values.numbers) (value_of values number.FillSpacing)
-      Ok values)
+    else Ok tt
 
--- the rules that were found
-abbrev pub rules_found : Found → Result Values RuleError
-rules_found found = all_values found >>= checked
+-- what is asked of the values together, in this order
+unfoldable pub checked : Values → Result Values RuleError
+checked values = do
+  apart ← densities_and_cells values
+  frame ← ok_or (rect_with (frame_of values.numbers)) BadRect
+  windows ← ok_or (grid_with (whole_windows values.numbers)) BadWindows
+  raster ← raster_with (raster_of values.numbers) (value_of values number.FillSpacing)
+  Ok values
+
+-- what is asked of a chip's values together, in this order
+unfoldable pub checked_chip : Values → Result Values RuleError
+checked_chip values = do
+  apart ← densities_and_cells values
+  frame ← ok_or (rect_with (frame_of values.numbers)) BadRect
+  if is_axis (whole_windows values.numbers).across && is_axis (whole_windows values.numbers).up
+      then (if keeps_pitch (raster_of values.numbers) (value_of values number.FillSpacing) then Ok values else Err BadPitch)
+      else Err BadWindows
 
 -- what the entries hold
 abbrev pub found_in : Entries → Found

@@ -6,7 +6,7 @@ use Rattle.fill_text.specs.steps.Rows.{StandsBefore}
 use Rattle.fill_text.specs.steps.Entries.{found_in}
 use Rattle.fill_text.proofs.FirstFaults.{IsSoundUpTo}
 use Rattle.fill_text.proofs.Holding.{Holds}
-use Rattle.fill_text.proofs.rule_file.read_rules.Given as goal
+use Rattle.fill_text.proofs.rule_file.values_in.Given as goal
 
 abbrev pub invariant-loop-row : goal.invariant-loop-row
 invariant-loop-row l = (before : List (List (List ℕ))) × (rest : List (List (List ℕ)))
