@@ -42,7 +42,7 @@ bands_are a rows is are =
     down z h k = omega (arith, ints)
 
 -- some windows of an axis
-spans_are : (s : spans.Axis) (rows : Rows) → areas.IsAxis s → AreSome rows s.count → areas.IsAxis (spans_alone s rows)
+pub spans_are : (s : spans.Axis) (rows : Rows) → areas.IsAxis s → AreSome rows s.count → areas.IsAxis (spans_alone s rows)
 spans_are s rows is are = record {
   length_is = is.length_is;
   step_is = is.step_is;

@@ -1,13 +1,12 @@
 -- The rows of a part's chip as arithmetic finds them.
-use Rattle.std.proofs.Common.{◌≡◌, refl, sym, subst, ◌∙◌, ℕ, suc, ◌+◌, ◌-◌, ◌≤◌, ◌<◌, inl, inr, ◌⊎◌, ◌↔◌, ℤ, pos, negsuc, ◌+ℤ◌, ◌-ℤ◌, ◌≤ℤ◌, ◌<ℤ◌, arith, Bool, true, false, ◌&&◌, max, min, w32, w64, Fits, FitsSigned}
-use Rattle.std.specs.Prelude.{int_le, int_lt, nat_le, nat_lt}
+use Rattle.std.proofs.Common.{◌≡◌, refl, sym, ◌∙◌, ℕ, ◌+◌, ◌-◌, ◌≤◌, ◌<◌, inl, inr, ◌⊎◌, ◌↔◌, ℤ, pos, negsuc, ◌+ℤ◌, ◌-ℤ◌, ◌≤ℤ◌, ◌<ℤ◌, arith, Bool, true, false, ◌&&◌, max, min, w32, w64, Fits, FitsSigned}
+use Rattle.std.specs.Prelude.{int_le, nat_le, nat_lt}
 use Rattle.std.specs.Int.{int_max, int_min}
 use Rattle.std.proofs.lemmas.Bool.{and_from, and_parts, cases_lt, false_from_ne_true}
 use Rattle.std.proofs.lemmas.Bool.Decides.{nat_tests}
 use Rattle.std.proofs.lemmas.Int.{ints, clamps, by_lt_z}
 use Rattle.fill_base.specs.Coordinates.{IsCoordinate, highest, lowest}
 use Rattle.fill_base.proofs.Signed.{coordinate_fits, read, read_is}
-use Rattle.fill_area.specs.Axes as areas
 use Rattle.fill_area.specs.Axes.{IsIndex, IsExtent, IsRangeOf, IsTouching, axis_begin, axis_end}
 use Rattle.fill_area.specs.declared.axis.Axis as spans
 use Rattle.fill_raster.specs.Axes.{IsAxis, bands, band_begin, band_end, band_first, band_past, extent}

@@ -25,3 +25,4 @@ pub mod Looking
 pub mod Chipping
 pub mod PartOfChip
 pub mod ChipPlan
+pub mod PartRules

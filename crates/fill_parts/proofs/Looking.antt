@@ -175,13 +175,13 @@ first_few k a s some = less (past_of (λ t. nat_le t (needed_tiles k a s).from &
     less p n h k = omega (arith, h, k)
 
 -- the one past the last lies behind all that are needed and behind the first one, and is past all or the last ends no lower than what may count
-record IsPast (k : Part) (a : Axis) (s : spans.Axis) (t : ℕ) : Type 0 where
-  needed : (needed_tiles k a s).to ≤ t
-  some : first_tiles k a s < t
-  most : t ≤ bands a
-  ends : (t ≡ bands a) ⊎ (counted_top k a s ≤ℤ band_end a (t - 1))
+pub record IsPast (k : Part) (a : Axis) (s : spans.Axis) (t : ℕ) : Type 0 where
+  pub needed : (needed_tiles k a s).to ≤ t
+  pub some : first_tiles k a s < t
+  pub most : t ≤ bands a
+  pub ends : (t ≡ bands a) ⊎ (counted_top k a s ≤ℤ band_end a (t - 1))
 
-is_past : (k : Part) (a : Axis) (s : spans.Axis) → 0 < bands a → IsPast k a s (past_tiles k a s)
+pub is_past : (k : Part) (a : Axis) (s : spans.Axis) → 0 < bands a → IsPast k a s (past_tiles k a s)
 is_past k a s some = elim (first_passes q (bands a)) [
   | inl all ↦ (let e : past_tiles k a s ≡ bands a = whole (first_of q (bands a)) (bands a) all in rw e (record {
     needed = past_within (needs_row k a s) (bands a);

@@ -10,10 +10,11 @@ use Rattle.fill_area.specs.declared.axis.Axis as spans
 use Rattle.fill_raster.proofs.Floors.{product_le}
 use Rattle.fill_text.specs.Keys.{all_number_keys}
 use Rattle.fill_text.specs.Rules.{raster_of, value_of, whole_windows, windows_of, windows_with}
+use Rattle.fill_text.specs.Chips.{value_with_rows}
 use Rattle.fill_text.specs.declared.keys.NumberKey.TheVariants.{FrameY1, FrameY2}
 use Rattle.fill_parts.specs.Laws.{RulesAloneMakeASmallerChip}
 use Rattle.fill_parts.specs.Smaller.{bands_alone, spans_alone}
-use Rattle.fill_parts.specs.SmallerRules.{rules_alone, value_alone}
+use Rattle.fill_parts.specs.SmallerRules.{rows_alone, rules_alone}
 use Rattle.fill_parts.proofs.BandsAlone.{IsFramed, framed_alone}
 use Rattle.fill_parts.proofs.RowsAlone.{further}
 
@@ -46,7 +47,7 @@ smaller_chip values rows windows is tiles grid cover = record {
 }
   where
     new : List ℤ
-    new = map (value_alone values rows windows) all_number_keys
+    new = map (value_with_rows values (rows_alone values rows windows)) all_number_keys
 
     columns : (i : Bool) → (windows_with new i).across ≡ (windows_with values.numbers i).across
     columns true = refl

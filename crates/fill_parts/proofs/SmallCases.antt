@@ -4,6 +4,9 @@ use Rattle.std.proofs.Common.{◌≡◌, refl, ℕ, pos, negsuc}
 use Rattle.fill_area.specs.declared.axis.Axis as spans
 use Rattle.fill_raster.specs.Axes.{bands, first, past}
 use Rattle.fill_raster.specs.declared.axis.Axis.{Axis}
+use Rattle.fill_job.specs.Searches.{some_below}
+use Rattle.fill_parts.specs.Cuts.{Part}
+use Rattle.fill_parts.specs.PartRows.{chip_tiles, first_of, looked_at_windows, needed_tiles, own_rows, past_of}
 use Rattle.fill_parts.specs.Smaller.{Rows, bands_alone, spans_alone}
 
 abbrev places : Axis
@@ -47,3 +50,28 @@ all_high = refl
 -- the windows from the fourth on up to the sixth
 some_windows : spans_alone windows (rows 3 6) ≡ record { first = pos 20; length = pos 20; step = pos 10; count = 3 }
 some_windows = refl
+
+-- the third of five parts, with ten windows side by side from 0 to 100: its own are the fifth and the sixth, from 40 to 60, and its own
+-- band is the second, with boxes from 32 to 58
+abbrev tens : spans.Axis
+tens = record { first = pos 0; length = pos 10; step = pos 10; count = 10 }
+
+abbrev third : Part
+third = record { number = 2; count = 5 }
+
+own_windows : own_rows third 10 ≡ rows 4 6
+own_windows = refl
+
+-- no other band is level with its windows; that one is level with the fourth too
+needed : needed_tiles third places tens ≡ rows 1 2
+unfolding first past first_of past_of some_below
+needed = refl
+
+looked_at : looked_at_windows third places tens ≡ rows 3 6
+unfolding first past first_of past_of some_below
+looked_at = refl
+
+-- from 30 to 60 may count, so it takes the first and the third band too
+tiles : chip_tiles third places tens ≡ rows 0 3
+unfolding first past first_of past_of some_below
+tiles = refl

@@ -1,5 +1,5 @@
 -- What holds of every cut into parts.
-use Rattle.std.specs.Prelude.{◌≡◌, ℕ, ◌+◌, ◌-◌, ◌*◌, ◌<◌, ◌≤◌, ℤ, Bool, true, false, ◌&&◌, List, [], ◌++◌, length, map}
+use Rattle.std.specs.Prelude.{◌≡◌, ℕ, ◌+◌, ◌-◌, ◌*◌, ◌<◌, ◌≤◌, ℤ, Bool, true, false, ◌&&◌, List, [], ◌++◌, length, map, None}
 use Rattle.std.specs.List.{filter, flat_map, range_with_len}
 use Rattle.fill_base.specs.Squares.{squares}
 use Rattle.fill_base.specs.Coordinates.{IsInRange}
@@ -8,6 +8,8 @@ use Rattle.fill_area.specs.Density.{window_area}
 use Rattle.fill_area.specs.Grid.{Grid}
 use Rattle.fill_raster.specs.Axes.{band_of, bands}
 use Rattle.fill_raster.specs.Lattice.{HasFewPlaces, tile_of, tiles}
+use Rattle.fill_text.specs.Chips.{AreChipNumbers, chip_faults, judged}
+use Rattle.fill_text.specs.Refusals.{first_some}
 use Rattle.fill_text.specs.Rules.{Values, limits_of, windows_of}
 use Rattle.fill_text.specs.Script.{change_of}
 use Rattle.fill_text.specs.declared.limits.Limits.{Limits}
@@ -26,7 +28,7 @@ use Rattle.fill_report.specs.RulesReport.{metal_report}
 use Rattle.fill_report.specs.declared.line.Measures.{Measures}
 use Rattle.fill_parts.specs.Cuts.{Part, IsPart, cut, has_row}
 use Rattle.fill_parts.specs.Needs.{IsEnough, HoldsItsWindows, AgreeInside, LayersAgree, in_coordinates, is_inside, layers_met, met_with, needed_sides, window_sides, needs_tile, needs_windows, has_tile, has_windows, is_level}
-use Rattle.fill_parts.specs.PartChip.{IsChipOf, chip_plan, looks_at, part_windows}
+use Rattle.fill_parts.specs.PartChip.{IsChipOf, by_size, chip_plan, looks_at, part_tiles, part_windows}
 use Rattle.fill_parts.specs.Smaller.{AreAxes, IsPlanOfAnySize, Rows, AreSome, IsHeldBy, IsSmaller}
 use Rattle.fill_parts.specs.SmallerRules.{Cover, rules_alone}
 use Rattle.fill_parts.specs.PartReport.{part_lines, rows_lines, part_check, part_report}
@@ -243,3 +245,8 @@ PartLinesAreOfItsChip = (values : Values) (k : Part) (layers : Layers) → let p
 abbrev pub ChipHasAPlan : Type 0
 ChipHasAPlan = (values : Values) (k : Part) → let plan = plan_of values in let chip = chip_plan values k in IsPlanOfAnySize plan → 0 < bands plan.raster.up → some_below (looks_at plan k) plan.windows.up.count ≡ true
     → HasFewPlaces chip.raster → chip.windows.across.count * chip.windows.up.count ≤ 1048576 → IsPlan chip
+
+-- Of a chip whose values have no fault, a part's rules are refused for how many windows or places they have, and for nothing else.
+abbrev pub PartIsRefusedBySize : Type 0
+PartIsRefusedBySize = (values : Values) (k : Part) → let plan = plan_of values in first_some (chip_faults values) ≡ None → AreChipNumbers values → some_below (looks_at plan k) plan.windows.up.count ≡ true
+    → judged (rules_alone values (part_tiles plan k) (part_windows plan k)) ≡ by_size (rules_alone values (part_tiles plan k) (part_windows plan k))

@@ -1,5 +1,5 @@
 -- The rows of tiles and of windows that a part of a chip looks at. Places and windows stand along one axis each, upwards.
-use Rattle.std.specs.Prelude.{ℕ, ℤ, zero, suc, ◌+◌, ◌-◌, Bool, ◌&&◌, ◌||◌, int_le, int_lt, nat_le, nat_lt, max, min, if◌then◌else◌}
+use Rattle.std.specs.Prelude.{ℕ, ℤ, zero, suc, ◌+◌, ◌-◌, Bool, ◌&&◌, ◌||◌, int_le, int_lt, nat_le, nat_lt, min, if◌then◌else◌}
 use Rattle.std.specs.Int.{int_max, int_min}
 use Rattle.fill_area.specs.Axes.{axis_begin, axis_end}
 use Rattle.fill_area.specs.declared.axis.Axis as spans

@@ -1,5 +1,5 @@
 -- Some rows of a chip as a chip of their own: the same rules, but with a frame and with windows that reach no further.
-use Rattle.std.specs.Prelude.{true, ◌≡◌, ℕ, ◌+◌, ◌-◌, ◌<◌, ◌≤◌, ◌==◌, if◌then◌else◌}
+use Rattle.std.specs.Prelude.{true, ◌≡◌, ◌⊎◌, ℕ, ◌+◌, ◌-◌, ◌<◌, ◌≤◌, ◌==◌, if◌then◌else◌}
 use Rattle.fill_base.specs.Limits.{IsSpacing}
 use Rattle.fill_area.specs.Axes as areas
 use Rattle.fill_area.specs.Axes.{axis_begin}
@@ -38,6 +38,10 @@ pub record Rows : Type 0 where
 pub record AreSome (rows : Rows) (count : ℕ) : Type 0 where
   pub some : rows.from < rows.to
   pub within : rows.to ≤ count
+
+-- some of them, or none of none
+abbrev pub AreRowsOf : Rows → ℕ → Type 0
+AreRowsOf rows count = AreSome rows count ⊎ ((rows.from ≡ 0) × (rows.to ≡ 0) × (count ≡ 0))
 
 -- The places of some bands of an axis alone: its frame begins where the first of these bands does and ends where the last one does,
 -- but goes on to the frame's own edge where no band lies beyond.

@@ -1,11 +1,11 @@
 //! The rows of tiles and of windows that a part of a chip has as a smaller chip, found by arithmetic.
-ghost use Rattle.std.specs.Prelude.{◌≡◌, ◌↔◌, ◌<◌, ◌≤◌, ◌+ℤ◌, ◌⊎◌, ℕ, ℤ, Bool, false, true, None, IfSome, ◌&&◌, ◌+◌, ◌-◌, int_le, min, nat_le};
+ghost use Rattle.std.specs.Prelude.{◌≡◌, ◌↔◌, ◌<◌, ◌≤◌, ◌⊎◌, ℕ, Bool, false, true, None, IfSome, ◌&&◌, ◌+◌, ◌-◌, int_le, min, nat_le};
 ghost use Rattle.fill_base.specs.Coordinates.{IsCoordinate};
 ghost use Rattle.fill_area.specs.Axes as areas;
 ghost use Rattle.fill_area.specs.Axes.{IsIndex};
 ghost use Rattle.fill_raster.specs.Axes.{IsAxis, band_begin, band_end, bands};
 ghost use Rattle.fill_job.specs.Searches.{some_below};
-ghost use Rattle.fill_parts.specs.PartRows.{chip_tiles, counted_bottom, counted_top, first_of, first_tiles, is_tile_row_level, is_window_row_level, looked_at_windows, looks_at_row, needed_tiles, past_of, past_tiles};
+ghost use Rattle.fill_parts.specs.PartRows.{chip_tiles, first_of, is_tile_row_level, is_window_row_level, looked_at_windows, looks_at_row, needed_tiles, past_of};
 
 use crate::part::Part;
 use fill_area::Axis as Spans;

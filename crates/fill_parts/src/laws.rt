@@ -1,5 +1,5 @@
 //! What holds of every cut into parts, whatever the code does. Each function's contract is the law.
-ghost use Rattle.fill_parts.specs.Laws.{AreasAgree, CheckLinesAgree, ChipHasAPlan, ClippedAgrees, EachRowIsInOnePart, EditsAgree, EditsAreChanges, EditsInsideSuffice, EditsOpenAnew, EditsOutsideDoNothing, FillOfNeededTiles, PartsMakeTheCheck, PartsTellTheReport, WindowSidesAreEnough, FillAfterEdits, FillsAgree, LinesAgree, LowWindowsAgree, NeededSidesAreEnough, PartFillIsOfItsChip, PartFillIsWanted, PartLinesAreOfItsChip, PartIsASmallerChip, PartOfNoWindowHasNothing, PartRunIsThePart, PartsAreApart, PartsFollow, PartsMakeTheFill, PartsMakeTheReport, RowsFollow, RulesAloneMakeASmallerChip, SmallerChipMeasuresTheSame, SmallerChipWantsTheSame, WantedAgree};
+ghost use Rattle.fill_parts.specs.Laws.{AreasAgree, CheckLinesAgree, ChipHasAPlan, PartIsRefusedBySize, ClippedAgrees, EachRowIsInOnePart, EditsAgree, EditsAreChanges, EditsInsideSuffice, EditsOpenAnew, EditsOutsideDoNothing, FillOfNeededTiles, PartsMakeTheCheck, PartsTellTheReport, WindowSidesAreEnough, FillAfterEdits, FillsAgree, LinesAgree, LowWindowsAgree, NeededSidesAreEnough, PartFillIsOfItsChip, PartFillIsWanted, PartLinesAreOfItsChip, PartIsASmallerChip, PartOfNoWindowHasNothing, PartRunIsThePart, PartsAreApart, PartsFollow, PartsMakeTheFill, PartsMakeTheReport, RowsFollow, RulesAloneMakeASmallerChip, SmallerChipMeasuresTheSame, SmallerChipWantsTheSame, WantedAgree};
 
 /// Each row is in exactly one part.
 pub fn each_row_is_in_one_part()
@@ -169,4 +169,9 @@ pub fn part_lines_are_of_its_chip()
 /// The plan of a part's chip can be run if the chip has few enough places and windows, however many the whole one has.
 pub fn chip_has_a_plan()
     ensures { ChipHasAPlan }
+{}
+
+/// A part's rules are refused for how many windows or places they have, and for nothing else.
+pub fn part_is_refused_by_size()
+    ensures { PartIsRefusedBySize }
 {}

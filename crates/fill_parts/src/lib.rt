@@ -9,6 +9,7 @@ mod hull;
 pub mod laws;
 mod needs;
 mod part;
+mod part_rules;
 
 pub use chip::PartRows;
 pub use hull::Hull;

@@ -1,19 +1,19 @@
 -- The bands of one axis up to a line.
-use Rattle.std.proofs.Common.{◌≡◌, refl, ap, sym, ◌∙◌, ℕ, suc, ◌+◌, ◌*◌, ◌/◌, ◌≤◌, ◌<◌, inl, inr, ℤ, pos, negsuc, ◌+ℤ◌, ◌-ℤ◌, ◌≤ℤ◌, ◌<ℤ◌, ◌↔◌, arith, w32, w64, Fits, FitsSigned}
+use Rattle.std.proofs.Common.{◌≡◌, refl, ◌∙◌, ℕ, suc, ◌+◌, ◌*◌, ◌/◌, ◌≤◌, ◌<◌, inl, inr, ℤ, pos, negsuc, ◌+ℤ◌, ◌-ℤ◌, ◌≤ℤ◌, ◌<ℤ◌, ◌↔◌, arith, w32, w64, Fits, FitsSigned}
 use Rattle.std.specs.Int.{div_ceil, int_max, int_min}
 use Rattle.std.proofs.lemmas.Bool.{cases_lt}
 use Rattle.std.proofs.lemmas.Grind.{div_ceil_times}
 use Rattle.std.proofs.lemmas.Int.{ints, clamps}
-use Rattle.std.proofs.Math.Nat.{div-le_self, div-mul-le_self, le-div_iff_mul-le, mul-le-mul}
-use Rattle.fill_base.proofs.Distances.{distance, distance_is}
+use Rattle.std.proofs.Math.Nat.{div-le_self, le-div_iff_mul-le, mul-le-mul}
+use Rattle.fill_base.proofs.Distances.{distance}
 use Rattle.fill_base.specs.Counts.{span_len}
 use Rattle.fill_base.specs.Limits.{IsLength}
 use Rattle.fill_base.proofs.Signed.{read, read_is}
-use Rattle.fill_raster.specs.Axes.{box_begin, first, past, extent, bands, band_first, band_past, band_begin, band_end, IsAxis}
+use Rattle.fill_raster.specs.Axes.{box_begin, first, past, extent, bands, band_first, band_past, IsAxis}
 use Rattle.fill_raster.specs.Level.{AreBegun, AreEnded}
 use Rattle.fill_raster.specs.declared.axis.Axis.{Axis}
 use Rattle.fill_raster.proofs.Bands.{bands_few, below_bands, starts_below}
-use Rattle.fill_raster.proofs.Ranges.{extent_bounded, first_past}
+use Rattle.fill_raster.proofs.Ranges.{extent_bounded}
 use Rattle.fill_raster.proofs.Reading.{axis_read, first_read, past_read}
 
 same : (n : ℕ) → n ≤ n

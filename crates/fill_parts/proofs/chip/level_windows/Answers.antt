@@ -1,5 +1,5 @@
 use Rattle.std.proofs.Common.{◌-◌}
-use Rattle.fill_parts.proofs.Chipping.{begin_coordinate, coordinate_kept, coordinate_read, end_coordinate, first_row_below, last_row_below, no_window_row, window_rows}
+use Rattle.fill_parts.proofs.Chipping.{begin_coordinate, coordinate_kept, coordinate_read, end_coordinate, first_row_below, last_row_below, window_rows}
 use Rattle.fill_parts.proofs.chip.level_windows.Goals as goal
 
 pub touching-requires-clause-low : goal.touching-requires-clause-low

@@ -1,4 +1,4 @@
-use Rattle.std.proofs.Common.{refl, sym, ◌∙◌}
+use Rattle.std.proofs.Common.{refl}
 use Rattle.fill_parts.proofs.Chipping.{looks_at_none, looks_at_some}
 use Rattle.fill_parts.proofs.part.Part.chip_rows.Goals as goal
 
