@@ -2,7 +2,7 @@
 
 use fill_base::Rect;
 use fill_parts::{Hull, Part};
-use fill_text::{Rules, read_rules};
+use fill_text::{ChipRules, Rules, read_chip_rules, read_rules};
 use std::alloc::Global;
 use std::test::Fail;
 
@@ -105,5 +105,38 @@ fn a_part_without_rows_needs_nothing(rt: HostRuntime) -> Result<(), Fail> {
     let rules = rules(rt.alloc())?;
     assert!(rt; part(1, 8)?.needed(&rules).rect().is_none());
     assert!(rt; Hull::none().rect().is_none());
+    Ok(())
+}
+
+/// The rules of a part of this chip, which has some.
+fn rules_of(alloc: Global, chip: &ChipRules, part: Part) -> Result<Rules, Fail> {
+    Ok(part.rules(alloc, chip)?.ok_or("a part without windows")?)
+}
+
+/// The first quarter has the lowest row of windows; the lowest row of tiles is level with it, and with the next row of windows, which
+/// the second row of tiles covers. The last quarter needs the two upper rows of tiles, and takes the lowest too.
+#[test]
+fn a_part_has_the_rules_of_a_smaller_chip(rt: HostRuntime) -> Result<(), Fail> {
+    let alloc = rt.alloc();
+    let chip = read_chip_rules(alloc, RULES.as_bytes())?;
+    let first = rules_of(alloc, &chip, part(1, 4)?)?;
+    assert!(rt; first.frame() == Rect::new(0, 0, 100, 77)?);
+    assert!(rt; first.win_y() == 0 && first.win_ny() == 2);
+    let last = rules_of(alloc, &chip, part(4, 4)?)?;
+    assert!(rt; last.frame() == Rect::new(0, 0, 100, 100)?);
+    assert!(rt; last.win_y() == 25 && last.win_ny() == 3);
+    assert!(rt; rules_of(alloc, &chip, part(1, 1)?)? == rules(alloc)?);
+    assert!(rt; part(1, 8)?.rules(alloc, &chip)?.is_none());
+    Ok(())
+}
+
+/// Rows of tiles from 3 to 37, from 43 to 77 and from 83 to 97: one begins below 43, and two below 44.
+#[test]
+fn rows_of_tiles_up_to_a_line(rt: HostRuntime) -> Result<(), Fail> {
+    let places = read_chip_rules(rt.alloc(), RULES.as_bytes())?.place_rows();
+    assert!(rt; places.bands_begun(3) == 0 && places.bands_begun(43) == 1);
+    assert!(rt; places.bands_begun(44) == 2 && places.bands_begun(100) == 3);
+    assert!(rt; places.bands_ended(36) == 0 && places.bands_ended(37) == 1);
+    assert!(rt; places.bands_ended(96) == 2 && places.bands_ended(97) == 3);
     Ok(())
 }

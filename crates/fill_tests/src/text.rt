@@ -3,7 +3,8 @@ use fill_area::Windows;
 use fill_base::{Layer, Point, Rect};
 use fill_raster::Raster;
 use fill_text::{
-    Edit, Key, NumberKey, OptionalKey, RuleError, ScriptError, TextKey, read_rules, read_script,
+    ChipRows, Edit, Key, NumberKey, OptionalKey, RuleError, ScriptError, TextKey, read_chip_rules,
+    read_rules, read_script,
 };
 use std::alloc::Global;
 use std::test::Fail;
@@ -292,5 +293,78 @@ fn edits_of_one_kind_and_one_rectangle_are_equal(rt: HostRuntime) -> Result<(), 
     assert_eq!(rt; Edit::Keep(rect), Edit::Keep(rect));
     assert_ne!(rt; Edit::Keep(rect), Edit::Add(rect));
     assert_ne!(rt; Edit::Keep(rect), Edit::Keep(wider));
+    Ok(())
+}
+
+/// Three columns of 2^20 rows of windows are too many for rules, and not for those of a chip; two rows of them are none too many.
+#[test]
+fn a_chip_has_as_many_windows_as_it_likes(rt: HostRuntime) -> Result<(), Fail> {
+    let alloc = rt.alloc();
+    let text = rules_with(alloc, 20, "win_ny,1048576")?;
+    assert!(rt; read_rules(alloc, &text).err() == Some(RuleError::BadWindows));
+    let chip = read_chip_rules(alloc, &text)?;
+    assert!(rt; chip.window_rows().count == 1_048_576);
+    let rows = ChipRows {
+        bottom: 0,
+        top: 60,
+        first_window: 25,
+        windows: 2,
+    };
+    let rules = chip.with_rows(alloc, rows)?;
+    assert!(rt; rules.frame() == Rect::new(0, 0, 100, 60)?);
+    assert!(rt; rules.win_y() == 25 && rules.win_ny() == 2);
+    let many = ChipRows {
+        windows: 400_000,
+        ..rows
+    };
+    assert!(rt; chip.with_rows(alloc, many).err() == Some(RuleError::BadWindows));
+    Ok(())
+}
+
+/// Ten columns of 10^8 rows of places are too many for rules.
+#[test]
+fn a_chip_has_as_many_places_as_it_likes(rt: HostRuntime) -> Result<(), Fail> {
+    let alloc = rt.alloc();
+    let text = rules_with(alloc, 4, "frame_y2,1000000000")?;
+    assert!(rt; read_rules(alloc, &text).err() == Some(RuleError::TooManyPlaces));
+    let chip = read_chip_rules(alloc, &text)?;
+    assert!(rt; chip.place_rows().high == 1_000_000_000);
+    let rows = ChipRows {
+        bottom: 500_000,
+        top: 500_100,
+        first_window: 0,
+        windows: 3,
+    };
+    assert!(rt; chip.with_rows(alloc, rows)?.frame_y1() == 500_000);
+    let tall = ChipRows {
+        top: 500_000_000,
+        ..rows
+    };
+    assert!(rt; chip.with_rows(alloc, tall).err() == Some(RuleError::TooManyPlaces));
+    let flat = ChipRows {
+        top: 500_000,
+        ..rows
+    };
+    assert!(rt; chip.with_rows(alloc, flat).err() == Some(RuleError::BadRect));
+    Ok(())
+}
+
+/// A chip's other faults are those of rules, also where it has too many windows.
+#[test]
+fn a_chip_is_refused_as_rules_are(rt: HostRuntime) -> Result<(), Fail> {
+    let alloc = rt.alloc();
+    for (at, record) in [
+        (2, "frame_y1,100"),
+        (7, "step_x,5"),
+        (22, "max,299999"),
+        (18, "win_y,1073741800"),
+    ] {
+        let text = rules_with(alloc, at, record)?;
+        assert!(rt;
+            read_chip_rules(alloc, &text).err() == read_rules(alloc, &text).err(),
+            "{record}"
+        );
+        assert!(rt; read_chip_rules(alloc, &text).is_err(), "{record}");
+    }
     Ok(())
 }
