@@ -7,3 +7,4 @@ pub mod Finding
 pub mod Folds
 pub mod Bounds
 pub mod Longest
+pub mod SomeRows

@@ -68,3 +68,15 @@ HeightsFollow = (filled : PlaceSet) (r : Lattice) (j : ℤ) → j <ℤ past r.up
 abbrev pub LevelsFollow : Type 0
 LevelsFollow = (filled : PlaceSet) (r : Lattice) (j : ℤ) → first r.up ≤ℤ j
     → map (λ p. counted p (next_level (found (levels_at filled r (j -ℤ pos 1)) p))) (map as_piece (row_pieces filled r j)) ≡ levels_at filled r j
+
+-- a second raster has some rows of the first one, and all filled places stand in these
+pub record AreItsRows (filled : PlaceSet) (whole some : Lattice) : Type 0 where
+  pub across : some.across ≡ whole.across
+  pub from : first whole.up ≤ℤ first some.up
+  pub to : past some.up ≤ℤ past whole.up
+  pub below : (i j : ℤ) → j <ℤ first some.up → filled i j ≡ false
+  pub above : (i j : ℤ) → past some.up ≤ℤ j → filled i j ≡ false
+
+-- the stacks are then the same on both
+abbrev pub StacksOfSomeRows : Type 0
+StacksOfSomeRows = (filled : PlaceSet) (whole some : Lattice) → AreItsRows filled whole some → stacks filled some ≡ stacks filled whole

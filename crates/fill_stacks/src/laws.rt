@@ -1,5 +1,5 @@
 //! What holds of every set of places in stacks, whatever the code does. Each function's contract is the law.
-ghost use Rattle.fill_stacks.specs.Laws.{HeightsFollow, LevelsFollow, PiecesHoldEachOnce, RunsAreLongest, StacksAreLongest, StacksAreOnTheRaster, StacksHoldEachOnce};
+ghost use Rattle.fill_stacks.specs.Laws.{HeightsFollow, LevelsFollow, PiecesHoldEachOnce, RunsAreLongest, StacksAreLongest, StacksAreOnTheRaster, StacksHoldEachOnce, StacksOfSomeRows};
 
 /// The runs that a row is written in are as long as can be: between two of them a column is free.
 pub fn runs_are_longest()
@@ -34,4 +34,9 @@ pub fn heights_follow()
 /// The levels of a row's pieces follow from those of the row below.
 pub fn levels_follow()
     ensures { LevelsFollow }
+{}
+
+/// The stacks of places in some rows of a raster are the same on the raster of these rows alone.
+pub fn stacks_of_some_rows()
+    ensures { StacksOfSomeRows }
 {}
