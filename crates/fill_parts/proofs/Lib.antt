@@ -26,3 +26,4 @@ pub mod Chipping
 pub mod PartOfChip
 pub mod ChipPlan
 pub mod PartRules
+pub mod ChipStanding

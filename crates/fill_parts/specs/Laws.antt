@@ -1,12 +1,12 @@
 -- What holds of every cut into parts.
-use Rattle.std.specs.Prelude.{◌≡◌, ℕ, ◌+◌, ◌-◌, ◌*◌, ◌<◌, ◌≤◌, ℤ, Bool, true, false, ◌&&◌, List, [], ◌++◌, length, map, None}
+use Rattle.std.specs.Prelude.{◌≡◌, ℕ, ◌+◌, ◌-◌, ◌*◌, ◌<◌, ◌≤◌, ℤ, Bool, true, false, ◌&&◌, List, [], ◌++◌, length, map, None, ◌≤ℤ◌, ◌<ℤ◌}
 use Rattle.std.specs.List.{filter, flat_map, range_with_len}
 use Rattle.fill_base.specs.Squares.{squares}
 use Rattle.fill_base.specs.Coordinates.{IsInRange}
 use Rattle.fill_base.specs.Sides.{Sides}
 use Rattle.fill_area.specs.Density.{window_area}
 use Rattle.fill_area.specs.Grid.{Grid}
-use Rattle.fill_raster.specs.Axes.{band_of, bands}
+use Rattle.fill_raster.specs.Axes.{band_of, bands, first, past}
 use Rattle.fill_raster.specs.Lattice.{HasFewPlaces, tile_of, tiles}
 use Rattle.fill_text.specs.Chips.{AreChipNumbers, chip_faults, judged}
 use Rattle.fill_text.specs.Refusals.{first_some}
@@ -250,3 +250,12 @@ ChipHasAPlan = (values : Values) (k : Part) → let plan = plan_of values in let
 abbrev pub PartIsRefusedBySize : Type 0
 PartIsRefusedBySize = (values : Values) (k : Part) → let plan = plan_of values in first_some (chip_faults values) ≡ None → AreChipNumbers values → some_below (looks_at plan k) plan.windows.up.count ≡ true
     → judged (rules_alone values (part_tiles plan k) (part_windows plan k)) ≡ by_size (rules_alone values (part_tiles plan k) (part_windows plan k))
+
+-- The rows of places of a part's chip are rows of the whole one, and the part's fill stands in them.
+pub record StandsInItsChip (values : Values) (k : Part) : Type 0 where
+  pub from : first (plan_of values).raster.up ≤ℤ first (chip_plan values k).raster.up
+  pub to : past (chip_plan values k).raster.up ≤ℤ past (plan_of values).raster.up
+  pub fill : (layers : Layers) (i j : ℤ) → part_fill (plan_of values) layers k i j ≡ true → (first (chip_plan values k).raster.up ≤ℤ j) × (j <ℤ past (chip_plan values k).raster.up)
+
+abbrev pub PartStandsInItsChip : Type 0
+PartStandsInItsChip = (values : Values) (k : Part) → let plan = plan_of values in AreAxes plan → 0 < bands plan.raster.up → some_below (looks_at plan k) plan.windows.up.count ≡ true → StandsInItsChip values k

@@ -1,5 +1,10 @@
 //! What holds of every cut into parts, whatever the code does. Each function's contract is the law.
-ghost use Rattle.fill_parts.specs.Laws.{AreasAgree, CheckLinesAgree, ChipHasAPlan, PartIsRefusedBySize, ClippedAgrees, EachRowIsInOnePart, EditsAgree, EditsAreChanges, EditsInsideSuffice, EditsOpenAnew, EditsOutsideDoNothing, FillOfNeededTiles, PartsMakeTheCheck, PartsTellTheReport, WindowSidesAreEnough, FillAfterEdits, FillsAgree, LinesAgree, LowWindowsAgree, NeededSidesAreEnough, PartFillIsOfItsChip, PartFillIsWanted, PartLinesAreOfItsChip, PartIsASmallerChip, PartOfNoWindowHasNothing, PartRunIsThePart, PartsAreApart, PartsFollow, PartsMakeTheFill, PartsMakeTheReport, RowsFollow, RulesAloneMakeASmallerChip, SmallerChipMeasuresTheSame, SmallerChipWantsTheSame, WantedAgree};
+ghost use Rattle.fill_text.specs.ValuesOfChips.{chip_values};
+ghost use Rattle.fill_job.specs.Plans.{plan_of};
+ghost use Rattle.fill_parts.specs.Laws.{AreasAgree, CheckLinesAgree, ChipHasAPlan, PartIsRefusedBySize, PartStandsInItsChip, ClippedAgrees, EachRowIsInOnePart, EditsAgree, EditsAreChanges, EditsInsideSuffice, EditsOpenAnew, EditsOutsideDoNothing, FillOfNeededTiles, PartsMakeTheCheck, PartsTellTheReport, WindowSidesAreEnough, FillAfterEdits, FillsAgree, LinesAgree, LowWindowsAgree, NeededSidesAreEnough, PartFillIsOfItsChip, PartFillIsWanted, PartLinesAreOfItsChip, PartIsASmallerChip, PartOfNoWindowHasNothing, PartRunIsThePart, PartsAreApart, PartsFollow, PartsMakeTheFill, PartsMakeTheReport, RowsFollow, RulesAloneMakeASmallerChip, SmallerChipMeasuresTheSame, SmallerChipWantsTheSame, WantedAgree};
+ghost use Rattle.fill_parts.specs.Smaller.{IsPlanOfAnySize};
+
+use fill_text::ChipRules;
 
 /// Each row is in exactly one part.
 pub fn each_row_is_in_one_part()
@@ -175,3 +180,15 @@ pub fn chip_has_a_plan()
 pub fn part_is_refused_by_size()
     ensures { PartIsRefusedBySize }
 {}
+
+/// A part's fill stands in the rows of places of its chip, which are rows of the whole one.
+pub fn part_stands_in_its_chip()
+    ensures { PartStandsInItsChip }
+{}
+
+/// The rules of a chip make a plan, however many places and windows it has.
+pub fn chip_rules_make_a_plan(chip: &ChipRules)
+    ensures { IsPlanOfAnySize (plan_of (chip_values chip.now)) }
+{
+    chip.keeps_faultless();
+}

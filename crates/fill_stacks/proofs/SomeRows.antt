@@ -1,18 +1,17 @@
 -- The stacks of places that stand in some rows of a raster alone.
-use Rattle.std.proofs.Common.{◌≡◌, refl, ap, sym, subst, ◌∙◌, ℕ, zero, suc, ◌+◌, ◌-◌, ◌≤◌, ◌<◌, inl, inr, ℤ, pos, ◌+ℤ◌, ◌-ℤ◌, ◌≤ℤ◌, ◌<ℤ◌, arith, Bool, true, false, List, [], ◌∷◌, ◌++◌, map}
+use Rattle.std.proofs.Common.{◌≡◌, refl, ap, sym, subst, ◌∙◌, ℕ, zero, suc, ◌+◌, ◌≤◌, ◌<◌, ℤ, pos, ◌+ℤ◌, ◌-ℤ◌, ◌≤ℤ◌, ◌<ℤ◌, arith, Bool, true, false, List, [], ◌∷◌, map}
 use Rattle.std.specs.Prelude.{filter, if◌then◌else◌}
 use Rattle.std.specs.List.{flat_map}
-use Rattle.std.proofs.lemmas.Int.{ints, clamps, by_lt_z}
+use Rattle.std.proofs.lemmas.Int.{ints, clamps}
 use Rattle.fill_base.specs.Counts.{span_len}
 use Rattle.fill_raster.specs.Axes.{extent, first, past}
 use Rattle.fill_raster.specs.Lattice.{Lattice}
 use Rattle.fill_raster.specs.declared.axis.Axis.{Axis}
 use Rattle.fill_raster.proofs.Ranges.{first_past}
-use Rattle.fill_stacks.specs.Laws.{AreItsRows, StacksOfSomeRows}
+use Rattle.fill_stacks.specs.Laws.{StacksOfSomeRows}
 use Rattle.fill_stacks.specs.Places.{PlaceSet, places_along, row_pieces}
 use Rattle.fill_stacks.specs.Runs.{Run, numbers_from}
 use Rattle.fill_stacks.specs.Stacks.{begins, depth, has_piece, height, row_stacks, rows_down, rows_up, stack_at, stacks}
-use Rattle.fill_stacks.specs.declared.pieces.Stack.{Stack}
 
 -- ---- lists
 
@@ -157,8 +156,8 @@ all_same filled c a b stand =
     (λ j low high. no_stacks filled (with_up c a) j (λ i. stand.below i j (before (first a) (first b) j stand.from high)))
     ∙ (ap (λ z. flat_map (row_stacks filled (with_up c a)) (numbers_from z rest)) (begun (first a) (first b) stand.from)
     ∙ same_numbers (row_stacks filled (with_up c a)) (row_stacks filled (with_up c b)) (first b) (extent b) (span_len (past b) (past a)) rest refl
-      (λ j low high. row_same filled c a b j stand low (within (first b) (past b) j (first_past b) high))
-      (λ j low high. no_stacks filled (with_up c a) j (λ i. stand.above i j (behind (first b) (past b) j (first_past b) low))))
+    (λ j low high. row_same filled c a b j stand low (within (first b) (past b) j (first_past b) high))
+    (λ j low high. no_stacks filled (with_up c a) j (λ i. stand.above i j (behind (first b) (past b) j (first_past b) low))))
   where
     below : ℕ
     below = span_len (first a) (first b)

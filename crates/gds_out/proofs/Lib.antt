@@ -15,3 +15,4 @@ pub mod ReadBack
 pub mod Entries
 pub mod Grammatical
 pub mod Reread
+pub mod SomeRows

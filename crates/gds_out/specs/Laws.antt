@@ -6,9 +6,12 @@ use Rattle.std.specs.Ordering.{int_eq}
 use Rattle.fill_base.specs.declared.place.Point.{Point}
 use Rattle.fill_raster.specs.Axes.{box_begin}
 use Rattle.fill_raster.specs.Lattice.{Lattice, IsLattice, in_raster, box_squares}
+use Rattle.fill_text.specs.Chips.{with_rows}
 use Rattle.fill_text.specs.Rules.{Values, fill_layer, raster_of}
 use Rattle.fill_text.specs.ValuesOfRules.{values_of}
+use Rattle.fill_text.specs.declared.chip.ChipRows.{ChipRows}
 use Rattle.fill_text.specs.declared.rules.Rules.{Rules}
+use Rattle.fill_stacks.specs.Laws.{AreItsRows}
 use Rattle.fill_stacks.specs.Places.{PlaceSet, filled_places}
 use Rattle.fill_stacks.specs.Stacks.{stacks, stack_places}
 use Rattle.fill_stacks.specs.declared.pieces.Stack.{Stack}
@@ -69,3 +72,8 @@ abbrev pub BoxesAreThePlaces : Type 0
 BoxesAreThePlaces = (rules : Rules) (units dates : List ℕ) (filled : PlaceSet) (library : Contents) → length units ≡ 16 → length dates ≡ 24
     → Spells (fill_text units dates (values_of rules) filled) library
     → IsPermutation (boxes_of (values_of rules) library) (map (λ p. box_squares (raster_in rules) p.0 p.1) (filled_places filled (raster_in rules)))
+
+-- the text of places that stand in some rows alone is the same by the rules of these rows
+abbrev pub TextOfSomeRows : Type 0
+TextOfSomeRows = (values : Values) (rows : ChipRows) (units dates : List ℕ) (filled : PlaceSet) → AreItsRows filled (raster_of values.numbers) (raster_of (with_rows values rows).numbers)
+    → fill_text units dates (with_rows values rows) filled ≡ fill_text units dates values filled

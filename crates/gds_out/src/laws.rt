@@ -1,6 +1,6 @@
 //! What holds of every fill library, whatever the code does. Each function's contract is the law.
 
-ghost use Rattle.gds_out.specs.Laws.{BoxesAreThePlaces, EachPlaceStandsOnce, MovedBoxIsThePlaces, ReferencesStandAtTheirPlaces, StacksStandAtTheirPlaces, TextIsALibrary};
+ghost use Rattle.gds_out.specs.Laws.{BoxesAreThePlaces, EachPlaceStandsOnce, MovedBoxIsThePlaces, ReferencesStandAtTheirPlaces, StacksStandAtTheirPlaces, TextIsALibrary, TextOfSomeRows};
 
 /// The list of the filled places holds each place of the raster that is filled once, and no other place.
 pub fn each_place_stands_once()
@@ -33,4 +33,9 @@ pub fn boxes_are_the_places()
 /// The single references of an array over rows are moved to the lower left corners of its places' boxes.
 pub fn stacks_stand_at_their_places()
     ensures { StacksStandAtTheirPlaces }
+{}
+
+/// The text of places that stand in some rows alone is the same by the rules of these rows.
+pub fn text_of_some_rows()
+    ensures { TextOfSomeRows }
 {}
