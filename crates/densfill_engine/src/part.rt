@@ -56,7 +56,7 @@ fn part_lines(
 {
     let lists = one(alloc, rects)?;
     let rows = part.rows(rules.windows().rows());
-    let text = rows_report_of_rects(rt, alloc, lists, rules, rows)?;
+    let text = rows_report_of_rects(rt, alloc, lists, rules, rows, 0)?;
     let texts = one(alloc, text)?;
     Ok(texts)
 }

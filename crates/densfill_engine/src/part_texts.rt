@@ -63,6 +63,6 @@ pub fn part_texts_of<B: FillBook>(
     let places = own_places(alloc, book, part)?;
     let library = fill_text(alloc, units, dates, rules, &places)?;
     let rows = part.rows(rules.windows().rows());
-    let report = rows_report(alloc, book, rows)?;
+    let report = rows_report(alloc, book, rows, 0)?;
     Ok(texts::Filled { library, report })
 }

@@ -1,5 +1,5 @@
 -- The lines of a report, one after another.
-use Rattle.std.proofs.Common.{◌≡◌, ℕ, zero, suc, ◌+◌, ◌-◌, ◌*◌, ◌/◌, ◌%◌, ◌≤◌, ◌<◌, min, take, drop, ℤ, pos, ◌+ℤ◌, ◌≤ℤ◌, ◌<ℤ◌, List, ◌++◌, get_or, length, refl, arith, ap, ◌∙◌, sym, w64, FitsSigned, Some, Bool, false, true, ◌||◌}
+use Rattle.std.proofs.Common.{◌≡◌, ℕ, zero, suc, ◌+◌, ◌-◌, ◌*◌, ◌/◌, ◌%◌, ◌≤◌, ◌<◌, min, take, drop, ℤ, pos, ◌+ℤ◌, ◌≤ℤ◌, ◌<ℤ◌, List, [], ◌∷◌, ◌++◌, get_or, length, refl, arith, ap, ◌∙◌, sym, w64, FitsSigned, Some, Bool, false, true, ◌||◌}
 use Rattle.std.specs.Global.{Vec}
 use Rattle.std.specs.List.{flat_map, range_with_len, All}
 use Rattle.std.specs.Vec.{vec_items}
@@ -18,7 +18,7 @@ use Rattle.fill_area.specs.Density.{IsArea, window_area}
 use Rattle.fill_area.proofs.Measuring.{area_at, same_area, no_area}
 use Rattle.fill_text.specs.declared.limits.Limits.{Limits}
 use Rattle.fill_report.specs.declared.line.Measures.{Measures}
-use Rattle.fill_report.specs.Report.{AreDrawn, first_lines, lines_from, line_at, metal_alone, window_line, windows_text, measures_of, nothing}
+use Rattle.fill_report.specs.Report.{AreDrawn, first_lines, line_above, line_at, lines_above, lines_from, metal_alone, told_line, windows_text, measures_of, nothing}
 use Rattle.fill_report.proofs.Joining.{ranges_joined}
 use Rattle.fill_measure.specs.Sums.{areas_from}
 use Rattle.fill_report.specs.Writing.{Lines, written}
@@ -46,21 +46,21 @@ drawn_at : (g : Grid) (from : ℕ) (areas : List ℤ) (measures : ℕ → ℕ �
 drawn_at g from areas measures i lt areas_are drawn = ap metal_alone (area_read _ (areas_are i (pos 0) lt)) ∙ drawn i (pos 0) lt
 
 -- the lines so far, and behind them the next one
-pub next_line : (g : Grid) (limits : Limits) (measures : ℕ → ℕ → Measures) (m : Measures) (from n k : ℕ) (w new : Lines) → k ≡ from + n → m ≡ measures (k % g.across.count) (k / g.across.count)
-    → written w ≡ Some (lines_from g limits measures from n)
-    → ((front : List ℕ) → written w ≡ Some front → written new ≡ Some (front ++ window_line g limits m (k % g.across.count) (k / g.across.count)))
-    → written new ≡ Some (lines_from g limits measures from (n + 1))
-next_line g limits measures m from n k w new place is so_far put =
-    let before = lines_from g limits measures from n in
+pub next_line : (rows : ℕ) (g : Grid) (limits : Limits) (measures : ℕ → ℕ → Measures) (m : Measures) (from n k : ℕ) (w new : Lines) → k ≡ from + n → m ≡ measures (k % g.across.count) (k / g.across.count)
+    → written w ≡ Some (lines_above rows g limits measures from n)
+    → ((front : List ℕ) → written w ≡ Some front → written new ≡ Some (front ++ told_line g limits m (k % g.across.count) (k / g.across.count) (rows + k / g.across.count)))
+    → written new ≡ Some (lines_above rows g limits measures from (n + 1))
+next_line rows g limits measures m from n k w new place is so_far put =
+    let before = lines_above rows g limits measures from n in
     put before so_far
-    ∙ ap (λ (t : List ℕ). Some t) (ap (λ l. before ++ window_line g limits l (k % g.across.count) (k / g.across.count)) is
-    ∙ (ap (λ i. before ++ line_at g limits measures i) place ∙ sym (one_more (line_at g limits measures) from n)))
+    ∙ ap (λ (t : List ℕ). Some t) (ap (λ l. before ++ told_line g limits l (k % g.across.count) (k / g.across.count) (rows + k / g.across.count)) is
+    ∙ (ap (λ i. before ++ line_above rows g limits measures i) place ∙ sym (one_more (line_above rows g limits measures) from n)))
 
-pub lines_more : (g : Grid) (limits : Limits) (areas : List ℤ) (measures : ℕ → ℕ → Measures) (from i : ℕ) (w new : Lines) → i < length areas → All IsArea areas → AreDrawn g from areas measures
-    → written w ≡ Some (lines_from g limits measures from i)
-    → ((front : List ℕ) → written w ≡ Some front → written new ≡ Some (front ++ window_line g limits (record { drawn = read (get_or areas i (pos 0)); fill = pos 0; total = read (get_or areas i (pos 0)) }) ((from + i) % g.across.count) ((from + i) / g.across.count)))
-    → written new ≡ Some (lines_from g limits measures from (i + 1))
-lines_more g limits areas measures from i w new lt areas_are drawn so_far put = next_line g limits measures _ from i (from + i) w new refl (drawn_at g from areas measures i lt areas_are drawn) so_far put
+pub lines_more : (rows : ℕ) (g : Grid) (limits : Limits) (areas : List ℤ) (measures : ℕ → ℕ → Measures) (from i : ℕ) (w new : Lines) → i < length areas → All IsArea areas → AreDrawn g from areas measures
+    → written w ≡ Some (lines_above rows g limits measures from i)
+    → ((front : List ℕ) → written w ≡ Some front → written new ≡ Some (front ++ told_line g limits (record { drawn = read (get_or areas i (pos 0)); fill = pos 0; total = read (get_or areas i (pos 0)) }) ((from + i) % g.across.count) ((from + i) / g.across.count) (rows + (from + i) / g.across.count)))
+    → written new ≡ Some (lines_above rows g limits measures from (i + 1))
+lines_more rows g limits areas measures from i w new lt areas_are drawn so_far put = next_line rows g limits measures _ from i (from + i) w new refl (drawn_at g from areas measures i lt areas_are drawn) so_far put
 
 -- what a writer has written is the text
 pub text_is : (f : ℕ → List ℕ) (text so_far : List ℕ) (k n : ℕ) → n ≤ k → k ≤ n → text ≡ so_far → Some so_far ≡ Some (f k) → text ≡ f n
@@ -111,9 +111,20 @@ sums_drawn p g areas from n grid is i d lt =
     alone : (t e f u : ℤ) → t ≡ e → pos 0 ≡ f → e ≡ u → let m : Measures = record { drawn = e; fill = f; total = u } in metal_alone t ≡ m
     alone t e f u x y z = let w = x ∙ z in cc
 
+-- where no row more is told, the lines are the windows' own
+pub none_above : (g : Grid) (limits : Limits) (measures : ℕ → ℕ → Measures) (from n : ℕ) → lines_above 0 g limits measures from n ≡ lines_from g limits measures from n
+none_above g limits measures from n = same (line_above 0 g limits measures) (line_at g limits measures) (range_with_len from n) (λ k. ap (told_line g limits (measures (k % g.across.count) (k / g.across.count)) (k % g.across.count) (k / g.across.count)) (none (k / g.across.count)))
+  where
+    none : (b : ℕ) → 0 + b ≡ b
+    none b = omega arith
+
+    same : (f h : ℕ → List ℕ) (ks : List ℕ) → ((k : ℕ) → f k ≡ h k) → flat_map f ks ≡ flat_map h ks
+    same f h [] each = refl
+    same f h (k ∷ ks) each = rw (each k, same f h ks each) refl
+
 -- the lines of all parts, one after another, are those of all windows
 pub parts_joined : (g : Grid) (limits : Limits) (measures : ℕ → ℕ → Measures) (size n : ℕ) (texts : List (Vec ℕ)) → 0 < size → length texts ≡ div_ceil n size
-    → ((k : ℕ) (d : Vec ℕ) → k < div_ceil n size → (get_or texts k d).items ≡ lines_from g limits measures (k * size) (min size (n - k * size)))
+    → ((k : ℕ) (d : Vec ℕ) → k < div_ceil n size → (get_or texts k d).items ≡ lines_above 0 g limits measures (k * size) (min size (n - k * size)))
     → n ≡ g.across.count * g.up.count → flat_map vec_items texts ≡ windows_text g limits measures
 parts_joined g limits measures size n texts some count each all =
-    ranges_joined (lines_from g limits measures) size n texts (λ a. refl) (lines_split (line_at g limits measures)) some count each ∙ ap (first_lines g limits measures) all
+    ranges_joined (lines_above 0 g limits measures) size n texts (λ a. refl) (lines_split (line_above 0 g limits measures)) some count each ∙ (none_above g limits measures 0 n ∙ ap (first_lines g limits measures) all)

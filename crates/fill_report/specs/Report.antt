@@ -24,10 +24,10 @@ density_word Low = codes "LOW"
 density_word High = codes "HIGH"
 density_word Within = codes "OK"
 
--- the numbers of the line of the window in column `a` and row `b`
-abbrev pub line_numbers : Grid → ℕ → ℕ → Measures → List ℤ
-line_numbers g a b m =
-    pos a ∷ pos b ∷ window_left g a ∷ window_bottom g b ∷ window_right g a ∷ window_top g b
+-- the numbers of the line of the window in column `a` and row `b`, which tells another row
+abbrev pub told_numbers : Grid → ℕ → ℕ → ℕ → Measures → List ℤ
+told_numbers g a b row m =
+    pos a ∷ pos row ∷ window_left g a ∷ window_bottom g b ∷ window_right g a ∷ window_top g b
     ∷ m.drawn ∷ m.fill ∷ m.total ∷ share_of m.total (counted_size g a b) ∷ []
 
 -- numbers and a word, with commas between, ended by a line feed
@@ -42,8 +42,12 @@ measures_of drawn fill g a b = record {
   total = pos (window_area (λ x y. drawn x y || fill x y) g a b);
 }
 
+abbrev pub told_line : Grid → Limits → Measures → ℕ → ℕ → ℕ → List ℕ
+told_line g limits measures a b row = line_text (told_numbers g a b row measures) (density_of measures.total limits (counted_size g a b))
+
+-- the line of a window tells its own row
 abbrev pub window_line : Grid → Limits → Measures → ℕ → ℕ → List ℕ
-window_line g limits measures a b = line_text (line_numbers g a b measures) (density_of measures.total limits (counted_size g a b))
+window_line g limits measures a b = told_line g limits measures a b b
 
 -- the line at place `k` of the report
 abbrev pub line_at : Grid → Limits → (ℕ → ℕ → Measures) → ℕ → List ℕ
@@ -52,6 +56,13 @@ line_at g limits measures k = window_line g limits (measures (k % g.across.count
 -- the `n` lines from place `from` on
 abbrev pub lines_from : Grid → Limits → (ℕ → ℕ → Measures) → ℕ → ℕ → List ℕ
 lines_from g limits measures from n = flat_map (line_at g limits measures) (range_with_len from n)
+
+-- the same where each line tells so many rows more than its own: those of some rows of a larger grid, told as there
+abbrev pub line_above : ℕ → Grid → Limits → (ℕ → ℕ → Measures) → ℕ → List ℕ
+line_above rows g limits measures k = told_line g limits (measures (k % g.across.count) (k / g.across.count)) (k % g.across.count) (k / g.across.count) (rows + k / g.across.count)
+
+abbrev pub lines_above : ℕ → Grid → Limits → (ℕ → ℕ → Measures) → ℕ → ℕ → List ℕ
+lines_above rows g limits measures from n = flat_map (line_above rows g limits measures) (range_with_len from n)
 
 -- the first `n` lines
 abbrev pub first_lines : Grid → Limits → (ℕ → ℕ → Measures) → ℕ → List ℕ

@@ -5,12 +5,12 @@ ghost use Rattle.fill_area.specs.Density.{IsArea};
 ghost use Rattle.fill_job.specs.Plans.{IsPlan, plan_of};
 ghost use Rattle.fill_core.specs.Accounts.{state_of};
 ghost use Rattle.fill_text.specs.Rules.{limits_of, windows_of};
-ghost use Rattle.fill_report.specs.Report.{lines_from, measures_of};
+ghost use Rattle.fill_report.specs.Report.{lines_above, measures_of};
 ghost use Rattle.fill_report.specs.BookReport.{boxes_of, fill_report};
 
 use crate::error::OutOfMemory;
 use crate::line::Measures;
-use crate::window::put_window;
+use crate::window::{Section, put_window};
 use csv::{ByteRecord, Writer};
 use fill_area::Windows;
 use fill_core::FillBook;
@@ -32,10 +32,16 @@ pub fn report<B: FillBook>(alloc: Global, book: &B) -> Result<Vec<u8>, OutOfMemo
     // A law: the rules make a plan, and under a plan no box of a fill has a square of the metal.
     rules_make_a_plan(rules);
     let windows = rules.windows();
-    book_lines(alloc, book, &windows, 0, windows.len(), rules.limits())
+    let section = Section {
+        from: 0,
+        count: windows.len(),
+        above: 0,
+    };
+    book_lines(alloc, book, &windows, section, rules.limits())
 }
 
-/// The lines of some rows of windows in that report.
+/// The lines of some rows of windows in that report, which tell so many rows more than their own: where the book is that of some rows of a
+/// chip, so many of the chip's rows are below it.
 ///
 /// # Errors
 /// `OutOfMemory` where memory runs out.
@@ -43,11 +49,12 @@ pub fn rows_report<B: FillBook>(
     alloc: Global,
     book: &B,
     rows: Range<u32>,
+    above: u32,
 ) -> Result<Vec<u8>, OutOfMemory>
     requires ordered { rows.start ≤ rows.end }
     requires within { rows.end ≤ (windows_of (B.account book.now).rules).up.count }
     ensures { let a = B.account book.now in let s = state_of a in let g = windows_of a.rules in IfOk result (λ v. v.items ≡
-        lines_from g (limits_of a.rules) (measures_of s.layers.metal (boxes_of (plan_of a.rules) s.fill) g) (rows.start * g.across.count) ((rows.end - rows.start) * g.across.count)) }
+        lines_above above g (limits_of a.rules) (measures_of s.layers.metal (boxes_of (plan_of a.rules) s.fill) g) (rows.start * g.across.count) ((rows.end - rows.start) * g.across.count)) }
 {
     let rules = book.rules();
     rules_make_a_plan(rules);
@@ -56,7 +63,8 @@ pub fn rows_report<B: FillBook>(
     let columns = windows.columns() as usize;
     let from = rows.start as usize * columns;
     let count = (rows.end - rows.start) as usize * columns;
-    book_lines(alloc, book, &windows, from, count, rules.limits())
+    let section = Section { from, count, above };
+    book_lines(alloc, book, &windows, section, rules.limits())
 }
 
 /// The lines of so many of a book's windows from one on, row by row from the lowest, in a row from the left. A window is `LOW`
@@ -65,21 +73,21 @@ fn book_lines<B: FillBook>(
     alloc: Global,
     book: &B,
     windows: &Windows,
-    from: usize,
-    count: usize,
+    section: Section,
     limits: Limits,
 ) -> Result<Vec<u8>, OutOfMemory>
     requires plan { IsPlan (plan_of (B.account book.now).rules) }
     requires windows { windows.now ≡ (plan_of (B.account book.now).rules).windows }
     requires limits { AreShares limits }
-    requires within { from + count ≤ windows.now.across.count * windows.now.up.count }
-    ensures { let a = B.account book.now in let s = state_of a in IfOk result (λ v. v.items ≡ lines_from windows.now limits (measures_of s.layers.metal (boxes_of (plan_of a.rules) s.fill) windows.now) from count) }
+    requires within { section.from + section.count ≤ windows.now.across.count * windows.now.up.count }
+    ensures { let a = B.account book.now in let s = state_of a in IfOk result (λ v. v.items ≡ lines_above section.above windows.now limits (measures_of s.layers.metal (boxes_of (plan_of a.rules) s.fill) windows.now) section.from section.count) }
 {
     let mut writer = Writer::from_writer(Vec::new(alloc));
     let mut row = ByteRecord::new(alloc);
-    for k in from..from + count {
+    for k in section.from..section.from + section.count {
         let measures = measures_in(book, windows, k);
-        put_window(&mut writer, &mut row, windows, k, measures, limits)?;
+        let place = (k, section.above);
+        put_window(&mut writer, &mut row, windows, place, measures, limits)?;
     }
     let text = writer.into_inner()?;
     Ok(text)

@@ -8,12 +8,12 @@ ghost use Rattle.fill_area.specs.Density.{IsArea};
 ghost use Rattle.fill_text.specs.Limits.{AreShares};
 ghost use Rattle.fill_text.specs.ValuesOfRules.{values_of};
 ghost use Rattle.fill_measure.specs.Sums.{AreSumsOf};
-ghost use Rattle.fill_report.specs.Report.{AreDrawn, lines_from, measures_of, report_text, nothing};
+ghost use Rattle.fill_report.specs.Report.{AreDrawn, lines_above, measures_of, report_text, nothing};
 ghost use Rattle.fill_report.specs.RulesReport.{metal_report};
 
 use crate::error::OutOfMemory;
 use crate::line::Measures;
-use crate::window::put_window;
+use crate::window::{Section, put_window};
 use csv::{ByteRecord, Writer};
 use fill_area::Windows;
 use fill_base::Rect;
@@ -109,29 +109,34 @@ fn lines_by_sums(
                 requires count { count ≡ sums.now.windows.across.count * sums.now.windows.up.count }
                 requires within { k * size < count }
                 requires limits { AreShares limits }
-                ensures { let windows = sums.entry.now.windows in IfOk result (λ v. (p : ℤ → ℤ → Bool) → AreSumsOf p sums.entry.now → v.items ≡ lines_from windows limits (measures_of p nothing windows) (k * size) (min size (count - k * size))) }
+                ensures { let windows = sums.entry.now.windows in IfOk result (λ v. (p : ℤ → ℤ → Bool) → AreSumsOf p sums.entry.now → v.items ≡ lines_above 0 windows limits (measures_of p nothing windows) (k * size) (min size (count - k * size))) }
             {
                 let from = k * size;
-                section_by_sums(alloc, sums, from, size.min(count - from), limits)
+                let section = Section {
+                    from,
+                    count: size.min(count - from),
+                    above: 0,
+                };
+                section_by_sums(alloc, sums, section, limits)
             },
         )
         .collect::<Result<Vec<Vec<u8>>, OutOfMemory>>(rt, alloc)?
 }
 
-/// The lines of `count` windows from the one at place `from` on, by their sums, and no fill.
+/// The lines of some windows, by their sums, and no fill.
 pub(crate) fn section_by_sums(
     alloc: Global,
     sums: &WindowSums,
-    from: usize,
-    count: usize,
+    section: Section,
     limits: Limits,
 ) -> Result<Vec<u8>, OutOfMemory>
-    requires within { from + count ≤ sums.now.windows.across.count * sums.now.windows.up.count }
+    requires within { section.from + section.count ≤ sums.now.windows.across.count * sums.now.windows.up.count }
     requires limits { AreShares limits }
-    ensures { IfOk result (λ v. (p : ℤ → ℤ → Bool) → AreSumsOf p sums.now → v.items ≡ lines_from sums.now.windows limits (measures_of p nothing sums.now.windows) from count) }
+    ensures { IfOk result (λ v. (p : ℤ → ℤ → Bool) → AreSumsOf p sums.now → v.items ≡ lines_above section.above sums.now.windows limits (measures_of p nothing sums.now.windows) section.from section.count) }
 {
-    let areas = sums.areas_from(alloc, from, count)?;
-    lines_of(alloc, sums.windows(), &areas, from, limits)
+    let areas = sums.areas_from(alloc, section.from, section.count)?;
+    let place = (section.from, section.above);
+    lines_of(alloc, sums.windows(), &areas, place, limits)
 }
 
 /// Of how many windows a section has the lines, where there are so many windows.
@@ -141,19 +146,20 @@ fn section_size(count: usize) -> usize
     count.div_ceil(MOST_SECTIONS).max(LEAST_SECTION)
 }
 
-/// The lines of the windows from the one at place `from` on, with these areas of metal and no fill.
+/// The lines of the windows from the one at a place on, with these areas of metal and no fill, which tell so many rows more than their own.
 fn lines_of(
     alloc: Global,
     windows: &Windows,
     areas: &[i64],
-    from: usize,
+    place: (usize, u32),
     limits: Limits,
 ) -> Result<Vec<u8>, OutOfMemory>
-    requires within { from + length areas.now ≤ windows.now.across.count * windows.now.up.count }
+    requires within { place.0 + length areas.now ≤ windows.now.across.count * windows.now.up.count }
     requires areas { All IsArea areas.now }
     requires limits { AreShares limits }
-    ensures { IfOk result (λ v. (measures : ℕ → ℕ → Measures) → AreDrawn windows.now from areas.now measures → v.items ≡ lines_from windows.now limits measures from (length areas.now)) }
+    ensures { IfOk result (λ v. (measures : ℕ → ℕ → Measures) → AreDrawn windows.now place.0 areas.now measures → v.items ≡ lines_above place.1 windows.now limits measures place.0 (length areas.now)) }
 {
+    let (from, above) = place;
     let lines = areas.len().min(windows.len());
     let text = Vec::with_capacity(alloc, lines.saturating_mul(LINE))?;
     let mut writer = Writer::from_writer(text);
@@ -164,7 +170,8 @@ fn lines_of(
             fill: 0,
             total: areas[i],
         };
-        put_window(&mut writer, &mut row, windows, from + i, measures, limits)?;
+        let at = (from + i, above);
+        put_window(&mut writer, &mut row, windows, at, measures, limits)?;
     }
     let text = writer.into_inner()?;
     Ok(text)

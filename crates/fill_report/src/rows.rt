@@ -5,10 +5,11 @@ ghost use Rattle.std.specs.Vec.{vec_items};
 ghost use Rattle.fill_region.specs.Squares.{covered};
 ghost use Rattle.fill_text.specs.Rules.{limits_of, windows_of};
 ghost use Rattle.fill_text.specs.ValuesOfRules.{values_of};
-ghost use Rattle.fill_report.specs.Report.{lines_from, measures_of, nothing};
+ghost use Rattle.fill_report.specs.Report.{lines_above, measures_of, nothing};
 
 use crate::error::OutOfMemory;
 use crate::metal::section_by_sums;
+use crate::window::Section;
 use fill_base::Rect;
 use fill_measure::sum_rects;
 use fill_text::Rules;
@@ -17,7 +18,7 @@ use std::ops::Range;
 use std::thread::Threads;
 
 /// The lines of some rows of the rules' windows, of the squares that some rectangle of some list holds: those that `report_of_rects` has
-/// for these rows. The lists are taken, and let go of once the windows are measured.
+/// for these rows, but that each tells so many rows more than its own. The lists are taken, and let go of once the windows are measured.
 ///
 /// # Errors
 /// `OutOfMemory` where memory runs out.
@@ -27,11 +28,12 @@ pub fn rows_report_of_rects(
     lists: Vec<Vec<Rect>>,
     rules: &Rules,
     rows: Range<u32>,
+    above: u32,
 ) -> Result<Vec<u8>, OutOfMemory>
     requires ordered { rows.start ≤ rows.end }
     requires within { rows.end ≤ (windows_of (values_of rules.now)).up.count }
     ensures { let v = values_of rules.now in let g = windows_of v in
-        IfOk result (λ text. text.items ≡ lines_from g (limits_of v) (measures_of (covered (flat_map vec_items lists.items)) nothing g) (rows.start * g.across.count) ((rows.end - rows.start) * g.across.count)) }
+        IfOk result (λ text. text.items ≡ lines_above above g (limits_of v) (measures_of (covered (flat_map vec_items lists.items)) nothing g) (rows.start * g.across.count) ((rows.end - rows.start) * g.across.count)) }
 {
     let windows = rules.windows();
     let sums = sum_rects(rt, alloc, &lists, &windows)?;
@@ -40,5 +42,6 @@ pub fn rows_report_of_rects(
     let columns = windows.columns() as usize;
     let from = rows.start as usize * columns;
     let count = (rows.end - rows.start) as usize * columns;
-    section_by_sums(alloc, &sums, from, count, rules.limits())
+    let section = Section { from, count, above };
+    section_by_sums(alloc, &sums, section, rules.limits())
 }

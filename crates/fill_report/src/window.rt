@@ -1,8 +1,8 @@
 //! The line of one window: where it lies, its areas, its share and its word.
-ghost use Rattle.std.specs.Prelude.{◌≡◌, ◌++◌, ◌*◌, ◌/◌, ◌%◌, ◌<◌, ℕ, List, Some, OnOk};
+ghost use Rattle.std.specs.Prelude.{◌≡◌, ◌++◌, ◌+◌, ◌*◌, ◌/◌, ◌%◌, ◌<◌, ℕ, List, Some, OnOk};
 ghost use Rattle.fill_text.specs.Limits.{AreShares};
 ghost use Rattle.fill_area.specs.Density.{IsArea};
-ghost use Rattle.fill_report.specs.Report.{density_of, share_of, window_line};
+ghost use Rattle.fill_report.specs.Report.{density_of, share_of, told_line};
 ghost use Rattle.fill_report.specs.Writing.{IsReady, written};
 
 use crate::error::OutOfMemory;
@@ -11,29 +11,39 @@ use csv::{ByteRecord, Writer};
 use fill_area::{Windows, is_high, is_low};
 use fill_text::Limits;
 
-/// Writes the line of the window at place `k`.
+/// So many windows from the one at place `from` on, whose lines tell so many rows more than their own: those of a chip of which they are
+/// some rows.
+#[derive(Clone, Copy)]
+pub(crate) struct Section {
+    pub from: usize,
+    pub count: usize,
+    pub above: u32,
+}
+
+/// Writes the line of the window at a place, which tells so many rows more than its own.
 pub(crate) fn put_window(
     writer: &mut Writer<Vec<u8>>,
     row: &mut ByteRecord,
     windows: &Windows,
-    k: usize,
+    place: (usize, u32),
     measures: Measures,
     limits: Limits,
 ) -> Result<(), OutOfMemory>
     requires ready { IsReady writer.old }
-    requires within { k < windows.now.across.count * windows.now.up.count }
+    requires within { place.0 < windows.now.across.count * windows.now.up.count }
     requires total { IsArea measures.total }
     requires limits { AreShares limits }
     ensures ready { OnOk result (IsReady writer.new) }
     ensures text { (front : List ℕ) → written writer.old ≡ Some front
-        → OnOk result (written writer.new ≡ Some (front ++ window_line windows.now limits measures (k % windows.now.across.count) (k / windows.now.across.count))) }
+        → OnOk result (written writer.new ≡ Some (front ++ told_line windows.now limits measures (place.0 % windows.now.across.count) (place.0 / windows.now.across.count) (place.1 + place.0 / windows.now.across.count))) }
 {
+    let (k, above) = place;
     let (a, b) = windows.column_and_row(k);
     let window = windows.rect(a, b);
     let size = windows.counted_size(a, b);
     let numbers = [
         i64::from(a),
-        i64::from(b),
+        i64::from(above) + i64::from(b),
         window.x1(),
         window.y1(),
         window.x2(),

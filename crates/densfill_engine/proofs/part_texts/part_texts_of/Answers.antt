@@ -7,6 +7,7 @@ use Rattle.fill_core.specs.Accounts.{state_of}
 use Rattle.fill_state.specs.Filling.{is_filled}
 use Rattle.fill_report.specs.BookReport.{boxes_of}
 use Rattle.fill_report.specs.Report.{lines_from, measures_of}
+use Rattle.fill_report.proofs.Lines.{none_above}
 use Rattle.fill_parts.specs.Cuts.{first_row, past_row}
 use Rattle.fill_parts.specs.Needs.{has_tile}
 use Rattle.densfill_engine.proofs.Filling.{text_is}
@@ -27,5 +28,6 @@ returns-clause-report g c =
     let lines : ℕ → ℕ → List ℕ = λ low high. lines_from w (limits_of a.rules) (measures_of s.layers.metal (boxes_of (plan_of a.rules) s.fill) w) (low * w.across.count) ((high - low) * w.across.count) in
     let count : c.rows.result ≡ w.up.count = c.rows.ensures ∙ ap (λ q. q.up.count) (c.windows.ensures ∙ ap windows_of c.rules-rules.ensures) in
     c.in_ok-report.ensures
+    ∙ none_above w (limits_of a.rules) (measures_of s.layers.metal (boxes_of (plan_of a.rules) s.fill) w) (c.rows-rows.result.start * w.across.count) ((c.rows-rows.result.end - c.rows-rows.result.start) * w.across.count)
     ∙ (ap (λ n. lines n c.rows-rows.result.end) (c.rows-rows.ensures.first ∙ ap (first_row c.args.part) count)
     ∙ ap (lines (first_row c.args.part w.up.count)) (c.rows-rows.ensures.past ∙ ap (past_row c.args.part) count))

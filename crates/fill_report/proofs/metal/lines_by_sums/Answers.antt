@@ -8,7 +8,7 @@ use Rattle.rayon.specs.Numbers.{nat_range}
 use Rattle.rayon.proofs.ToStd.{nat_range-All}
 use Rattle.fill_region.proofs.Collecting.{collected, range_begins}
 use Rattle.fill_measure.specs.Sums.{AreSumsOf}
-use Rattle.fill_report.specs.Report.{lines_from, measures_of, nothing}
+use Rattle.fill_report.specs.Report.{lines_above, measures_of, nothing}
 use Rattle.fill_report.proofs.Lines.{parts_joined}
 use Rattle.fill_report.proofs.metal.lines_by_sums.Goals as goal
 
@@ -35,7 +35,7 @@ returns g c =
     let chain = rw (c.map.ensures.base, c.map.ensures.f, c.with_min_len.ensures.base) at h.1 in
     let upto = ends.1 ∙ c.div_ceil.ensures in
     let below = chain.1 ∙ (λ i. nat_range (ends.0 i) (upto i)) ∙ ap (range_with_len 0) whole in
-    let lines = λ (p : ℤ → ℤ → Bool) (k : ℕ). lines_from windows c.args.limits (measures_of p nothing windows) (k * size) (min size (n - k * size)) in
+    let lines = λ (p : ℤ → ℤ → Bool) (k : ℕ). lines_above 0 windows c.args.limits (measures_of p nothing windows) (k * size) (min size (n - k * size)) in
     IfOk-weaker c.in_ok-collect.field-0 _ _ (λ v made p are.
     parts_joined windows c.args.limits (measures_of p nothing windows) size n v.items c.section_size-size.ensures made.0 (λ k d lt. made.1 k d lt p are) (rw c.windows.ensures at c.len-count.ensures.count))
     (collected vec_items (λ k (v : Vec ℕ). (p : ℤ → ℤ → Bool) → AreSumsOf p c.args.sums.now → v.items ≡ lines p k) count chain.0 h.0 c.in_ok-collect.field-0 below chain.2 h.2)

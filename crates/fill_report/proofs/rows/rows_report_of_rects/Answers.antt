@@ -6,7 +6,7 @@ use Rattle.fill_area.specs.Grid.{Grid}
 use Rattle.fill_region.specs.Squares.{covered}
 use Rattle.fill_text.specs.Rules.{limits_of, windows_of}
 use Rattle.fill_text.specs.ValuesOfRules.{values_of}
-use Rattle.fill_report.specs.Report.{lines_from, measures_of, nothing}
+use Rattle.fill_report.specs.Report.{lines_above, measures_of, nothing}
 use Rattle.fill_report.proofs.RowEnds.{rows_end}
 use Rattle.fill_report.proofs.rows.rows_report_of_rects.Goals as goal
 
@@ -26,6 +26,6 @@ returns g c =
     let columns : c.columns-columns.result ≡ grid.across.count = c.columns-columns.ensures ∙ ap (λ (q : Grid). q.across.count) c.windows-windows.ensures in
     let low = c.args.rows.start in let rows = c.args.rows.end - c.args.rows.start in
     IfOk-weaker c.section_by_sums.result _ _ (λ text is.
-    subst (λ (n : ℕ). text.items ≡ lines_from grid (limits_of v) (measures_of p nothing grid) (low * n) (rows * n)) columns
-    (subst (λ (q : Grid). text.items ≡ lines_from q (limits_of v) (measures_of p nothing q) (low * c.columns-columns.result) (rows * c.columns-columns.result)) w (is p (rw c.deref.ensures.value at c.in_ok-sums.ensures.sums))))
+    subst (λ (n : ℕ). text.items ≡ lines_above c.args.above grid (limits_of v) (measures_of p nothing grid) (low * n) (rows * n)) columns
+    (subst (λ (q : Grid). text.items ≡ lines_above c.args.above q (limits_of v) (measures_of p nothing q) (low * c.columns-columns.result) (rows * c.columns-columns.result)) w (is p (rw c.deref.ensures.value at c.in_ok-sums.ensures.sums))))
     (rw c.limits.ensures.value at c.section_by_sums.ensures)
