@@ -27,3 +27,4 @@ pub mod PartOfChip
 pub mod ChipPlan
 pub mod PartRules
 pub mod ChipStanding
+pub mod ToldLines

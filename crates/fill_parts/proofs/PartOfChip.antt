@@ -22,7 +22,7 @@ use Rattle.fill_parts.proofs.Looking.{chip_windows, held_by, or_second, part_chi
 use Rattle.fill_parts.proofs.RulesAlone.{smaller_chip}
 use Rattle.fill_parts.proofs.WindowsAlone.{filled_alike, filled_on, measures_same, on_whole}
 
-chip_smaller : (values : Values) (k : Part) → AreAxes (plan_of values) → IsChipOf values k → IsSmaller (plan_of values) (chip_plan values k) (part_tiles (plan_of values) k) (part_windows (plan_of values) k)
+pub chip_smaller : (values : Values) (k : Part) → AreAxes (plan_of values) → IsChipOf values k → IsSmaller (plan_of values) (chip_plan values k) (part_tiles (plan_of values) k) (part_windows (plan_of values) k)
 chip_smaller values k axes chip = smaller_chip values (part_tiles (plan_of values) k) (part_windows (plan_of values) k) axes chip.rows chip.windows chip.cover
 
 pub fill_of_chip : PartFillIsOfItsChip

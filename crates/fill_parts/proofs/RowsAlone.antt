@@ -148,7 +148,7 @@ further z m n s = rw (product m n s) (moved z (pos m *ℤ s) (pos n *ℤ s))
 pub bottom_alone : (whole small : Plan) (tiles windows : Rows) → IsSmaller whole small tiles windows → (b : ℕ) → window_bottom small.windows b ≡ window_bottom whole.windows (windows.from + b)
 bottom_alone whole small tiles windows is b = rw is.rows (further whole.windows.up.first windows.from b whole.windows.up.step)
 
-top_alone : (whole small : Plan) (tiles windows : Rows) → IsSmaller whole small tiles windows → (b : ℕ) → window_top small.windows b ≡ window_top whole.windows (windows.from + b)
+pub top_alone : (whole small : Plan) (tiles windows : Rows) → IsSmaller whole small tiles windows → (b : ℕ) → window_top small.windows b ≡ window_top whole.windows (windows.from + b)
 top_alone whole small tiles windows is b = ap (λ z. z +ℤ small.windows.up.length) (bottom_alone whole small tiles windows is b) ∙ ap (λ z. window_bottom whole.windows (windows.from + b) +ℤ z) (rw is.rows refl)
 
 low_alone : (whole small : Plan) (tiles windows : Rows) (p : PointSet) → IsSmaller whole small tiles windows → windows.to ≤ whole.windows.up.count → (a b : ℕ) → b < small.windows.up.count

@@ -23,10 +23,10 @@ use Rattle.fill_core.specs.declared.event.Event.{Event}
 use Rattle.fill_core.specs.declared.event.Event.TheVariants as event
 use Rattle.fill_core.specs.Boxes.{low_fill}
 use Rattle.fill_report.specs.BookReport.{boxes_of, fill_report}
-use Rattle.fill_report.specs.Report.{measures_of}
+use Rattle.fill_report.specs.Report.{lines_above, measures_of}
 use Rattle.fill_report.specs.RulesReport.{metal_report}
 use Rattle.fill_report.specs.declared.line.Measures.{Measures}
-use Rattle.fill_parts.specs.Cuts.{Part, IsPart, cut, has_row}
+use Rattle.fill_parts.specs.Cuts.{IsPart, Part, cut, first_row, has_row, past_row}
 use Rattle.fill_parts.specs.Needs.{IsEnough, HoldsItsWindows, AgreeInside, LayersAgree, in_coordinates, is_inside, layers_met, met_with, needed_sides, window_sides, needs_tile, needs_windows, has_tile, has_windows, is_level}
 use Rattle.fill_parts.specs.PartChip.{IsChipOf, by_size, chip_plan, looks_at, part_tiles, part_windows}
 use Rattle.fill_parts.specs.Smaller.{AreAxes, IsPlanOfAnySize, Rows, AreSome, IsHeldBy, IsSmaller}
@@ -259,3 +259,11 @@ pub record StandsInItsChip (values : Values) (k : Part) : Type 0 where
 
 abbrev pub PartStandsInItsChip : Type 0
 PartStandsInItsChip = (values : Values) (k : Part) → let plan = plan_of values in AreAxes plan → 0 < bands plan.raster.up → some_below (looks_at plan k) plan.windows.up.count ≡ true → StandsInItsChip values k
+
+-- The part's piece of the report is what its chip tells of the part's own windows, with so many rows more as lie below its chip.
+abbrev pub PartLinesAreTold : Type 0
+PartLinesAreTold = (values : Values) (k : Part) (layers : Layers) → let plan = plan_of values in let chip = chip_plan values k in let rows = part_windows plan k in
+    AreAxes plan → IsPart k → 0 < bands plan.raster.up → some_below (looks_at plan k) plan.windows.up.count ≡ true
+    → part_report values layers.metal (low_fill plan layers) k
+    ≡ lines_above rows.from chip.windows (limits_of values) (measures_of layers.metal (boxes_of chip (low_fill chip layers)) chip.windows)
+    ((first_row k plan.windows.up.count - rows.from) * chip.windows.across.count) ((past_row k plan.windows.up.count - first_row k plan.windows.up.count) * chip.windows.across.count)

@@ -1,7 +1,7 @@
 //! What holds of every cut into parts, whatever the code does. Each function's contract is the law.
 ghost use Rattle.fill_text.specs.ValuesOfChips.{chip_values};
 ghost use Rattle.fill_job.specs.Plans.{plan_of};
-ghost use Rattle.fill_parts.specs.Laws.{AreasAgree, CheckLinesAgree, ChipHasAPlan, PartIsRefusedBySize, PartStandsInItsChip, ClippedAgrees, EachRowIsInOnePart, EditsAgree, EditsAreChanges, EditsInsideSuffice, EditsOpenAnew, EditsOutsideDoNothing, FillOfNeededTiles, PartsMakeTheCheck, PartsTellTheReport, WindowSidesAreEnough, FillAfterEdits, FillsAgree, LinesAgree, LowWindowsAgree, NeededSidesAreEnough, PartFillIsOfItsChip, PartFillIsWanted, PartLinesAreOfItsChip, PartIsASmallerChip, PartOfNoWindowHasNothing, PartRunIsThePart, PartsAreApart, PartsFollow, PartsMakeTheFill, PartsMakeTheReport, RowsFollow, RulesAloneMakeASmallerChip, SmallerChipMeasuresTheSame, SmallerChipWantsTheSame, WantedAgree};
+ghost use Rattle.fill_parts.specs.Laws.{AreasAgree, CheckLinesAgree, ChipHasAPlan, PartIsRefusedBySize, PartStandsInItsChip, PartLinesAreTold, ClippedAgrees, EachRowIsInOnePart, EditsAgree, EditsAreChanges, EditsInsideSuffice, EditsOpenAnew, EditsOutsideDoNothing, FillOfNeededTiles, PartsMakeTheCheck, PartsTellTheReport, WindowSidesAreEnough, FillAfterEdits, FillsAgree, LinesAgree, LowWindowsAgree, NeededSidesAreEnough, PartFillIsOfItsChip, PartFillIsWanted, PartLinesAreOfItsChip, PartIsASmallerChip, PartOfNoWindowHasNothing, PartRunIsThePart, PartsAreApart, PartsFollow, PartsMakeTheFill, PartsMakeTheReport, RowsFollow, RulesAloneMakeASmallerChip, SmallerChipMeasuresTheSame, SmallerChipWantsTheSame, WantedAgree};
 ghost use Rattle.fill_parts.specs.Smaller.{IsPlanOfAnySize};
 
 use fill_text::ChipRules;
@@ -192,3 +192,8 @@ pub fn chip_rules_make_a_plan(chip: &ChipRules)
 {
     chip.keeps_faultless();
 }
+
+/// A part's lines are what its chip tells of the part's windows, with their rows in the whole one.
+pub fn part_lines_are_told()
+    ensures { PartLinesAreTold }
+{}

@@ -1,5 +1,5 @@
 -- The lines of some windows from one on, and where the windows of some rows end.
-use Rattle.std.proofs.Common.{◌≡◌, ap, ◌∙◌, ℕ, ℤ, ◌+◌, ◌*◌, ◌-◌, ◌/◌, ◌%◌, ◌≤◌, List, [], ◌++◌, Some, arith}
+use Rattle.std.proofs.Common.{◌≡◌, ap, ◌∙◌, ℕ, ◌+◌, ◌*◌, ◌-◌, ◌/◌, ◌%◌, ◌≤◌, List, [], ◌++◌, Some, arith}
 use Rattle.std.proofs.Math.Nat.{mul-le-mul, mul_comm}
 use Rattle.fill_area.specs.Grid.{Grid}
 use Rattle.fill_text.specs.declared.limits.Limits.{Limits}
