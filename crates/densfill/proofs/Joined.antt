@@ -7,12 +7,13 @@ use Rattle.densfill_engine.specs.Joiners.{AreJoined, IsJoinReason, IsPartReason,
 use Rattle.densfill_engine.specs.declared.joining.Joiner.{Joiner}
 use Rattle.densfill_engine.specs.declared.refusal.RunFault.TheVariants as run
 use Rattle.densfill_engine.specs.declared.refusal.Refusal.{Refusal}
-use Rattle.densfill_engine.specs.declared.refusal.Refusal.TheVariants.{Rules, Design, Script, Part, Run, Out, Report}
+use Rattle.densfill_engine.specs.declared.refusal.Refusal.TheVariants.{Rules, TooLarge, Design, Script, Part, Run, Out, Report}
 use Rattle.densfill.specs.Outcomes.{IsUnopenedPart}
 
 -- a reason is one for any joiner of the same rules and number of parts
 pub same_reason : (j k : Joiner) (texts : List (List ℕ)) (e : Refusal) → j.rules ≡ k.rules → j.count ≡ k.count → IsPartReason j texts e → IsPartReason k texts e
 same_reason j k texts (Rules fault) rules count why = why
+same_reason j k texts (TooLarge fault number parts) rules count why = why
 same_reason j k texts (Design fault) rules count why = why
 same_reason j k texts (Script fault) rules count why = why
 same_reason j k texts (Part number fault) rules count why =
@@ -31,6 +32,7 @@ unopened_reason j texts e (inr is) joined =
 -- a part's reason is one for the whole
 pub join_reason : (j : Joiner) (r : List ℕ) (texts : List (List ℕ)) (count : ℕ) (e : Refusal) → OpensFor r j → j.count ≡ count → IsPartReason j texts e → IsJoinReason r texts count e
 join_reason j r texts count (Rules fault) opens is why = absurd why
+join_reason j r texts count (TooLarge fault number parts) opens is why = why
 join_reason j r texts count (Design fault) opens is why = why
 join_reason j r texts count (Script fault) opens is why = why
 join_reason j r texts count (Part number fault) opens is why = (j.rules, opens, subst (λ n. IsUnjoined j.rules n texts number fault) is why)

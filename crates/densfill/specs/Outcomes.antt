@@ -16,7 +16,7 @@ use Rattle.densfill_engine.specs.Refusals.{refusal_status, refusal_text}
 use Rattle.densfill_engine.specs.declared.refusal.InputFault.TheVariants.{Unread}
 use Rattle.densfill_engine.specs.declared.refusal.RunFault.TheVariants as run
 use Rattle.densfill_engine.specs.declared.refusal.Refusal.{Refusal}
-use Rattle.densfill_engine.specs.declared.refusal.Refusal.TheVariants.{Rules, Design, Script, Part, Run, Out, Report}
+use Rattle.densfill_engine.specs.declared.refusal.Refusal.TheVariants.{Rules, TooLarge, Design, Script, Part, Run, Out, Report}
 
 -- what is written is the line: whole, or a prefix of it where the writer failed
 pub record IsTold (before after : Option (List ℕ)) (failed : Bool) (line : List ℕ) : Type 0 where
@@ -121,6 +121,7 @@ path_at parts number = if nat_lt 0 number then slice_get parts (number - 1) else
 
 abbrev pub path_in : List (List ℕ) → Refusal → Option (List ℕ)
 path_in parts (Rules fault) = None
+path_in parts (TooLarge fault number count) = None
 path_in parts (Design fault) = None
 path_in parts (Script fault) = None
 path_in parts (Part number fault) = path_at parts number

@@ -253,6 +253,7 @@ fn path_in<'a>(paths: &[&'a str], refusal: Refusal) -> Option<&'a str>
     match refusal {
         Refusal::Part(number, _) => path_at(paths, number),
         Refusal::Rules(_) => None,
+        Refusal::TooLarge(..) => None,
         Refusal::Design(_) => None,
         Refusal::Script(_) => None,
         Refusal::Run(_) => None,

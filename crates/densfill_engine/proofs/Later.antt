@@ -3,7 +3,6 @@ use Rattle.std.proofs.Common.{◌≡◌, refl, ap, sym, subst, ◌∙◌, ℕ, �
 use Rattle.std.proofs.lemmas.Bool.Decides.{nat_tests}
 use Rattle.std.proofs.lemmas.Grind.{flat_map-append}
 use Rattle.std.proofs.lemmas.List.{append-nil, length-append, length-map, map-append}
-use Rattle.fill_raster.specs.Lattice.{tile_of}
 use Rattle.fill_text.specs.Rules.{Values}
 use Rattle.fill_text.specs.Script.{Change, change_of}
 use Rattle.fill_text.specs.declared.script.Edit.{Edit}
@@ -15,15 +14,11 @@ use Rattle.fill_core.specs.Soundness.{IsSound}
 use Rattle.fill_core.specs.declared.event.Event.{Event}
 use Rattle.fill_core.specs.declared.event.Event.TheVariants as event
 use Rattle.fill_core.proofs.Calling.{replay_from_append}
-use Rattle.fill_parts.specs.Cuts.{Part}
 use Rattle.fill_parts.specs.Laws.{EditsAreChanges, EditsOpenAnew}
-use Rattle.fill_parts.specs.Needs.{has_tile}
 use Rattle.fill_parts.specs.PartFill.{layers_by, layers_with}
-use Rattle.fill_parts.specs.PartReport.{part_report}
 use Rattle.fill_report.specs.BookReport.{fill_report}
 use Rattle.gds_out.specs.FillText.{fill_text}
 use Rattle.densfill_engine.specs.Fills.{IsAllWanted, IsFillOf, IsOnlyFillOf}
-use Rattle.densfill_engine.specs.PartFills.{IsNearFillOf}
 use Rattle.densfill_engine.specs.Runs.{most_commits}
 
 -- ---- versions that are counted from another one
@@ -100,10 +95,6 @@ nothing_made : (layers : Layers) → layers_by [] layers ≡ layers
 unfolding layers_by
 nothing_made layers = refl
 
-nothing_edited : (layers : Layers) → layers_with [] layers ≡ layers
-unfolding layers_with
-nothing_edited layers = refl
-
 -- are those of the layers and the edits
 pub behind_fill : (values : Values) (layers after : Layers) (edits : List Edit) (workers : ℕ) (limit : Option ℕ) (u units d dates library report : List ℕ) → EditsOpenAnew → EditsAreChanges
     → after ≡ layers_with edits layers → u ≡ units → d ≡ dates → workers ≡ 1 → IsFillOf values after u d [] 1 limit library report → IsFillOf values layers units dates (map change_of edits) workers limit library report
@@ -133,21 +124,3 @@ behind_fill values layers after edits workers limit u units d dates library repo
 
   few : (n e c k m u : ℕ) → n ≡ e + k → c ≡ e → k ≤ 0 + m → u ≡ m → n ≤ c + u
   few n e c k m u same made le turns = omega (arith, same, made, le, turns)
-
--- and so those of a part
-pub behind_near : (values : Values) (layers after : Layers) (edits : List Edit) (k : Part) (u units d dates library report : List ℕ) → EditsOpenAnew
-    → after ≡ layers_with edits layers → u ≡ units → d ≡ dates → IsNearFillOf values after u d [] k library report → IsNearFillOf values layers units dates edits k library report
-behind_near values layers after edits k u units d dates library report law is units_are dates_are given = record {
-  events = behind edits fill.events;
-  opening_is = ap (λ (s : State). s.base) run ∙ fill.opening_is;
-  layers_are = ap (λ (s : State). s.layers) run ∙ (fill.layers_are ∙ nothing_edited (layers_with edits layers));
-  tiles_are = λ tile lt. ap (λ (s : State). s.tiles_in tile) run ∙ fill.tiles_are tile lt;
-  library_is = fill.library_is ∙ ap (λ (s : State). fill_text units dates values (λ i j. s.fill i j && has_tile (plan_of values) k (tile_of (plan_of values).raster i j))) (sym run);
-  report_is = fill.report_is ∙ ap (λ (s : State). part_report values s.layers.metal s.fill k) (sym run);
-} where
-  fill : IsNearFillOf values (layers_with edits layers) units dates [] k library report
-  fill = subst (λ (l : Layers). IsNearFillOf values l units dates [] k library report) is
-      (subst (λ (x : List ℕ). IsNearFillOf values after units x [] k library report) dates_are (subst (λ (x : List ℕ). IsNearFillOf values after x d [] k library report) units_are given))
-
-  run : replay (plan_of values) layers (behind edits fill.events) ≡ raised (length edits) (replay (plan_of values) (layers_with edits layers) fill.events)
-  run = behind_edits (plan_of values) layers edits fill.events law

@@ -37,11 +37,12 @@ use Rattle.gds_join.proofs.Libraries.{parts_library}
 use Rattle.densfill_io.specs.declared.input.InputError.TheVariants.{TooLong}
 use Rattle.densfill_engine.specs.Designs.{IsDesign, IsKeptOut}
 use Rattle.densfill_engine.specs.Fills.{Inputs, IsFilled}
-use Rattle.densfill_engine.specs.Inputs.{rules_answer, script_answer, told_by}
+use Rattle.densfill_engine.specs.Inputs.{chip_answer, rules_answer, script_answer, told_by}
 use Rattle.densfill_engine.specs.Joiners.{IsJoinOf}
 use Rattle.densfill_engine.specs.OneRun.{AreOneRun, AreParts, PartsAreOneRun}
 use Rattle.densfill_engine.specs.declared.refusal.InputFault.TheVariants.{Refused, Unread}
 use Rattle.densfill_engine.specs.PartFills.{IsPartFilled, IsWholeDesign, IsWholeKeptOut, WholeInputs}
+use Rattle.densfill_engine.proofs.Reasons.{rules_chip}
 
 -- ---- a design has units of 16 bytes and dates of 24
 
@@ -126,7 +127,7 @@ design_seen bytes values layers units dates is = record {
 -- what the three inputs say
 record Said (r d s : List ℕ) : Type 0 where
   values : Values
-  accepted : rules_answer r ≡ Ok values
+  accepted : chip_answer r ≡ Ok values
   layers : Layers
   units : List ℕ
   dates : List ℕ
@@ -149,7 +150,7 @@ whole_said r d s i = record {
 abbrev run_said : (r d s : List ℕ) → Inputs r d s → Said r d s
 run_said r d s i = record {
   values = i.values;
-  accepted = i.accepted;
+  accepted = rules_chip r i.values i.accepted;
   layers = i.layers;
   units = i.units;
   dates = i.dates;
@@ -168,7 +169,7 @@ record AreSame (r d s : List ℕ) (a b : Said r d s) : Type 0 where
 
 said_once : (r d s : List ℕ) (a b : Said r d s) → AreSame r d s a b
 said_once r d s a b =
-    let values : a.values ≡ b.values = one_answer (rules_answer r) a.values b.values a.accepted b.accepted in
+    let values : a.values ≡ b.values = one_answer (chip_answer r) a.values b.values a.accepted b.accepted in
     let seen = subst (λ (v : Values). IsSeen d v b.layers b.units b.dates) (sym values) b.seen in
     let design : a.seen.design ≡ seen.design = spelled_once d a.seen.design seen.design a.seen.spelled seen.spelled in
     let metal : a.layers.metal ≡ b.layers.metal =
@@ -200,7 +201,7 @@ module _ (rules design script : List ℕ) (libraries reports : List (List ℕ)) 
 
   -- the rules of the join are those of the parts
   rules_are : inputs.values ≡ values_of join.accepted
-  rules_are = one_answer (rules_answer rules) inputs.values (values_of join.accepted) inputs.accepted join.said
+  rules_are = one_answer (chip_answer rules) inputs.values (values_of join.accepted) inputs.accepted (rules_chip rules (values_of join.accepted) join.said)
 
   library_of : (k : ℕ) (lt : k < length libraries)
       → slice_get libraries k ≡ Some (fill_text inputs.units inputs.dates (values_of join.accepted) (part_fill (plan_of (values_of join.accepted)) layers (part k (length libraries))))
@@ -261,7 +262,7 @@ parts_are_one law rules design script libraries reports library parts join =
           fill = record {
             library_is = whole_library rules design script libraries reports library parts join plan;
             report_is = whole_report rules design script libraries reports library parts join plan;
-            sound = low_sound (plan_of all.values) (layers_by all.changes all.layers) (law rules all.values (accepted rules all.values all.accepted));
+            sound = low_sound (plan_of all.values) (layers_by all.changes all.layers) (subst (λ (v : Values). IsPlan (plan_of v)) (sym (rules_are rules design script libraries reports library parts join plan)) plan);
           };
           run = of_run rules design script libraries reports library parts join plan;
         }

@@ -1,12 +1,17 @@
 -- What a design draws within a rectangle, on the checked layer and on that of the keep-outs.
-use Rattle.std.proofs.Common.{◌≡◌, refl, ◌≤◌, ◌^◌, ℕ, ℤ, true, false, ◌&&◌, length, List, Option, Some, None, ap, sym, subst, ◌∙◌}
+use Rattle.std.proofs.Common.{◌≡◌, refl, ◌≤◌, ◌^◌, ◌⊎◌, inl, inr, ℕ, ℤ, true, false, ◌&&◌, length, List, Option, Some, None, ap, sym, subst, ◌∙◌}
 use Rattle.std.proofs.Math.Path.{fun_ext}
 use Rattle.fill_base.specs.Coordinates.{IsInRange}
 use Rattle.fill_base.specs.Squares.{squares}
 use Rattle.fill_base.specs.declared.layer.Layer.{Layer}
 use Rattle.fill_base.specs.declared.rect.Rect.{Rect}
 use Rattle.fill_text.specs.Rules.{Values, keep_layer, metal_layer}
-use Rattle.fill_job.specs.Plans.{PointSet}
+use Rattle.fill_text.specs.Chips.{with_rows}
+use Rattle.fill_text.specs.declared.chip.ChipRows.{ChipRows}
+use Rattle.fill_job.specs.Plans.{Layers, PointSet}
+use Rattle.densfill_engine.specs.PartChecks.{IsUnflattenedWithin}
+use Rattle.densfill_engine.specs.declared.refusal.DesignError.{DesignError}
+use Rattle.densfill_engine.specs.declared.refusal.InputFault.{InputFault}
 use Rattle.gds_grammar.specs.Values.{Contents}
 use Rattle.gds_grammar.specs.Layers.{has_layer, of_layers}
 use Rattle.gds_grammar.specs.Outcomes.{Spells}
@@ -15,8 +20,8 @@ use Rattle.gds_cells.specs.declared.error.FlattenError.{FlattenError}
 use Rattle.gds_cells.specs.Designs.{copies_of}
 use Rattle.gds_flatten.specs.Flattening.{IsCountableOn, IsRefusedOn}
 use Rattle.gds_flatten.specs.Layers.{LayersSufficeWithin}
-use Rattle.densfill_engine.specs.PartFills.{IsDesignWithin, IsDrawnNear, IsKeptNear, IsUnflattenedBehindWithin, IsWholeKeptOut}
-use Rattle.densfill_engine.proofs.PartChecking.{refused_on, squares_on, tells, whole, whole_on}
+use Rattle.densfill_engine.specs.PartFills.{IsDesignFaultWithin, IsDesignWithin, IsDrawnNear, IsKeptNear, IsUnflattenedBehindWithin, IsWholeKeptOut}
+use Rattle.densfill_engine.proofs.PartChecking.{fault_as, refused_on, squares_on, tells, unflattened_rows, whole, whole_on}
 
 -- the bytes spell a library, of which some layers were read, and of these two were taken within a rectangle
 module _ (bytes : List ℕ) (values : Values) (design left : Contents) (layers : List Layer) (frame : Rect) (law : LayersSufficeWithin)
@@ -77,3 +82,27 @@ module _ (bytes : List ℕ) (values : Values) (design left : Contents) (layers :
       named = sym keep_is ∙ named;
       refused = refused_on bytes values design left layers frame law short spelled left_is l (both l named) e refused;
     }
+
+-- ---- of rules of which some rows are taken
+
+module _ (bytes : List ℕ) (values : Values) (rows : ChipRows) (frame : Rect) where
+  pub design_rows : (near : Layers) (units dates : List ℕ) → IsDesignWithin bytes (with_rows values rows) frame near units dates → IsDesignWithin bytes values frame near units dates
+  design_rows near units dates is = record {
+    layers = is.layers;
+    whole = record {
+      drawn = record { metal = record { design = is.whole.drawn.metal.design; read = is.whole.drawn.metal.read; drawn = is.whole.drawn.metal.drawn }; kept = is.whole.drawn.kept };
+      units_are = is.whole.units_are;
+      dates_are = is.whole.dates_are;
+    };
+    metal_in = is.metal_in;
+    keep_in = is.keep_in;
+    within = is.within;
+  }
+
+  pub fault_rows : (f : InputFault DesignError) → IsDesignFaultWithin bytes (with_rows values rows) frame f → IsDesignFaultWithin bytes values frame f
+  fault_rows f why =
+      fault_as bytes (λ e. IsUnflattenedWithin bytes (with_rows values rows) frame e ⊎ IsUnflattenedBehindWithin bytes (with_rows values rows) frame e)
+      (λ e. IsUnflattenedWithin bytes values frame e ⊎ IsUnflattenedBehindWithin bytes values frame e) (λ e h. elim h [
+        | inl metal ↦ inl (unflattened_rows bytes values rows frame e metal)
+        | inr keep ↦ inr (record { metal = keep.metal; drawn = record { design = keep.drawn.design; read = keep.drawn.read; drawn = keep.drawn.drawn }; few = keep.few; layer = keep.layer; named = keep.named; refused = keep.refused })
+      ]) f why

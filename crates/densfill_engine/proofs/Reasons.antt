@@ -1,16 +1,30 @@
 -- What two inputs say together, once it is known what each says.
-use Rattle.std.proofs.Common.{◌≡◌, ◌⊎◌, inl, inr, ◌≤◌, ◌^◌, ℕ, false, nat_lt, arith, length, List, Option, Some, None, Result, Ok, IfSome, IsOk, IsOkAnd, refl, subst, sym}
+use Rattle.std.proofs.Common.{◌≡◌, ◌⊎◌, inl, inr, ◌≤◌, ◌^◌, ℕ, Bool, true, false, ◌&&◌, nat_lt, arith, length, List, [], ◌∷◌, ◌++◌, Option, Some, None, Result, Ok, Err, IfSome, IsOk, IsOkAnd, refl, ap, subst, sym, ◌∙◌}
+use Rattle.std.specs.Prelude.{bytes_eq, if◌then◌else◌, int_lt}
 use Rattle.std.proofs.lemmas.Bool.Decides.{nat_tests}
-use Rattle.fill_text.specs.Rules.{Values, rules_of}
+use Rattle.densfill_io.specs.declared.input.InputError.TheVariants.{TooLong}
+use Rattle.fill_text.specs.Chips.{chip_faults, chip_of}
+use Rattle.fill_text.specs.Grids.{is_axis}
+use Rattle.fill_text.specs.Rasters.{keeps_pitch}
+use Rattle.fill_text.specs.RectTests.{is_rect}
+use Rattle.fill_text.specs.Refusals.{fault_if, fault_unless, first_some, refused_or}
+use Rattle.fill_text.specs.Rows.{rows_of}
+use Rattle.fill_text.specs.Rules.{Values, entry_faults, frame_of, joint_faults, raster_of, rule_faults, rules_of, value_of, values_for, whole_windows}
+use Rattle.fill_text.specs.declared.keys.Key.TheVariants.{Number, Text}
+use Rattle.fill_text.specs.declared.keys.NumberKey.TheVariants as number
+use Rattle.fill_text.specs.declared.keys.TextKey.TheVariants as text
+use Rattle.fill_text.specs.declared.rule_error.RuleError.{RuleError}
+use Rattle.fill_text.specs.declared.rule_error.RuleError.TheVariants.{BadPitch, BadRect, BadRule, BadWindows, TooManyPlaces}
 use Rattle.fill_text.specs.Script.{Change}
 use Rattle.fill_text.specs.declared.rule_error.RuleError.TheVariants as rule
 use Rattle.fill_text.specs.declared.script.ScriptError.{ScriptError}
 use Rattle.fill_text.specs.declared.script.ScriptError.TheVariants as script
 use Rattle.fill_report.specs.RulesReport.{metal_report}
 use Rattle.densfill_engine.specs.Metal.{is_metal}
-use Rattle.densfill_engine.specs.Inputs.{IsFaultOf, rules_answer, script_answer}
+use Rattle.densfill_engine.specs.Inputs.{IsFaultOf, chip_answer, rules_answer, script_answer, told_by}
 use Rattle.densfill_engine.specs.Rects.{IsReason, report_answer}
 use Rattle.densfill_engine.specs.declared.refusal.InputFault.{InputFault}
+use Rattle.densfill_engine.specs.declared.refusal.InputFault.TheVariants.{Refused, Unread}
 use Rattle.densfill_engine.specs.declared.refusal.RunFault.TheVariants as run
 use Rattle.densfill_engine.specs.declared.refusal.Refusal.{Refusal}
 use Rattle.densfill_engine.specs.declared.refusal.Refusal.TheVariants.{Script, Run, Report}
@@ -67,3 +81,63 @@ rules_taken (Some xs) bytes values n same len short given = rw (← same, short_
   where
     short_enough : (m : ℕ) → m ≤ 2147483648 → nat_lt (2 ^ 31) m ≡ false
     short_enough m short = grind (arith, nat_tests)
+
+-- so of a chip of any size
+pub chip_is : (rules : Option (List ℕ)) (values : Values) → IfSome rules (λ text. chip_answer text ≡ Ok values) → IfSome rules (λ r. IsOk (chip_answer r))
+chip_is None values read = tt
+chip_is (Some r) values read = is_ok_of _ values read
+
+pub chip_taken : (remaining : Option (List ℕ)) (bytes : List ℕ) (values : Values) (n : ℕ) → IfSome remaining (λ xs. bytes ≡ xs) → n ≡ length bytes → n ≤ 2147483648 → chip_of bytes ≡ Ok values
+    → IfSome remaining (λ text. chip_answer text ≡ Ok values)
+chip_taken None bytes values n same len short given = tt
+chip_taken (Some xs) bytes values n same len short given = rw (← same, short_enough (length bytes) (rw len at short), given) refl
+  where
+    short_enough : (m : ℕ) → m ≤ 2147483648 → nat_lt (2 ^ 31) m ≡ false
+    short_enough m short = grind (arith, nat_tests)
+
+-- a rule file that a run of the whole takes says of a chip of any size the same
+none_of_more : {E : Type 0} (before after fewer : List (Option E)) → (first_some after ≡ None → first_some fewer ≡ None) → first_some (before ++ after) ≡ None → first_some (before ++ fewer) ≡ None
+none_of_more [] after fewer same none = same none
+none_of_more (None ∷ before) after fewer same none = none_of_more before after fewer same none
+none_of_more (Some e ∷ before) after fewer same none = cc none
+
+no_fault : {A E : Type 0} (f : Option E) (x y : A) → refused_or f x ≡ Ok y → f ≡ None
+no_fault None x y e = refl
+no_fault (Some f) x y e = cc e
+
+fewer_faults : (values : Values) → first_some (joint_faults values) ≡ None → first_some (chip_faults values) ≡ None
+fewer_faults values none = by
+    (int_lt (value_of values number.Max) (value_of values number.Min)) (bytes_eq values.fill_top values.fill_cell) (is_rect (frame_of values.numbers))
+    (is_axis (whole_windows values.numbers).across && is_axis (whole_windows values.numbers).up) _ (keeps_pitch (raster_of values.numbers) (value_of values number.FillSpacing)) _ none
+  where
+    by : (m t r a n p f : Bool)
+        → first_some (fault_if m (BadRule (Number number.Max)) ∷ fault_if t (BadRule (Text text.FillTop)) ∷ fault_unless r BadRect ∷ fault_unless (a && n) BadWindows ∷ fault_unless p BadPitch ∷ fault_unless f TooManyPlaces ∷ []) ≡ None
+        → first_some (fault_if m (BadRule (Number number.Max)) ∷ fault_if t (BadRule (Text text.FillTop)) ∷ fault_unless r BadRect ∷ fault_unless a BadWindows ∷ fault_unless p BadPitch ∷ []) ≡ None
+    by true t r a n p f h = cc h
+    by false true r a n p f h = cc h
+    by false false false a n p f h = cc h
+    by false false true false n p f h = cc h
+    by false false true true n true f h = refl
+    by false false true true false false f h = cc h
+    by false false true true true false f h = cc h
+
+rules_of_chip : (file : List ℕ) (values : Values) → rules_of file ≡ Ok values → chip_of file ≡ Ok values
+unfolding rules_of chip_of
+rules_of_chip file values given =
+    let rows = rows_of file in
+    let none = no_fault (first_some (rule_faults rows)) (values_for rows) values given in
+    let fewer = none_of_more (entry_faults rows) (joint_faults (values_for rows)) (chip_faults (values_for rows)) (fewer_faults (values_for rows)) none in
+    ap (λ (f : Option RuleError). refused_or f (values_for rows)) (fewer ∙ sym none) ∙ given
+
+pub rules_chip : (text : List ℕ) (values : Values) → rules_answer text ≡ Ok values → chip_answer text ≡ Ok values
+rules_chip text values e = by (nat_lt (2 ^ 31) (length text)) (rules_of text) (rules_of_chip text values) e
+  where
+    value : Result Values (InputFault RuleError) → Values
+    value (Ok v) = v
+    value (Err f) = values
+
+    by : (long : Bool) (r : Result Values RuleError) → (r ≡ Ok values → chip_of text ≡ Ok values) → (if long then Err (Unread TooLong) else told_by Refused r) ≡ Ok values
+        → (if long then Err (Unread TooLong) else told_by Refused (chip_of text)) ≡ Ok values
+    by true r h e = cc e
+    by false (Ok v) h e = ap (told_by Refused) (h (ap Ok (ap value e)))
+    by false (Err x) h e = cc e

@@ -1,6 +1,6 @@
 -- What edits and commits do with the account of a book, and how many tiles they leave.
-use Rattle.std.proofs.Common.{◌≡◌, refl, ap, sym, subst, ◌∙◌, ℕ, zero, suc, ◌+◌, ◌*◌, ◌≤◌, ◌<◌, arith, inl, inr, Bool, true, false, not, ◌&&◌, ◌||◌, ◌==◌, [], ◌∷◌, ◌++◌, length, append_assoc, if◌then◌else◌, nat_lt}
-use Rattle.std.specs.Prelude.{Option, Some, Result, Ok, Err, OnOk}
+use Rattle.std.proofs.Common.{◌≡◌, refl, ap, sym, subst, ◌∙◌, ℕ, zero, suc, ◌+◌, ◌*◌, ◌≤◌, ◌<◌, arith, inl, inr, Bool, true, false, not, ◌&&◌, ◌||◌, ◌==◌, [], ◌∷◌, ◌++◌, length, append_assoc, if◌then◌else◌}
+use Rattle.std.specs.Prelude.{Option, Some}
 use Rattle.std.proofs.lemmas.Bool.{cases_eq}
 use Rattle.std.proofs.lemmas.Bool.Decides.{nat_tests}
 use Rattle.std.proofs.lemmas.Grind.{flat_map-append}
@@ -21,7 +21,7 @@ use Rattle.fill_core.specs.Tiles.{IsNext, next_tile}
 use Rattle.fill_core.proofs.Searched.{next_first}
 use Rattle.fill_core.proofs.Written.{state_with}
 use Rattle.densfill_engine.specs.Faults.{book_fault}
-use Rattle.densfill_engine.specs.Runs.{HasBrought, IsFresh, IsRun, IsTooShort, most_turns, tile_count}
+use Rattle.densfill_engine.specs.Runs.{IsRun, IsTooShort, most_turns, tile_count}
 use Rattle.densfill_engine.specs.declared.refusal.RunFault.TheVariants as run
 
 -- ---- the history
@@ -236,110 +236,3 @@ pub next_at : (a b : Account) (k from tile : ℕ) (next : Option ℕ) → IsRun 
     → IsNext (tile_count a.rules) (state_of b).tiles_in from tile
 next_at a b k from tile next run first is =
     subst (λ (v : Values). IsNext (tile_count v) (state_of b).tiles_in from tile) run.rules (next_first (tile_count b.rules) (state_of b).tiles_in from tile (sym first ∙ is))
-
--- ---- the tiles that a part needs
-
--- what two clauses say of an end together
-pub both_on : {A E : Type 0} (result : Result A E) {P Q R : Type 0} → (P → Q → R) → OnOk result P → OnOk result Q → OnOk result R
-both_on (Ok x) f p q = f p q
-both_on (Err e) f p q = p
-
-same_tile : (needs : ℕ → Bool) (t tile : ℕ) → needs tile ≡ true → (t == tile) ≡ ((t == tile) && needs t)
-same_tile needs t tile needed = elim (cases_eq t tile) [
-  | inl is ↦ rw (is, needed) (alone (tile == tile))
-  | inr other ↦ rw (apart t tile other) refl
-]
-  where
-    alone : (b : Bool) → b ≡ b && true
-    alone true = refl
-    alone false = refl
-
-    apart : (a b : ℕ) → (a ≡ b → ⊥) → (a == b) ≡ false
-    apart a b other = grind (arith, nat_tests)
-
-other_tile : (needs : ℕ → Bool) (t tile : ℕ) → needs tile ≡ false → ((t == tile) && needs t) ≡ false
-other_tile needs t tile unneeded = elim (cases_eq t tile) [
-  | inl is ↦ rw (is, unneeded) (nothing (tile == tile))
-  | inr other ↦ rw (apart t tile other) refl
-]
-  where
-    nothing : (b : Bool) → b && false ≡ false
-    nothing true = refl
-    nothing false = refl
-
-    apart : (a b : ℕ) → (a ≡ b → ⊥) → (a == b) ≡ false
-    apart a b other = grind (arith, nat_tests)
-
-or_false : (a b : Bool) → b ≡ false → a ≡ a || b
-or_false true b h = refl
-or_false false b h = sym h
-
--- a needed tile came in
-pub needed_came : (a b : Account) (tile : ℕ) (needs : ℕ → Bool) → IsRun a b 1 → state_of b ≡ with_tile (plan_of a.rules) (state_of a) tile → needs tile ≡ true
-    → HasBrought a b (λ t. (t == tile) && needs t) 1
-needed_came a b tile needs run is needed = record {
-  run = run;
-  layers = ap (λ (s : State). s.layers) is;
-  base = ap (λ (s : State). s.base) is;
-  tiles_are = λ t. ap (λ (s : State). s.tiles_in t) is ∙ ap (λ c. (state_of a).tiles_in t || c) (same_tile needs t tile needed);
-}
-
--- and one that isn't needed didn't
-pub none_came : (a : Account) (came : ℕ → Bool) (turns : ℕ) → ((t : ℕ) → came t ≡ false) → HasBrought a a came turns
-none_came a came turns none = record {
-  run = record { rules = refl; opening = refl; keep = refl; most = refl; commits = []; events = sym (append-nil (events_in a.history)); unedited = refl; brief = omega arith };
-  layers = refl;
-  base = refl;
-  tiles_are = λ t. or_false ((state_of a).tiles_in t) (came t) (none t);
-}
-
-pub unneeded : (a : Account) (tile : ℕ) (needs : ℕ → Bool) → needs tile ≡ false → HasBrought a a (λ t. (t == tile) && needs t) 1
-unneeded a tile needs h = none_came a _ 1 (λ t. other_tile needs t tile h)
-
-pub none_before : (a : Account) (needs : ℕ → Bool) → HasBrought a a (λ t. nat_lt t 0 && needs t) 0
-none_before a needs = none_came a _ 0 (λ t. rw (not_below t) refl)
-  where
-    not_below : (t : ℕ) → nat_lt t 0 ≡ false
-    not_below t = grind (arith, nat_tests)
-
--- the tiles before one, and it
-pub one_tile_more : (a b c : Account) (needs others : ℕ → Bool) (n : ℕ) → ((t : ℕ) → others t ≡ needs t) → HasBrought a b (λ t. nat_lt t n && needs t) n → HasBrought b c (λ t. (t == n) && others t) 1
-    → HasBrought a c (λ t. nat_lt t (n + 1) && needs t) (n + 1)
-one_tile_more a b c needs others n same first next = record {
-  run = one_more a b c n first.run next.run;
-  layers = next.layers ∙ first.layers;
-  base = next.base ∙ first.base;
-  tiles_are = λ t. next.tiles_are t ∙ (ap (λ x. x || ((t == n) && others t)) (first.tiles_are t)
-      ∙ (ap (λ x. ((state_of a).tiles_in t || (nat_lt t n && needs t)) || ((t == n) && x)) (same t)
-      ∙ (either ((state_of a).tiles_in t) (nat_lt t n) (t == n) (needs t) ∙ ap (λ x. (state_of a).tiles_in t || (x && needs t)) (sym (next_below t n)))));
-} where
-  either : (s l e m : Bool) → (s || (l && m)) || (e && m) ≡ s || ((l || e) && m)
-  either true l e m = refl
-  either false true e true = refl
-  either false true true false = refl
-  either false true false false = refl
-  either false false e m = refl
-
-  next_below : (t n : ℕ) → nat_lt t (n + 1) ≡ nat_lt t n || (t == n)
-  next_below t n = grind (arith, nat_tests)
-
--- a tile from one on isn't in before it comes
-pub still_out : (a b : Account) (needs : ℕ → Bool) (n : ℕ) → IsFresh (state_of a) → HasBrought a b (λ t. nat_lt t n && needs t) n → (state_of b).tiles_in n ≡ false
-still_out a b needs n fresh came = came.tiles_are n ∙ rw (fresh n, not_below n) refl
-  where
-    not_below : (n : ℕ) → nat_lt n n ≡ false
-    not_below n = grind (arith, nat_tests)
-
--- where the history is full before all tiles, there is no room for them
-pub no_room : (a b : Account) (n count : ℕ) → IsRun a b n → n < count → length b.history ≡ b.most → a.most < length a.history + count
-no_room a b n count run lt full = less (length b.history) (length a.history) b.most a.most n count (run_brief a b n run) run.most full lt
-  where
-    less : (l h m k n c : ℕ) → l ≤ h + n → m ≡ k → l ≡ m → n < c → k < h + c
-    less l h m k n c le same full lt = omega (arith, le, same, full, lt)
-
--- the first tiles are all tiles
-pub all_came : (a b : Account) (needs : ℕ → Bool) (n end count : ℕ) → HasBrought a b (λ t. nat_lt t n && needs t) n → end ≤ n → n ≤ end → end ≡ count → HasBrought a b (λ t. nat_lt t count && needs t) count
-all_came a b needs n end count came past below is = subst (λ k. HasBrought a b (λ t. nat_lt t k && needs t) k) (same n end count past below is) came
-  where
-    same : (n e c : ℕ) → e ≤ n → n ≤ e → e ≡ c → n ≡ c
-    same n e c p q is = omega (arith, p, q, is)

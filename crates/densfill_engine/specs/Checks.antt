@@ -7,7 +7,7 @@ use Rattle.densfill_engine.specs.Designs.{IsDrawn, IsMetalFault}
 use Rattle.densfill_engine.specs.Inputs.{rules_answer, IsFaultOf}
 use Rattle.densfill_engine.specs.declared.refusal.RunFault.TheVariants as run
 use Rattle.densfill_engine.specs.declared.refusal.Refusal.{Refusal}
-use Rattle.densfill_engine.specs.declared.refusal.Refusal.TheVariants.{Rules, Design, Script, Part, Run, Out, Report}
+use Rattle.densfill_engine.specs.declared.refusal.Refusal.TheVariants.{Rules, TooLarge, Design, Script, Part, Run, Out, Report}
 
 -- the text is the report of the metal that the design's top draws, over the rules' windows
 pub record IsChecked (rules design text : List ℕ) : Type 0 where
@@ -20,6 +20,7 @@ pub record IsChecked (rules design text : List ℕ) : Type 0 where
 -- why there is no report of a rule file and a design of these bytes
 abbrev pub IsCheckReason : List ℕ → List ℕ → Refusal → Type 0
 IsCheckReason rules design (Rules fault) = IsFaultOf rule.Memory (rules_answer rules) fault
+IsCheckReason rules design (TooLarge fault number count) = ⊥
 IsCheckReason rules design (Design fault) = (values : Values) × (rules_answer rules ≡ Ok values) × IsMetalFault design values fault
 IsCheckReason rules design (Script fault) = ⊥
 IsCheckReason rules design (Part number fault) = ⊥

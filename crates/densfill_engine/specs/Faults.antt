@@ -16,7 +16,7 @@ use Rattle.densfill_io.specs.declared.input.InputError.TheVariants as input
 use Rattle.gds_join.specs.declared.error.PartError.{PartError}
 use Rattle.gds_join.specs.declared.error.PartError.TheVariants as parts
 use Rattle.densfill_engine.specs.declared.fault.Fault.{Fault}
-use Rattle.densfill_engine.specs.declared.fault.Fault.TheVariants.{Truncated, BadLength, Unexpected, DuplicateCell, BadXY, NotClosed, BadArray, NotManhattan, RoundEnd, OddWidth, DoublesBack, BadExtension, NoTop, MissingCell, Cycle, TooDeep, TooManyShapes, TooManyShapesIn, OutOfRange, BadTransform, BadRow, BadNumber, BadRule, TooManyLines, BadRect, BadWindows, BadPitch, TooManyPlaces, TooLong, Device, Memory, Unfinished, Mixed, NotAFill, OtherDesign, PlaceTwice, OtherRows}
+use Rattle.densfill_engine.specs.declared.fault.Fault.TheVariants.{Truncated, BadLength, Unexpected, DuplicateCell, BadXY, NotClosed, BadArray, NotManhattan, RoundEnd, OddWidth, DoublesBack, BadExtension, NoTop, MissingCell, Cycle, TooDeep, TooManyShapes, TooManyShapesIn, OutOfRange, BadTransform, BadRow, BadNumber, BadRule, TooManyLines, BadRect, BadWindows, BadWindowsIn, BadPitch, TooManyPlaces, TooManyPlacesIn, TooLong, Device, Memory, Unfinished, Mixed, NotAFill, OtherDesign, PlaceTwice, OtherRows}
 use Rattle.densfill_engine.specs.declared.refusal.RunFault.{RunFault}
 use Rattle.densfill_engine.specs.declared.refusal.RunFault.TheVariants as run
 
@@ -47,8 +47,10 @@ fault_number (BadRule key) = 23
 fault_number TooManyLines = 24
 fault_number BadRect = 25
 fault_number BadWindows = 26
+fault_number (BadWindowsIn number count) = 26
 fault_number BadPitch = 27
 fault_number TooManyPlaces = 28
+fault_number (TooManyPlacesIn number count) = 28
 fault_number TooLong = 29
 fault_number Device = 30
 fault_number Memory = 31
@@ -86,8 +88,10 @@ fault_name (BadRule key) = codes "BadRule"
 fault_name TooManyLines = codes "TooManyLines"
 fault_name BadRect = codes "BadRect"
 fault_name BadWindows = codes "BadWindows"
+fault_name (BadWindowsIn number count) = codes "BadWindows"
 fault_name BadPitch = codes "BadPitch"
 fault_name TooManyPlaces = codes "TooManyPlaces"
+fault_name (TooManyPlacesIn number count) = codes "TooManyPlaces"
 fault_name TooLong = codes "TooLong"
 fault_name Device = codes "Device"
 fault_name Memory = codes "Memory"
@@ -97,6 +101,10 @@ fault_name NotAFill = codes "NotAFill"
 fault_name OtherDesign = codes "OtherDesign"
 fault_name PlaceTwice = codes "PlaceTwice"
 fault_name OtherRows = codes "OtherRows"
+
+-- the part that has too much of something
+abbrev pub in_part : ℕ → ℕ → List ℕ
+in_part number count = codes " in part " ++ decimal number ++ codes " of " ++ decimal count ++ codes ", try more parts"
 
 -- what follows the name: the record's number, the key, the record's first byte, or the part
 abbrev pub fault_ending : Fault → List ℕ
@@ -117,7 +125,7 @@ fault_ending MissingCell = []
 fault_ending Cycle = []
 fault_ending TooDeep = []
 fault_ending TooManyShapes = []
-fault_ending (TooManyShapesIn number count) = codes " in part " ++ decimal number ++ codes " of " ++ decimal count ++ codes ", try more parts"
+fault_ending (TooManyShapesIn number count) = in_part number count
 fault_ending OutOfRange = []
 fault_ending BadTransform = []
 fault_ending (BadRow line) = codes " line " ++ decimal line
@@ -126,8 +134,10 @@ fault_ending (BadRule key) = codes " key " ++ key_name key
 fault_ending TooManyLines = []
 fault_ending BadRect = []
 fault_ending BadWindows = []
+fault_ending (BadWindowsIn number count) = in_part number count
 fault_ending BadPitch = []
 fault_ending TooManyPlaces = []
+fault_ending (TooManyPlacesIn number count) = in_part number count
 fault_ending TooLong = []
 fault_ending Device = []
 fault_ending Memory = []

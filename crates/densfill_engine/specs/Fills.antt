@@ -19,7 +19,7 @@ use Rattle.densfill_engine.specs.Inputs.{rules_answer, script_answer, IsFaultOf}
 use Rattle.densfill_engine.specs.Runs.{IsBack, IsTooShort, most_commits}
 use Rattle.densfill_engine.specs.declared.refusal.RunFault.TheVariants as run
 use Rattle.densfill_engine.specs.declared.refusal.Refusal.{Refusal}
-use Rattle.densfill_engine.specs.declared.refusal.Refusal.TheVariants.{Rules, Design, Script, Part, Run, Out, Report}
+use Rattle.densfill_engine.specs.declared.refusal.Refusal.TheVariants.{Rules, TooLarge, Design, Script, Part, Run, Out, Report}
 
 -- what the three inputs say, where none of them is refused
 pub record Inputs (rules design script : List ℕ) : Type 0 where
@@ -78,6 +78,7 @@ IsMixedUp values layers changes workers limit = (workers ≡ 1 → ⊥) × (1 < 
 -- why there is no fill of inputs of these bytes
 abbrev pub IsFillReason : (rules design edits : List ℕ) → ℕ → Option ℕ → Refusal → Type 0
 IsFillReason rules design edits workers limit (Rules fault) = IsFaultOf rule.Memory (rules_answer rules) fault
+IsFillReason rules design edits workers limit (TooLarge fault number count) = ⊥
 IsFillReason rules design edits workers limit (Design fault) = (values : Values) × (rules_answer rules ≡ Ok values) × IsDesignFault design values fault
 IsFillReason rules design edits workers limit (Script fault) =
     (values : Values) × (rules_answer rules ≡ Ok values) × ((layers : Layers) × AreDrawn design values layers × IsFaultOf script.Memory (script_answer edits) fault)

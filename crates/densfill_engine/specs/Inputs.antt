@@ -1,5 +1,6 @@
 -- What the program takes its inputs for.
 use Rattle.std.specs.Prelude.{◌≡◌, ◌⊎◌, ◌^◌, ℕ, Bool, true, false, List, length, Result, Ok, Err, nat_lt, if◌then◌else◌}
+use Rattle.fill_text.specs.Chips.{chip_of}
 use Rattle.fill_text.specs.Rules.{Values, rules_of}
 use Rattle.fill_text.specs.Script.{Change, edits_of}
 use Rattle.fill_text.specs.declared.rule_error.RuleError.{RuleError}
@@ -8,7 +9,7 @@ use Rattle.densfill_io.specs.declared.input.InputError.TheVariants.{TooLong, Dev
 use Rattle.densfill_engine.specs.declared.refusal.InputFault.{InputFault}
 use Rattle.densfill_engine.specs.declared.refusal.InputFault.TheVariants.{Unread, Refused}
 use Rattle.densfill_engine.specs.declared.refusal.Refusal.{Refusal}
-use Rattle.densfill_engine.specs.declared.refusal.Refusal.TheVariants.{Rules, Design, Script, Part, Run, Out, Report}
+use Rattle.densfill_engine.specs.declared.refusal.Refusal.TheVariants.{Rules, TooLarge, Design, Script, Part, Run, Out, Report}
 
 -- the same answer, with what `tell` makes of a refusal
 abbrev pub told_by : {A E F : Type 0} → (E → F) → Result A E → Result A F
@@ -23,6 +24,10 @@ within_limit text answer = if nat_lt (2 ^ 31) (length text) then Err (Unread Too
 abbrev pub rules_answer : List ℕ → Result Values (InputFault RuleError)
 rules_answer text = within_limit text (rules_of text)
 
+-- what the bytes of the rule file of a chip of any size say, or why they are refused
+abbrev pub chip_answer : List ℕ → Result Values (InputFault RuleError)
+chip_answer text = within_limit text (chip_of text)
+
 -- what the bytes of a script say, or why they are refused
 abbrev pub script_answer : List ℕ → Result (List Change) (InputFault ScriptError)
 script_answer text = within_limit text (edits_of text)
@@ -34,6 +39,7 @@ IsFaultOf memory answer fault = (fault ≡ Unread Device) ⊎ (fault ≡ Unread 
 -- the rule file is what was refused
 abbrev pub is_of_rules : Refusal → Bool
 is_of_rules (Rules fault) = true
+is_of_rules (TooLarge fault number count) = true
 is_of_rules (Design fault) = false
 is_of_rules (Script fault) = false
 is_of_rules (Part number fault) = false
@@ -44,6 +50,7 @@ is_of_rules Report = false
 -- the rule file or the design is
 abbrev pub is_before_script : Refusal → Bool
 is_before_script (Rules fault) = true
+is_before_script (TooLarge fault number count) = true
 is_before_script (Design fault) = true
 is_before_script (Script fault) = false
 is_before_script (Part number fault) = false

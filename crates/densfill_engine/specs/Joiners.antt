@@ -67,6 +67,7 @@ IsUnjoined rules count texts number fault =
 -- why there is no join of a rule file of these bytes and of so many parts, where these are the bytes of the files of parts that were opened
 abbrev pub IsJoinReason : List ℕ → List (List ℕ) → ℕ → Refusal → Type 0
 IsJoinReason rules texts count (refusal.Rules fault) = IsFaultOf rule.Memory (rules_answer rules) fault
+IsJoinReason rules texts count (refusal.TooLarge fault number parts) = ⊥
 IsJoinReason rules texts count (refusal.Design fault) = ⊥
 IsJoinReason rules texts count (refusal.Script fault) = ⊥
 IsJoinReason rules texts count (refusal.Part number fault) = (accepted : Accepted) × (rules_answer rules ≡ Ok (values_of accepted)) × IsUnjoined accepted count texts number fault
@@ -79,6 +80,7 @@ IsJoinReason rules texts count refusal.Report = ⊥
 -- why the next part is not taken, where these are the bytes of all parts and of it
 abbrev pub IsPartReason : Joiner → List (List ℕ) → Refusal → Type 0
 IsPartReason j texts (refusal.Rules fault) = ⊥
+IsPartReason j texts (refusal.TooLarge fault number parts) = ⊥
 IsPartReason j texts (refusal.Design fault) = ⊥
 IsPartReason j texts (refusal.Script fault) = ⊥
 IsPartReason j texts (refusal.Part number fault) = IsUnjoined j.rules j.count texts number fault

@@ -1,12 +1,15 @@
 -- What the program answers to a rule file and a design of which it checks one part.
-use Rattle.std.specs.Prelude.{◌≡◌, ◌+◌, ◌&&◌, ℕ, List, Ok}
+use Rattle.std.specs.Prelude.{◌≡◌, ◌⊎◌, ◌+◌, ◌&&◌, ℕ, List, Ok, Err}
 use Rattle.fill_base.specs.Squares.{squares}
 use Rattle.fill_base.specs.declared.rect.Rect.{Rect}
 use Rattle.fill_text.specs.Rules.{Values, metal_layer}
 use Rattle.fill_text.specs.declared.rule_error.RuleError.TheVariants as rule
 use Rattle.fill_job.specs.Plans.{PointSet}
 use Rattle.fill_parts.specs.Cuts.{Part}
+use Rattle.fill_parts.specs.PartChip.{part_rules}
 use Rattle.fill_parts.specs.PartReport.{part_check}
+use Rattle.fill_parts.specs.declared.part_rules.PartRulesError.{PartRulesError}
+use Rattle.fill_parts.specs.declared.part_rules.PartRulesError.TheVariants as parts
 use Rattle.gds_grammar.specs.Values.{Cell, Contents}
 use Rattle.fill_base.specs.declared.layer.Layer.{Layer}
 use Rattle.gds_cells.specs.Copies.{drawn, AllStayInRange}
@@ -15,7 +18,7 @@ use Rattle.gds_flatten.specs.Flattening as flatten
 use Rattle.gds_cells.specs.declared.error.FlattenError.{FlattenError}
 use Rattle.gds_cells.specs.declared.error.FlattenError.TheVariants as flat
 use Rattle.densfill_engine.specs.Designs.{IsFaultBy, IsRead}
-use Rattle.densfill_engine.specs.Inputs.{rules_answer, IsFaultOf}
+use Rattle.densfill_engine.specs.Inputs.{chip_answer, IsFaultOf}
 use Rattle.densfill_engine.specs.declared.refusal.DesignError.{DesignError}
 use Rattle.densfill_engine.specs.declared.refusal.DesignError.TheVariants.{Library, Flatten, Crowded}
 use Rattle.densfill_engine.specs.declared.refusal.InputFault.{InputFault}
@@ -46,7 +49,7 @@ pub record IsDrawnWithin (bytes : List ℕ) (values : Values) (frame : Rect) (p 
 -- the text is the part's piece of the report of the metal of the whole design
 pub record IsPartChecked (rules design : List ℕ) (k : Part) (text : List ℕ) : Type 0 where
   pub values : Values
-  pub accepted : rules_answer rules ≡ Ok values
+  pub accepted : chip_answer rules ≡ Ok values
   pub metal : PointSet
   pub drawn : IsWholeDrawn design values metal
   pub report : text ≡ part_check values metal k
@@ -96,10 +99,19 @@ pub record IsPartFault (bytes : List ℕ) (values : Values) (k : Part) (fault : 
   pub why : IsFaultBy (IsUnflattenedFor bytes values k) bytes met
   pub told : fault ≡ told_in k met
 
+-- the part has no rules of its own: memory ran out, or its rows have too many windows or places
+pub record IsTooLarge (rules : List ℕ) (k : Part) (fault : PartRulesError) (number count : ℕ) : Type 0 where
+  pub values : Values
+  pub accepted : chip_answer rules ≡ Ok values
+  pub why : (fault ≡ parts.Memory) ⊎ (part_rules values k ≡ Err fault)
+  pub number_is : number ≡ k.number + 1
+  pub count_is : count ≡ k.count
+
 -- why there are no lines of a part of a rule file and a design of these bytes
 abbrev pub IsPartCheckReason : List ℕ → List ℕ → Part → Refusal → Type 0
-IsPartCheckReason rules design k (refusal.Rules fault) = IsFaultOf rule.Memory (rules_answer rules) fault
-IsPartCheckReason rules design k (refusal.Design fault) = (values : Values) × (rules_answer rules ≡ Ok values) × IsPartFault design values k fault
+IsPartCheckReason rules design k (refusal.Rules fault) = IsFaultOf rule.Memory (chip_answer rules) fault
+IsPartCheckReason rules design k (refusal.TooLarge fault number count) = IsTooLarge rules k fault number count
+IsPartCheckReason rules design k (refusal.Design fault) = (values : Values) × (chip_answer rules ≡ Ok values) × IsPartFault design values k fault
 IsPartCheckReason rules design k (refusal.Script fault) = ⊥
 IsPartCheckReason rules design k (refusal.Part number fault) = ⊥
 IsPartCheckReason rules design k (refusal.Run run.Memory) = (text : List ℕ) × IsPartChecked rules design k text

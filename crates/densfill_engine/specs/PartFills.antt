@@ -1,25 +1,27 @@
 -- What the program answers to a rule file, a design and a script of which it fills one part.
-use Rattle.std.specs.Prelude.{◌≡◌, ◌⊎◌, ◌&&◌, ◌<◌, ℕ, ℤ, Bool, true, false, List, Option, Some, None, Ok, int_lt}
+use Rattle.std.specs.Prelude.{◌≡◌, ◌⊎◌, ◌&&◌, ℕ, ℤ, Bool, true, false, List, Option, Some, None, Ok, int_lt}
 use Rattle.fill_base.specs.Coordinates.{IsInRange}
 use Rattle.fill_base.specs.Sides.{Sides}
 use Rattle.fill_base.specs.Squares.{squares}
 use Rattle.fill_base.specs.declared.layer.Layer.{Layer}
 use Rattle.fill_base.specs.declared.rect.Rect.{Rect}
-use Rattle.fill_raster.specs.Lattice.{tile_of, tiles}
 use Rattle.fill_text.specs.Rules.{Values, keep_layer, metal_layer}
 use Rattle.fill_text.specs.Script.{Change}
 use Rattle.fill_text.specs.declared.rule_error.RuleError.TheVariants as rule
 use Rattle.fill_text.specs.declared.script.Edit.{Edit}
 use Rattle.fill_text.specs.declared.script.ScriptError.TheVariants as script
 use Rattle.fill_job.specs.Plans.{Layers, PointSet, plan_of}
-use Rattle.fill_core.specs.Boxes.{low_fill, no_places}
-use Rattle.fill_core.specs.Machine.{replay}
+use Rattle.fill_core.specs.Boxes.{low_fill}
 use Rattle.fill_core.specs.Soundness.{IsSound}
-use Rattle.fill_core.specs.declared.event.Event.{Event}
 use Rattle.fill_parts.specs.Cuts.{Part}
-use Rattle.fill_parts.specs.Needs.{IsEnough, has_tile, in_coordinates, is_inside, needs_tile}
-use Rattle.fill_parts.specs.PartFill.{layers_by, layers_with, part_fill, rect_of}
+use Rattle.fill_parts.specs.Laws.{part}
+use Rattle.fill_parts.specs.Needs.{IsEnough, in_coordinates, is_inside}
+use Rattle.fill_parts.specs.PartChip.{part_rules, rows_fill, rows_told}
+use Rattle.fill_parts.specs.PartFill.{layers_by, part_fill, rect_of}
 use Rattle.fill_parts.specs.PartReport.{part_report}
+use Rattle.fill_parts.specs.Told.{tiles_in, windows_in}
+use Rattle.fill_parts.specs.declared.part_rules.ToldRows.{ToldRows}
+use Rattle.fill_report.specs.BookReport.{boxes_of}
 use Rattle.gds_grammar.specs.Values.{Cell}
 use Rattle.gds_cells.specs.Copies.{drawn, AllStayInRange}
 use Rattle.gds_cells.specs.Designs.{copies_of}
@@ -27,8 +29,8 @@ use Rattle.gds_flatten.specs.Flattening as flatten
 use Rattle.gds_cells.specs.declared.error.FlattenError.{FlattenError}
 use Rattle.gds_out.specs.FillText.{fill_text}
 use Rattle.densfill_engine.specs.Designs.{IsFaultBy}
-use Rattle.densfill_engine.specs.Inputs.{rules_answer, script_answer, IsFaultOf}
-use Rattle.densfill_engine.specs.PartChecks.{IsUnflattenedWithin, IsWholeDrawn, IsWholeDrawnOn, told_in}
+use Rattle.densfill_engine.specs.Inputs.{chip_answer, script_answer, IsFaultOf}
+use Rattle.densfill_engine.specs.PartChecks.{IsTooLarge, IsUnflattenedWithin, IsWholeDrawn, IsWholeDrawnOn, told_in}
 use Rattle.densfill_engine.specs.declared.refusal.InputFault.{InputFault}
 use Rattle.densfill_engine.specs.declared.refusal.DesignError.{DesignError}
 use Rattle.densfill_engine.specs.declared.refusal.RunFault.TheVariants as run
@@ -56,7 +58,7 @@ pub record IsWholeDesign (bytes : List ℕ) (values : Values) (layers : Layers) 
 -- what the three inputs say, where none of them is refused
 pub record WholeInputs (rules design script : List ℕ) : Type 0 where
   pub values : Values
-  pub accepted : rules_answer rules ≡ Ok values
+  pub accepted : chip_answer rules ≡ Ok values
   pub layers : Layers
   pub units : List ℕ
   pub dates : List ℕ
@@ -80,9 +82,13 @@ pub record IsPartFilled (rules design script : List ℕ) (k : Part) (library rep
 
 -- ---- what a part looks at
 
--- the rectangle holds all that the part needs, as far as there are coordinates
+-- the rectangle holds all that a chip of these rules looks at, as far as there are coordinates
+abbrev pub HoldsChip : Values → Rect → Type 0
+HoldsChip values frame = (s : Sides) × IsEnough (plan_of values) (part 0 1) s × ((x y : ℤ) → squares frame x y ≡ is_inside (in_coordinates s) x y)
+
+-- so of the part as a smaller chip
 abbrev pub HoldsNeeds : Values → Part → Rect → Type 0
-HoldsNeeds values k frame = (s : Sides) × IsEnough (plan_of values) k s × ((x y : ℤ) → squares frame x y ≡ is_inside (in_coordinates s) x y)
+HoldsNeeds values k frame = (small : Values) × (part_rules values k ≡ Ok small) × HoldsChip small frame
 
 -- what lies within a rectangle
 abbrev pub layers_within : Rect → Layers → Layers
@@ -113,15 +119,11 @@ pub record IsDesignWithin (bytes : List ℕ) (values : Values) (frame : Rect) (n
   pub keep_in : (x y : ℤ) → layers.keep x y ≡ true → IsInRange x y
   pub within : near ≡ layers_within frame layers
 
--- the texts of a fill of the layers after these edits, in which just the tiles that the part needs are in
-pub record IsNearFillOf (values : Values) (layers : Layers) (units dates : List ℕ) (edits : List Edit) (k : Part) (library report : List ℕ) : Type 0 where
-  pub events : List Event
-  pub opening_is : (replay (plan_of values) layers events).base ≡ no_places
-  pub layers_are : (replay (plan_of values) layers events).layers ≡ layers_with edits layers
-  pub tiles_are : (tile : ℕ) → tile < tiles (plan_of values).raster → (replay (plan_of values) layers events).tiles_in tile ≡ needs_tile (plan_of values) k tile
-  pub library_is : let s = replay (plan_of values) layers events in
-      library ≡ fill_text units dates values (λ i j. s.fill i j && has_tile (plan_of values) k (tile_of (plan_of values).raster i j))
-  pub report_is : let s = replay (plan_of values) layers events in report ≡ part_report values s.layers.metal s.fill k
+-- the texts of some rows of a chip: of the fill of its layers, which is complete, the places in these rows of tiles, and the lines of these
+-- rows of windows
+pub record AreRowsTexts (values : Values) (layers : Layers) (units dates : List ℕ) (told : ToldRows) (library report : List ℕ) : Type 0 where
+  pub library_is : library ≡ fill_text units dates values (rows_fill (plan_of values) (tiles_in told) (low_fill (plan_of values) layers))
+  pub report_is : report ≡ rows_told values (windows_in told) told.below layers.metal (boxes_of (plan_of values) (low_fill (plan_of values) layers))
 
 -- ---- refusals
 
@@ -148,10 +150,11 @@ pub record IsPartDesignFault (bytes : List ℕ) (values : Values) (k : Part) (fa
 
 -- why there are no texts of a part of inputs of these bytes: it is never left incomplete
 abbrev pub IsPartFillReason : (rules design edits : List ℕ) → Part → Refusal → Type 0
-IsPartFillReason rules design edits k (refusal.Rules fault) = IsFaultOf rule.Memory (rules_answer rules) fault
-IsPartFillReason rules design edits k (refusal.Design fault) = (values : Values) × (rules_answer rules ≡ Ok values) × IsPartDesignFault design values k fault
+IsPartFillReason rules design edits k (refusal.Rules fault) = IsFaultOf rule.Memory (chip_answer rules) fault
+IsPartFillReason rules design edits k (refusal.TooLarge fault number count) = IsTooLarge rules k fault number count
+IsPartFillReason rules design edits k (refusal.Design fault) = (values : Values) × (chip_answer rules ≡ Ok values) × IsPartDesignFault design values k fault
 IsPartFillReason rules design edits k (refusal.Script fault) =
-    (values : Values) × (rules_answer rules ≡ Ok values) × ((layers : Layers) × AreWholeDrawn design values layers × IsFaultOf script.Memory (script_answer edits) fault)
+    (values : Values) × (chip_answer rules ≡ Ok values) × ((layers : Layers) × AreWholeDrawn design values layers × IsFaultOf script.Memory (script_answer edits) fault)
 IsPartFillReason rules design edits k (refusal.Part number fault) = ⊥
 IsPartFillReason rules design edits k (refusal.Run run.Memory) = WholeInputs rules design edits
 IsPartFillReason rules design edits k (refusal.Run run.Unfinished) = ⊥

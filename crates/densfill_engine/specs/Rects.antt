@@ -8,7 +8,7 @@ use Rattle.densfill_engine.specs.Inputs.{told_by, rules_answer, script_answer, I
 use Rattle.densfill_engine.specs.Metal.{is_metal}
 use Rattle.densfill_engine.specs.declared.refusal.RunFault.TheVariants as run
 use Rattle.densfill_engine.specs.declared.refusal.Refusal.{Refusal}
-use Rattle.densfill_engine.specs.declared.refusal.Refusal.TheVariants.{Rules, Design, Script, Part, Run, Out, Report}
+use Rattle.densfill_engine.specs.declared.refusal.Refusal.TheVariants.{Rules, TooLarge, Design, Script, Part, Run, Out, Report}
 
 -- the report of the metal that the script leaves of nothing, over the rules' windows, or the first refusal
 unfoldable pub report_answer : List ℕ → List ℕ → Result (List ℕ) Refusal
@@ -20,6 +20,7 @@ report_answer rules edits = do
 -- why there is no report of a rule file and a script of these bytes
 abbrev pub IsReason : List ℕ → List ℕ → Refusal → Type 0
 IsReason rules edits (Rules fault) = IsFaultOf rule.Memory (rules_answer rules) fault
+IsReason rules edits (TooLarge fault number count) = ⊥
 IsReason rules edits (Design fault) = ⊥
 IsReason rules edits (Script fault) = IsOk (rules_answer rules) × IsFaultOf script.Memory (script_answer edits) fault
 IsReason rules edits (Part number fault) = ⊥

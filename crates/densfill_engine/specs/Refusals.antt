@@ -2,16 +2,18 @@
 use Rattle.std.specs.Prelude.{ℕ, ◌==◌, ◌||◌, List, [], ◌++◌, map, Option, Some, None, codes, decimal, nat_lt, if◌then◌else◌}
 use Rattle.densfill_engine.specs.Faults.{fault_ending, fault_name, fault_number, fault_status, flatten_fault, input_fault, library_fault, part_fault, rule_fault, script_fault}
 use Rattle.densfill_engine.specs.declared.fault.Fault.{Fault}
-use Rattle.densfill_engine.specs.declared.fault.Fault.TheVariants.{Device, Memory, Mixed, TooManyShapesIn, Unfinished}
+use Rattle.densfill_engine.specs.declared.fault.Fault.TheVariants.{BadWindowsIn, Device, Memory, Mixed, TooManyPlacesIn, TooManyShapesIn, Unfinished}
+use Rattle.fill_parts.specs.declared.part_rules.PartRulesError.TheVariants as parts
 use Rattle.densfill_engine.specs.declared.refusal.DesignError.TheVariants as design
 use Rattle.densfill_engine.specs.declared.refusal.InputFault.TheVariants.{Unread, Refused}
 use Rattle.densfill_engine.specs.declared.refusal.RunFault.TheVariants as run
 use Rattle.densfill_engine.specs.declared.refusal.Refusal.{Refusal}
-use Rattle.densfill_engine.specs.declared.refusal.Refusal.TheVariants.{Rules, Design, Script, Part, Run, Out, Report}
+use Rattle.densfill_engine.specs.declared.refusal.Refusal.TheVariants.{Rules, TooLarge, Design, Script, Part, Run, Out, Report}
 
 -- the part as the line names it
 abbrev pub part_name : Refusal → List ℕ
 part_name (Rules fault) = codes "rules"
+part_name (TooLarge fault number count) = codes "rules"
 part_name (Design fault) = codes "design"
 part_name (Script fault) = codes "script"
 part_name (Part number fault) = codes "part " ++ decimal number
@@ -23,6 +25,9 @@ part_name Report = codes "report"
 abbrev pub fault_of : Refusal → Fault
 fault_of (Rules (Unread error)) = input_fault error
 fault_of (Rules (Refused error)) = rule_fault error
+fault_of (TooLarge parts.Windows number count) = BadWindowsIn number count
+fault_of (TooLarge parts.Places number count) = TooManyPlacesIn number count
+fault_of (TooLarge parts.Memory number count) = Memory
 fault_of (Design (Unread error)) = input_fault error
 fault_of (Design (Refused (design.Library error))) = library_fault error
 fault_of (Design (Refused (design.Flatten error))) = flatten_fault error

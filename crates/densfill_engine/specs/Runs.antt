@@ -1,5 +1,5 @@
 -- What a run does with a book, and when it can't end.
-use Rattle.std.specs.Prelude.{◌≡◌, ◌⊎◌, ℕ, ◌+◌, ◌*◌, ◌^◌, ◌<◌, ◌≤◌, Bool, ◌||◌, false, List, [], ◌++◌, length, map, Option, Some, None}
+use Rattle.std.specs.Prelude.{◌≡◌, ◌⊎◌, ℕ, ◌+◌, ◌*◌, ◌^◌, ◌<◌, ◌≤◌, false, List, [], ◌++◌, length, map, Option, Some, None}
 use Rattle.fill_raster.specs.Lattice.{tiles}
 use Rattle.fill_text.specs.Rules.{Values}
 use Rattle.fill_text.specs.Script.{Change, change_of}
@@ -40,13 +40,6 @@ pub record IsRun (old new : Account) (turns : ℕ) : Type 0 where
   pub events : events_in new.history ≡ events_in old.history ++ commits
   pub unedited : edits_in commits ≡ []
   pub brief : length commits ≤ turns
-
--- the same version of a book, into which the tiles that pass the test came, by at most so many commits
-pub record HasBrought (old new : Account) (came : ℕ → Bool) (turns : ℕ) : Type 0 where
-  pub run : IsRun old new turns
-  pub layers : (state_of new).layers ≡ (state_of old).layers
-  pub base : (state_of new).base ≡ (state_of old).base
-  pub tiles_are : (tile : ℕ) → (state_of new).tiles_in tile ≡ (state_of old).tiles_in tile || came tile
 
 -- one worker has fewer turns in two rounds than there are tiles, or there are more edits and tiles than a history of so many events has room for
 abbrev pub IsTooShort : Values → Option ℕ → ℕ → ℕ → Type 0

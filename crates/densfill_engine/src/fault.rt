@@ -1,6 +1,6 @@
 //! The table of faults: for each its number, its name and what follows the name in the fault line.
 ghost use Rattle.std.specs.Prelude.{◌≡◌, IfOk, string_bytes};
-ghost use Rattle.densfill_engine.specs.Faults.{fault_ending, fault_name, fault_number, fault_status};
+ghost use Rattle.densfill_engine.specs.Faults.{fault_ending, fault_name, fault_number, fault_status, in_part};
 ghost use Rattle.densfill_engine.specs.Faults as spec;
 
 use densfill_io::InputError;
@@ -65,10 +65,14 @@ pub(crate) enum Fault {
     BadRect,
     /// Too many windows, or one that leaves the range of coordinates.
     BadWindows,
+    /// Too many windows in the rows that a part looks at.
+    BadWindowsIn { number: u32, count: u32 },
     /// A step below the side of a box and the fill spacing.
     BadPitch,
     /// Too many places for a box.
     TooManyPlaces,
+    /// Too many places for a box in the rows of tiles that a part looks at.
+    TooManyPlacesIn { number: u32, count: u32 },
     /// An input of more than 2^31 bytes.
     TooLong,
     /// A file could not be opened, read or written.
@@ -87,6 +91,13 @@ pub(crate) enum Fault {
     PlaceTwice,
     /// A place out of the part's rows of tiles.
     OtherRows,
+}
+
+/// The part that has too much of something, as a fault line ends.
+fn in_part(alloc: Global, number: u32, count: u32) -> Result<String, AllocError>
+    ensures { IfOk result (λ s. string_bytes s ≡ in_part number count) }
+{
+    format!(in alloc; " in part {number} of {count}, try more parts")
 }
 
 impl Fault {
@@ -120,9 +131,9 @@ impl Fault {
             Fault::BadRule { key: _ } => (23, "BadRule"),
             Fault::TooManyLines => (24, "TooManyLines"),
             Fault::BadRect => (25, "BadRect"),
-            Fault::BadWindows => (26, "BadWindows"),
+            Fault::BadWindows | Fault::BadWindowsIn { .. } => (26, "BadWindows"),
             Fault::BadPitch => (27, "BadPitch"),
-            Fault::TooManyPlaces => (28, "TooManyPlaces"),
+            Fault::TooManyPlaces | Fault::TooManyPlacesIn { .. } => (28, "TooManyPlaces"),
             Fault::TooLong => (29, "TooLong"),
             Fault::Device => (30, "Device"),
             Fault::Memory => (31, "Memory"),
@@ -157,9 +168,9 @@ impl Fault {
             Fault::BadRow { line } | Fault::BadNumber { line } => format!(in alloc; " line {line}"),
             Fault::BadRule { key } => format!(in alloc; " key {}", key.name()),
             Fault::Unexpected { at } => format!(in alloc; " at {at}"),
-            Fault::TooManyShapesIn { number, count } => {
-                format!(in alloc; " in part {number} of {count}, try more parts")
-            }
+            Fault::BadWindowsIn { number, count }
+            | Fault::TooManyPlacesIn { number, count }
+            | Fault::TooManyShapesIn { number, count } => in_part(alloc, number, count),
             _ => Ok(String::new(alloc)),
         }
     }

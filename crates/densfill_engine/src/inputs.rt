@@ -6,18 +6,21 @@ ghost use Rattle.densfill_io.specs.Taps.{has_failed, under};
 ghost use Rattle.fill_region.specs.Runs.{holds};
 ghost use Rattle.fill_region.specs.Squares.{covered};
 ghost use Rattle.fill_text.specs.Script.{change_of};
+ghost use Rattle.fill_text.specs.ValuesOfChips.{chip_values};
 ghost use Rattle.fill_text.specs.ValuesOfRules.{values_of};
 ghost use Rattle.fill_job.specs.Basis.{layers_in};
 ghost use Rattle.gds_flatten.specs.Flattening.{IsRefused};
 ghost use Rattle.gds_grammar.specs.Values.{contents_of};
 ghost use Rattle.densfill_engine.specs.Designs.{IsDesign, IsDesignFault, IsDrawn, IsDrawnOn, IsKeptOut, IsMetalFault};
-ghost use Rattle.densfill_engine.specs.Inputs.{rules_answer, script_answer, IsFaultOf};
+ghost use Rattle.densfill_engine.specs.Inputs.{chip_answer, rules_answer, script_answer, IsFaultOf};
 
 use crate::refusal::{DesignError, InputFault};
 use densfill_io::{InputError, Tap, read_input};
 use fill_base::{Layer, Rect};
 use fill_region::{Region, region_of_rects};
-use fill_text::{Edit, RuleError, Rules, ScriptError, read_rules, read_script};
+use fill_text::{
+    ChipRules, Edit, RuleError, Rules, ScriptError, read_chip_rules, read_rules, read_script,
+};
 use gds_flatten::laws::layers_suffice;
 use gds_flatten::{FlattenError, flatten_parts};
 use gds_grammar::{Library, read_layers};
@@ -48,6 +51,21 @@ pub fn take_rules<R: Read>(alloc: Global, tap: &mut Tap<R>) -> Result<Rules, Inp
 {
     let text = read_input(alloc, tap, MOST_BYTES)?;
     let rules = read_rules(alloc, &text)?;
+    Ok(rules)
+}
+
+/// The rules of a chip of any size that the reader behind the tap gives.
+pub fn take_chip_rules<R: Read>(
+    alloc: Global,
+    tap: &mut Tap<R>,
+) -> Result<ChipRules, InputFault<RuleError>>
+    requires { has_failed tap.old ≡ false }
+    ensures device { IsErrOf result (InputFault.Unread InputError.Device) ↔ (has_failed tap.new ≡ true) }
+    ensures rules { IfOk result (λ c. IfSome (R.remaining (under tap.old)) (λ text. chip_answer text ≡ Ok (chip_values c))) }
+    ensures refused { IfErr result (λ f. IfSome (R.remaining (under tap.old)) (λ text. IsFaultOf RuleError.Memory (chip_answer text) f)) }
+{
+    let text = read_input(alloc, tap, MOST_BYTES)?;
+    let rules = read_chip_rules(alloc, &text)?;
     Ok(rules)
 }
 

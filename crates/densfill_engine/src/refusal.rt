@@ -5,6 +5,7 @@ ghost use Rattle.densfill_engine.specs.Refusals.{fault_of, part_name, path_endin
 use crate::fault::Fault;
 use densfill_io::{DeviceError, InputError};
 use fill_core::BookError;
+use fill_parts::PartRulesError;
 use fill_report::OutOfMemory;
 use fill_text::{RuleError, ScriptError};
 use gds_flatten::FlattenError;
@@ -60,6 +61,10 @@ pub enum Refusal {
     /// The rule file gave no rules.
     #[error("rules: {0}")]
     Rules(InputFault<RuleError>),
+    /// A part of the chip has no rules of its own: what there is too much of in its rows, its number, from 1 on, and how many
+    /// parts there are.
+    #[error("rules: {0} in part {1} of {2}")]
+    TooLarge(PartRulesError, u32, u32),
     /// The design gave no metal.
     #[error("design: {0}")]
     Design(InputFault<DesignError>),
@@ -242,7 +247,7 @@ impl Refusal {
         ensures { IfOk result (λ s. string_bytes s ≡ part_name self) }
     {
         match self {
-            Refusal::Rules(_) => String::from_str(alloc, "rules"),
+            Refusal::Rules(_) | Refusal::TooLarge(..) => String::from_str(alloc, "rules"),
             Refusal::Design(_) => String::from_str(alloc, "design"),
             Refusal::Script(_) => String::from_str(alloc, "script"),
             Refusal::Part(number, _) => format!(in alloc; "part {number}"),
@@ -259,6 +264,13 @@ impl Refusal {
         match self {
             Refusal::Rules(InputFault::Unread(error)) => error.into(),
             Refusal::Rules(InputFault::Refused(error)) => error.into(),
+            Refusal::TooLarge(PartRulesError::Windows, number, count) => {
+                Fault::BadWindowsIn { number, count }
+            }
+            Refusal::TooLarge(PartRulesError::Places, number, count) => {
+                Fault::TooManyPlacesIn { number, count }
+            }
+            Refusal::TooLarge(PartRulesError::Memory, ..) => Fault::Memory,
             Refusal::Design(InputFault::Unread(error)) => error.into(),
             Refusal::Design(InputFault::Refused(DesignError::Library(error))) => error.into(),
             Refusal::Design(InputFault::Refused(DesignError::Flatten(error))) => error.into(),
@@ -285,7 +297,8 @@ impl Refusal {
     }
 
     /// What tells of the refusal: `densfill: PART: NUMBER NAME`, and then ` line N` for a bad record or number, ` key KEY` for a
-    /// bad rule, ` at OFFSET` for a record that stands where none may and ` in part K of N, try more parts` for too many shapes there.
+    /// bad rule, ` at OFFSET` for a record that stands where none may and ` in part K of N, try more parts` for too many windows, places
+    /// or shapes there.
     fn words(self, alloc: Global) -> Result<String, AllocError>
         ensures { IfOk result (λ s. string_bytes s ≡ refusal_words self) }
     {

@@ -1,16 +1,14 @@
 //! What one worker does with a book: it brings tile after tile.
-ghost use Rattle.std.specs.Prelude.{◌≡◌, ◌<◌, ◌≤◌, ◌+◌, ◌*◌, ◌^◌, ◌&&◌, ◌==◌, false, length, nat_lt, OnOk};
+ghost use Rattle.std.specs.Prelude.{◌≡◌, ◌<◌, ◌≤◌, ◌+◌, ◌*◌, ◌^◌, ◌&&◌, ◌==◌, false, length, OnOk};
 ghost use Rattle.fill_raster.specs.Lattice.{tiles};
 ghost use Rattle.fill_job.specs.Plans.{plan_of};
 ghost use Rattle.fill_core.specs.Accounts.{state_of};
 ghost use Rattle.fill_core.specs.Machine.{IsComplete, with_tile};
-ghost use Rattle.fill_parts.specs.Needs.{needs_tile};
-ghost use Rattle.densfill_engine.specs.Runs.{HasBrought, IsFresh, IsRun, IsTooShort, tile_count};
+ghost use Rattle.densfill_engine.specs.Runs.{IsFresh, IsRun, IsTooShort};
 ghost use Rattle.densfill_engine.specs.Runs as spec;
 
 use crate::refusal::RunFault;
 use fill_core::{FillBook, Pass};
-use fill_parts::Part;
 use std::alloc::Global;
 
 /// Brings a tile that isn't in.
@@ -32,48 +30,6 @@ fn bring<B: FillBook>(
         return Err(RunFault::Memory);
     };
     book.commit(alloc, pass, &proposal)?;
-    Ok(())
-}
-
-/// Brings a tile that isn't in, if the part needs it.
-fn bring_needed<B: FillBook>(
-    alloc: Global,
-    book: &mut B,
-    pass: &mut Pass<B::Calls, B::Placed, B::Withdrawn>,
-    part: Part,
-    tile: u32,
-) -> Result<(), RunFault>
-    requires tile { tile < tiles (plan_of (B.account book.old).rules).raster }
-    requires out { (state_of (B.account book.old)).tiles_in tile ≡ false }
-    ensures brought { let a = B.account book.old in OnOk result (HasBrought a (B.account book.new) (λ t. (t == tile) && needs_tile (plan_of a.rules) part t) 1) }
-    ensures full { let a = B.account book.old in result ≡ Err RunFault.Unfinished → length a.history ≡ a.most }
-    ensures own { result ≡ Err RunFault.Mixed → ⊥ }
-{
-    if part.needs_tile(book.rules(), tile) {
-        return bring(alloc, book, pass, tile);
-    }
-    Ok(())
-}
-
-/// Brings the tiles that a part needs, one after another.
-///
-/// # Errors
-/// `Unfinished` where the history has no room for all tiles; `Memory` where memory is refused.
-pub fn fill_needed<B: FillBook>(
-    alloc: Global,
-    book: &mut B,
-    pass: &mut Pass<B::Calls, B::Placed, B::Withdrawn>,
-    part: Part,
-) -> Result<(), RunFault>
-    requires fresh { IsFresh (state_of (B.account book.old)) }
-    ensures brought { let a = B.account book.old in
-        OnOk result (HasBrought a (B.account book.new) (λ t. nat_lt t (tile_count a.rules) && needs_tile (plan_of a.rules) part t) (tile_count a.rules)) }
-    ensures unfinished { let a = B.account book.old in result ≡ Err RunFault.Unfinished → a.most < length a.history + tile_count a.rules }
-    ensures own { result ≡ Err RunFault.Mixed → ⊥ }
-{
-    for tile in 0..book.rules().raster().tiles() {
-        bring_needed(alloc, book, pass, part, tile)?;
-    }
     Ok(())
 }
 

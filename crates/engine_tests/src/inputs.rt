@@ -1,6 +1,7 @@
 //! Fault lines that no case shows, and runs of `rects` and `check` over readers and writers that fail.
 use densfill_engine::{DesignError, InputFault, Refusal, RunFault, check, rects};
 use densfill_io::{InputError, Tap};
+use fill_parts::PartRulesError;
 use fill_text::{Key, NumberKey, RuleError};
 use gds_flatten::FlattenError;
 use gds_join::PartError;
@@ -43,6 +44,16 @@ const LINES: &[(Refusal, &str, u8)] = &[
         Refusal::Run(RunFault::Mixed),
         "densfill: run: 35 Mixed\n",
         6,
+    ),
+    (
+        Refusal::TooLarge(PartRulesError::Places, 3, 8),
+        "densfill: rules: 28 TooManyPlaces in part 3 of 8, try more parts\n",
+        2,
+    ),
+    (
+        Refusal::TooLarge(PartRulesError::Memory, 3, 8),
+        "densfill: rules: 31 Memory\n",
+        3,
     ),
 ];
 

@@ -1,8 +1,8 @@
 -- The places of some bands of an axis.
-use Rattle.std.proofs.Common.{◌≡◌, refl, sym, ap, ◌∙◌, ℕ, zero, suc, ◌+◌, ◌-◌, ◌*◌, ◌/◌, ◌≤◌, ◌<◌, ◌==◌, ℤ, pos, neg_ℤ, ◌+ℤ◌, ◌-ℤ◌, ◌*ℤ◌, ◌≤ℤ◌, ◌<ℤ◌, arith, Bool, true, false, inl, inr}
+use Rattle.std.proofs.Common.{◌≡◌, refl, sym, ap, subst, ◌∙◌, ℕ, zero, suc, ◌+◌, ◌-◌, ◌*◌, ◌/◌, ◌≤◌, ◌<◌, ◌==◌, ℤ, pos, neg_ℤ, ◌+ℤ◌, ◌-ℤ◌, ◌*ℤ◌, ◌≤ℤ◌, ◌<ℤ◌, arith, Bool, true, false, inl, inr}
 use Rattle.std.specs.Prelude.{if◌then◌else◌}
 use Rattle.std.specs.Int.{int_max, int_min, int_div_euclid}
-use Rattle.std.proofs.lemmas.Bool.{cases_Bool, eqb-true}
+use Rattle.std.proofs.lemmas.Bool.{cases_Bool, eq-eqb, eqb-true}
 use Rattle.std.proofs.lemmas.Bool.Decides.{nat_tests}
 use Rattle.std.proofs.lemmas.Grind.{div_ceil_times}
 use Rattle.std.proofs.lemmas.Int.{ints, clamps, by_lt_z}
@@ -14,7 +14,7 @@ use Rattle.fill_raster.specs.declared.axis.Axis.{Axis}
 use Rattle.fill_raster.proofs.Bands.{first_in, last_in, first_before_last, in_band_of, band_is}
 use Rattle.fill_raster.proofs.Floors.{product_le, floor_within, within_floor, product_lt, neg_product}
 use Rattle.fill_raster.proofs.Ranges.{IsIn, first_past, in_on}
-use Rattle.fill_parts.specs.Smaller.{Rows, AreSome, bands_alone}
+use Rattle.fill_parts.specs.Smaller.{AreRowsOf, Rows, AreSome, bands_alone}
 
 -- ---- where they begin and where they end
 
@@ -247,3 +247,20 @@ framed_alone a rows is are = record {
 
     up : {l b e h : ℤ} → l ≤ℤ b → b <ℤ e → e ≤ℤ h → l <ℤ h
     up x y z = omega (arith, ints, x, y, z)
+
+-- none of no bands leave the axis as it is
+pub none_alone : (a : Axis) (rows : Rows) → rows.from ≡ 0 → rows.to ≡ bands a → bands_alone a rows ≡ a
+none_alone a rows from to = rw (from, eq-eqb rows.to (bands a) to) refl
+
+pub framed_rows : (a : Axis) (rows : Rows) → IsAxis a → AreRowsOf rows (bands a) → IsFramed a rows
+framed_rows a rows is are = elim are [
+  | inl some ↦ framed_alone a rows is some
+  | inr none ↦ (let e = none_alone a rows none.0 (none.1 ∙ sym none.2) in record {
+    low = subst (λ (b : Axis). a.low ≤ℤ b.low) (sym e) (same a.low);
+    some = subst (λ (b : Axis). b.low <ℤ b.high) (sym e) is.ordered;
+    high = subst (λ (b : Axis). b.high ≤ℤ a.high) (sym e) (same a.high);
+  })
+]
+  where
+    same : (z : ℤ) → z ≤ℤ z
+    same z = omega (arith, ints)

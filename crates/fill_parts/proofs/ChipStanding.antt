@@ -1,5 +1,5 @@
 -- Where a part's fill stands in its chip, and the plan of a chip of any size.
-use Rattle.std.proofs.Common.{ℕ, ◌*◌, ◌≤◌, ℤ, pos, ◌+ℤ◌, ◌≤ℤ◌, arith, Bool, true, false}
+use Rattle.std.proofs.Common.{◌≡◌, ℕ, ◌*◌, ◌<◌, ◌≤◌, ℤ, pos, ◌+ℤ◌, ◌≤ℤ◌, arith, Bool, true, false}
 use Rattle.std.specs.Int.{int_min}
 use Rattle.std.proofs.lemmas.Bool.{and_parts}
 use Rattle.std.proofs.lemmas.Int.{ints, clamps}
@@ -14,13 +14,14 @@ use Rattle.fill_text.specs.Chips.{AreChipNumbers}
 use Rattle.fill_text.specs.Rules.{Values, windows_with}
 use Rattle.fill_job.specs.Plans.{plan_of}
 use Rattle.fill_core.specs.Boxes.{low_fill}
-use Rattle.fill_parts.specs.Laws.{PartStandsInItsChip}
+use Rattle.fill_job.specs.Searches.{some_below}
+use Rattle.fill_parts.specs.Cuts.{Part}
 use Rattle.fill_parts.specs.Needs.{has_tile}
-use Rattle.fill_parts.specs.PartChip.{IsChipOf, part_tiles, part_windows}
-use Rattle.fill_parts.specs.Smaller.{AreSome, IsHeldBy, IsPlanOfAnySize, Rows, bands_alone}
+use Rattle.fill_parts.specs.PartChip.{StandsIn, looks_at, part_alone, part_tiles, part_windows}
+use Rattle.fill_parts.specs.Smaller.{AreAxes, AreSome, IsHeldBy, IsPlanOfAnySize, Rows, bands_alone}
 use Rattle.fill_parts.proofs.BandsAlone.{back_alone, first_alone, past_alone}
 use Rattle.fill_parts.proofs.Leveling.{place_row, place_tile}
-use Rattle.fill_parts.proofs.Looking.{held_by, part_chip, true_or}
+use Rattle.fill_parts.proofs.Looking.{held_by, part_chip, some_rows, true_or}
 use Rattle.fill_parts.proofs.WindowsAlone.{filled_on}
 
 begins_later : (a : Axis) (rows : Rows) → pos 1 ≤ℤ a.step → first a ≤ℤ first (bands_alone a rows)
@@ -35,10 +36,11 @@ ends_sooner a rows step some are = rw (past_alone a rows step some are) (sooner 
     sooner : (z p : ℤ) → int_min z p ≤ℤ p
     sooner z p = omega (arith, ints, clamps)
 
-pub stands : PartStandsInItsChip
+-- where a part's fill is empty, or the part has rows of tiles that hold it
+pub stands : (values : Values) (k : Part) → AreAxes (plan_of values) → 0 < bands (plan_of values).raster.up → some_below (looks_at (plan_of values) k) (plan_of values).windows.up.count ≡ true → StandsIn values k (part_alone values k)
 stands values k is some looks = record {
   from = begins_later (plan_of values).raster.up (part_tiles (plan_of values) k) is.places_up.step_is.least;
-  to = ends_sooner (plan_of values).raster.up (part_tiles (plan_of values) k) is.places_up.step_is.least is.places_up.band_is.least chip.rows;
+  to = ends_sooner (plan_of values).raster.up (part_tiles (plan_of values) k) is.places_up.step_is.least is.places_up.band_is.least rows;
   fill = λ layers i j filled.
       let parts = and_parts (low_fill (plan_of values) layers i j) (has_tile (plan_of values) k (tile_of (plan_of values).raster i j)) filled in
       let on = filled_on (plan_of values) layers i j parts.0 in
@@ -46,13 +48,13 @@ stands values k is some looks = record {
       let tile = place_tile (plan_of values).raster i j is.places_across is.places_up on in
       let held : IsHeldBy (plan_of values) (part_tiles (plan_of values) k) (part_windows (plan_of values) k) (tile_of (plan_of values).raster i j) = held_by (plan_of values) k (tile_of (plan_of values).raster i j) is tile (true_or (has_tile (plan_of values) k (tile_of (plan_of values).raster i j)) _ parts.1) in
       let row = place_row (plan_of values).raster i j is.places_across within.0 in
-      let there = back_alone (plan_of values).raster.up (part_tiles (plan_of values) k) j is.places_up.step_is.least is.places_up.band_is.least chip.rows
+      let there = back_alone (plan_of values).raster.up (part_tiles (plan_of values) k) j is.places_up.step_is.least is.places_up.band_is.least rows
       (on_in (plan_of values).raster.up j is.places_up.step_is.least (on_within (plan_of values).raster.up j within.1)) (rw row at held.from) (rw row at held.to) in
       (there.low, there.high);
 }
   where
-    chip : IsChipOf values k
-    chip = part_chip values k is some looks
+    rows : AreSome (part_tiles (plan_of values) k) (bands (plan_of values).raster.up)
+    rows = some_rows (part_tiles (plan_of values) k) (bands (plan_of values).raster.up) (part_chip values k is looks).rows some
 
 pub any_size : (values : Values) → AreChipNumbers values → IsPlanOfAnySize (plan_of values)
 any_size values is = record {

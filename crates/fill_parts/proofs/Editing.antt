@@ -4,22 +4,19 @@ use Rattle.std.specs.List.{filter}
 use Rattle.std.proofs.Math.Path.{fun_ext}
 use Rattle.fill_base.specs.Sides.{Sides}
 use Rattle.fill_base.specs.Squares.{squares}
-use Rattle.fill_raster.specs.Lattice.{in_raster, tile_of}
-use Rattle.fill_raster.proofs.RasterLaws.{place_has_a_tile}
 use Rattle.fill_text.specs.Script.{change_of}
 use Rattle.fill_text.specs.declared.script.Edit.{Edit}
 use Rattle.fill_text.specs.declared.script.Edit.TheVariants.{Add, Cut, Keep}
-use Rattle.fill_job.specs.Plans.{Plan, Layers, allowed, in_window_of, is_taken, low_windows}
+use Rattle.fill_job.specs.Plans.{Plan, Layers, low_windows}
 use Rattle.fill_core.specs.Boxes.{no_places, with_boxes}
 use Rattle.fill_core.specs.Histories.{edits_in}
 use Rattle.fill_core.specs.Machine.{State, is_accepted, layers_after, opened, replay, replay_from, step, with_tile}
 use Rattle.fill_core.specs.declared.event.Event.{Event}
 use Rattle.fill_core.specs.declared.event.Event.TheVariants as event
-use Rattle.fill_core.proofs.Keeping.{kept_replay}
 use Rattle.fill_core.proofs.Replays.{complete_fill, low_of_opening, no_boxes}
-use Rattle.fill_parts.specs.Needs.{LayersAgree, needs_tile}
+use Rattle.fill_parts.specs.Needs.{LayersAgree}
 use Rattle.fill_parts.specs.PartFill.{change_after, layers_by, layers_with}
-use Rattle.fill_parts.specs.Laws.{EditsAgree, EditsAreChanges, EditsInsideSuffice, EditsOpenAnew, EditsOutsideDoNothing, FillAfterEdits, FillOfNeededTiles}
+use Rattle.fill_parts.specs.Laws.{EditsAgree, EditsAreChanges, EditsInsideSuffice, EditsOpenAnew, EditsOutsideDoNothing, FillAfterEdits}
 
 agree_after : (s : Sides) (edit : Edit) (p q : Layers) → LayersAgree s p q → LayersAgree s (layers_after edit p) (layers_after edit q)
 agree_after s (Add r) p q agree = record { metal = λ x y inside. rw (agree.metal x y inside) refl; keep = agree.keep }
@@ -148,30 +145,6 @@ fill_after plan layers edits commits is none all =
       layers_is = after.layers_is;
       fill_is = complete_fill plan layers (map event.Edit edits ++ commits) is all ∙ fun_ext (λ i. fun_ext (λ j. rw (after.low_is, after.base_is, after.layers_is) refl));
     }
-
--- n: the tile of the place is in; r: the place is on the raster
-in_some : (n m r c w : Bool) → (r ≡ true → n ≡ m) → n && ((r && c) && w) ≡ ((r && c) && w) && m
-in_some n m true c w h = rw (h refl) (turned m (c && w))
-  where
-    turned : (a b : Bool) → a && b ≡ b && a
-    turned true true = refl
-    turned true false = refl
-    turned false true = refl
-    turned false false = refl
-in_some true m false c w h = refl
-in_some false m false c w h = refl
-
-pub fill_needed : FillOfNeededTiles
-fill_needed plan layers events k is base tiles_are =
-    let s = replay plan layers events in
-    let low : s.low ≡ low_windows plan s.layers.metal = low_of_opening plan layers events ∙ (ap (λ f. low_windows plan (with_boxes plan s.layers.metal f)) base ∙ ap (low_windows plan) (no_boxes plan s.layers.metal)) in
-    fun_ext (λ i. fun_ext (λ j.
-    let t = tile_of plan.raster i j in
-    let by_state : s.base i j || (s.tiles_in t && (allowed plan s.layers i j && in_window_of plan s.low i j)) ≡ s.tiles_in t && (allowed plan s.layers i j && in_window_of plan (low_windows plan s.layers.metal) i j) =
-    rw (low, base) refl in
-    (kept_replay plan layers events).fill_is i j ∙ (by_state
-    ∙ in_some (s.tiles_in t) (needs_tile plan k t) (in_raster plan.raster i j) (not (is_taken plan s.layers i j)) (in_window_of plan (low_windows plan s.layers.metal) i j)
-    (λ on. tiles_are t (place_has_a_tile plan.raster is.raster i j on)))))
 
 opened_by : (plan : Plan) (layers : Layers) (edits : List Edit) (version : ℕ) → replay_from plan (opened plan layers no_places version) (map event.Edit edits) ≡ opened plan (layers_with edits layers) no_places (version + length edits)
 unfolding replay_from layers_with

@@ -24,7 +24,8 @@ pub mod SmallCases
 pub mod Looking
 pub mod Chipping
 pub mod PartOfChip
-pub mod ChipPlan
+pub mod SpansAlone
 pub mod PartRules
 pub mod ChipStanding
 pub mod ToldLines
+pub mod HoldingPart

@@ -21,7 +21,7 @@ use Rattle.fill_parts.specs.Cuts.{Part, IsPart, first_row, past_row}
 use Rattle.fill_parts.specs.Needs.{IsEnough, LayersAgree, has_tile, has_windows, is_level, needs_tile, needs_windows}
 use Rattle.fill_parts.specs.PartFill.{near_fill}
 use Rattle.fill_parts.specs.PartReport.{part_lines}
-use Rattle.fill_parts.specs.Laws.{CheckLinesAgree, LinesAgree}
+use Rattle.fill_parts.specs.Laws.{LinesAgree}
 use Rattle.fill_parts.proofs.Agreeing.{agree_at, areas_agree, held_same, near_same, window_same}
 use Rattle.fill_parts.proofs.Leveling.{axes_of, level_meeting}
 use Rattle.fill_parts.proofs.Cutting.{cut_le, cut_ends, is_row_of}
@@ -68,7 +68,7 @@ own_needed plan k b h = rw h refl
 pub same_measures : (m n : Measures) → m.drawn ≡ n.drawn → m.fill ≡ n.fill → m.total ≡ n.total → m ≡ n
 same_measures m n drawn fill total = λ k. record { drawn = drawn k; fill = fill k; total = total k }
 
-measures_same : (plan : Plan) (k : Part) (s : Sides) (p q : Layers) → IsPlan plan → IsEnough plan k s → LayersAgree s p q → (a b : ℕ) → a < plan.windows.across.count → b < plan.windows.up.count → has_windows plan k b ≡ true
+pub measures_same : (plan : Plan) (k : Part) (s : Sides) (p q : Layers) → IsPlan plan → IsEnough plan k s → LayersAgree s p q → (a b : ℕ) → a < plan.windows.across.count → b < plan.windows.up.count → has_windows plan k b ≡ true
     → measures_of p.metal (boxes_of plan (near_fill plan p k)) plan.windows a b ≡ measures_of q.metal (boxes_of plan (low_fill plan q)) plan.windows a b
 measures_same plan k s p q is enough agree a b column row own =
     let w = plan.windows in
@@ -84,7 +84,7 @@ measures_same plan k s p q is enough agree a b column row own =
 
 -- ---- the line at a place of the report
 
-row_bounds : (n c low high : ℕ) → 0 < c → low * c ≤ n → n < low * c + (high - low) * c → low ≤ high → (low ≤ n / c) × (n / c < high)
+pub row_bounds : (n c low high : ℕ) → 0 < c → low * c ≤ n → n < low * c + (high - low) * c → low ≤ high → (low ≤ n / c) × (n / c < high)
 row_bounds n c low high some from to le = (le-div low n c some from, div_below n c high some (below n (low * c) ((high - low) * c) (high * c) to (whole low high c le)))
   where
     whole : (low high c : ℕ) → low ≤ high → low * c + (high - low) * c ≡ high * c
@@ -134,14 +134,3 @@ lines_agree values k s p q is part enough agree =
     let plan = plan_of values in
     lines_by values k (measures_of p.metal (boxes_of plan (near_fill plan p k)) plan.windows) (measures_of q.metal (boxes_of plan (low_fill plan q)) plan.windows) is.windows.across.count_is.least part
     (λ a b column row own. measures_same plan k s p q is enough agree a b column row own)
-
-pub check_agrees : CheckLinesAgree
-check_agrees values k s p q is part enough agree =
-    let plan = plan_of values in let w = plan.windows in
-    lines_by values k (measures_of p nothing w) (measures_of q nothing w) is.windows.across.count_is.least part
-    (λ a b column row own.
-    let metal = agree_at s p q _ _ _ _ agree (enough.windows a b column row own) in
-    same_measures _ _
-    (ap pos (window_same p q w a b is.windows.across.length_is is.windows.up.length_is metal)) refl
-    (ap pos (window_same (λ x y. p x y || nothing x y) (λ x y. q x y || nothing x y) w a b is.windows.across.length_is is.windows.up.length_is
-    (λ x y left right low high. ap (λ c. c || false) (metal x y left right low high)))))

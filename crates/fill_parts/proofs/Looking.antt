@@ -23,8 +23,8 @@ use Rattle.fill_parts.specs.Laws.{PartIsASmallerChip, PartOfNoWindowHasNothing}
 use Rattle.fill_parts.specs.Needs.{has_tile, has_windows, is_level, needs_tile, row_of}
 use Rattle.fill_parts.specs.PartChip.{looks_at, part_tiles, part_windows}
 use Rattle.fill_parts.specs.PartFill.{part_fill}
-use Rattle.fill_parts.specs.PartRows.{counted_bottom, counted_top, first_of, first_tiles, is_tile_row_level, is_window_row_level, needed_tiles, needs_row, own_rows, past_of, past_tiles}
-use Rattle.fill_parts.specs.Smaller.{AreAxes, IsHeldBy, Rows, bands_alone}
+use Rattle.fill_parts.specs.PartRows.{chip_tiles, counted_bottom, counted_top, first_of, first_tiles, is_tile_row_level, is_window_row_level, needed_tiles, needs_row, own_rows, past_of, past_tiles}
+use Rattle.fill_parts.specs.Smaller.{AreAxes, AreRowsOf, AreSome, IsHeldBy, Rows, bands_alone}
 use Rattle.fill_parts.proofs.Cutting.{row_of_is}
 use Rattle.fill_parts.proofs.Leveling.{level_holding, place_tile}
 use Rattle.fill_parts.proofs.RulesAlone.{rises}
@@ -221,6 +221,29 @@ is_past k a s some = elim (first_passes q (bands a)) [
     up : (f n : ℕ) → f < n → f + 1 ≤ n
     up f n h = omega (arith, h)
 
+-- the rows of tiles are some, or there are none at all
+pub chip_rows_are : (k : Part) (a : Axis) (s : spans.Axis) → AreRowsOf (chip_tiles k a s) (bands a)
+chip_rows_are k a s = elim (cases_lt 0 (bands a)) [
+  | inl some ↦ (let past = is_past k a s some in inl (record { some = past.some; within = past.most }))
+  | inr none ↦ (let all = zero (bands a) none in inr (first_none _ (bands a) (past_within _ (bands a)) all, past_none (bands a) _ all, all))
+]
+  where
+    zero : (n : ℕ) → n ≤ 0 → n ≡ 0
+    zero n h = omega (arith, h)
+
+    first_none : (p n : ℕ) → p ≤ n → n ≡ 0 → p - 1 ≡ 0
+    first_none p n h e = omega (arith, h, e)
+
+    past_none : (n m : ℕ) → n ≡ 0 → min n m ≡ 0
+    past_none n m e = omega (arith, e)
+
+-- where there is a row, they are some
+pub some_rows : (rows : Rows) (n : ℕ) → AreRowsOf rows n → 0 < n → AreSome rows n
+some_rows rows n are some = elim are [
+  | inl is ↦ is
+  | inr none ↦ absurd (let e = none.2 in omega (arith, e, some))
+]
+
 -- ---- a part's rows
 
 -- the edges of the frame of some bands
@@ -318,8 +341,8 @@ held_by plan k tile are lt needs =
 -- ---- the chip of a part
 
 pub part_chip : PartIsASmallerChip
-part_chip values k is some looks = record {
-  rows = record { some = past.some; within = past.most };
+part_chip values k is looks = record {
+  rows = chip_rows_are k a (plan_of values).windows.up;
   windows = record {
     some = (let w = chip_windows plan k found.0 found.1 found.2 in let from = w.0 in let to = w.1 in omega (arith, from, to));
     within = past_within (looks_at plan k) plan.windows.up.count;
@@ -328,7 +351,7 @@ part_chip values k is some looks = record {
     below = subst (λ (z : ℤ). (bands_alone a (part_tiles (plan_of values) k)).low ≤ℤ int_max a.low z) (same_bottom values.ignores (part_windows (plan_of values) k).from)
         (begins_below a (part_tiles (plan_of values) k).from _ (low_max a.low _) first.begins);
     above = subst (λ (z : ℤ). int_min a.high z ≤ℤ (bands_alone a (part_tiles (plan_of values) k)).high) (same_top values.ignores ((part_windows (plan_of values) k).to - 1))
-        (ends_above a (part_tiles (plan_of values) k).to (bands a) _ (high_min a.high _) past.ends);
+        (ends_above a (part_tiles (plan_of values) k).to (bands a) _ (high_min a.high _) ends);
   };
   held = λ tile lt needs. held_by plan k tile is lt needs;
 }
@@ -345,8 +368,14 @@ part_chip values k is some looks = record {
     first : IsFirst k a (plan_of values).windows.up (part_tiles (plan_of values) k).from
     first = is_first k a (plan_of values).windows.up
 
-    past : IsPast k a (plan_of values).windows.up (part_tiles (plan_of values) k).to
-    past = is_past k a (plan_of values).windows.up some
+    ends : ((part_tiles (plan_of values) k).to ≡ bands a) ⊎ (counted_top k a (plan_of values).windows.up ≤ℤ band_end a ((part_tiles (plan_of values) k).to - 1))
+    ends = elim (chip_rows_are k a (plan_of values).windows.up) [
+      | inl some ↦ (is_past k a (plan_of values).windows.up (some_bands some)).ends
+      | inr none ↦ inl (none.1 ∙ sym none.2)
+    ]
+      where
+        some_bands : AreSome (part_tiles (plan_of values) k) (bands a) → 0 < bands a
+        some_bands are = let some = are.some in let within = are.within in omega (arith, some, within)
 
     same_bottom : (i : Bool) (b : ℕ) → window_bottom (windows_with values.numbers i) b ≡ window_bottom (whole_windows values.numbers) b
     same_bottom true b = refl

@@ -1,21 +1,21 @@
 -- The rules of a part's chip.
-use Rattle.std.proofs.Common.{◌≡◌, ◌↔◌, refl, ap, sym, subst, ◌∙◌, ℕ, ◌-◌, ◌*◌, ◌≤◌, ◌<◌, ◌==◌, inl, inr, ◌⊎◌, ℤ, ◌<ℤ◌, arith, Bool, true, false, ◌&&◌, [], ◌∷◌, min}
-use Rattle.std.specs.Prelude.{Some, None, Ok, Err, option_map, bytes_eq, int_lt, nat_le, if◌then◌else◌}
-use Rattle.std.proofs.lemmas.Bool.{cases_Bool, cases_lt, eq-eqb, false_from_ne_true}
+use Rattle.std.proofs.Common.{◌≡◌, ◌↔◌, refl, ap, sym, subst, ◌∙◌, ℕ, ◌-◌, ◌*◌, ◌≤◌, ◌<◌, ◌==◌, inl, inr, ◌⊎◌, ℤ, ◌<ℤ◌, arith, Bool, true, false, ◌&&◌, [], ◌∷◌}
+use Rattle.std.specs.Prelude.{Option, Some, None, IsSome, Result, Ok, Err, bytes_eq, int_lt, nat_le, if◌then◌else◌}
+use Rattle.std.proofs.lemmas.Bool.{cases_Bool, eq-eqb, false_from_ne_true}
 use Rattle.std.proofs.lemmas.Bool.Decides.{nat_tests}
 use Rattle.fill_base.specs.Coordinates.{AreCoordinates, IsCoordinate}
 use Rattle.fill_base.specs.Sides.{sides}
 use Rattle.fill_base.proofs.Signed.{read}
 use Rattle.fill_area.specs.Axes as areas
-use Rattle.fill_area.specs.Axes.{IsCount, axis_begin}
+use Rattle.fill_area.specs.Axes.{IsCount, IsExtent, axis_begin}
 use Rattle.fill_area.specs.declared.axis.Axis as spans
-use Rattle.fill_raster.specs.Axes.{IsAxis, band_begin, band_end, bands}
+use Rattle.fill_raster.specs.Axes.{IsAxis, band_end, bands}
 use Rattle.fill_raster.specs.declared.axis.Axis.{Axis}
-use Rattle.fill_text.specs.Chips.{chip_faults, judged, with_rows}
+use Rattle.fill_text.specs.Chips.{AreChipNumbers, chip_faults, judged, with_rows}
 use Rattle.fill_text.specs.Grids.{is_axis}
 use Rattle.fill_text.specs.Rasters.{has_few_places, keeps_pitch}
 use Rattle.fill_text.specs.RectTests.{is_rect}
-use Rattle.fill_text.specs.Refusals.{Gives, fault_if, fault_unless, first_some, refused_or, seen}
+use Rattle.fill_text.specs.Refusals.{Gives, fault_if, fault_unless, first_some, refused_or}
 use Rattle.fill_text.specs.Rules.{Values, frame_of, raster_of, value_of, whole_windows, windows_with}
 use Rattle.fill_text.specs.declared.chip.ChipRows.{ChipRows}
 use Rattle.fill_text.specs.declared.keys.NumberKey.TheVariants as number
@@ -29,32 +29,17 @@ use Rattle.fill_job.specs.Plans.{Plan, plan_of}
 use Rattle.fill_job.specs.Searches.{some_below}
 use Rattle.fill_job.proofs.Searching.{some_below_finds}
 use Rattle.fill_parts.specs.Cuts.{Part}
-use Rattle.fill_parts.specs.Laws.{PartIsRefusedBySize}
-use Rattle.fill_parts.specs.PartChip.{by_size, looks_at, part_rules, part_tiles, part_windows}
+use Rattle.fill_parts.specs.PartChip.{by_size, looks_at, part_alone, part_rules, part_tiles, part_windows}
 use Rattle.fill_parts.specs.PartRows.{chip_tiles, looked_at_windows, looks_at_row}
 use Rattle.fill_parts.specs.Smaller.{AreRowsOf, AreSome, Rows, bands_alone, spans_alone}
-use Rattle.fill_parts.specs.SmallerRules.{rows_alone, rules_alone}
-use Rattle.fill_parts.proofs.BandsAlone.{framed_alone}
-use Rattle.fill_parts.proofs.ChipPlan.{spans_are}
-use Rattle.fill_parts.proofs.Chipping.{begin_coordinate, coordinate_read, end_coordinate, high_edge, low_edge}
-use Rattle.fill_parts.proofs.Looking.{chip_windows, first_before, is_past, past_behind, past_within}
+use Rattle.fill_parts.specs.declared.part_rules.PartRulesError.{PartRulesError}
+use Rattle.fill_parts.specs.declared.part_rules.PartRulesError.TheVariants.{Windows, Places, Memory as NoMemory}
+use Rattle.fill_parts.proofs.BandsAlone.{framed_rows}
+use Rattle.fill_parts.proofs.SpansAlone.{spans_are}
+use Rattle.fill_parts.proofs.Chipping.{begin_coordinate, coordinate_read, end_coordinate, high_edge, low_edge, span_begin}
+use Rattle.fill_parts.proofs.Looking.{chip_rows_are, chip_windows, first_before, past_behind, past_within}
 
 -- ---- the frame of a part's rows of tiles
-
-pub chip_rows_are : (k : Part) (a : Axis) (s : spans.Axis) → AreRowsOf (chip_tiles k a s) (bands a)
-chip_rows_are k a s = elim (cases_lt 0 (bands a)) [
-  | inl some ↦ (let past = is_past k a s some in inl (record { some = past.some; within = past.most }))
-  | inr none ↦ (let all = zero (bands a) none in inr (first_none _ (bands a) (past_within _ (bands a)) all, past_none (bands a) _ all, all))
-]
-  where
-    zero : (n : ℕ) → n ≤ 0 → n ≡ 0
-    zero n h = omega (arith, h)
-
-    first_none : (p n : ℕ) → p ≤ n → n ≡ 0 → p - 1 ≡ 0
-    first_none p n h e = omega (arith, h, e)
-
-    past_none : (n m : ℕ) → n ≡ 0 → min n m ≡ 0
-    past_none n m e = omega (arith, e)
 
 -- where the test for the first row fails, that row begins a band; and where the test for the last fails, one ends it
 pub first_is_some : (rows : Rows) (n : ℕ) → AreRowsOf rows n → (rows.from ≡ 0 → ⊥) → rows.from < n
@@ -93,7 +78,7 @@ top_coordinate a rows is are = elim (cases_Bool (rows.to == bands a)) [
 -- ---- the rules
 
 -- what counts of windows doesn't change their rows
-windows_up : (values : Values) → (plan_of values).windows.up ≡ (whole_windows values.numbers).up
+pub windows_up : (values : Values) → (plan_of values).windows.up ≡ (whole_windows values.numbers).up
 windows_up values = either values.ignores
   where
     either : (i : Bool) → (windows_with values.numbers i).up ≡ (whole_windows values.numbers).up
@@ -104,29 +89,16 @@ windows_up values = either values.ignores
 moved : (P : Axis → spans.Axis → Type 0) (a b : Axis) (s r : spans.Axis) → a ≡ b → s ≡ r → P a s → P b r
 moved P a b s r a_is s_is h = subst (λ x. P x r) a_is (subst (λ y. P a y) s_is h)
 
-pub rules_none : (values : Values) (k : Part) (a : Axis) (s : spans.Axis) → a ≡ (raster_of values.numbers).up → s ≡ (whole_windows values.numbers).up → some_below (looks_at_row k a s) s.count ≡ false → part_rules values k ≡ Ok None
-rules_none values k a s a_is s_is none =
-    let e : some_below (looks_at (plan_of values) k) (plan_of values).windows.up.count ≡ false
-    = moved (λ b r. some_below (looks_at_row k b r) r.count ≡ false) a (plan_of values).raster.up s (plan_of values).windows.up a_is (s_is ∙ sym (windows_up values)) none in
-    rw e refl
-
 -- these rows of a chip are the part's
 abbrev pub IsAlone : Part → Axis → spans.Axis → ChipRows → Type 0
 IsAlone k a s alone = alone ≡ record { bottom = (bands_alone a (chip_tiles k a s)).low; top = (bands_alone a (chip_tiles k a s)).high; first_window = axis_begin s (looked_at_windows k a s).from; windows = (looked_at_windows k a s).to - (looked_at_windows k a s).from }
 
-pub rules_some : (values : Values) (k : Part) (a : Axis) (s : spans.Axis) (alone : ChipRows) → a ≡ (raster_of values.numbers).up → s ≡ (whole_windows values.numbers).up → some_below (looks_at_row k a s) s.count ≡ true
-    → IsAlone k a s alone → part_rules values k ≡ seen Some (judged (with_rows values alone))
-rules_some values k a s alone a_is s_is some e =
-    let up = s_is ∙ sym (windows_up values) in
-    let looks : some_below (looks_at (plan_of values) k) (plan_of values).windows.up.count ≡ true
-    = moved (λ b r. some_below (looks_at_row k b r) r.count ≡ true) a (plan_of values).raster.up s (plan_of values).windows.up a_is up some in
-    let there = moved (λ b r. IsAlone k b r alone) a (plan_of values).raster.up s (plan_of values).windows.up a_is up e in
-    let rows : rows_alone values (part_tiles (plan_of values) k) (part_windows (plan_of values) k) ≡ alone = begun (sym (windows_up values)) ∙ sym there in
-    rw looks (ap (λ x. seen Some (judged (with_rows values x))) rows)
+-- so the values with these rows are those of the part's
+alone_rules : (values : Values) (k : Part) (alone : ChipRows) → IsAlone k (raster_of values.numbers).up (whole_windows values.numbers).up alone → with_rows values alone ≡ part_alone values k
+alone_rules values k alone e = ap (with_rows values) (e ∙ sym (ap rows (windows_up values)))
   where
-    begun : {r : spans.Axis} → (whole_windows values.numbers).up ≡ r → rows_alone values (part_tiles (plan_of values) k) (part_windows (plan_of values) k)
-        ≡ record { bottom = (bands_alone (plan_of values).raster.up (part_tiles (plan_of values) k)).low; top = (bands_alone (plan_of values).raster.up (part_tiles (plan_of values) k)).high; first_window = axis_begin r (part_windows (plan_of values) k).from; windows = (part_windows (plan_of values) k).to - (part_windows (plan_of values) k).from }
-    begun r_is = rw (← r_is) refl
+    rows : spans.Axis → ChipRows
+    rows s = record { bottom = (bands_alone (raster_of values.numbers).up (chip_tiles k (raster_of values.numbers).up s)).low; top = (bands_alone (raster_of values.numbers).up (chip_tiles k (raster_of values.numbers).up s)).high; first_window = axis_begin (whole_windows values.numbers).up (looked_at_windows k (raster_of values.numbers).up s).from; windows = (looked_at_windows k (raster_of values.numbers).up s).to - (looked_at_windows k (raster_of values.numbers).up s).from }
 
 -- ---- why they are refused
 
@@ -137,31 +109,31 @@ some_windows plan k looks =
     let w = chip_windows plan k found.0 found.1 found.2 in
     record { some = (let from = w.0 in let to = w.1 in omega (arith, from, to)); within = past_within (looks_at plan k) plan.windows.up.count }
 
-frame_some : (a : Axis) (rows : Rows) → IsAxis a → AreRowsOf rows (bands a) → (bands_alone a rows).low <ℤ (bands_alone a rows).high
-frame_some a rows is are = elim are [
-  | inl some ↦ (framed_alone a rows is some).some
-  | inr none ↦ (let all : rows.to ≡ bands a = none.1 ∙ sym none.2 in rw (none.0, all) (whole a is))
-]
-  where
-    whole : (a : Axis) → IsAxis a → (if 0 == 0 then a.low else band_begin a 0) <ℤ (if bands a == bands a then a.high else band_end a (bands a - 1))
-    whole a is = rw (eq-eqb (bands a) (bands a) refl) is.ordered
-
 if_fails : (b : Bool) (e : RuleError) → fault_if b e ≡ None → b ≡ false
 if_fails true e none = cc none
 if_fails false e none = refl
 
+-- as the reader of a rule file tells it
+abbrev as_read : Result Values PartRulesError → Result Values RuleError
+as_read (Ok v) = Ok v
+as_read (Err Windows) = Err BadWindows
+as_read (Err Places) = Err TooManyPlaces
+as_read (Err NoMemory) = Err Memory
+
 -- values that only their numbers of windows and of places can make wrong
 pub judged_by_size : (v : Values) → int_lt (value_of v number.Max) (value_of v number.Min) ≡ false → bytes_eq v.fill_top v.fill_cell ≡ false → is_rect (frame_of v.numbers) ≡ true
-    → is_axis (whole_windows v.numbers).across ≡ true → is_axis (whole_windows v.numbers).up ≡ true → keeps_pitch (raster_of v.numbers) (value_of v number.FillSpacing) ≡ true → judged v ≡ by_size v
+    → is_axis (whole_windows v.numbers).across ≡ true → is_axis (whole_windows v.numbers).up ≡ true → keeps_pitch (raster_of v.numbers) (value_of v number.FillSpacing) ≡ true → judged v ≡ as_read (by_size v)
 judged_by_size v m c r x y p = rw (m, c, r, x, y, p) (sizes (nat_le ((whole_windows v.numbers).across.count * (whole_windows v.numbers).up.count) 1048576) (has_few_places (raster_of v.numbers)))
   where
-    sizes : (w n : Bool) → refused_or (first_some (fault_unless w BadWindows ∷ None ∷ fault_unless n TooManyPlaces ∷ [])) v ≡ (if w then (if n then Ok v else Err TooManyPlaces) else Err BadWindows)
+    sizes : (w n : Bool) → refused_or (first_some (fault_unless w BadWindows ∷ None ∷ fault_unless n TooManyPlaces ∷ [])) v ≡ as_read (if w then (if n then Ok v else Err Places) else Err Windows)
     sizes true true = refl
     sizes true false = refl
     sizes false n = refl
 
-pub refused_by_size : PartIsRefusedBySize
-refused_by_size values k none is some = judged_by_size (rules_alone values (part_tiles (plan_of values) k) (part_windows (plan_of values) k))
+-- a part's rules are refused for how many windows or places they have, and for nothing else
+refused_by_size : (values : Values) (k : Part) → first_some (chip_faults values) ≡ None → AreChipNumbers values → some_below (looks_at (plan_of values) k) (plan_of values).windows.up.count ≡ true
+    → judged (part_alone values k) ≡ as_read (by_size (part_alone values k))
+refused_by_size values k none is some = judged_by_size (part_alone values k)
     (if_fails _ _ (none_at (chip_faults values) 0 none)) (if_fails _ _ (none_at (chip_faults values) 1 none)) rect (both _ _ axes).0 up
     (unless_holds _ BadPitch (none_at (chip_faults values) 4 none))
   where
@@ -185,7 +157,7 @@ refused_by_size values k none is some = judged_by_size (rules_alone values (part
 
     rect : is_rect (sides (frame_of values.numbers).left (bands_alone a (part_tiles (plan_of values) k)).low (frame_of values.numbers).right (bands_alone a (part_tiles (plan_of values) k)).high) ≡ true
     rect = is_rect_true (sides (frame_of values.numbers).left (bands_alone a (part_tiles (plan_of values) k)).low (frame_of values.numbers).right (bands_alone a (part_tiles (plan_of values) k)).high)
-        (record { left_is = corners.0.left_is; bottom_is = bottom_coordinate a tiles is.places_up rows; right_is = corners.0.right_is; top_is = top_coordinate a tiles is.places_up rows }) corners.1 (frame_some a tiles is.places_up rows)
+        (record { left_is = corners.0.left_is; bottom_is = bottom_coordinate a tiles is.places_up rows; right_is = corners.0.right_is; top_is = top_coordinate a tiles is.places_up rows }) corners.1 (framed_rows a tiles is.places_up rows).some
 
     up : is_axis (spans_alone (whole_windows values.numbers).up windows) ≡ true
     up = sym (axis_decided (spans_alone (whole_windows values.numbers).up windows) true ((λ _. spans_are (whole_windows values.numbers).up windows is.windows_up (subst (λ (s : spans.Axis). AreSome (part_windows (plan_of values) k) s.count) (windows_up values) (some_windows (plan_of values) k some))), (λ _. refl)))
@@ -206,26 +178,66 @@ top_some a rows n y is are other n_is y_is =
     eqb_false : (m n : ℕ) → (m ≡ n → ⊥) → (m == n) ≡ false
     eqb_false m n h = false_from_ne_true (m == n) (λ e. h (eqb_is m n e))
 
-pub looks_at_some_window : {A : Type 0} (k : Part) (a : Axis) (s : spans.Axis) (x : A) → (Some x ≡ None) ↔ (some_below (looks_at_row k a s) s.count ≡ false) → some_below (looks_at_row k a s) s.count ≡ true
-looks_at_some_window k a s x none = elim (cases_Bool (some_below (looks_at_row k a s) s.count)) [
-  | inl some ↦ some
-  | inr fails ↦ (let never = none.1 fails in cc never)
-]
-
 pub alone_is : (k : Part) (a : Axis) (s : spans.Axis) (t u w x : ℕ) (bottom top first : ℤ) → t ≡ (chip_tiles k a s).from → u ≡ (chip_tiles k a s).to → w ≡ (looked_at_windows k a s).from → x ≡ (looked_at_windows k a s).to
     → bottom ≡ (bands_alone a (record { from = t; to = u })).low → top ≡ (bands_alone a (record { from = t; to = u })).high → first ≡ axis_begin s w → IsAlone k a s (record { bottom = bottom; top = top; first_window = first; windows = x - w })
 alone_is k a s t u w x bottom top first t_is u_is w_is x_is bottom_is top_is first_is = rw (bottom_is, top_is, first_is, t_is, u_is, w_is, x_is) refl
 
-pub given_rules : (values : Values) (k : Part) (a : Axis) (s : spans.Axis) (alone : ChipRows) (v : Values) → a ≡ (raster_of values.numbers).up → s ≡ (whole_windows values.numbers).up → some_below (looks_at_row k a s) s.count ≡ true
-    → IsAlone k a s alone → judged (with_rows values alone) ≡ Ok v → part_rules values k ≡ Ok (Some v)
-given_rules values k a s alone v a_is s_is some e given = rules_some values k a s alone a_is s_is some e ∙ ap (seen Some) given
+-- a part looks at a window by either axis of windows
+pub looks_by_plan : (values : Values) (k : Part) → some_below (looks_at_row k (raster_of values.numbers).up (whole_windows values.numbers).up) (whole_windows values.numbers).up.count ≡ some_below (looks_at (plan_of values) k) (plan_of values).windows.up.count
+looks_by_plan values k = sym (ap (λ (s : spans.Axis). some_below (looks_at_row k (raster_of values.numbers).up s) s.count) (windows_up values))
 
-pub refused_rules : (values : Values) (k : Part) (a : Axis) (s : spans.Axis) (alone : ChipRows) (fault : RuleError) → a ≡ (raster_of values.numbers).up → s ≡ (whole_windows values.numbers).up → some_below (looks_at_row k a s) s.count ≡ true
-    → IsAlone k a s alone → (fault ≡ Memory) ⊎ (judged (with_rows values alone) ≡ Err fault) → Gives Memory (option_map values_of) (Err fault) (part_rules values k)
-refused_rules values k a s alone fault a_is s_is some e why = elim why [
-  | inl memory ↦ inl memory
-  | inr judged_so ↦ inr (rules_some values k a s alone a_is s_is some e ∙ ap (seen Some) judged_so)
-]
+-- what the rules of these rows are judged to be
+module _ (values : Values) (k : Part) (alone : ChipRows) (none : first_some (chip_faults values) ≡ None) (is : AreChipNumbers values)
+    (looks : some_below (looks_at_row k (raster_of values.numbers).up (whole_windows values.numbers).up) (whole_windows values.numbers).up.count ≡ true)
+    (rows : IsAlone k (raster_of values.numbers).up (whole_windows values.numbers).up alone) where
+  as_sized : judged (with_rows values alone) ≡ as_read (by_size (part_alone values k))
+  as_sized = ap judged (alone_rules values k alone rows) ∙ refused_by_size values k none is (sym (looks_by_plan values k) ∙ looks)
+
+  pub rules_given : (v : Values) → judged (with_rows values alone) ≡ Ok v → by_size (part_alone values k) ≡ Ok v
+  rules_given v given = back (by_size (part_alone values k)) (sym as_sized ∙ given)
+    where
+      read_value : Result Values RuleError → Values
+      read_value (Ok w) = w
+      read_value (Err e) = v
+
+      back : (r : Result Values PartRulesError) → as_read r ≡ Ok v → r ≡ Ok v
+      back (Ok w) e = ap Ok (ap read_value e)
+      back (Err Windows) e = cc e
+      back (Err Places) e = cc e
+      back (Err NoMemory) e = cc e
+
+  pub windows_refused : (BadWindows ≡ Memory) ⊎ (judged (with_rows values alone) ≡ Err BadWindows) → Gives NoMemory values_of (Err Windows) (by_size (part_alone values k))
+  windows_refused (inl e) = cc e
+  windows_refused (inr given) = inr (back (by_size (part_alone values k)) (sym as_sized ∙ given))
+    where
+      back : (r : Result Values PartRulesError) → as_read r ≡ Err BadWindows → r ≡ Err Windows
+      back (Ok w) e = cc e
+      back (Err Windows) e = refl
+      back (Err Places) e = cc e
+      back (Err NoMemory) e = cc e
+
+  pub places_refused : (TooManyPlaces ≡ Memory) ⊎ (judged (with_rows values alone) ≡ Err TooManyPlaces) → Gives NoMemory values_of (Err Places) (by_size (part_alone values k))
+  places_refused (inl e) = cc e
+  places_refused (inr given) = inr (back (by_size (part_alone values k)) (sym as_sized ∙ given))
+    where
+      back : (r : Result Values PartRulesError) → as_read r ≡ Err TooManyPlaces → r ≡ Err Places
+      back (Ok w) e = cc e
+      back (Err Windows) e = cc e
+      back (Err Places) e = refl
+      back (Err NoMemory) e = cc e
+
+-- values of few enough windows and places are these values
+pub sized_is : (v w : Values) → by_size v ≡ Ok w → v ≡ w
+sized_is v w given = back (nat_le ((whole_windows v.numbers).across.count * (whole_windows v.numbers).up.count) 1048576) (has_few_places (raster_of v.numbers)) given
+  where
+    ok_of : Result Values PartRulesError → Values
+    ok_of (Ok x) = x
+    ok_of (Err e) = v
+
+    back : (x y : Bool) → (if x then (if y then Ok v else Err Places) else Err Windows) ≡ Ok w → v ≡ w
+    back true true e = ap ok_of e
+    back true false e = cc e
+    back false y e = cc e
 
 -- the rows of windows that are looked at are some, and no more than there are
 pub record AreLookedAt (s : spans.Axis) (f t : ℕ) : Type 0 where
@@ -247,3 +259,38 @@ rows_are k a s t u t_is u_is = rw (t_is, u_is) (chip_rows_are k a s)
 
 pub read_as : (y z : ℤ) → y ≡ z → IsCoordinate z → read y ≡ z
 read_as y z e is = rw e (coordinate_read z is)
+
+-- ---- the rows that the rules of a part are made of, found on axes that are those of the chip
+
+module _ (values : Values) (k : Part) (a : Axis) (s : spans.Axis) (t u w x : ℕ) (is_a : IsAxis a) (is_s : areas.IsAxis s) (a_is : a ≡ (raster_of values.numbers).up) (s_is : s ≡ (whole_windows values.numbers).up)
+    (tiles : (t ≡ (chip_tiles k (raster_of values.numbers).up (whole_windows values.numbers).up).from) × (u ≡ (chip_tiles k (raster_of values.numbers).up (whole_windows values.numbers).up).to))
+    (windows : (w ≡ (looked_at_windows k (raster_of values.numbers).up (whole_windows values.numbers).up).from) × (x ≡ (looked_at_windows k (raster_of values.numbers).up (whole_windows values.numbers).up).to)) where
+  pub rows_here : AreRowsOf (record { from = t; to = u }) (bands a)
+  rows_here = subst (λ (b : Axis). AreRowsOf (record { from = t; to = u }) (bands b)) (sym a_is) (rows_are k (raster_of values.numbers).up (whole_windows values.numbers).up t u tiles.0 tiles.1)
+
+  pub windows_here : some_below (looks_at_row k (raster_of values.numbers).up (whole_windows values.numbers).up) (whole_windows values.numbers).up.count ≡ true → AreLookedAt s w x
+  windows_here looks = subst (λ (r : spans.Axis). AreLookedAt r w x) (sym s_is) (are_looked_at k (raster_of values.numbers).up (whole_windows values.numbers).up w x (subst areas.IsAxis s_is is_s) looks windows.0 windows.1)
+
+  pub alone_here : (bottom top first end : ℤ) → bottom ≡ (bands_alone a (record { from = t; to = u })).low → top ≡ (bands_alone a (record { from = t; to = u })).high → IsExtent s w first end
+      → IsAlone k (raster_of values.numbers).up (whole_windows values.numbers).up (record { bottom = read bottom; top = read top; first_window = read first; windows = x - w })
+  alone_here bottom top first end bottom_is top_is extent =
+      alone_is k (raster_of values.numbers).up (whole_windows values.numbers).up t u w x (read bottom) (read top) (read first) tiles.0 tiles.1 windows.0 windows.1
+      (read_as bottom _ bottom_is (bottom_coordinate a (record { from = t; to = u }) is_a rows_here) ∙ ap (λ (b : Axis). (bands_alone b (record { from = t; to = u })).low) a_is)
+      (read_as top _ top_is (top_coordinate a (record { from = t; to = u }) is_a rows_here) ∙ ap (λ (b : Axis). (bands_alone b (record { from = t; to = u })).high) a_is)
+      (coordinate_read first (span_begin s w first end extent) ∙ (extent.begins ∙ ap (λ (r : spans.Axis). axis_begin r w) s_is))
+
+-- a part whose rows are some looks at a window
+pub looks_here : {A : Type 0} (values : Values) (k : Part) (a : Axis) (s : spans.Axis) (x : A) → a ≡ (raster_of values.numbers).up → s ≡ (whole_windows values.numbers).up → (Some x ≡ None) ↔ (some_below (looks_at_row k a s) s.count ≡ false)
+    → some_below (looks_at_row k (raster_of values.numbers).up (whole_windows values.numbers).up) (whole_windows values.numbers).up.count ≡ true
+looks_here values k a s x a_is s_is none = moved (λ b r. some_below (looks_at_row k b r) r.count ≡ true) a (raster_of values.numbers).up s (whole_windows values.numbers).up a_is s_is (elim (cases_Bool (some_below (looks_at_row k a s) s.count)) [
+  | inl some ↦ some
+  | inr fails ↦ (let never = none.1 fails in cc never)
+])
+
+-- and then its rules are those of its own rows
+pub rules_of_own : (values : Values) (k : Part) → some_below (looks_at_row k (raster_of values.numbers).up (whole_windows values.numbers).up) (whole_windows values.numbers).up.count ≡ true → part_rules values k ≡ by_size (part_alone values k)
+rules_of_own values k looks = let here = sym (looks_by_plan values k) ∙ looks in rw here refl
+
+pub option_some : {A : Type 0} (o : Option A) → (o ≡ None → ⊥) → IsSome o
+option_some None none = absurd (none refl)
+option_some (Some x) none = refl

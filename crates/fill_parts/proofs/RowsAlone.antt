@@ -39,7 +39,7 @@ rows_alone r rows = record { across = r.across; up = bands_alone r.up rows }
 pub on_alone : (a : Axis) (rows : Rows) (j : ℤ) → IsBanded a → AreSome rows (bands a) → is_on (bands_alone a rows) j ≡ true → is_on a j ≡ true
 on_alone a rows j is are on = within_on a j (in_on a j is.step (in_alone a rows j is.step is.band are (on_in (bands_alone a rows) j is.step (on_within (bands_alone a rows) j on))).there)
 
-band_alone : (a : Axis) (rows : Rows) (j : ℤ) → IsBanded a → AreSome rows (bands a) → is_on (bands_alone a rows) j ≡ true → band_of a j ≡ rows.from + band_of (bands_alone a rows) j
+pub band_alone : (a : Axis) (rows : Rows) (j : ℤ) → IsBanded a → AreSome rows (bands a) → is_on (bands_alone a rows) j ≡ true → band_of a j ≡ rows.from + band_of (bands_alone a rows) j
 band_alone a rows j is are on = (in_alone a rows j is.step is.band are (on_in (bands_alone a rows) j is.step (on_within (bands_alone a rows) j on))).band
 
 -- a place has in the chip of those rows the number of its tile that is left when the tiles below are taken off

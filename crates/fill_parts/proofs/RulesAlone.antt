@@ -15,7 +15,7 @@ use Rattle.fill_text.specs.declared.keys.NumberKey.TheVariants.{FrameY1, FrameY2
 use Rattle.fill_parts.specs.Laws.{RulesAloneMakeASmallerChip}
 use Rattle.fill_parts.specs.Smaller.{bands_alone, spans_alone}
 use Rattle.fill_parts.specs.SmallerRules.{rows_alone, rules_alone}
-use Rattle.fill_parts.proofs.BandsAlone.{IsFramed, framed_alone}
+use Rattle.fill_parts.proofs.BandsAlone.{IsFramed, framed_rows}
 use Rattle.fill_parts.proofs.RowsAlone.{further}
 
 -- what a frame keeps of a number between two edges, it keeps also where it is cut beyond these
@@ -79,7 +79,7 @@ smaller_chip values rows windows is tiles grid cover = record {
     step = subst (λ (s : spans.Axis). pos 1 ≤ℤ s.step) (upwards values.ignores) is.windows_up.step_is.least
 
     frame : IsFramed (raster_of values.numbers).up rows
-    frame = framed_alone (raster_of values.numbers).up rows is.places_up tiles
+    frame = framed_rows (raster_of values.numbers).up rows is.places_up tiles
 
     inside : (b : ℕ) → b < (windows_of (rules_alone values rows windows)).up.count → windows.from + b ≤ windows.to - 1
     inside b lt = within (subst (λ n. b < n) (ap (λ (s : spans.Axis). s.count) (up values.ignores)) lt)

@@ -5,7 +5,7 @@ use Rattle.std.specs.Int.{int_max, int_min}
 use Rattle.std.proofs.lemmas.Bool.{cases_lt}
 use Rattle.std.proofs.lemmas.Int.{ints, clamps}
 use Rattle.fill_parts.specs.Needs.{least_of, greatest_of}
-use Rattle.fill_parts.specs.Laws.{NeededSidesAreEnough, WindowSidesAreEnough}
+use Rattle.fill_parts.specs.Laws.{NeededSidesAreEnough}
 
 -- ---- the least and the greatest
 
@@ -85,15 +85,5 @@ sides_enough plan k = record {
     from_bottom = le_trans _ _ _ (least_from _ _ _ _) (least_at _ _ _ _ b row needed);
     to_right = le_trans _ _ _ (greatest_at _ _ _ _ a column refl) (greatest_from _ _ _ _);
     to_top = le_trans _ _ _ (greatest_at _ _ _ _ b row needed) (greatest_from _ _ _ _);
-  };
-}
-
-pub windows_enough : WindowSidesAreEnough
-windows_enough plan k = record {
-  windows = λ a b column row own. record {
-    from_left = least_at _ _ _ _ a column refl;
-    from_bottom = least_at _ _ _ _ b row own;
-    to_right = greatest_at _ _ _ _ a column refl;
-    to_top = greatest_at _ _ _ _ b row own;
   };
 }

@@ -53,17 +53,17 @@ line_same whole small tiles windows limits m a b row is lt =
     (ap (λ s. axis_begin s a) (sym is.columns)) (sym (bottom_alone whole small tiles windows is b)) (ap (λ s. axis_end s a) (sym is.columns)) (sym (top_alone whole small tiles windows is b))
     (sym (size_alone whole small tiles windows is a b lt))
 
-no_row : (n c : ℕ) → n ≡ 0 → n * c ≡ 0
+pub no_row : (n c : ℕ) → n ≡ 0 → n * c ≡ 0
 no_row n c none = ap (λ k. k * c) none ∙ nothing c
   where
     nothing : (c : ℕ) → 0 * c ≡ 0
     nothing c = omega arith
 
-no_line : (f : ℕ → List ℕ) (b n : ℕ) → n ≡ 0 → flat_map f (range_with_len b n) ≡ []
+pub no_line : (f : ℕ → List ℕ) (b n : ℕ) → n ≡ 0 → flat_map f (range_with_len b n) ≡ []
 no_line f b n none = ap (λ k. flat_map f (range_with_len b k)) none
 
 -- the part's lines by its chip's windows
-told_by : (whole small : Plan) (tiles windows : Rows) (limits : Limits) (m : ℕ → ℕ → Measures) (k : Part) → IsSmaller whole small tiles windows → 1 ≤ whole.windows.across.count
+pub told_by : (whole small : Plan) (tiles windows : Rows) (limits : Limits) (m : ℕ → ℕ → Measures) (k : Part) → IsSmaller whole small tiles windows → 1 ≤ whole.windows.across.count
     → (first_row k whole.windows.up.count < past_row k whole.windows.up.count → (windows.from ≤ first_row k whole.windows.up.count) × (past_row k whole.windows.up.count ≤ windows.to))
     → part_lines whole.windows limits (λ a b. m a (b - windows.from)) k
     ≡ lines_above windows.from small.windows limits m ((first_row k whole.windows.up.count - windows.from) * small.windows.across.count) ((past_row k whole.windows.up.count - first_row k whole.windows.up.count) * small.windows.across.count)
@@ -121,7 +121,7 @@ told_by whole small tiles windows limits m k is some within = elim (cases_lt low
         again : (f b : ℕ) → (f + b) - f ≡ b
         again f b = omega arith
 
-past_few : (k : Part) (rows : ℕ) → IsPart k → past_row k rows ≤ rows
+pub past_few : (k : Part) (rows : ℕ) → IsPart k → past_row k rows ≤ rows
 past_few k rows part = rw (cut_ends rows k.count (some k.number k.count part.below)) at (cut_le rows k.count (k.number + 1) k.count (some k.number k.count part.below) (next k.number k.count part.below))
   where
     some : (n c : ℕ) → n < c → 0 < c
@@ -130,29 +130,28 @@ past_few k rows part = rw (cut_ends rows k.count (some k.number k.count part.bel
     next : (n c : ℕ) → n < c → n + 1 ≤ c
     next n c lt = omega (arith, lt)
 
+-- the part's own rows of windows are of its chip's
+pub own_within : (plan : Plan) (k : Part) → IsPart k → first_row k plan.windows.up.count < past_row k plan.windows.up.count
+    → ((part_windows plan k).from ≤ first_row k plan.windows.up.count) × (past_row k plan.windows.up.count ≤ (part_windows plan k).to)
+own_within plan k part lt = (low, high)
+  where
+    rows : ℕ
+    rows = plan.windows.up.count
+
+    own : (b : ℕ) → first_row k rows ≤ b → b < past_row k rows → ((part_windows plan k).from ≤ b) × (b < (part_windows plan k).to)
+    own b from to = chip_windows plan k b (below b to) (true_or (has_windows plan k b) _ (is_row_of k rows b (record { low = from; high = to })))
+      where
+        below : (b : ℕ) → b < past_row k rows → b < rows
+        below b h = let most = past_few k rows part in omega (arith, h, most)
+
+    low : (part_windows plan k).from ≤ first_row k rows
+    low = (own (first_row k rows) (omega arith) lt).0
+
+    high : past_row k rows ≤ (part_windows plan k).to
+    high = let last = (own (past_row k rows - 1) (omega (arith, lt)) (omega (arith, lt))).1 in omega (arith, last, lt)
+
 pub lines_told : PartLinesAreTold
 lines_told values k layers is part some looks =
     lines_of_chip values k layers is part some looks
     ∙ told_by (plan_of values) (chip_plan values k) (part_tiles (plan_of values) k) (part_windows (plan_of values) k) (limits_of values)
-    (measures_of layers.metal (boxes_of (chip_plan values k) (low_fill (chip_plan values k) layers)) (chip_plan values k).windows) k (chip_smaller values k is (part_chip values k is some looks)) is.windows_across.count_is.least within
-  where
-    rows : ℕ
-    rows = (plan_of values).windows.up.count
-
-    within : first_row k rows < past_row k rows → ((part_windows (plan_of values) k).from ≤ first_row k rows) × (past_row k rows ≤ (part_windows (plan_of values) k).to)
-    within lt = (low, high)
-      where
-        own : (b : ℕ) → first_row k rows ≤ b → b < past_row k rows → ((part_windows (plan_of values) k).from ≤ b) × (b < (part_windows (plan_of values) k).to)
-        own b from to = chip_windows (plan_of values) k b (below b to) (true_or (has_windows (plan_of values) k b) _ (is_row_of k rows b (record { low = from; high = to })))
-          where
-            below : (b : ℕ) → b < past_row k rows → b < rows
-            below b h = let most = past_within in omega (arith, h, most)
-              where
-                past_within : past_row k rows ≤ rows
-                past_within = past_few k rows part
-
-        low : (part_windows (plan_of values) k).from ≤ first_row k rows
-        low = (own (first_row k rows) (omega arith) lt).0
-
-        high : past_row k rows ≤ (part_windows (plan_of values) k).to
-        high = let last = (own (past_row k rows - 1) (omega (arith, lt)) (omega (arith, lt))).1 in omega (arith, last, lt)
+    (measures_of layers.metal (boxes_of (chip_plan values k) (low_fill (chip_plan values k) layers)) (chip_plan values k).windows) k (chip_smaller values k is (part_chip values k is looks)) is.windows_across.count_is.least (own_within (plan_of values) k part)

@@ -1,15 +1,13 @@
 -- What holds of every cut into parts.
-use Rattle.std.specs.Prelude.{◌≡◌, ℕ, ◌+◌, ◌-◌, ◌*◌, ◌<◌, ◌≤◌, ℤ, Bool, true, false, ◌&&◌, List, [], ◌++◌, length, map, None, ◌≤ℤ◌, ◌<ℤ◌}
+use Rattle.std.specs.Prelude.{◌≡◌, ℕ, ◌+◌, ◌-◌, ◌*◌, ◌<◌, ◌≤◌, ℤ, Bool, true, false, ◌&&◌, List, [], ◌++◌, length, map}
 use Rattle.std.specs.List.{filter, flat_map, range_with_len}
 use Rattle.fill_base.specs.Squares.{squares}
 use Rattle.fill_base.specs.Coordinates.{IsInRange}
 use Rattle.fill_base.specs.Sides.{Sides}
 use Rattle.fill_area.specs.Density.{window_area}
 use Rattle.fill_area.specs.Grid.{Grid}
-use Rattle.fill_raster.specs.Axes.{band_of, bands, first, past}
-use Rattle.fill_raster.specs.Lattice.{HasFewPlaces, tile_of, tiles}
-use Rattle.fill_text.specs.Chips.{AreChipNumbers, chip_faults, judged}
-use Rattle.fill_text.specs.Refusals.{first_some}
+use Rattle.fill_raster.specs.Axes.{band_of, bands}
+use Rattle.fill_raster.specs.Lattice.{tile_of, tiles}
 use Rattle.fill_text.specs.Rules.{Values, limits_of, windows_of}
 use Rattle.fill_text.specs.Script.{change_of}
 use Rattle.fill_text.specs.declared.limits.Limits.{Limits}
@@ -18,7 +16,7 @@ use Rattle.fill_job.specs.Plans.{Plan, IsPlan, Layers, PointSet, plan_of, low_wi
 use Rattle.fill_job.specs.Searches.{some_below}
 use Rattle.fill_core.specs.Boxes.{no_places}
 use Rattle.fill_core.specs.Histories.{edits_in}
-use Rattle.fill_core.specs.Machine.{IsComplete, layers_after, State, opened, replay}
+use Rattle.fill_core.specs.Machine.{IsComplete, layers_after, opened, replay}
 use Rattle.fill_core.specs.declared.event.Event.{Event}
 use Rattle.fill_core.specs.declared.event.Event.TheVariants as event
 use Rattle.fill_core.specs.Boxes.{low_fill}
@@ -27,9 +25,9 @@ use Rattle.fill_report.specs.Report.{lines_above, measures_of}
 use Rattle.fill_report.specs.RulesReport.{metal_report}
 use Rattle.fill_report.specs.declared.line.Measures.{Measures}
 use Rattle.fill_parts.specs.Cuts.{IsPart, Part, cut, first_row, has_row, past_row}
-use Rattle.fill_parts.specs.Needs.{IsEnough, HoldsItsWindows, AgreeInside, LayersAgree, in_coordinates, is_inside, layers_met, met_with, needed_sides, window_sides, needs_tile, needs_windows, has_tile, has_windows, is_level}
-use Rattle.fill_parts.specs.PartChip.{IsChipOf, by_size, chip_plan, looks_at, part_tiles, part_windows}
-use Rattle.fill_parts.specs.Smaller.{AreAxes, IsPlanOfAnySize, Rows, AreSome, IsHeldBy, IsSmaller}
+use Rattle.fill_parts.specs.Needs.{IsEnough, AgreeInside, LayersAgree, in_coordinates, is_inside, layers_met, met_with, needed_sides, needs_tile, needs_windows, has_tile, has_windows, is_level}
+use Rattle.fill_parts.specs.PartChip.{HoldsPart, IsChipOf, chip_plan, looks_at, part_windows, rows_fill, rows_told}
+use Rattle.fill_parts.specs.Smaller.{AreAxes, AreRowsOf, Rows, AreSome, IsHeldBy, IsSmaller}
 use Rattle.fill_parts.specs.SmallerRules.{Cover, rules_alone}
 use Rattle.fill_parts.specs.PartReport.{part_lines, rows_lines, part_check, part_report}
 use Rattle.fill_parts.specs.PartFill.{part_fill, near_fill, layers_by, layers_with, rect_of}
@@ -79,14 +77,6 @@ PartsMakeTheCheck = (values : Values) (metal : PointSet) (count : ℕ) → 0 < c
 -- metal within the coordinates agrees with what of it lies between the sides and within the coordinates
 abbrev pub ClippedAgrees : Type 0
 ClippedAgrees = (s : Sides) (p : PointSet) → ((x y : ℤ) → p x y ≡ true → IsInRange x y) → AgreeInside s p (met_with (in_coordinates s) p)
-
--- the least rectangle round the part's windows holds them, and lines without fill look at nothing else
-abbrev pub WindowSidesAreEnough : Type 0
-WindowSidesAreEnough = (plan : Plan) (k : Part) → HoldsItsWindows plan k (window_sides plan k)
-
-abbrev pub CheckLinesAgree : Type 0
-CheckLinesAgree = (values : Values) (k : Part) (s : Sides) (p q : PointSet) → IsPlan (plan_of values) → IsPart k → HoldsItsWindows (plan_of values) k s → AgreeInside s p q
-    → part_check values p k ≡ part_check values q k
 
 -- the least rectangle is enough
 abbrev pub NeededSidesAreEnough : Type 0
@@ -150,11 +140,6 @@ EditsInsideSuffice = (s : Sides) (touches : Edit → Bool) (edits : List Edit) (
 abbrev pub EditsOpenAnew : Type 0
 EditsOpenAnew = (plan : Plan) (layers : Layers) (edits : List Edit) → replay plan layers (map event.Edit edits) ≡ opened plan (layers_with edits layers) no_places (length edits)
 
--- where a version opened without a box and just the tiles that a part needs are in, the fill is that part of it
-abbrev pub FillOfNeededTiles : Type 0
-FillOfNeededTiles = (plan : Plan) (layers : Layers) (events : List Event) (k : Part) → IsPlan plan → let s = replay plan layers events in
-    s.base ≡ no_places → ((tile : ℕ) → tile < tiles plan.raster → s.tiles_in tile ≡ needs_tile plan k tile) → s.fill ≡ near_fill plan s.layers k
-
 -- a part's fill is that of its tiles: in each the wanted places, by the windows that are low in the metal
 abbrev pub PartFillIsWanted : Type 0
 PartFillIsWanted = (plan : Plan) (layers : Layers) (k : Part) (i j : ℤ) → let tile = tile_of plan.raster i j in
@@ -181,20 +166,19 @@ PartsAreApart = (plan : Plan) (layers : Layers) (count k l : ℕ) (i j : ℤ) �
 
 -- ---- one part, whole
 
--- A book that opened on the clipped layers, whose edits are those with a square between the sides, and in which just the tiles that the part
--- needs are in, has the part's fill in its tiles, and the lines of the part are those of the whole.
-pub record IsPartOf (values : Values) (k : Part) (layers : Layers) (s : State) : Type 0 where
-  pub places : (λ i j. s.fill i j && has_tile (plan_of values) k (tile_of (plan_of values).raster i j)) ≡ part_fill (plan_of values) layers k
-  pub lines : part_report values s.layers.metal s.fill k ≡ part_report values layers.metal (low_fill (plan_of values) layers) k
+-- the fill of a smaller chip of such metal and keep-outs is the part's in these rows of tiles, and so are the lines of these rows of windows
+pub record TellsPart (values : Values) (k : Part) (small : Values) (tiles windows : Rows) (below : ℕ) (near layers : Layers) : Type 0 where
+  pub places : rows_fill (plan_of small) tiles (low_fill (plan_of small) near) ≡ part_fill (plan_of values) layers k
+  pub lines : rows_told small windows below near.metal (boxes_of (plan_of small) (low_fill (plan_of small) near)) ≡ part_report values layers.metal (low_fill (plan_of values) layers) k
 
-abbrev pub PartRunIsThePart : Type 0
-PartRunIsThePart = (values : Values) (k : Part) (s : Sides) (layers : Layers) (touches : Edit → Bool) (edits : List Edit) (events : List Event) → IsPlan (plan_of values) → IsPart k → IsEnough (plan_of values) k s
+-- Of a design whose metal and keep-outs lie within the coordinates, a chip that holds the part needs but what lies between sides that are
+-- enough for all of the chip, and of the edits those that have a square there.
+abbrev pub ChipRunIsThePart : Type 0
+ChipRunIsThePart = (values : Values) (k : Part) (small : Values) (tiles windows : Rows) (below : ℕ) (s : Sides) (layers : Layers) (touches : Edit → Bool) (edits : List Edit) → HoldsPart values k small tiles windows below
+    → IsPlan (plan_of small) → windows.from ≤ windows.to → windows.to ≤ (plan_of small).windows.up.count → IsEnough (plan_of small) (part 0 1) s
     → ((x y : ℤ) → layers.metal x y ≡ true → IsInRange x y) → ((x y : ℤ) → layers.keep x y ≡ true → IsInRange x y)
     → ((edit : Edit) → touches edit ≡ false → (x y : ℤ) → is_inside s x y ≡ true → squares (rect_of edit) x y ≡ false)
-    → let t = replay (plan_of values) (layers_met (in_coordinates s) layers) events in
-    t.base ≡ no_places → t.layers ≡ layers_with (filter touches edits) (layers_met (in_coordinates s) layers)
-    → ((tile : ℕ) → tile < tiles (plan_of values).raster → t.tiles_in tile ≡ needs_tile (plan_of values) k tile)
-    → IsPartOf values k (layers_by (map change_of edits) layers) t
+    → TellsPart values k small tiles windows below (layers_with (filter touches edits) (layers_met (in_coordinates s) layers)) (layers_by (map change_of edits) layers)
 
 -- ---- a part as a smaller chip
 
@@ -208,7 +192,7 @@ SmallerChipWantsTheSame = (whole small : Plan) (rows windows : Rows) (layers : L
 
 -- The rules of some rows of tiles and of windows alone make such a plan, if the tiles cover what counts of the windows.
 abbrev pub RulesAloneMakeASmallerChip : Type 0
-RulesAloneMakeASmallerChip = (values : Values) (rows windows : Rows) → let plan = plan_of values in AreAxes plan → AreSome rows (bands plan.raster.up) → AreSome windows plan.windows.up.count → Cover values rows windows
+RulesAloneMakeASmallerChip = (values : Values) (rows windows : Rows) → let plan = plan_of values in AreAxes plan → AreRowsOf rows (bands plan.raster.up) → AreSome windows plan.windows.up.count → Cover values rows windows
     → IsSmaller plan (plan_of (rules_alone values rows windows)) rows windows
 
 -- And a window measures in it what it measures in the chip: its metal, and the boxes of a complete fill, if all tiles level with the
@@ -220,7 +204,7 @@ SmallerChipMeasuresTheSame = (whole small : Plan) (rows windows : Rows) (layers 
 
 -- The rows of a part that looks at any window are such rows.
 abbrev pub PartIsASmallerChip : Type 0
-PartIsASmallerChip = (values : Values) (k : Part) → let plan = plan_of values in AreAxes plan → 0 < bands plan.raster.up → some_below (looks_at plan k) plan.windows.up.count ≡ true → IsChipOf values k
+PartIsASmallerChip = (values : Values) (k : Part) → let plan = plan_of values in AreAxes plan → some_below (looks_at plan k) plan.windows.up.count ≡ true → IsChipOf values k
 
 -- A part that looks at none has no fill, and no line.
 pub record HasNothing (values : Values) (k : Part) : Type 0 where
@@ -240,25 +224,6 @@ abbrev pub PartLinesAreOfItsChip : Type 0
 PartLinesAreOfItsChip = (values : Values) (k : Part) (layers : Layers) → let plan = plan_of values in let chip = chip_plan values k in AreAxes plan → IsPart k → 0 < bands plan.raster.up → some_below (looks_at plan k) plan.windows.up.count ≡ true
     → part_report values layers.metal (low_fill plan layers) k
     ≡ part_lines (windows_of values) (limits_of values) (λ a b. measures_of layers.metal (boxes_of chip (low_fill chip layers)) chip.windows a (b - (part_windows plan k).from)) k
-
--- The plan of a part's chip is one that can be run, if its own places and windows are few enough, whatever the whole chip has.
-abbrev pub ChipHasAPlan : Type 0
-ChipHasAPlan = (values : Values) (k : Part) → let plan = plan_of values in let chip = chip_plan values k in IsPlanOfAnySize plan → 0 < bands plan.raster.up → some_below (looks_at plan k) plan.windows.up.count ≡ true
-    → HasFewPlaces chip.raster → chip.windows.across.count * chip.windows.up.count ≤ 1048576 → IsPlan chip
-
--- Of a chip whose values have no fault, a part's rules are refused for how many windows or places they have, and for nothing else.
-abbrev pub PartIsRefusedBySize : Type 0
-PartIsRefusedBySize = (values : Values) (k : Part) → let plan = plan_of values in first_some (chip_faults values) ≡ None → AreChipNumbers values → some_below (looks_at plan k) plan.windows.up.count ≡ true
-    → judged (rules_alone values (part_tiles plan k) (part_windows plan k)) ≡ by_size (rules_alone values (part_tiles plan k) (part_windows plan k))
-
--- The rows of places of a part's chip are rows of the whole one, and the part's fill stands in them.
-pub record StandsInItsChip (values : Values) (k : Part) : Type 0 where
-  pub from : first (plan_of values).raster.up ≤ℤ first (chip_plan values k).raster.up
-  pub to : past (chip_plan values k).raster.up ≤ℤ past (plan_of values).raster.up
-  pub fill : (layers : Layers) (i j : ℤ) → part_fill (plan_of values) layers k i j ≡ true → (first (chip_plan values k).raster.up ≤ℤ j) × (j <ℤ past (chip_plan values k).raster.up)
-
-abbrev pub PartStandsInItsChip : Type 0
-PartStandsInItsChip = (values : Values) (k : Part) → let plan = plan_of values in AreAxes plan → 0 < bands plan.raster.up → some_below (looks_at plan k) plan.windows.up.count ≡ true → StandsInItsChip values k
 
 -- The part's piece of the report is what its chip tells of the part's own windows, with so many rows more as lie below its chip.
 abbrev pub PartLinesAreTold : Type 0

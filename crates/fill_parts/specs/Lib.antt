@@ -6,5 +6,6 @@ pub mod Smaller
 pub mod PartRows
 pub mod SmallerRules
 pub mod PartChip
+pub mod Told
 pub mod Laws
 pub mod steps

@@ -83,15 +83,6 @@ greatest_of p f z (suc n) = if p n then int_max (f n) (greatest_of p f z n) else
 abbrev pub every : ℕ → Bool
 every k = true
 
--- the least rectangle round the part's own windows
-abbrev pub window_sides : Plan → Part → Sides
-window_sides plan part = record {
-  left = least_of every (window_left plan.windows) highest plan.windows.across.count;
-  bottom = least_of (has_windows plan part) (window_bottom plan.windows) highest plan.windows.up.count;
-  right = greatest_of every (window_right plan.windows) lowest plan.windows.across.count;
-  top = greatest_of (has_windows plan part) (window_top plan.windows) lowest plan.windows.up.count;
-}
-
 -- the sides that the part needs; where it needs nothing, the left is beyond the right, or the bottom beyond the top
 abbrev pub needed_sides : Plan → Part → Sides
 needed_sides plan part = record {

@@ -1,7 +1,7 @@
 //! What holds of every cut into parts, whatever the code does. Each function's contract is the law.
 ghost use Rattle.fill_text.specs.ValuesOfChips.{chip_values};
 ghost use Rattle.fill_job.specs.Plans.{plan_of};
-ghost use Rattle.fill_parts.specs.Laws.{AreasAgree, CheckLinesAgree, ChipHasAPlan, PartIsRefusedBySize, PartStandsInItsChip, PartLinesAreTold, ClippedAgrees, EachRowIsInOnePart, EditsAgree, EditsAreChanges, EditsInsideSuffice, EditsOpenAnew, EditsOutsideDoNothing, FillOfNeededTiles, PartsMakeTheCheck, PartsTellTheReport, WindowSidesAreEnough, FillAfterEdits, FillsAgree, LinesAgree, LowWindowsAgree, NeededSidesAreEnough, PartFillIsOfItsChip, PartFillIsWanted, PartLinesAreOfItsChip, PartIsASmallerChip, PartOfNoWindowHasNothing, PartRunIsThePart, PartsAreApart, PartsFollow, PartsMakeTheFill, PartsMakeTheReport, RowsFollow, RulesAloneMakeASmallerChip, SmallerChipMeasuresTheSame, SmallerChipWantsTheSame, WantedAgree};
+ghost use Rattle.fill_parts.specs.Laws.{AreasAgree, ChipRunIsThePart, PartLinesAreTold, ClippedAgrees, EachRowIsInOnePart, EditsAgree, EditsAreChanges, EditsInsideSuffice, EditsOpenAnew, EditsOutsideDoNothing, PartsMakeTheCheck, PartsTellTheReport, FillAfterEdits, FillsAgree, LinesAgree, LowWindowsAgree, NeededSidesAreEnough, PartFillIsOfItsChip, PartFillIsWanted, PartLinesAreOfItsChip, PartIsASmallerChip, PartOfNoWindowHasNothing, PartsAreApart, PartsFollow, PartsMakeTheFill, PartsMakeTheReport, RowsFollow, RulesAloneMakeASmallerChip, SmallerChipMeasuresTheSame, SmallerChipWantsTheSame, WantedAgree};
 ghost use Rattle.fill_parts.specs.Smaller.{IsPlanOfAnySize};
 
 use fill_text::ChipRules;
@@ -86,24 +86,9 @@ pub fn clipped_agrees()
     ensures { ClippedAgrees }
 {}
 
-/// The rectangle round a part's windows holds them.
-pub fn window_sides_are_enough()
-    ensures { WindowSidesAreEnough }
-{}
-
-/// Lines without fill look at the part's windows alone.
-pub fn check_lines_agree()
-    ensures { CheckLinesAgree }
-{}
-
 /// An edit beside the rectangle changes nothing there.
 pub fn edits_outside_do_nothing()
     ensures { EditsOutsideDoNothing }
-{}
-
-/// A worker who makes the edits first and then brings the tiles that a part needs has the part's fill.
-pub fn fill_of_needed_tiles()
-    ensures { FillOfNeededTiles }
 {}
 
 /// Lines that each part finds in its own metal are the report of the whole.
@@ -131,9 +116,9 @@ pub fn part_fill_is_wanted()
     ensures { PartFillIsWanted }
 {}
 
-/// One part's run has the part's fill and lines.
-pub fn part_run_is_the_part()
-    ensures { PartRunIsThePart }
+/// A chip that holds a part, run on what lies where it looks, has the part's fill and lines.
+pub fn chip_run_is_the_part()
+    ensures { ChipRunIsThePart }
 {}
 
 /// A chip of some rows of tiles and of windows alone wants the same places in them.
@@ -169,21 +154,6 @@ pub fn part_fill_is_of_its_chip()
 /// And its lines are those of its chip's windows.
 pub fn part_lines_are_of_its_chip()
     ensures { PartLinesAreOfItsChip }
-{}
-
-/// The plan of a part's chip can be run if the chip has few enough places and windows, however many the whole one has.
-pub fn chip_has_a_plan()
-    ensures { ChipHasAPlan }
-{}
-
-/// A part's rules are refused for how many windows or places they have, and for nothing else.
-pub fn part_is_refused_by_size()
-    ensures { PartIsRefusedBySize }
-{}
-
-/// A part's fill stands in the rows of places of its chip, which are rows of the whole one.
-pub fn part_stands_in_its_chip()
-    ensures { PartStandsInItsChip }
 {}
 
 /// The rules of a chip make a plan, however many places and windows it has.

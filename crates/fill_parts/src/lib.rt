@@ -14,3 +14,4 @@ mod part_rules;
 pub use chip::PartRows;
 pub use hull::Hull;
 pub use part::Part;
+pub use part_rules::{PartChip, PartRulesError, ToldRows};

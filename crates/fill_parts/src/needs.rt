@@ -8,7 +8,6 @@ ghost use Rattle.fill_raster.specs.Lattice.{tile_bottom, tile_top, tiles};
 ghost use Rattle.fill_text.specs.ValuesOfRules.{values_of};
 ghost use Rattle.fill_job.specs.Plans.{PointSet, plan_of};
 ghost use Rattle.fill_parts.specs.Needs.{HoldsItsWindows, IsEnough, in_coordinates, is_inside, needs_tile, row_of};
-ghost use Rattle.fill_parts.specs.PartReport.{part_check};
 ghost use Rattle.fill_parts.specs.steps.Hulls.{HoldsTile, IsEnoughBelow, Reaches, sides_by};
 
 use crate::hull::Hull;
@@ -117,18 +116,6 @@ impl Part {
     {
         rules_make_a_plan(rules);
         match self.needed(rules).rect() {
-            Some(rect) => rect,
-            None => Rect::from_edges(LOWEST, LOWEST, LOWEST + 1, LOWEST + 1),
-        }
-    }
-
-    /// A rectangle round the part's own windows; the square at the least coordinates where it has none. Of any metal, what lies within
-    /// gives the part's lines without fill.
-    pub fn window_rect(self, rules: &Rules) -> Rect
-        ensures { (metal : PointSet) → part_check (values_of rules.now) (λ x y. metal x y && squares result x y) self ≡ part_check (values_of rules.now) metal self }
-    {
-        rules_make_a_plan(rules);
-        match self.own_windows(rules).rect() {
             Some(rect) => rect,
             None => Rect::from_edges(LOWEST, LOWEST, LOWEST + 1, LOWEST + 1),
         }

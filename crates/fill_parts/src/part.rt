@@ -41,6 +41,26 @@ impl Part {
         })
     }
 
+    /// The whole, as the only part of one.
+    pub fn whole() -> Part
+        ensures { result ≡ record { number = 0; count = 1 } }
+    {
+        Part {
+            number: 0,
+            count: 1,
+        }
+    }
+
+    /// The last of as many parts.
+    pub fn last(self) -> Part
+        ensures { result ≡ record { number = self.count - 1; count = self.count } }
+    {
+        Part {
+            number: self.count - 1,
+            count: self.count,
+        }
+    }
+
     /// Which part it is, from 1 on.
     pub fn number(self) -> u32
         ensures { result ≡ self.number + 1 }

@@ -1,17 +1,67 @@
-//! The rules of a part of a chip of any size: those of a smaller chip.
-ghost use Rattle.std.specs.Prelude.{◌≡◌, option_map};
+//! A part of a chip of any size as a smaller chip: its rules, and which of its rows are the part's own.
+ghost use Rattle.std.specs.Prelude.{◌≡◌, ◌&&◌, ◌-◌, ◌≤◌, ℤ, false, true, IfOk};
+ghost use Rattle.fill_base.specs.Sides.{Sides};
+ghost use Rattle.fill_base.specs.Squares.{squares};
 ghost use Rattle.fill_raster.specs.Axes.{IsAxis, bands};
+ghost use Rattle.fill_report.specs.Report.{nothing};
 ghost use Rattle.fill_text.specs.Refusals.{Gives};
+ghost use Rattle.fill_text.specs.Rules.{raster_of, whole_windows, windows_of};
 ghost use Rattle.fill_text.specs.ValuesOfChips.{chip_values};
 ghost use Rattle.fill_text.specs.ValuesOfRules.{values_of};
-ghost use Rattle.fill_parts.specs.PartChip.{part_rules};
+ghost use Rattle.fill_job.specs.Plans.{PointSet, plan_of};
+ghost use Rattle.fill_job.specs.Searches.{some_below};
+ghost use Rattle.fill_parts.specs.Needs.{IsEnough, in_coordinates, is_inside};
+ghost use Rattle.fill_parts.specs.PartChip.{HoldsPart, by_size, counted_from, looks_at, part_alone, part_rules, rows_told};
+ghost use Rattle.fill_parts.specs.PartRows.{chip_tiles, looked_at_windows, looks_at_row};
 ghost use Rattle.fill_parts.specs.Smaller.{AreRowsOf, bands_alone};
+ghost use Rattle.fill_parts.specs.Told.{tiles_in, windows_in};
 
+use crate::chip::PartRows;
+use crate::hull::Hull;
 use crate::part::Part;
+use fill_base::{LOWEST, Rect};
+use fill_job::laws::rules_make_a_plan;
 use fill_raster::Axis as Places;
 use fill_text::{ChipRows, ChipRules, RuleError, Rules};
 use std::alloc::Global;
 use std::ops::Range;
+use thiserror::Error;
+
+/// Why a part of a chip has no rules of its own.
+#[derive(Clone, Copy, Debug, PartialEq, Eq, Error)]
+pub enum PartRulesError {
+    /// There are more than 2^20 windows in the rows that it looks at.
+    #[error("too many windows")]
+    Windows,
+    /// There are more than 2^24 places for a box in its rows of tiles.
+    #[error("too many places")]
+    Places,
+    /// An allocation was refused.
+    #[error("out of memory")]
+    Memory,
+}
+
+/// The rows of a chip that are told: of a part, its own.
+#[derive(Debug, Drop)]
+pub struct ToldRows {
+    /// The rows of tiles, counted from the chip's lowest one on.
+    pub tiles: Range<u32>,
+    /// The rows of windows, counted so.
+    pub windows: Range<u32>,
+    /// How many rows of windows lie below the chip's lowest one, where it is a part of a larger chip.
+    pub below: u32,
+}
+
+/// A part of a chip as a smaller chip: all that it looks at, and nothing farther away.
+#[derive(Debug, Drop)]
+pub struct PartChip {
+    /// Its rules: those of the whole chip with fewer rows of tiles and of windows.
+    pub rules: Rules,
+    /// Its rows that are the part's own.
+    pub told: ToldRows,
+    pub ghost ordered: { told.windows.start ≤ told.windows.end },
+    pub ghost within: { told.windows.end ≤ (windows_of (values_of rules)).up.count },
+}
 
 /// The lower edge of the frame of some rows of tiles alone.
 fn bottom_of(places: Places, tiles: &Range<u32>) -> i64
@@ -39,21 +89,33 @@ fn top_of(places: Places, tiles: &Range<u32>) -> i64
     }
 }
 
+/// Some rows, counted from another one on.
+fn counted_from(rows: Range<u32>, low: u32) -> Range<u32>
+    ensures from { result.start ≡ (counted_from low (record { from = rows.start; to = rows.end })).from }
+    ensures to { result.end ≡ (counted_from low (record { from = rows.start; to = rows.end })).to }
+{
+    if rows.start >= rows.end {
+        return 0..0;
+    }
+    rows.start.saturating_sub(low)..rows.end.saturating_sub(low)
+}
+
 impl Part {
-    /// The rules of the part as a smaller chip: those of the whole one with the rows of tiles and of windows that the part looks
-    /// at. None where it looks at no window, so has neither lines nor fill.
-    ///
-    /// # Errors
-    /// `BadWindows` where there are more than 2^20 windows in its rows, then `TooManyPlaces` where its frame has more than 2^24
-    /// places for a box. `Memory` where memory runs out.
-    pub fn rules(self, alloc: Global, chip: &ChipRules) -> Result<Option<Rules>, RuleError>
-        ensures { Gives RuleError.Memory (option_map values_of) result (part_rules (chip_values chip.now) self) }
+    /// The rules of the part's rows alone.
+    fn rules_of(
+        self,
+        alloc: Global,
+        chip: &ChipRules,
+        rows: &PartRows,
+    ) -> Result<Rules, PartRulesError>
+        requires looks { some_below (looks_at_row self (raster_of (chip_values chip.now).numbers).up (whole_windows (chip_values chip.now).numbers).up) (whole_windows (chip_values chip.now).numbers).up.count ≡ true }
+        requires tiles { let t = chip_tiles self (raster_of (chip_values chip.now).numbers).up (whole_windows (chip_values chip.now).numbers).up in (rows.now.tiles.start ≡ t.from) × (rows.now.tiles.end ≡ t.to) }
+        requires windows { let w = looked_at_windows self (raster_of (chip_values chip.now).numbers).up (whole_windows (chip_values chip.now).numbers).up in (rows.now.windows.start ≡ w.from) × (rows.now.windows.end ≡ w.to) }
+        ensures { Gives PartRulesError.Memory values_of result (by_size (part_alone (chip_values chip.now) self)) }
     {
+        chip.keeps_faultless();
         let places = chip.place_rows();
         let windows = chip.window_rows();
-        let Some(rows) = self.chip_rows(places, windows) else {
-            return Ok(None);
-        };
         let (first_window, _) = windows.extent(rows.windows.start);
         let alone = ChipRows {
             bottom: bottom_of(places, &rows.tiles),
@@ -61,6 +123,89 @@ impl Part {
             first_window,
             windows: rows.windows.end - rows.windows.start,
         };
-        Ok(Some(chip.with_rows(alloc, alone)?))
+        match chip.with_rows(alloc, alone) {
+            Ok(rules) => Ok(rules),
+            Err(RuleError::BadWindows) => Err(PartRulesError::Windows),
+            Err(RuleError::TooManyPlaces) => Err(PartRulesError::Places),
+            Err(_) => Err(PartRulesError::Memory),
+        }
+    }
+
+    /// The chip of a part that looks at no window, so has neither lines nor fill: that of the last part, of which none of the
+    /// rows is this part's own.
+    fn empty_chip(self, alloc: Global, chip: &ChipRules) -> Result<PartChip, PartRulesError>
+        requires none { some_below (looks_at (plan_of (chip_values chip.now)) self) (plan_of (chip_values chip.now)).windows.up.count ≡ false }
+        ensures rules { Gives PartRulesError.Memory (λ c. values_of c.rules) result (part_rules (chip_values chip.now) self) }
+        ensures part { IfOk result (λ c. HoldsPart (chip_values chip.now) self (values_of c.rules) (tiles_in c.told) (windows_in c.told) c.told.below) }
+    {
+        self.keeps_few();
+        chip.keeps_faultless();
+        let last = self.last();
+        let rows = last
+            .chip_rows(chip.place_rows(), chip.window_rows())
+            .unwrap();
+        let rules = last.rules_of(alloc, chip, &rows)?;
+        rules_make_a_plan(&rules);
+        Ok(PartChip {
+            rules,
+            told: ToldRows {
+                tiles: 0..0,
+                windows: 0..0,
+                below: 0,
+            },
+        })
+    }
+
+    /// The part of a chip of any size as a smaller chip. Of any metal and keep-outs, the fill of its own rows of tiles is the part's
+    /// fill, and the lines of its own rows of windows are the part's lines.
+    ///
+    /// # Errors
+    /// `Windows` where there are more than 2^20 windows in the rows that the part looks at, then `Places` where there are more than
+    /// 2^24 places in its rows of tiles; where it looks at no window, as for the last part. `Memory` where memory runs out.
+    pub fn chip(self, alloc: Global, chip: &ChipRules) -> Result<PartChip, PartRulesError>
+        ensures rules { Gives PartRulesError.Memory (λ c. values_of c.rules) result (part_rules (chip_values chip.now) self) }
+        ensures part { IfOk result (λ c. HoldsPart (chip_values chip.now) self (values_of c.rules) (tiles_in c.told) (windows_in c.told) c.told.below) }
+    {
+        self.keeps_few();
+        chip.keeps_faultless();
+        let places = chip.place_rows();
+        let windows = chip.window_rows();
+        let Some(rows) = self.chip_rows(places, windows) else {
+            return self.empty_chip(alloc, chip);
+        };
+        let rules = self.rules_of(alloc, chip, &rows)?;
+        rules_make_a_plan(&rules);
+        Ok(PartChip {
+            rules,
+            told: ToldRows {
+                tiles: counted_from(self.rows(places.bands()), rows.tiles.start),
+                windows: counted_from(self.rows(windows.count), rows.windows.start),
+                below: rows.windows.start,
+            },
+        })
+    }
+}
+
+impl PartChip {
+    /// A rectangle round all that the part looks at, as far as there are coordinates.
+    pub fn needed_rect(&self) -> Rect
+        ensures { (s : Sides) × IsEnough (plan_of (values_of self.now.rules)) (record { number = 0; count = 1 }) s × ((x y : ℤ) → squares result x y ≡ is_inside (in_coordinates s) x y) }
+    {
+        Part::whole().needed_rect(&self.rules)
+    }
+
+    /// A rectangle round the part's own windows; the square at the least coordinates where it has none. Of any metal, what lies within
+    /// gives the part's lines without fill.
+    pub fn window_rect(&self) -> Rect
+        ensures { (metal : PointSet) → rows_told (values_of self.now.rules) (windows_in self.now.told) self.now.told.below (λ x y. metal x y && squares result x y) nothing
+            ≡ rows_told (values_of self.now.rules) (windows_in self.now.told) self.now.told.below metal nothing }
+    {
+        rules_make_a_plan(&self.rules);
+        let own = self.told.windows.start..self.told.windows.end;
+        let hull = Hull::none().cover_windows(&self.rules.windows(), own);
+        match hull.rect() {
+            Some(rect) => rect,
+            None => Rect::from_edges(LOWEST, LOWEST, LOWEST + 1, LOWEST + 1),
+        }
     }
 }

@@ -108,9 +108,9 @@ fn a_part_without_rows_needs_nothing(rt: HostRuntime) -> Result<(), Fail> {
     Ok(())
 }
 
-/// The rules of a part of this chip, which has some.
+/// The rules of a part of this chip.
 fn rules_of(alloc: Global, chip: &ChipRules, part: Part) -> Result<Rules, Fail> {
-    Ok(part.rules(alloc, chip)?.ok_or("a part without windows")?)
+    Ok(part.chip(alloc, chip)?.rules)
 }
 
 /// The first quarter has the lowest row of windows; the lowest row of tiles is level with it, and with the next row of windows, which
@@ -126,7 +126,23 @@ fn a_part_has_the_rules_of_a_smaller_chip(rt: HostRuntime) -> Result<(), Fail> {
     assert!(rt; last.frame() == Rect::new(0, 0, 100, 100)?);
     assert!(rt; last.win_y() == 25 && last.win_ny() == 3);
     assert!(rt; rules_of(alloc, &chip, part(1, 1)?)? == rules(alloc)?);
-    assert!(rt; part(1, 8)?.rules(alloc, &chip)?.is_none());
+    Ok(())
+}
+
+/// Of the last quarter's three rows of tiles the uppermost is its own, and of its three rows of windows too; one row lies below these. The
+/// first eighth looks at no window: its chip is the last one's, without a row of its own.
+#[test]
+fn a_part_tells_its_own_rows(rt: HostRuntime) -> Result<(), Fail> {
+    let alloc = rt.alloc();
+    let chip = read_chip_rules(alloc, RULES.as_bytes())?;
+    let last = part(4, 4)?.chip(alloc, &chip)?;
+    assert!(rt; last.told.tiles == (2..3) && last.told.windows == (2..3));
+    assert!(rt; last.told.below == 1);
+    assert!(rt; last.needed_rect() == Rect::new(0, 1, 100, 100)?);
+    assert!(rt; last.window_rect() == Rect::new(0, 75, 100, 100)?);
+    let empty = part(1, 8)?.chip(alloc, &chip)?;
+    assert!(rt; empty.rules == rules_of(alloc, &chip, part(8, 8)?)?);
+    assert!(rt; empty.told.tiles.is_empty() && empty.told.windows.is_empty());
     Ok(())
 }
 
