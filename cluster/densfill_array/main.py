@@ -11,11 +11,12 @@ from contextlib import AbstractContextManager, nullcontext
 from pathlib import Path
 from typing import NoReturn
 
+from .chip import Cut
 from .engines import ENGINES, Jobs, Limits, NotSubmitted, shown, submit_array, submit_joining
 from .folder import Asked, Changed, Part, missing, read_asked, stamp, write_aside, write_asked
 from .local import Pool
 from .part import NotJoined, Stopped, join, ranges, run_part, told_processors
-from .rules import MOST_PARTS, NoParts, Work, parts_for, read_work
+from .rules import MOST_PARTS, NoParts, Work, numbers_of, parts_for, read_keys, read_work
 from .queue import note
 from .table import progress, states, table
 
@@ -131,6 +132,8 @@ def picked(given: argparse.Namespace, earlier: Asked | None) -> int:
     if not given.parts and earlier and not given.memory:
         return earlier.parts
     work = read_work(given.rules, given.design, given.command)
+    if not work.is_joinable():
+        raise NoParts(f"{given.rules}: fills of more than 2^20 windows or 2^24 places are not joined: check in parts, or fill them one by one")
     if given.parts:
         warn(work, given.parts, given.memory)
         return int(given.parts)
@@ -277,10 +280,19 @@ def run_batch(given: argparse.Namespace, folder: Path, asked: Asked) -> bool:
     return True
 
 
+def tell_parts(rules: Path, parts: int) -> None:
+    """Tells what each part has in the rows that it looks at."""
+    cut = Cut(numbers_of(read_keys(rules)))
+    for number, part in enumerate(cut.parts(parts), 1):
+        print(f"part {number} of {parts}: {cut.windows_of(part):,} windows and {cut.places_of(part):,} places in the rows that it looks at",
+              file=sys.stderr)
+
+
 def run(given: argparse.Namespace) -> int:
     folder = Path(os.path.abspath(given.out))
     if given.dry_run:
         parts = picked(given, earlier_of(folder) if given.resume else None)
+        tell_parts(given.rules, parts)
         jobs = jobs_of(given, folder, parts, list(range(1, parts + 1)))
         local = "".join(jobs.line("part", str(number)) + "\n" for number in jobs.numbers) + jobs.line("join") + "\n"
         print(shown(jobs, ENGINES[given.engine]) if given.engine in ENGINES else local, end="")

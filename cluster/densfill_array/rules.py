@@ -7,6 +7,7 @@ from pathlib import Path
 from densfill_deck.costs import Load, load_of, places_on
 from densfill_deck.gds import NoStream, opened
 
+from .chip import MOST_PLACES, MOST_WINDOWS, Cut
 from .copies import elements_and_copies
 
 MOST_PARTS = 4096
@@ -70,10 +71,19 @@ class Work:
     does: str
     chip: Chip
     load: Load
+    cut: Cut | None = None
 
     def memory(self, parts: int) -> int:
         """Bytes that a part takes, about."""
         return self.load.memory(self.does, self.chip.share(parts))
+
+    def too_large(self, parts: int, first: int) -> int | None:
+        """A part of so many that has too many windows or places for a run."""
+        return self.cut.too_large(parts, first) if self.cut else None
+
+    def is_joinable(self) -> bool:
+        """Whether the program joins what the parts give: reports are put one after another, but a fill may have so many places and windows."""
+        return self.does == "check" or not self.cut or self.cut.too_large(1) is None
 
     def copies(self, parts: int) -> float:
         """Copies of shapes that a part looks at, about."""
@@ -88,7 +98,8 @@ def read_work(rules: Path, design: Path, does: str) -> Work:
         raise NoParts(f"{design}: {error}") from error
     try:
         n = numbers_of(keys)
-        return Work(does, chip_of(n, does), load_of(n, does, design.stat().st_size, *elements_and_copies(design, n, keys["top"])))
+        chip = chip_of(n, does)
+        return Work(does, chip, load_of(n, does, design.stat().st_size, *elements_and_copies(design, n, keys["top"])), Cut(n))
     except KeyError as error:
         raise NoParts(f"{rules}: the key {error} has no fit value: {NO_RULES}") from error
     except ZeroDivisionError as error:
@@ -96,11 +107,18 @@ def read_work(rules: Path, design: Path, does: str) -> Work:
 
 
 def parts_for(work: Work, memory: int) -> int:
-    """The fewest parts of which each stays below a bound of memory and well below the limit of copies."""
+    """The fewest parts of which each stays below a bound of memory, well below the limit of copies, and takes no more windows and places
+    than a run may have."""
     most = max(1, min(MOST_PARTS, work.chip.rows))
+    large = None
     for parts in range(1, most + 1):
         if work.memory(parts) <= memory and work.copies(parts) <= MOST_COPIES:
-            return parts
+            large = work.too_large(parts, large or 1)
+            if large is None:
+                return parts
+    if large is not None:
+        raise NoParts(f"part {large} of {most} looks at more than {MOST_WINDOWS:,} windows or {MOST_PLACES:,} places, in however many parts: "
+                      "lower windows or lower tiles")
     if work.memory(most) > memory:
         raise NoParts(f"each part reads the whole file and takes some {work.memory(most) >> 20} MB, in however many parts: "
                       "a greater --memory, or --parts")
