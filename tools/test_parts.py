@@ -5,8 +5,10 @@ one worker: reports one after another, and libraries joined, byte for byte.
 usage: test_parts.py [PROGRAM]     (by default bin/densfill, else what the gate left in crates/densfill/out; needs python3)
 """
 import random
+import struct
 import subprocess
 import sys
+from collections.abc import Iterator
 from dataclasses import dataclass, field
 from pathlib import Path
 
@@ -114,6 +116,71 @@ class OneRun(Case):
         rules = dict(line.split(",") for line in (ROOT / "examples/block_rules.csv").read_text().split())
         edits = "add,1200,12000,46800,12300\ncut,20000,1200,21000,34800\nkeep,30000,16000,31000,20000\n"
         self.assert_one_run(Chip("block", rules, (ROOT / "examples/block.gds").read_bytes(), edits, (1, 2, 4, 7)))
+
+
+# 25 million places of one square, of which a column of windows takes those at the left; and 1,210,000 windows of one square.
+PLACES = RULES | {"frame_x2": 5000, "frame_y2": 5000, "box_w": 1, "box_h": 1, "step_x": 1, "step_y": 1, "origin_x": 0, "origin_y": 0,
+                  "spacing": 1, "fill_spacing": 0, "tile_nx": 64, "tile_ny": 64, "win_w": 50, "win_h": 70, "win_step_y": 50, "win_y": -10,
+                  "win_nx": 1, "win_ny": 100}
+WINDOWS = RULES | {"win_w": 1, "win_h": 1, "win_step_x": 1, "win_step_y": 1, "win_x": -500, "win_y": -400, "win_nx": 1100, "win_ny": 1100}
+TALL = library("TALL", structure("TOP", boundary(METAL, 10, 2480, 30, 2530), boundary(METAL, 0, 0, 50, 200)))
+EDITS = "add,5,1660,45,1670\ncut,0,100,20,300\nkeep,20,3000,25,3400\n"
+
+
+def records(text: bytes) -> Iterator[tuple[int, bytes]]:
+    """The records of a GDSII library: kind and body."""
+    at = 0
+    while at < len(text):
+        size, kind = struct.unpack_from(">HB", text, at)
+        yield kind, text[at + 4 : at + size]
+        at += size
+
+
+def boxes(text: bytes) -> dict[int, set[int]]:
+    """The boxes of a fill library of one square each, by their references and arrays: of each row the columns."""
+    rows: dict[int, set[int]] = {}
+    columns, count, inside = 1, 1, False
+    for kind, body in records(text):
+        if kind in (0x0A, 0x0B):
+            columns, count, inside = 1, 1, True
+        elif kind == 0x13:
+            columns, count = struct.unpack(">hh", body)
+        elif kind == 0x10 and inside:
+            x, y = struct.unpack_from(">ii", body)
+            for row in range(y, y + count):
+                rows.setdefault(row, set()).update(range(x, x + columns))
+        elif kind == 0x11:
+            inside = False
+    return rows
+
+
+class LargeChips(Case):
+    """Chips that one run doesn't take: more parts give what fewer do."""
+
+    def given(self, does: str, count: int) -> tuple[bytes, dict[int, set[int]]]:
+        """The report and the boxes of so many parts together."""
+        report = b""
+        rows: dict[int, set[int]] = {}
+        for number in range(1, count + 1):
+            part = ("--part", f"{number}/{count}")
+            done = self.fill("out.gds", *part) if does == "fill" else self.run_words("check", "rules.csv", "design.gds", *part)
+            self.assertEqual((done.returncode, done.stderr), (0, b""))
+            report += done.stdout
+            own = boxes((self.folder / "out.gds").read_bytes()) if does == "fill" else {}
+            self.assertFalse(own.keys() & rows.keys())
+            rows |= own
+        return report, rows
+
+    def test_more_parts_give_the_same(self) -> None:
+        for name, rules, does, counts in (("places", PLACES, "fill", (3, 4, 11)), ("windows", WINDOWS, "check", (2, 3))):
+            self.write(Chip(name, rules, TALL, EDITS))
+            refused = self.fill("out.gds")
+            self.assertEqual((refused.returncode, refused.stdout), (2, b""))
+            first = self.given(does, counts[0])
+            self.assertEqual(first[0].count(b"\n"), int(rules["win_nx"]) * int(rules["win_ny"]))
+            for count in counts[1:]:
+                with self.subTest(chip=name, count=count):
+                    self.assertEqual(self.given(does, count), first)
 
 
 class Lines(Case):
