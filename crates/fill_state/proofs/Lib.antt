@@ -10,7 +10,7 @@ pub mod FillRows
 pub mod ClearRows
 pub mod Counted
 pub mod Making
-pub mod LowSquares
+pub mod LowRuns
 pub mod WindowTotals
 pub mod TileWords
 pub mod LastTile
