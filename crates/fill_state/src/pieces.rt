@@ -76,32 +76,33 @@ impl Halos {
 }
 
 /// The pieces of the tiles from one on and before another, of which there are some, by the calling thread alone: those of the lower
-/// half by the runs that meet its halos, then those of the upper half.
+/// half by the runs that meet its halos, then those of the upper half. The list that the two come from is given back first.
 #[cycle(alone)]
 fn pieces_alone(
     alloc: Global,
     halos: &Halos,
-    runs: &[Rect],
+    runs: Vec<Rect>,
     from: u32,
     to: u32,
 ) -> Result<Vec<Piece>, AllocError>
     requires distance { IsSpacing halos.now.distance }
     requires none { (x y : ℤ) → holds halos.now.none x y ≡ false }
-    requires runs { AreSomeRuns runs.now }
+    requires runs { AreSomeRuns runs.items }
     requires some { from < to }
     requires tiles { to ≤ tiles halos.now.raster }
-    ensures { IfOk result (λ v. ArePiecesFrom halos.now.raster halos.now.distance (covered runs.now) from to v.items) }
+    ensures { IfOk result (λ v. ArePiecesFrom halos.now.raster halos.now.distance (covered runs.items) from to v.items) }
 {
     if to - from == 1 {
         let mut pieces = Vec::new(alloc);
-        pieces.push(halos.piece(alloc, runs, from)?)?;
+        pieces.push(halos.piece(alloc, &runs, from)?)?;
         return Ok(pieces);
     }
     let middle = from + (to - from) / 2;
-    let lower = runs_near(alloc, runs, &halos.around(from, middle))?;
-    let upper = runs_near(alloc, runs, &halos.around(middle, to))?;
-    let mut pieces = pieces_alone(alloc, halos, &lower, from, middle)?;
-    let mut others = pieces_alone(alloc, halos, &upper, middle, to)?;
+    let lower = runs_near(alloc, &runs, &halos.around(from, middle))?;
+    let upper = runs_near(alloc, &runs, &halos.around(middle, to))?;
+    drop(runs);
+    let mut pieces = pieces_alone(alloc, halos, lower, from, middle)?;
+    let mut others = pieces_alone(alloc, halos, upper, middle, to)?;
     pieces.append(&mut others)?;
     Ok(pieces)
 }
@@ -113,23 +114,24 @@ fn pieces_between<R: Threads + Sync>(
     rt: &R,
     alloc: Global,
     halos: &Halos,
-    runs: &[Rect],
+    runs: Vec<Rect>,
     from: u32,
     to: u32,
 ) -> Result<Vec<Piece>, AllocError>
     requires distance { IsSpacing halos.now.distance }
     requires none { (x y : ℤ) → holds halos.now.none x y ≡ false }
-    requires runs { AreSomeRuns runs.now }
+    requires runs { AreSomeRuns runs.items }
     requires some { from < to }
     requires tiles { to ≤ tiles halos.now.raster }
-    ensures { IfOk result (λ v. ArePiecesFrom halos.now.raster halos.now.distance (covered runs.now) from to v.items) }
+    ensures { IfOk result (λ v. ArePiecesFrom halos.now.raster halos.now.distance (covered runs.items) from to v.items) }
 {
     if to - from == 1 || to - from <= halos.share {
         return pieces_alone(alloc, halos, runs, from, to);
     }
     let middle = from + (to - from) / 2;
-    let lower = runs_near(alloc, runs, &halos.around(from, middle))?;
-    let upper = runs_near(alloc, runs, &halos.around(middle, to))?;
+    let lower = runs_near(alloc, &runs, &halos.around(from, middle))?;
+    let upper = runs_near(alloc, &runs, &halos.around(middle, to))?;
+    drop(runs);
     let first = move || -> Result<Vec<Piece>, AllocError>
         requires shared { IsSync R.row }
         requires distance { IsSpacing halos.now.distance }
@@ -138,7 +140,7 @@ fn pieces_between<R: Threads + Sync>(
         requires some { from < middle }
         requires tiles { middle ≤ tiles halos.now.raster }
         ensures { IfOk result (λ v. ArePiecesFrom halos.entry.now.raster halos.entry.now.distance (covered lower.items) from middle v.items) }
-    { pieces_between(rt, alloc, halos, &lower, from, middle) };
+    { pieces_between(rt, alloc, halos, lower, from, middle) };
     let second = move || -> Result<Vec<Piece>, AllocError>
         requires shared { IsSync R.row }
         requires distance { IsSpacing halos.now.distance }
@@ -147,7 +149,7 @@ fn pieces_between<R: Threads + Sync>(
         requires some { middle < to }
         requires tiles { to ≤ tiles halos.now.raster }
         ensures { IfOk result (λ v. ArePiecesFrom halos.entry.now.raster halos.entry.now.distance (covered upper.items) middle to v.items) }
-    { pieces_between(rt, alloc, halos, &upper, middle, to) };
+    { pieces_between(rt, alloc, halos, upper, middle, to) };
     let (first, second) = join(rt, first, second);
     let mut pieces = first?;
     let mut others = second?;
@@ -177,7 +179,8 @@ fn pieces_of<R: Threads + Sync>(
         none,
         share: tiles / MOST_SHARES,
     };
-    pieces_between(rt, alloc, &halos, region.runs(), 0, tiles)
+    let runs = runs_near(alloc, region.runs(), &halos.around(0, tiles))?;
+    pieces_between(rt, alloc, &halos, runs, 0, tiles)
 }
 
 /// The metal in the halo of each tile.
