@@ -1,6 +1,6 @@
 //! What of the metal and of the keep-outs each tile depends on.
 ghost use denote.Param.Send.{IsSync};
-ghost use Rattle.std.specs.Prelude.{◌≡◌, ◌<◌, ◌≤◌, ℤ, pos, false, IfOk};
+ghost use Rattle.std.specs.Prelude.{◌≡◌, ◌+◌, ◌<◌, ◌≤◌, ℤ, pos, false, IfOk};
 ghost use Rattle.fill_base.specs.Limits.{IsSpacing};
 ghost use Rattle.fill_region.specs.Near.{AreSomeRuns};
 ghost use Rattle.fill_region.specs.Runs.{holds};
@@ -57,6 +57,17 @@ impl Halos {
         Rect::from_edges(left, bottom, right, top)
     }
 
+    /// A tile between two others, near the middle of them: the first one of a row where they are in more than one row, so that the halos of
+    /// each part reach into few rows.
+    fn between(&self, from: u32, to: u32) -> u32
+        requires some { from + 1 < to }
+        ensures { (from < result) × (result < to) }
+    {
+        let middle = from + (to - from) / 2;
+        let first = middle - middle % self.raster.tile_columns().max(1);
+        if from < first { first } else { middle }
+    }
+
     /// What of some runs lies in the halo of a tile. Where that is nothing, it is the piece without squares once more, which takes
     /// no memory.
     fn piece(&self, alloc: Global, runs: &[Rect], tile: u32) -> Result<Piece, AllocError>
@@ -97,7 +108,7 @@ fn pieces_alone(
         pieces.push(halos.piece(alloc, &runs, from)?)?;
         return Ok(pieces);
     }
-    let middle = from + (to - from) / 2;
+    let middle = halos.between(from, to);
     let lower = runs_near(alloc, &runs, &halos.around(from, middle))?;
     let upper = runs_near(alloc, &runs, &halos.around(middle, to))?;
     drop(runs);
@@ -128,7 +139,7 @@ fn pieces_between<R: Threads + Sync>(
     if to - from == 1 || to - from <= halos.share {
         return pieces_alone(alloc, halos, runs, from, to);
     }
-    let middle = from + (to - from) / 2;
+    let middle = halos.between(from, to);
     let lower = runs_near(alloc, &runs, &halos.around(from, middle))?;
     let upper = runs_near(alloc, &runs, &halos.around(middle, to))?;
     drop(runs);
