@@ -11,6 +11,8 @@ mod events;
 #[cfg(test)]
 mod jobs;
 #[cfg(test)]
+mod low;
+#[cfg(test)]
 mod refused;
 #[cfg(test)]
 mod runs;
