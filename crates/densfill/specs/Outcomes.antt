@@ -6,10 +6,7 @@ use Rattle.densfill_io.specs.declared.input.InputError.TheVariants.{Device, Memo
 use Rattle.densfill_args.specs.Grammar.{Said}
 use Rattle.densfill_args.specs.Grammar as line
 use Rattle.densfill_engine.specs.Checks.{IsChecked, IsCheckReason}
-use Rattle.fill_parts.specs.Cuts.{Part as PartOfChip}
 use Rattle.densfill_engine.specs.Joiners.{IsJoinOf, IsJoinReason}
-use Rattle.densfill_engine.specs.PartChecks.{IsPartChecked, IsPartCheckReason}
-use Rattle.densfill_engine.specs.PartFills.{IsPartFilled, IsPartFillReason}
 use Rattle.densfill_engine.specs.Fills.{IsFilled, IsFillReason}
 use Rattle.densfill_engine.specs.Rects.{report_answer, IsReason}
 use Rattle.densfill_engine.specs.Refusals.{refusal_status, refusal_text}
@@ -17,6 +14,8 @@ use Rattle.densfill_engine.specs.declared.refusal.InputFault.TheVariants.{Unread
 use Rattle.densfill_engine.specs.declared.refusal.RunFault.TheVariants as run
 use Rattle.densfill_engine.specs.declared.refusal.Refusal.{Refusal}
 use Rattle.densfill_engine.specs.declared.refusal.Refusal.TheVariants.{Rules, TooLarge, Design, Script, Part, Run, Out, Report}
+use Rattle.densfill_engine.specs.declared.scope.Scope.{Scope}
+use Rattle.densfill_engine.specs.declared.scope.Scope.TheVariants as asked
 
 -- what is written is the line: whole, or a prefix of it where the writer failed
 pub record IsTold (before after : Option (List ℕ)) (failed : Bool) (line : List ℕ) : Type 0 where
@@ -49,14 +48,9 @@ abbrev pub IsUnopenedPart : ℕ → Refusal → Type 0
 IsUnopenedPart number refusal = (refusal ≡ Part number (Unread Device)) ⊎ (refusal ≡ Part number (Unread Memory))
 
 -- there is a fill of inputs of these bytes, but no memory for its file's name, or one of its texts could not be written
-abbrev pub IsUndelivered : (rules design script : List ℕ) → ℕ → Option ℕ → Refusal → Type 0
-IsUndelivered rules design script workers limit refusal =
-    ((library report : List ℕ) × IsFilled rules design script workers limit library report) × ((refusal ≡ Run run.Memory) ⊎ (refusal ≡ Out) ⊎ (refusal ≡ Report))
-
--- so of a part's fill
-abbrev pub IsPartUndelivered : (rules design script : List ℕ) → PartOfChip → Refusal → Type 0
-IsPartUndelivered rules design script k refusal =
-    ((library report : List ℕ) × IsPartFilled rules design script k library report) × ((refusal ≡ Run run.Memory) ⊎ (refusal ≡ Out) ⊎ (refusal ≡ Report))
+abbrev pub IsUndelivered : Scope → (rules design script : List ℕ) → ℕ → Option ℕ → Refusal → Type 0
+IsUndelivered scope rules design script workers limit refusal =
+    ((library report : List ℕ) × IsFilled scope rules design script workers limit library report) × ((refusal ≡ Run run.Memory) ⊎ (refusal ≡ Out) ⊎ (refusal ≡ Report))
 
 -- there is a library of all parts, but no memory for its file's name, or it could not be written
 abbrev pub IsUnsettled : List ℕ → List (List ℕ) → Refusal → Type 0
@@ -69,50 +63,58 @@ all_known (None ∷ files) = None
 all_known (Some bytes ∷ files) = option_map (λ others. bytes ∷ others) (all_known files)
 
 -- part K of N, as a line names it, and as a definition does
-abbrev pub part_named : ℕ → ℕ → PartOfChip
-part_named number count = record { number = number - 1; count = count }
+abbrev pub part_named : ℕ → ℕ → Scope
+part_named number count = asked.Part (record { number = number - 1; count = count })
 
--- an input could not be opened, or this is why opened files, whose bytes `remaining` tells, give nothing of what the line asks for
+-- an input could not be opened, or this is why opened files, whose bytes `remaining` tells, give no report of this much of a chip
+abbrev pub IsCheckCause : {F : Type 0} → (F → Option (List ℕ)) → Scope → Refusal → Type 0
+IsCheckCause {F} remaining scope refusal =
+    (IsUnopened of_rules refusal ⊎ IsUnopened of_design refusal) ⊎ ((r d : F) × IfSome (remaining r) (λ r. IfSome (remaining d) (λ d. IsCheckReason scope r d refusal)))
+
+-- or no fill of it
+abbrev pub IsFillCause : {F : Type 0} → (F → Option (List ℕ)) → Scope → ℕ → Option ℕ → Refusal → Type 0
+IsFillCause {F} remaining scope workers limit refusal =
+    (IsUnopened of_rules refusal ⊎ IsUnopened of_design refusal ⊎ IsUnopened of_script refusal) ⊎ ((r d s : F) × IfSome (remaining r) (λ r. IfSome (remaining d) (λ d. IfSome (remaining s) (λ s.
+    IsFillReason scope r d s workers limit refusal ⊎ IsUndelivered scope r d s workers limit refusal))))
+
+-- so of what a line asks for
 abbrev pub IsCause : {F : Type 0} → (F → Option (List ℕ)) → Option Said → Refusal → Type 0
 IsCause {F} remaining (Some (line.rects rules script)) refusal =
     (IsUnopened of_rules refusal ⊎ IsUnopened of_script refusal) ⊎ ((r s : F) × IfSome (remaining r) (λ r. IfSome (remaining s) (λ s. IsReason r s refusal)))
-IsCause {F} remaining (Some (line.check rules design)) refusal =
-    (IsUnopened of_rules refusal ⊎ IsUnopened of_design refusal) ⊎ ((r d : F) × IfSome (remaining r) (λ r. IfSome (remaining d) (λ d. IsCheckReason r d refusal)))
-IsCause {F} remaining (Some (line.check_part rules design number count)) refusal =
-    (IsUnopened of_rules refusal ⊎ IsUnopened of_design refusal) ⊎ ((r d : F) × IfSome (remaining r) (λ r. IfSome (remaining d) (λ d. IsPartCheckReason r d (part_named number count) refusal)))
+IsCause remaining (Some (line.check rules design)) refusal = IsCheckCause remaining asked.Whole refusal
+IsCause remaining (Some (line.check_part rules design number count)) refusal = IsCheckCause remaining (part_named number count) refusal
 IsCause {F} remaining (Some (line.join rules out parts)) refusal =
     IsUnopened of_rules refusal ⊎ ((r : F) × (ps : List F) × IfSome (remaining r) (λ r. IfSome (all_known (map remaining ps)) (λ texts.
     IsJoinReason r texts (length parts) refusal ⊎ ((length texts ≡ length parts) × IsUnsettled r texts refusal))))
-IsCause {F} remaining (Some (line.fill rules design script out workers limit)) refusal =
-    (IsUnopened of_rules refusal ⊎ IsUnopened of_design refusal ⊎ IsUnopened of_script refusal) ⊎ ((r d s : F) × IfSome (remaining r) (λ r. IfSome (remaining d) (λ d. IfSome (remaining s) (λ s.
-    IsFillReason r d s workers limit refusal ⊎ IsUndelivered r d s workers limit refusal))))
-IsCause {F} remaining (Some (line.fill_part rules design script out number count)) refusal =
-    (IsUnopened of_rules refusal ⊎ IsUnopened of_design refusal ⊎ IsUnopened of_script refusal) ⊎ ((r d s : F) × IfSome (remaining r) (λ r. IfSome (remaining d) (λ d. IfSome (remaining s) (λ s.
-    IsPartFillReason r d s (part_named number count) refusal ⊎ IsPartUndelivered r d s (part_named number count) refusal))))
+IsCause remaining (Some (line.fill rules design script out workers limit)) refusal = IsFillCause remaining asked.Whole workers limit refusal
+IsCause remaining (Some (line.fill_part rules design script out number count)) refusal = IsFillCause remaining (part_named number count) 1 None refusal
 IsCause remaining None refusal = ⊥
 
 -- a text was written whole to a file
 abbrev pub IsFile : {F : Type 0} → (F → Option (List ℕ)) → List ℕ → Type 0
 IsFile {F} contents text = (old new : F) × Appends (contents old) (contents new) text
 
--- what is written is the line's report of opened files, and for a fill, of a part too, its library is written to another file; a join writes its
--- library alone
+-- what is written is the report of this much of a chip, of opened files
+abbrev pub IsCheckReport : {F : Type 0} → (F → Option (List ℕ)) → Scope → Option (List ℕ) → Option (List ℕ) → Type 0
+IsCheckReport {F} remaining scope before after = (r d : F) × IfSome (remaining r) (λ r. IfSome (remaining d) (λ d. (text : List ℕ) × IsChecked scope r d text × Appends before after text))
+
+-- so of a fill, whose library is written to another file
+abbrev pub IsFillReport : {F : Type 0} → (F → Option (List ℕ)) → (F → Option (List ℕ)) → Scope → ℕ → Option ℕ → Option (List ℕ) → Option (List ℕ) → Type 0
+IsFillReport {F} remaining contents scope workers limit before after =
+    (r d s : F) × IfSome (remaining r) (λ r. IfSome (remaining d) (λ d. IfSome (remaining s) (λ s.
+    (library report : List ℕ) × IsFilled scope r d s workers limit library report × IsFile contents library × Appends before after report)))
+
+-- so of what a line asks for; a join writes its library alone
 abbrev pub IsReport : {F : Type 0} → (F → Option (List ℕ)) → (F → Option (List ℕ)) → Option Said → Option (List ℕ) → Option (List ℕ) → Type 0
 IsReport {F} remaining contents (Some (line.rects rules script)) before after =
     (r s : F) × IfSome (remaining r) (λ r. IfSome (remaining s) (λ s. IsOkAnd (report_answer r s) (Appends before after)))
-IsReport {F} remaining contents (Some (line.check rules design)) before after =
-    (r d : F) × IfSome (remaining r) (λ r. IfSome (remaining d) (λ d. (text : List ℕ) × IsChecked r d text × Appends before after text))
-IsReport {F} remaining contents (Some (line.check_part rules design number count)) before after =
-    (r d : F) × IfSome (remaining r) (λ r. IfSome (remaining d) (λ d. (text : List ℕ) × IsPartChecked r d (part_named number count) text × Appends before after text))
+IsReport remaining contents (Some (line.check rules design)) before after = IsCheckReport remaining asked.Whole before after
+IsReport remaining contents (Some (line.check_part rules design number count)) before after = IsCheckReport remaining (part_named number count) before after
 IsReport {F} remaining contents (Some (line.join rules out parts)) before after =
     ((r : F) × (ps : List F) × (length ps ≡ length parts) × IfSome (remaining r) (λ r. IfSome (all_known (map remaining ps)) (λ texts.
     (library : List ℕ) × IsJoinOf r texts library × IsFile contents library))) × (after ≡ before)
-IsReport {F} remaining contents (Some (line.fill rules design script out workers limit)) before after =
-    (r d s : F) × IfSome (remaining r) (λ r. IfSome (remaining d) (λ d. IfSome (remaining s) (λ s.
-    (library report : List ℕ) × IsFilled r d s workers limit library report × IsFile contents library × Appends before after report)))
-IsReport {F} remaining contents (Some (line.fill_part rules design script out number count)) before after =
-    (r d s : F) × IfSome (remaining r) (λ r. IfSome (remaining d) (λ d. IfSome (remaining s) (λ s.
-    (library report : List ℕ) × IsPartFilled r d s (part_named number count) library report × IsFile contents library × Appends before after report)))
+IsReport remaining contents (Some (line.fill rules design script out workers limit)) before after = IsFillReport remaining contents asked.Whole workers limit before after
+IsReport remaining contents (Some (line.fill_part rules design script out number count)) before after = IsFillReport remaining contents (part_named number count) 1 None before after
 IsReport remaining contents None before after = ⊥
 
 -- the path of the part's library that a refusal is of, counted from 1

@@ -5,22 +5,18 @@ mod join;
 mod open;
 mod target;
 
-ghost use Rattle.std.specs.Prelude.{◌≡◌, ◌⊎◌, ◌↔◌, ◌<◌, ◌≤◌, false, true, Some, None, map, option_map, IfErr, IfOk, IfSome, IsSome, OnErr, OnOk};
+ghost use Rattle.std.specs.Prelude.{◌≡◌, ◌⊎◌, ◌↔◌, ◌<◌, ◌≤◌, false, true, Some, None, map, option_map, IfErr, IsSome, OnErr, OnOk};
 ghost use Rattle.std.specs.IoError.{error_kind};
 ghost use Rattle.std.specs.Process.{exit_status};
 ghost use Rattle.densfill_io.specs.Taps.{has_failed, under};
-ghost use Rattle.densfill_engine.specs.PartFills.{IsPartFilled, IsPartFillReason};
 ghost use Rattle.densfill_engine.specs.Refusals.{refusal_status};
 ghost use Rattle.densfill_args.specs.Lines.{text_of, IsBounded};
 ghost use Rattle.densfill_args.specs.Grammar.{said_in, IsFaultless, IsTaken};
 ghost use Rattle.densfill_args.specs.Grammar as said;
-ghost use Rattle.densfill.specs.Outcomes.{GaveUp, IsCause, IsReport, IsTold, IsToldOf, part_named, path_at, path_in, path_of};
+ghost use Rattle.densfill.specs.Outcomes.{GaveUp, IsCause, IsCheckCause, IsCheckReport, IsFillCause, IsFillReport, IsReport, IsTold, IsToldOf, part_named, path_at, path_in, path_of};
 
 use densfill_args::{Line, LineError, read_line};
-use densfill_engine::{
-    Crew, Filled, Inputs, Refusal, RunFault, check, check_part, deliver, prepare, prepare_part,
-    rects,
-};
+use densfill_engine::{Crew, Refusal, RunFault, Scope, check, deliver, prepare, rects};
 use densfill_io::{Tap, write_text};
 use fill_parts::Part;
 use join::join;
@@ -40,89 +36,77 @@ const USAGE: u8 = 1;
 /// Memory ran out outside the inputs and outputs.
 pub(crate) const OUT_OF_MEMORY: Refusal = Refusal::Run(RunFault::Memory);
 
-/// The texts of one part of a fill of three opened inputs.
-fn prepared_part<R: Files + Threads + Wait + Sync>(
-    rt: &R,
-    alloc: Global,
-    inputs: &mut Inputs<R::File, R::File, R::File>,
-    number: u32,
-    count: u32,
-) -> Result<Filled, Refusal>
-    requires rules { has_failed inputs.old.rules ≡ false }
-    requires design { has_failed inputs.old.design ≡ false }
-    requires script { has_failed inputs.old.script ≡ false }
-    requires part { (1 ≤ number) × (number ≤ count) × (count ≤ 4096) }
-    ensures filled { IfOk result (λ f. IfSome (R.File.remaining (under inputs.old.rules)) (λ r. IfSome (R.File.remaining (under inputs.old.design)) (λ d.
-        IfSome (R.File.remaining (under inputs.old.script)) (λ s. IsPartFilled r d s (part_named number count) f.library.items f.report.items)))) }
-    ensures refused { IfErr result (λ e. IfSome (R.File.remaining (under inputs.old.rules)) (λ r. IfSome (R.File.remaining (under inputs.old.design)) (λ d.
-        IfSome (R.File.remaining (under inputs.old.script)) (λ s. IsPartFillReason r d s (part_named number count) e)))) }
+/// Who fills a part.
+const ALONE: Crew = Crew {
+    workers: 1,
+    limit: None,
+};
+
+/// The part that a line names.
+fn part_of(number: u32, count: u32) -> Scope
+    requires { (1 ≤ number) × (number ≤ count) × (count ≤ 4096) }
+    ensures { result ≡ part_named number count }
 {
-    let part = Part::new(number, count).unwrap();
-    prepare_part(rt, alloc, inputs, part)
+    Scope::Part(Part::new(number, count).unwrap())
 }
 
-/// Does what a line of `fill` asks for: the fill of the files that its first three paths name, all opened before one is read. The
-/// library's file is created only where there is a fill, and is whole and at its path before the report begins.
-fn fill<R: Alloc<A = Global> + Files + Threads + Wait + Sync, W: Write + Drop>(
+/// Does what a line of `rects` asks for.
+fn rects_of<R: Alloc<A = Global> + Files + Threads + Sync, W: Write>(
+    rt: &R,
+    alloc: Global,
+    rules: &str,
+    script: &str,
+    out: &mut Tap<W>,
+) -> Result<(), Refusal>
+    requires out { has_failed out.old ≡ false }
+    ensures written { OnOk result (IsReport R.File.remaining R.File.contents (Some (said.rects rules.now script.now)) (W.contents (under out.old)) (W.contents (under out.new))) }
+    ensures refused { IfErr result (IsCause R.File.remaining (Some (said.rects rules.now script.now))) }
+    ensures silent { OnErr result ((has_failed out.new ≡ true) ⊎ (out.new ≡ out.old)) }
+{
+    let mut rules = opened_rules(rt, rules)?;
+    let mut script = opened_script(rt, script)?;
+    rects(rt, alloc, &mut rules, &mut script, out)
+}
+
+/// Does what a line of `check` asks for, of all of a chip or of a part.
+fn check_of<R: Alloc<A = Global> + Files + Threads + Sync, W: Write>(
+    rt: &R,
+    alloc: Global,
+    rules: &str,
+    design: &str,
+    scope: Scope,
+    out: &mut Tap<W>,
+) -> Result<(), Refusal>
+    requires out { has_failed out.old ≡ false }
+    ensures written { OnOk result (IsCheckReport R.File.remaining scope (W.contents (under out.old)) (W.contents (under out.new))) }
+    ensures refused { IfErr result (IsCheckCause R.File.remaining scope) }
+    ensures silent { OnErr result ((has_failed out.new ≡ true) ⊎ (out.new ≡ out.old)) }
+{
+    let mut rules = opened_rules(rt, rules)?;
+    let mut design = opened_design(rt, design)?;
+    check(rt, alloc, scope, &mut rules, &mut design, out)
+}
+
+/// Does what a line of `fill` asks for, of all of a chip or of a part: the fill of the files that its first three paths name, all opened
+/// before one is read. The library's file is created only where there is a fill, and is whole and at its path before the report begins.
+fn fill_of<R: Alloc<A = Global> + Files + Threads + Wait + Sync, W: Write + Drop>(
     rt: &R,
     alloc: Global,
     paths: &Paths<'_>,
+    scope: Scope,
     crew: Crew,
     out: &mut Tap<W>,
 ) -> Result<(), Refusal>
     requires out { has_failed out.old ≡ false }
     requires workers { (0 < crew.workers) × (crew.workers ≤ 64) }
-    ensures written { OnOk result (IsReport R.File.remaining R.File.contents (Some (said.fill paths.now.rules.now paths.now.design.now paths.now.script.now paths.now.library.now crew.workers crew.limit)) (W.contents (under out.old)) (W.contents (under out.new))) }
-    ensures refused { IfErr result (IsCause R.File.remaining (Some (said.fill paths.now.rules.now paths.now.design.now paths.now.script.now paths.now.library.now crew.workers crew.limit))) }
+    ensures written { OnOk result (IsFillReport R.File.remaining R.File.contents scope crew.workers crew.limit (W.contents (under out.old)) (W.contents (under out.new))) }
+    ensures refused { IfErr result (IsFillCause R.File.remaining scope crew.workers crew.limit) }
     ensures silent { OnErr result ((has_failed out.new ≡ true) ⊎ (out.new ≡ out.old)) }
 {
     let mut inputs = opened_inputs(rt, paths)?;
-    let filled = prepare(rt, alloc, &mut inputs, crew)?;
+    let filled = prepare(rt, alloc, &mut inputs, scope, crew)?;
     let mut library = created(rt, paths.library, &paths.inputs())?;
     deliver(&filled, &mut library, out)
-}
-
-/// Does what a line of `fill` with a part asks for, in the order of one without.
-fn fill_one<R: Alloc<A = Global> + Files + Threads + Wait + Sync, W: Write + Drop>(
-    rt: &R,
-    alloc: Global,
-    paths: &Paths<'_>,
-    number: u32,
-    count: u32,
-    out: &mut Tap<W>,
-) -> Result<(), Refusal>
-    requires out { has_failed out.old ≡ false }
-    requires part { (1 ≤ number) × (number ≤ count) × (count ≤ 4096) }
-    ensures written { OnOk result (IsReport R.File.remaining R.File.contents (Some (said.fill_part paths.now.rules.now paths.now.design.now paths.now.script.now paths.now.library.now number count)) (W.contents (under out.old)) (W.contents (under out.new))) }
-    ensures refused { IfErr result (IsCause R.File.remaining (Some (said.fill_part paths.now.rules.now paths.now.design.now paths.now.script.now paths.now.library.now number count))) }
-    ensures silent { OnErr result ((has_failed out.new ≡ true) ⊎ (out.new ≡ out.old)) }
-{
-    let mut inputs = opened_inputs(rt, paths)?;
-    let filled = prepared_part(rt, alloc, &mut inputs, number, count)?;
-    let mut library = created(rt, paths.library, &paths.inputs())?;
-    deliver(&filled, &mut library, out)
-}
-
-/// Does what a line of `check` with a part asks for.
-fn check_one<R: Alloc<A = Global> + Files + Threads + Sync, W: Write + Drop>(
-    rt: &R,
-    alloc: Global,
-    rules: &str,
-    design: &str,
-    number: u32,
-    count: u32,
-    out: &mut Tap<W>,
-) -> Result<(), Refusal>
-    requires out { has_failed out.old ≡ false }
-    requires part { (1 ≤ number) × (number ≤ count) × (count ≤ 4096) }
-    ensures written { OnOk result (IsReport R.File.remaining R.File.contents (Some (said.check_part rules.now design.now number count)) (W.contents (under out.old)) (W.contents (under out.new))) }
-    ensures refused { IfErr result (IsCause R.File.remaining (Some (said.check_part rules.now design.now number count))) }
-    ensures silent { OnErr result ((has_failed out.new ≡ true) ⊎ (out.new ≡ out.old)) }
-{
-    let part = Part::new(number, count).unwrap();
-    let mut rules = opened_rules(rt, rules)?;
-    let mut design = opened_design(rt, design)?;
-    check_part(rt, alloc, &mut rules, &mut design, part, out)
 }
 
 /// Does what a line asks for, on the files that its paths name. All inputs are opened before one is read.
@@ -139,22 +123,14 @@ fn run<R: Alloc<A = Global> + Files + Threads + Wait + Sync, W: Write + Drop>(
     ensures silent { OnErr result ((has_failed out.new ≡ true) ⊎ (out.new ≡ out.old)) }
 {
     match line {
-        Line::Rects { rules, script } => {
-            let mut rules = opened_rules(rt, rules)?;
-            let mut script = opened_script(rt, script)?;
-            rects(rt, alloc, &mut rules, &mut script, out)
-        }
-        Line::Check { rules, design } => {
-            let mut rules = opened_rules(rt, rules)?;
-            let mut design = opened_design(rt, design)?;
-            check(rt, alloc, &mut rules, &mut design, out)
-        }
+        Line::Rects { rules, script } => rects_of(rt, alloc, rules, script, out),
+        Line::Check { rules, design } => check_of(rt, alloc, rules, design, Scope::Whole, out),
         Line::CheckPart {
             rules,
             design,
             number,
             count,
-        } => check_one(rt, alloc, rules, design, *number, *count, out),
+        } => check_of(rt, alloc, rules, design, part_of(*number, *count), out),
         Line::Join {
             rules,
             out: library,
@@ -168,17 +144,12 @@ fn run<R: Alloc<A = Global> + Files + Threads + Wait + Sync, W: Write + Drop>(
             workers,
             limit,
         } => {
-            let paths = Paths {
-                rules,
-                design,
-                script,
-                library,
-            };
+            let paths = Paths::new(rules, design, script, library);
             let crew = Crew {
                 workers: *workers,
                 limit: *limit,
             };
-            fill(rt, alloc, &paths, crew, out)
+            fill_of(rt, alloc, &paths, Scope::Whole, crew, out)
         }
         Line::FillPart {
             rules,
@@ -188,13 +159,8 @@ fn run<R: Alloc<A = Global> + Files + Threads + Wait + Sync, W: Write + Drop>(
             number,
             count,
         } => {
-            let paths = Paths {
-                rules,
-                design,
-                script,
-                library,
-            };
-            fill_one(rt, alloc, &paths, *number, *count, out)
+            let paths = Paths::new(rules, design, script, library);
+            fill_of(rt, alloc, &paths, part_of(*number, *count), ALONE, out)
         }
     }
 }

@@ -83,6 +83,21 @@ pub(crate) struct Paths<'a> {
 }
 
 impl<'a> Paths<'a> {
+    /// Those of the rule file, the design, the script and the library.
+    pub(crate) fn new(
+        rules: &'a str,
+        design: &'a str,
+        script: &'a str,
+        library: &'a str,
+    ) -> Paths<'a> {
+        Paths {
+            rules,
+            design,
+            script,
+            library,
+        }
+    }
+
     /// Those of the three inputs.
     pub(crate) fn inputs(&self) -> [&'a str; 3]
         ensures { result ≡ self.now.rules ∷ self.now.design ∷ self.now.script ∷ [] }

@@ -1,127 +1,146 @@
--- What a rule file and a design say together.
-use Rattle.std.proofs.Common.{◌≡◌, ◌≤◌, ◌^◌, ◌⊎◌, inl, inr, ℕ, ℤ, Bool, length, List, [], ◌∷◌, true, false, Option, Some, None, Result, Ok, Err, IfOk, IfSome, refl, sym, ap, subst, ◌∙◌, ◌||◌}
-use Rattle.std.specs.Prelude.{unwrap_or}
-use Rattle.fill_text.specs.Rules.{Values, keep_layer, metal_layer}
-use Rattle.fill_report.specs.RulesReport.{metal_report}
-use Rattle.gds_grammar.specs.Values.{Contents}
-use Rattle.gds_grammar.specs.Layers.{has_layer, of_layers, same_layer}
-use Rattle.fill_base.specs.declared.layer.Layer.{Layer}
+-- What a rule file and a design say together, of all of a chip or of a part.
+use Rattle.std.proofs.Common.{◌≡◌, ◌⊎◌, ◌≤◌, inl, inr, ℕ, List, Option, Some, None, Result, Ok, Err, IfOk, IfSome, IsOk, refl, sym, ap, ap₂, subst, ◌∙◌, ◌&&◌}
+use Rattle.fill_base.specs.Squares.{squares}
+use Rattle.fill_base.specs.declared.rect.Rect.{Rect}
+use Rattle.densfill_io.specs.declared.input.InputError.TheVariants.{TooLong, Device, Memory as NoMemory}
+use Rattle.fill_text.specs.Chips.{with_rows}
+use Rattle.fill_text.specs.Rules.{Values, windows_of}
+use Rattle.fill_text.specs.declared.chip.ChipRows.{ChipRows}
 use Rattle.fill_job.specs.Plans.{PointSet}
-use Rattle.gds_grammar.specs.Outcomes.{Spells}
+use Rattle.fill_parts.specs.Cuts.{Part as PartOfChip}
+use Rattle.fill_parts.specs.declared.part_rules.ToldRows.{ToldRows}
+use Rattle.fill_report.specs.RulesReport.{metal_report}
 use Rattle.gds_cells.specs.declared.error.FlattenError.{FlattenError}
-use Rattle.gds_cells.specs.Copies.{drawn, AllStayInRange}
-use Rattle.gds_flatten.specs.Flattening.{IsRefused}
-use Rattle.gds_flatten.specs.Layers.{TellsOf, LayersSuffice}
-use Rattle.std.proofs.lemmas.Bool.{eq-eqb}
-use Rattle.densfill_engine.specs.Designs.{IsDesign, IsDrawn, IsDrawnOn, IsKeptOut, IsMetalFault, IsRead, IsUnflattened, IsUnflattenedBehind}
-use Rattle.densfill_engine.specs.Checks.{IsChecked, IsCheckReason}
-use Rattle.densfill_engine.specs.Inputs.{rules_answer}
+use Rattle.densfill_engine.specs.Checks.{IsChecked, IsCheckReason, report_in}
+use Rattle.densfill_engine.specs.Designs.{IsDrawn, IsFaultBy, IsMetalNear, IsUnflattened, size_near}
+use Rattle.densfill_engine.specs.Inputs.{answer_of, IsRulesReason}
+use Rattle.densfill_engine.specs.Scopes.{size_of, told_in}
+use Rattle.densfill_engine.specs.Views.{FitsIn, IsFaultIn, IsPartView, IsView, IsViewOf, Suffices, lines_told}
 use Rattle.densfill_engine.specs.declared.refusal.DesignError.{DesignError}
+use Rattle.densfill_engine.specs.declared.refusal.DesignError.TheVariants.{Library, Flatten, Crowded}
 use Rattle.densfill_engine.specs.declared.refusal.InputFault.{InputFault}
-use Rattle.densfill_engine.specs.declared.refusal.RunFault.TheVariants.{Memory}
+use Rattle.densfill_engine.specs.declared.refusal.InputFault.TheVariants.{Unread, Refused}
+use Rattle.densfill_engine.specs.declared.refusal.RunFault.TheVariants as run
 use Rattle.densfill_engine.specs.declared.refusal.Refusal.{Refusal}
-use Rattle.densfill_engine.specs.declared.refusal.Refusal.TheVariants.{Design, Run, Report}
+use Rattle.densfill_engine.specs.declared.refusal.Refusal.TheVariants.{Rules, TooLarge, Design, Script, Part, Run, Out, Report}
+use Rattle.densfill_engine.specs.declared.scope.Reach.{Reach}
+use Rattle.densfill_engine.specs.declared.scope.Reach.TheVariants.{Windows, Needs}
+use Rattle.densfill_engine.specs.declared.scope.Scope.{Scope}
+use Rattle.densfill_engine.specs.declared.scope.Scope.TheVariants as asked
+use Rattle.densfill_engine.specs.declared.view.Told.{Told}
+use Rattle.densfill_engine.specs.declared.view.Told.TheVariants.{Everything, Rows}
+use Rattle.densfill_engine.proofs.Drawing.{metal_rows, unflattened_rows}
+use Rattle.densfill_engine.proofs.Reasons.{is_ok_of}
 
--- the bytes spell a library, of which some layers were read
-module _ (bytes : List ℕ) (values : Values) (design left : Contents) (layers : List Layer) (law : LayersSuffice)
-    (short : length bytes ≤ 2 ^ 31) (spelled : Spells bytes design) (left_is : left ≡ of_layers layers design) where
-  read : IsRead bytes design
-  read = record { short = short; spelled = spelled }
+-- what is said of the bytes of two inputs holds where both are known
+pub if_two : {P : (r d : List ℕ) → Type 0} (rules design : Option (List ℕ)) → ((r d : List ℕ) → rules ≡ Some r → design ≡ Some d → P r d) → IfSome rules (λ r. IfSome design (λ d. P r d))
+if_two None design given = tt
+if_two (Some r) None given = tt
+if_two (Some r) (Some d) given = given r d refl refl
 
-  -- what is told of a layer that was read is told of it in the whole library
-  tells : (layer : Layer) → has_layer layers layer ≡ true → TellsOf design.cells left.cells values.top layer
-  tells layer among =
-      subst (λ (x : Contents). TellsOf design.cells x.cells values.top layer) (sym left_is)
-      (law (has_layer layers) design.cells values.top layer among).0
-
-  pub drawn_in : (layer : Layer) (p : PointSet) → has_layer layers layer ≡ true → IsDrawnOn left.cells values.top layer p → IsDrawnOn design.cells values.top layer p
-  drawn_in layer p among on = record {
-    countable = (tells layer among).countable on.countable;
-    inside = subst AllStayInRange (tells layer among).copies on.inside;
-    squares_are = on.squares_are ∙ ap drawn (tells layer among).copies;
-  }
-
-  module _ (layer : Layer) (is : layer ≡ metal_layer values) (among : has_layer layers layer ≡ true) where
-    pub metal_drawn : (metal : PointSet) → IsDrawnOn left.cells values.top layer metal → IsDrawn bytes values metal
-    metal_drawn metal on = record { design = design; read = read; drawn = subst (λ (l : Layer). IsDrawnOn design.cells values.top l metal) is (drawn_in layer metal among on) }
-
-    pub not_flattened : (e : FlattenError) → IsRefused left.cells values.top layer e → IsUnflattened bytes values e
-    not_flattened e refused = record {
-      design = design;
-      read = read;
-      refused = subst (λ (l : Layer). IsRefused design.cells values.top l e) is ((tells layer among).refused e refused);
-    }
-
-    module _ (metal : PointSet) (on : IsDrawnOn left.cells values.top layer metal) (keep_at : Option Layer) (keep_is : keep_at ≡ keep_layer values)
-        (both : (l : Layer) → keep_at ≡ Some l → has_layer layers l ≡ true) where
-      pub design_drawn : (keep : PointSet) (units dates : List ℕ) → units ≡ left.units → dates ≡ left.dates → IsKeptOut left.cells values.top keep_at keep
-          → IsDesign bytes values (record { metal = metal; keep = keep }) units dates
-      unfolding metal_drawn
-      design_drawn keep units dates units_are dates_are kept = record {
-        drawn = record { metal = metal_drawn metal on; kept = subst (λ (o : Option Layer). IsKeptOut design.cells values.top o keep) keep_is (kept_in keep_at refl kept) };
-        units_are = units_are ∙ ap (λ (x : Contents). x.units) left_is;
-        dates_are = dates_are ∙ ap (λ (x : Contents). x.dates) left_is;
-      }
-        where
-          kept_in : (o : Option Layer) → keep_at ≡ o → IsKeptOut left.cells values.top o keep → IsKeptOut design.cells values.top o keep
-          kept_in None e kept = kept
-          kept_in (Some l) e kept = drawn_in l keep (both l e) kept
-
-      pub not_flattened_behind : (e : FlattenError) (l : Layer) → keep_at ≡ Some l → IsRefused left.cells values.top l e → IsUnflattenedBehind bytes values e
-      unfolding metal_drawn
-      not_flattened_behind e l named refused = record {
-        metal = metal;
-        drawn = metal_drawn metal on;
-        layer = l;
-        named = sym keep_is ∙ named;
-        refused = (tells l (both l named)).refused e refused;
-      }
-
--- a layer is among itself and others
-pub among_first : (a : Layer) (others : List Layer) → has_layer (a ∷ others) a ≡ true
-among_first a others = rw (eq-eqb a.layer a.layer refl, eq-eqb a.data_type a.data_type refl) refl
-
--- the layer of the keep-outs is the second of two, where there is one
-pub among_both : (a : Layer) (o : Option Layer) (b : Layer) → b ≡ unwrap_or o a → (l : Layer) → o ≡ Some l → has_layer (a ∷ b ∷ []) l ≡ true
-among_both a o b second l is =
-    let this : b ≡ l = second ∙ ap (λ (p : Option Layer). unwrap_or p a) is in
-    rw (this, eq-eqb l.layer l.layer refl, eq-eqb l.data_type l.data_type refl) (either (same_layer a l))
-  where
-    either : (b : Bool) → (b || true) ≡ true
-    either true = refl
-    either false = refl
+pub of : (P : List ℕ → Type 0) (known : Option (List ℕ)) (bytes : List ℕ) → known ≡ Some bytes → IfSome known P → P bytes
+of P known bytes is holds = subst (λ (o : Option (List ℕ)). IfSome o P) is holds
 
 -- what holds of the bytes that were taken holds of all that the reader has, where that is known
 pub of_taken : (remaining : Option (List ℕ)) (bytes xs : List ℕ) (P : List ℕ → Type 0) → IfSome remaining (λ b. bytes ≡ b) → xs ≡ bytes → P xs → IfSome remaining P
 of_taken None bytes xs P known same h = tt
 of_taken (Some b) bytes xs P known same h = subst P (same ∙ known) h
 
+-- ---- what is looked at
+
+-- the rows that are told fit, if these do
+pub fits_rows : (values : Values) (rows : ToldRows) → rows.windows.start ≤ rows.windows.end → rows.windows.end ≤ (windows_of values).up.count → FitsIn values (Rows rows)
+fits_rows values rows ordered within other is =
+    subst (λ (r : ToldRows). (r.windows.start ≤ r.windows.end) × (r.windows.end ≤ (windows_of values).up.count)) (ap rows_in is) (ordered, within)
+  where
+    rows_in : Told → ToldRows
+    rows_in Everything = rows
+    rows_in (Rows r) = r
+
+-- its rectangle suffices for the part
+suffices : (reach : Reach) (values : Values) (k : PartOfChip) (small : Values) (rows : ToldRows) (frame : Rect) → IsPartView reach values k small rows frame → Suffices reach values k frame
+suffices Windows values k small rows frame is = λ metal. sym (is.holds.checks (λ x y. metal x y && squares frame x y)) ∙ (is.frame_is metal ∙ is.holds.checks metal)
+suffices Needs values k small rows frame is = (small, is.rules, is.frame_is)
+
+pub size_is : (scope : Scope) (reach : Reach) (values small : Values) (told : Told) (frame : Option Rect) → IsViewOf scope reach values small told frame → size_near frame ≡ size_of scope
+size_is asked.Whole reach values small told frame (small_is, told_is, frame_is) = ap size_near frame_is
+size_is (asked.Part k) reach values small told frame (rows, rect, told_is, frame_is, is) = ap size_near frame_is
+
+fault_as : (bytes : List ℕ) (R Q : FlattenError → Type 0) → ((e : FlattenError) → R e → Q e) → (f : InputFault DesignError) → IsFaultBy R bytes f → IsFaultBy Q bytes f
+fault_as bytes R Q same (Unread Device) h = h
+fault_as bytes R Q same (Unread NoMemory) h = h
+fault_as bytes R Q same (Unread TooLong) h = h
+fault_as bytes R Q same (Refused (Library e)) h = h
+fault_as bytes R Q same (Refused (Flatten e)) h = same e h
+fault_as bytes R Q same (Refused (Crowded number count)) h = h
+
+-- a fault of a design near its rectangle, where the cause is none of its rows, is one of the chip
+pub fault_in : (scope : Scope) (reach : Reach) (refused : Values → Option Rect → FlattenError → Type 0) (bytes : List ℕ) (values small : Values) (told : Told) (frame : Option Rect) (met : InputFault DesignError)
+    → IsViewOf scope reach values small told frame → ((rows : ChipRows) (f : Option Rect) (e : FlattenError) → refused (with_rows values rows) f e → refused values f e)
+    → IsFaultBy (refused small frame) bytes met → IsFaultIn scope reach (refused values) bytes values (told_in scope met)
+fault_in asked.Whole reach refused bytes values small told frame met (small_is, told_is, frame_is) same why =
+    subst (λ (f : Option Rect). IsFaultBy (refused values f) bytes met) frame_is (subst (λ (v : Values). IsFaultBy (refused v frame) bytes met) small_is why)
+fault_in (asked.Part k) reach refused bytes values small told frame met (rows, rect, told_is, frame_is, is) same why = record {
+  frame = rect;
+  suffices = suffices reach values k small rows rect is;
+  met = met;
+  why = fault_as bytes (refused small (Some rect)) (refused values (Some rect)) (λ e h. same is.holds.rows (Some rect) e (subst (λ (v : Values). refused v (Some rect) e) is.holds.alone h)) met
+      (subst (λ (f : Option Rect). IsFaultBy (refused small f) bytes met) frame_is why);
+  told = refl;
+}
+
+-- the lines that are told of the metal near it are those of all metal
+drawn_in : (scope : Scope) (bytes : List ℕ) (values small : Values) (told : Told) (frame : Option Rect) (p : PointSet) → IsViewOf scope Windows values small told frame → IsMetalNear frame bytes small p
+    → (metal : PointSet) × IsDrawn (size_of scope) bytes values metal × (lines_told told small p ≡ report_in scope values metal)
+drawn_in asked.Whole bytes values small told frame p (small_is, told_is, frame_is) near =
+    let all = subst (λ (f : Option Rect). IsMetalNear f bytes values p) frame_is (subst (λ (v : Values). IsMetalNear frame bytes v p) small_is near) in
+    (all.metal, all.drawn, ap₂ (λ (t : Told) (v : Values). lines_told t v p) told_is small_is ∙ ap (λ (m : PointSet). metal_report m values) all.within)
+drawn_in (asked.Part k) bytes values small told frame p (rows, rect, told_is, frame_is, is) near =
+    let all = metal_rows bytes values is.holds.rows (Some rect) p (subst (λ (v : Values). IsMetalNear (Some rect) bytes v p) is.holds.alone (subst (λ (f : Option Rect). IsMetalNear f bytes small p) frame_is near)) in
+    (all.metal, all.drawn, ap (λ (t : Told). lines_told t small p) told_is ∙ (ap (λ (q : PointSet). lines_told (Rows rows) small q) all.within ∙ (is.frame_is all.metal ∙ is.holds.checks all.metal)))
+
+pub view_read : (scope : Scope) (reach : Reach) (rules : Option (List ℕ)) (small : Values) (told : Told) (frame : Option Rect) → IsView scope reach rules small told frame → IfSome rules (λ r. IsOk (answer_of (size_of scope) r))
+view_read scope reach None small told frame view = tt
+view_read scope reach (Some r) small told frame view = is_ok_of _ view.0 view.2
+
 -- ---- both inputs
 
-pub design_reason : (rules design : Option (List ℕ)) (values : Values) (f : InputFault DesignError) → IfSome rules (λ text. rules_answer text ≡ Ok values)
-    → IfSome design (λ bytes. IsMetalFault bytes values f) → IfSome rules (λ r. IfSome design (λ d. IsCheckReason r d (Design f)))
-design_reason None design values f read why = tt
-design_reason (Some r) None values f read why = tt
-design_reason (Some r) (Some d) values f read why = (values, read, why)
+check_of_rules : (scope : Scope) (r d : List ℕ) (e : Refusal) → IsRulesReason scope r e → IsCheckReason scope r d e
+check_of_rules scope r d (Rules fault) why = why
+check_of_rules scope r d (TooLarge fault number count) why = why
+check_of_rules scope r d (Design fault) why = absurd why
+check_of_rules scope r d (Script fault) why = why
+check_of_rules scope r d (Part number fault) why = why
+check_of_rules scope r d (Run run.Memory) why = absurd why
+check_of_rules scope r d (Run run.Unfinished) why = why
+check_of_rules scope r d (Run run.Mixed) why = why
+check_of_rules scope r d Out why = why
+check_of_rules scope r d Report why = absurd why
 
-is_checked : (r d : List ℕ) (values : Values) (m : ℤ → ℤ → Bool) → rules_answer r ≡ Ok values → IsDrawn d values m
-    → IsChecked r d (metal_report m values)
-is_checked r d values m read drawn_it = record { values = values; accepted = read; metal = m; drawn = drawn_it; report = refl }
+pub rules_reason : (scope : Scope) (rules design : Option (List ℕ)) (e : Refusal) → IfSome rules (λ r. IsRulesReason scope r e) → IfSome rules (λ r. IfSome design (λ d. IsCheckReason scope r d e))
+rules_reason scope rules design e why = if_two rules design (λ r d at_r at_d. check_of_rules scope r d e (of _ rules r at_r why))
 
-pub check_written : (rules design : Option (List ℕ)) (values : Values) (m : ℤ → ℤ → Bool) (P : List ℕ → Type 0) → IfSome rules (λ text. rules_answer text ≡ Ok values)
-    → IfSome design (λ bytes. IsDrawn bytes values m) → P (metal_report m values)
-    → IfSome rules (λ r. IfSome design (λ d. (text : List ℕ) × IsChecked r d text × P text))
-check_written None design values m P read taken holds = tt
-check_written (Some r) None values m P read taken holds = tt
-check_written (Some r) (Some d) values m P read taken holds = (metal_report m values, is_checked r d values m read taken, holds)
+module _ (scope : Scope) (rules design : Option (List ℕ)) (small : Values) (told : Told) (frame : Option Rect) (view : IsView scope Windows rules small told frame) where
+  pub design_reason : (met : InputFault DesignError) → IfSome design (λ bytes. IsFaultBy (IsUnflattened frame bytes small) bytes met) → (e : Refusal) → e ≡ Design (told_in scope met)
+      → IfSome rules (λ r. IfSome design (λ d. IsCheckReason scope r d e))
+  design_reason met why e is = if_two rules design (λ r d at_r at_d. subst (λ x. IsCheckReason scope r d x) (sym is) (
+    view.0,
+    of _ rules r at_r view.2,
+    fault_in scope Windows (λ v f. IsUnflattened f d v) d view.0 small told frame met view.1 (λ rows f e h. unflattened_rows d view.0 rows f e h) (of _ design d at_d why),
+  ))
 
-pub check_reason : (rules design : Option (List ℕ)) (values : Values) (m : ℤ → ℤ → Bool) (e : Refusal) → IfSome rules (λ text. rules_answer text ≡ Ok values)
-    → IfSome design (λ bytes. IsDrawn bytes values m) → ((e ≡ Report) ⊎ (e ≡ Run Memory))
-    → IfSome rules (λ r. IfSome design (λ d. IsCheckReason r d e))
-check_reason None design values m e read taken why = tt
-check_reason (Some r) None values m e read taken why = tt
-check_reason (Some r) (Some d) values m e read taken (inl is) = subst (λ x. IsCheckReason r d x) (sym is) (metal_report m values, is_checked r d values m read taken)
-check_reason (Some r) (Some d) values m e read taken (inr is) = subst (λ x. IsCheckReason r d x) (sym is) (metal_report m values, is_checked r d values m read taken)
+  module _ (p : PointSet) (taken : IfSome design (λ bytes. IsMetalNear frame bytes small p)) where
+    checked : (r d : List ℕ) → rules ≡ Some r → design ≡ Some d → IsChecked scope r d (lines_told told small p)
+    checked r d at_r at_d =
+        let (metal, drawn, same) = drawn_in scope d view.0 small told frame p view.1 (of _ design d at_d taken) in
+        record { values = view.0; accepted = of _ rules r at_r view.2; metal = metal; drawn = drawn; report = same }
+
+    pub check_written : (P : List ℕ → Type 0) → P (lines_told told small p) → IfSome rules (λ r. IfSome design (λ d. (text : List ℕ) × IsChecked scope r d text × P text))
+    check_written P holds = if_two rules design (λ r d at_r at_d. (lines_told told small p, checked r d at_r at_d, holds))
+
+    pub check_reason : (e : Refusal) → ((e ≡ Report) ⊎ (e ≡ Run run.Memory)) → IfSome rules (λ r. IfSome design (λ d. IsCheckReason scope r d e))
+    check_reason e (inl is) = if_two rules design (λ r d at_r at_d. subst (λ x. IsCheckReason scope r d x) (sym is) (lines_told told small p, checked r d at_r at_d))
+    check_reason e (inr is) = if_two rules design (λ r d at_r at_d. subst (λ x. IsCheckReason scope r d x) (sym is) (lines_told told small p, checked r d at_r at_d))
 
 -- the error that a `?` passes on is the one that was met
 pub as_error : {T E : Type 0} (r : Result T E) (x y z : E) → r ≡ Err x → x ≡ y → r ≡ Err z → y ≡ z

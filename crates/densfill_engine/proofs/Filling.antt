@@ -14,7 +14,6 @@ use Rattle.fill_core.specs.Terms.{Terms, layers_at}
 use Rattle.fill_core.specs.declared.event.Entry.{Entry}
 use Rattle.fill_core.specs.declared.event.Event.{Event}
 use Rattle.fill_parts.specs.PartFill.{layers_by}
-use Rattle.fill_report.specs.BookReport.{fill_report}
 use Rattle.gds_out.specs.FillText.{fill_text}
 use Rattle.gds_out.specs.Places.{PlaceSet}
 use Rattle.fill_core.proofs.Replays.{complete_fill, low_of_opening}
@@ -25,6 +24,8 @@ use Rattle.fill_shared.specs.Runs.{IsFinished, changes_in}
 use Rattle.fill_shared.proofs.Edited.{layers_stay, no_change}
 use Rattle.densfill_engine.specs.Fills.{IsAllWanted, IsFillOf, IsOnlyFillOf}
 use Rattle.densfill_engine.specs.Runs.{IsBack, IsFresh, IsRun, IsTooShort, Leaves, most_commits, most_turns, tile_count}
+use Rattle.densfill_engine.specs.Views.{places_told, report_told}
+use Rattle.densfill_engine.specs.declared.view.Told.{Told}
 use Rattle.densfill_engine.proofs.TileTurns.{run_brief, run_unedited}
 
 -- what a fill opens its book with
@@ -40,16 +41,16 @@ unfolding replay_from
 blank_fresh t a is tile = ap (λ (x : Account). (state_of x).tiles_in tile) is
 
 -- without an edit there is one fill only
-only_fill : (t : Terms) (b : Account) (units dates library report : List ℕ) → IsPlan (plan_of t.rules) → edits_in (events_in b.history) ≡ []
-    → library ≡ fill_text units dates t.rules (replay (plan_of t.rules) (layers_at t) (events_in b.history)).fill
-    → report ≡ fill_report t.rules (replay (plan_of t.rules) (layers_at t) (events_in b.history)).layers.metal (replay (plan_of t.rules) (layers_at t) (events_in b.history)).fill
-    → IsComplete (plan_of t.rules) (replay (plan_of t.rules) (layers_at t) (events_in b.history)) → IsOnlyFillOf t.rules (layers_at t) units dates library report
-only_fill t b units dates library report plan unedited l r complete =
+only_fill : (told : Told) (t : Terms) (b : Account) (units dates library report : List ℕ) → IsPlan (plan_of t.rules) → edits_in (events_in b.history) ≡ []
+    → library ≡ fill_text units dates t.rules (places_told told (plan_of t.rules) (replay (plan_of t.rules) (layers_at t) (events_in b.history)).fill)
+    → report ≡ report_told told t.rules (replay (plan_of t.rules) (layers_at t) (events_in b.history)).layers.metal (replay (plan_of t.rules) (layers_at t) (events_in b.history)).fill
+    → IsComplete (plan_of t.rules) (replay (plan_of t.rules) (layers_at t) (events_in b.history)) → IsOnlyFillOf told t.rules (layers_at t) units dates library report
+only_fill told t b units dates library report plan unedited l r complete =
     let fill_is = complete_unedited (plan_of t.rules) (layers_at t) (events_in b.history) plan unedited complete in
     let layers_are = layers_stay (plan_of t.rules) (start (plan_of t.rules) (layers_at t)) (events_in b.history) unedited in
     record {
-      library_is = l ∙ ap (fill_text units dates t.rules) fill_is;
-      report_is = r ∙ ap₂ (λ (l : Layers) (f : PointSet). fill_report t.rules l.metal f) layers_are fill_is;
+      library_is = l ∙ ap (λ (f : PointSet). fill_text units dates t.rules (places_told told (plan_of t.rules) f)) fill_is;
+      report_is = r ∙ ap₂ (λ (l : Layers) (f : PointSet). report_told told t.rules l.metal f) layers_are fill_is;
       sound = low_sound (plan_of t.rules) (layers_at t) plan;
     }
 
@@ -78,21 +79,21 @@ came_back Left t a b edits pass after workers limit room is fresh left rounds = 
 }
 
 -- the texts of a book in which every tile is in, whose edits are these
-fill_by : (t : Terms) (b : Account) (edits : List Edit) (workers : ℕ) (limit : Option ℕ) (units dates library report : List ℕ) → IsPlan (plan_of t.rules) → terms_of b ≡ t
+fill_by : (told : Told) (t : Terms) (b : Account) (edits : List Edit) (workers : ℕ) (limit : Option ℕ) (units dates library report : List ℕ) → IsPlan (plan_of t.rules) → terms_of b ≡ t
     → changes_in b.history ≡ map change_of edits → length b.history ≤ length (map change_of edits) + most_commits t.rules workers limit → IsComplete (plan_of b.rules) (state_of b)
-    → library ≡ fill_text units dates b.rules (state_of b).fill → report ≡ fill_report b.rules (state_of b).layers.metal (state_of b).fill
+    → library ≡ fill_text units dates b.rules (places_told told (plan_of b.rules) (state_of b).fill) → report ≡ report_told told b.rules (state_of b).layers.metal (state_of b).fill
     → (workers ≡ 1 → IsComplete (plan_of t.rules) (replay (plan_of t.rules) (layers_at t) (events_in b.history))
-    → library ≡ fill_text units dates t.rules (replay (plan_of t.rules) (layers_at t) (events_in b.history)).fill
-    → report ≡ fill_report t.rules (replay (plan_of t.rules) (layers_at t) (events_in b.history)).layers.metal (replay (plan_of t.rules) (layers_at t) (events_in b.history)).fill
-    → IsOnlyFillOf t.rules (layers_by (map change_of edits) (layers_at t)) units dates library report)
+    → library ≡ fill_text units dates t.rules (places_told told (plan_of t.rules) (replay (plan_of t.rules) (layers_at t) (events_in b.history)).fill)
+    → report ≡ report_told told t.rules (replay (plan_of t.rules) (layers_at t) (events_in b.history)).layers.metal (replay (plan_of t.rules) (layers_at t) (events_in b.history)).fill
+    → IsOnlyFillOf told t.rules (layers_by (map change_of edits) (layers_at t)) units dates library report)
     → (1 < workers → (back : IsBack IsFinished t.rules (layers_at t) (map change_of edits) workers limit) × (events_in back.book.history ≡ events_in b.history))
-    → IsFillOf t.rules (layers_at t) units dates (map change_of edits) workers limit library report
-fill_by t b edits workers limit units dates library report plan under made brief complete library_is report_is alone together =
+    → IsFillOf told t.rules (layers_at t) units dates (map change_of edits) workers limit library report
+fill_by told t b edits workers limit units dates library report plan under made brief complete library_is report_is alone together =
     let events = events_in b.history in let values = t.rules in
     let rules : b.rules ≡ values = ap (λ (u : Terms). u.rules) under in
     let state : state_of b ≡ replay (plan_of values) (layers_at t) events = ap (λ (u : Terms). replay (plan_of u.rules) (layers_at u) events) under in
-    let library_then = library_is ∙ (ap (λ (v : Values). fill_text units dates v (state_of b).fill) rules ∙ ap (λ (s : State). fill_text units dates values s.fill) state) in
-    let report_then = report_is ∙ (ap (λ (v : Values). fill_report v (state_of b).layers.metal (state_of b).fill) rules ∙ ap (λ (s : State). fill_report values s.layers.metal s.fill) state) in
+    let library_then = library_is ∙ (ap (λ (v : Values). fill_text units dates v (places_told told (plan_of v) (state_of b).fill)) rules ∙ ap (λ (s : State). fill_text units dates values (places_told told (plan_of values) s.fill)) state) in
+    let report_then = report_is ∙ (ap (λ (v : Values). report_told told v (state_of b).layers.metal (state_of b).fill) rules ∙ ap (λ (s : State). report_told told values s.layers.metal s.fill) state) in
     let complete_then = subst (λ (s : State). IsComplete (plan_of values) s) state (subst (λ (v : Values). IsComplete (plan_of v) (state_of b)) rules complete) in
     record {
       events = events;
@@ -103,22 +104,22 @@ fill_by t b edits workers limit units dates library report plan under made brief
       whole = all_wanted (plan_of values) (layers_at t) events plan complete_then;
       library_is = library_then;
       report_is = report_then;
-      unedited = λ none. only_fill t b units dates library report plan (no_change (edits_in events) (made ∙ none)) library_then report_then complete_then;
+      unedited = λ none. only_fill told t b units dates library report plan (no_change (edits_in events) (made ∙ none)) library_then report_then complete_then;
       alone = λ one. alone one complete_then library_then report_then;
       together = together;
     }
 
 -- the texts of a book that many workers filled
-pub texts_of_run : (t : Terms) (a b : Account) (pass : Held) (edits : List Edit) (workers : ℕ) (limit : Option ℕ) (units dates library report : List ℕ) → IsPlan (plan_of t.rules)
+pub texts_of_run : (told : Told) (t : Terms) (a b : Account) (pass : Held) (edits : List Edit) (workers : ℕ) (limit : Option ℕ) (units dates library report : List ℕ) → IsPlan (plan_of t.rules)
     → 1 < workers → t.most ≡ 2 ^ 32 → a ≡ blank t → pass ≡ nothing_with 1024
     → (after : Held) × IsFinished (terms_of a) edits b after × HasRun (terms_of a) edits workers (most_turns a.rules limit) pass b after × (after.calls ≤ pass.calls + (length edits + 2 * (workers * most_turns a.rules limit)))
-    → library ≡ fill_text units dates b.rules (state_of b).fill → report ≡ fill_report b.rules (state_of b).layers.metal (state_of b).fill
-    → IsFillOf t.rules (layers_at t) units dates (map change_of edits) workers limit library report
+    → library ≡ fill_text units dates b.rules (places_told told (plan_of b.rules) (state_of b).fill) → report ≡ report_told told b.rules (state_of b).layers.metal (state_of b).fill
+    → IsFillOf told t.rules (layers_at t) units dates (map change_of edits) workers limit library report
 unfolding came_back
-texts_of_run t a b pass edits workers limit units dates library report plan many room is fresh (after, done, rounds, brief) library_is report_is =
+texts_of_run told t a b pass edits workers limit units dates library report plan many room is fresh (after, done, rounds, brief) library_is report_is =
     let left = done.left in
     let turns : 2 * (workers * most_turns a.rules limit) ≡ most_commits t.rules workers limit = ap (λ (x : Account). 2 * (workers * most_turns x.rules limit)) is in
-    fill_by t b edits workers limit units dates library report plan (left.under ∙ ap terms_of is) left.edited
+    fill_by told t b edits workers limit units dates library report plan (left.under ∙ ap terms_of is) left.edited
     (few (length b.history) after.calls pass.calls (length edits) (length (map change_of edits)) _ _ (sym left.counted.calls) brief (ap (λ (h : Held). h.calls) fresh) (length-map edits change_of) turns) done.complete library_is report_is
     (λ one complete l r. absurd (omega (arith, many, one)))
     (λ _. (came_back IsFinished t a b edits pass after workers limit room is fresh done rounds, refl))
@@ -132,13 +133,13 @@ unmade layers = refl
 
 module _ (t : Terms) (a : Account) (limit : Option ℕ) (is : a ≡ blank t) where
   -- the texts of a book that one worker filled
-  pub texts_alone : (c : Account) (units dates library report : List ℕ) → IsPlan (plan_of t.rules) → IsRun a c (2 * most_turns a.rules limit) → IsComplete (plan_of c.rules) (state_of c)
-      → library ≡ fill_text units dates c.rules (state_of c).fill → report ≡ fill_report c.rules (state_of c).layers.metal (state_of c).fill
-      → IsFillOf t.rules (layers_at t) units dates [] 1 limit library report
-  texts_alone c units dates library report plan filled complete library_is report_is =
-      fill_by t c [] 1 limit units dates library report plan under (ap (map change_of) unedited)
+  pub texts_alone : (told : Told) (c : Account) (units dates library report : List ℕ) → IsPlan (plan_of t.rules) → IsRun a c (2 * most_turns a.rules limit) → IsComplete (plan_of c.rules) (state_of c)
+      → library ≡ fill_text units dates c.rules (places_told told (plan_of c.rules) (state_of c).fill) → report ≡ report_told told c.rules (state_of c).layers.metal (state_of c).fill
+      → IsFillOf told t.rules (layers_at t) units dates [] 1 limit library report
+  texts_alone told c units dates library report plan filled complete library_is report_is =
+      fill_by told t c [] 1 limit units dates library report plan under (ap (map change_of) unedited)
       (all (length c.history) (length a.history) _ _ (run_brief a c _ filled) (ap (λ (x : Account). length x.history) is) turns) complete library_is report_is
-      (λ one whole l r. subst (λ (p : Layers). IsOnlyFillOf t.rules p units dates library report) (unmade (layers_at t)) (only_fill t c units dates library report plan unedited l r whole))
+      (λ one whole l r. subst (λ (p : Layers). IsOnlyFillOf told t.rules p units dates library report) (unmade (layers_at t)) (only_fill told t c units dates library report plan unedited l r whole))
       (λ many. absurd (omega (arith, many)))
     where
       same : terms_of c ≡ terms_of a

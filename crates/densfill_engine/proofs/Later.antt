@@ -16,10 +16,11 @@ use Rattle.fill_core.specs.declared.event.Event.TheVariants as event
 use Rattle.fill_core.proofs.Calling.{replay_from_append}
 use Rattle.fill_parts.specs.Laws.{EditsAreChanges, EditsOpenAnew}
 use Rattle.fill_parts.specs.PartFill.{layers_by, layers_with}
-use Rattle.fill_report.specs.BookReport.{fill_report}
 use Rattle.gds_out.specs.FillText.{fill_text}
 use Rattle.densfill_engine.specs.Fills.{IsAllWanted, IsFillOf, IsOnlyFillOf}
 use Rattle.densfill_engine.specs.Runs.{most_commits}
+use Rattle.densfill_engine.specs.Views.{places_told, report_told}
+use Rattle.densfill_engine.specs.declared.view.Told.{Told}
 
 -- ---- versions that are counted from another one
 
@@ -96,9 +97,9 @@ unfolding layers_by
 nothing_made layers = refl
 
 -- are those of the layers and the edits
-pub behind_fill : (values : Values) (layers after : Layers) (edits : List Edit) (workers : ℕ) (limit : Option ℕ) (u units d dates library report : List ℕ) → EditsOpenAnew → EditsAreChanges
-    → after ≡ layers_with edits layers → u ≡ units → d ≡ dates → workers ≡ 1 → IsFillOf values after u d [] 1 limit library report → IsFillOf values layers units dates (map change_of edits) workers limit library report
-behind_fill values layers after edits workers limit u units d dates library report law changes is units_are dates_are one given = record {
+pub behind_fill : (told : Told) (values : Values) (layers after : Layers) (edits : List Edit) (workers : ℕ) (limit : Option ℕ) (u units d dates library report : List ℕ) → EditsOpenAnew → EditsAreChanges
+    → after ≡ layers_with edits layers → u ≡ units → d ≡ dates → workers ≡ 1 → IsFillOf told values after u d [] 1 limit library report → IsFillOf told values layers units dates (map change_of edits) workers limit library report
+behind_fill told values layers after edits workers limit u units d dates library report law changes is units_are dates_are one given = record {
   events = behind edits fill.events;
   changed = ap (map change_of) (edits_behind edits fill.events) ∙ (map-append change_of edits (edits_in fill.events)
       ∙ (ap (λ l. map change_of edits ++ l) fill.changed ∙ append-nil (map change_of edits)));
@@ -106,21 +107,21 @@ behind_fill values layers after edits workers limit u units d dates library repo
   complete = λ tile lt. ap (λ (s : State). s.tiles_in tile) run ∙ fill.complete tile lt;
   sound = subst (λ (s : State). IsSound (plan_of values) s.layers s.fill) (sym run) fill.sound;
   whole = subst (λ (s : State). IsAllWanted (plan_of values) s) (sym run) fill.whole;
-  library_is = fill.library_is ∙ ap (λ (s : State). fill_text units dates values s.fill) (sym run);
-  report_is = fill.report_is ∙ ap (λ (s : State). fill_report values s.layers.metal s.fill) (sym run);
-  unedited = λ none. subst (λ (l : Layers). IsOnlyFillOf values l units dates library report) (ap (λ (c : List Change). layers_by c layers) none ∙ nothing_made layers) only;
+  library_is = fill.library_is ∙ ap (λ (s : State). fill_text units dates values (places_told told (plan_of values) s.fill)) (sym run);
+  report_is = fill.report_is ∙ ap (λ (s : State). report_told told values s.layers.metal s.fill) (sym run);
+  unedited = λ none. subst (λ (l : Layers). IsOnlyFillOf told values l units dates library report) (ap (λ (c : List Change). layers_by c layers) none ∙ nothing_made layers) only;
   alone = λ _. only;
   together = λ many. absurd (omega (arith, many, one));
 } where
-  fill : IsFillOf values (layers_with edits layers) units dates [] 1 limit library report
-  fill = subst (λ (l : Layers). IsFillOf values l units dates [] 1 limit library report) is
-      (subst (λ (x : List ℕ). IsFillOf values after units x [] 1 limit library report) dates_are (subst (λ (x : List ℕ). IsFillOf values after x d [] 1 limit library report) units_are given))
+  fill : IsFillOf told values (layers_with edits layers) units dates [] 1 limit library report
+  fill = subst (λ (l : Layers). IsFillOf told values l units dates [] 1 limit library report) is
+      (subst (λ (x : List ℕ). IsFillOf told values after units x [] 1 limit library report) dates_are (subst (λ (x : List ℕ). IsFillOf told values after x d [] 1 limit library report) units_are given))
 
   run : replay (plan_of values) layers (behind edits fill.events) ≡ raised (length edits) (replay (plan_of values) (layers_with edits layers) fill.events)
   run = behind_edits (plan_of values) layers edits fill.events law
 
-  only : IsOnlyFillOf values (layers_by (map change_of edits) layers) units dates library report
-  only = subst (λ (l : Layers). IsOnlyFillOf values l units dates library report) (nothing_made (layers_with edits layers) ∙ changes edits layers) (fill.alone refl)
+  only : IsOnlyFillOf told values (layers_by (map change_of edits) layers) units dates library report
+  only = subst (λ (l : Layers). IsOnlyFillOf told values l units dates library report) (nothing_made (layers_with edits layers) ∙ changes edits layers) (fill.alone refl)
 
   few : (n e c k m u : ℕ) → n ≡ e + k → c ≡ e → k ≤ 0 + m → u ≡ m → n ≤ c + u
   few n e c k m u same made le turns = omega (arith, same, made, le, turns)

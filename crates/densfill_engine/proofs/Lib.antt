@@ -3,14 +3,13 @@ mod Patches
 mod Replayed
 mod EditedLayers
 mod Reasons
+mod Drawing
 pub mod Checking
 mod TileTurns
 mod Filling
 mod Later
+mod Parts
+mod TileRows
 mod Preparing
-pub mod PartChecking
-mod PartDesigns
-mod PartPreparing
-mod PartTexts
 mod Joined
 mod OneRun

@@ -37,11 +37,12 @@ use Rattle.gds_join.proofs.Libraries.{parts_library}
 use Rattle.densfill_io.specs.declared.input.InputError.TheVariants.{TooLong}
 use Rattle.densfill_engine.specs.Designs.{IsDesign, IsKeptOut}
 use Rattle.densfill_engine.specs.Fills.{Inputs, IsFilled}
-use Rattle.densfill_engine.specs.Inputs.{chip_answer, rules_answer, script_answer, told_by}
+use Rattle.densfill_engine.specs.Inputs.{answer_of, chip_answer, rules_answer, script_answer, told_by}
 use Rattle.densfill_engine.specs.Joiners.{IsJoinOf}
 use Rattle.densfill_engine.specs.OneRun.{AreOneRun, AreParts, PartsAreOneRun}
 use Rattle.densfill_engine.specs.declared.refusal.InputFault.TheVariants.{Refused, Unread}
-use Rattle.densfill_engine.specs.PartFills.{IsPartFilled, IsWholeDesign, IsWholeKeptOut, WholeInputs}
+use Rattle.densfill_engine.specs.Scopes.{Size, limited, unlimited}
+use Rattle.densfill_engine.specs.declared.scope.Scope.TheVariants as asked
 use Rattle.densfill_engine.proofs.Reasons.{rules_chip}
 
 -- ---- a design has units of 16 bytes and dates of 24
@@ -98,8 +99,8 @@ record IsSeen (bytes : List ℕ) (values : Values) (layers : Layers) (units date
   units_are : units ≡ design.units
   dates_are : dates ≡ design.dates
 
-whole_seen : (bytes : List ℕ) (values : Values) (layers : Layers) (units dates : List ℕ) → IsWholeDesign bytes values layers units dates → IsSeen bytes values layers units dates
-whole_seen bytes values layers units dates is = record {
+design_seen : (size : Size) (bytes : List ℕ) (values : Values) (layers : Layers) (units dates : List ℕ) → IsDesign size bytes values layers units dates → IsSeen bytes values layers units dates
+design_seen size bytes values layers units dates is = record {
   design = is.drawn.metal.design;
   spelled = is.drawn.metal.read.spelled;
   metal = is.drawn.metal.drawn.squares_are;
@@ -107,22 +108,14 @@ whole_seen bytes values layers units dates is = record {
   units_are = is.units_are;
   dates_are = is.dates_are;
 } where
-  kept : (cells : List Cell) (top : List ℕ) (o : Option Layer) (p : PointSet) → IsWholeKeptOut cells top o p → p ≡ all_kept cells top o
+  kept : (cells : List Cell) (top : List ℕ) (o : Option Layer) (p : PointSet) → IsKeptOut size cells top o p → p ≡ all_kept cells top o
   kept cells top None p none = fun_ext (λ x. fun_ext (λ y. none x y))
   kept cells top (Some layer) p on = on.squares_are
 
-design_seen : (bytes : List ℕ) (values : Values) (layers : Layers) (units dates : List ℕ) → IsDesign bytes values layers units dates → IsSeen bytes values layers units dates
-design_seen bytes values layers units dates is = record {
-  design = is.drawn.metal.design;
-  spelled = is.drawn.metal.read.spelled;
-  metal = is.drawn.metal.drawn.squares_are;
-  keep = kept is.drawn.metal.design.cells values.top (keep_layer values) layers.keep is.drawn.kept;
-  units_are = is.units_are;
-  dates_are = is.dates_are;
-} where
-  kept : (cells : List Cell) (top : List ℕ) (o : Option Layer) (p : PointSet) → IsKeptOut cells top o p → p ≡ all_kept cells top o
-  kept cells top None p none = fun_ext (λ x. fun_ext (λ y. none x y))
-  kept cells top (Some layer) p on = on.squares_are
+-- a rule file of a chip within the limits of a run says the same of one of any size
+answer_chip : (size : Size) (r : List ℕ) (values : Values) → answer_of size r ≡ Ok values → chip_answer r ≡ Ok values
+answer_chip limited r values accepted = rules_chip r values accepted
+answer_chip unlimited r values accepted = accepted
 
 -- what the three inputs say
 record Said (r d s : List ℕ) : Type 0 where
@@ -135,26 +128,14 @@ record Said (r d s : List ℕ) : Type 0 where
   changes : List Change
   edits : script_answer s ≡ Ok changes
 
-abbrev whole_said : (r d s : List ℕ) → WholeInputs r d s → Said r d s
-whole_said r d s i = record {
+abbrev said : (size : Size) (r d s : List ℕ) → Inputs size r d s → Said r d s
+said size r d s i = record {
   values = i.values;
-  accepted = i.accepted;
+  accepted = answer_chip size r i.values i.accepted;
   layers = i.layers;
   units = i.units;
   dates = i.dates;
-  seen = whole_seen d i.values i.layers i.units i.dates i.drawn;
-  changes = i.changes;
-  edits = i.edits;
-}
-
-abbrev run_said : (r d s : List ℕ) → Inputs r d s → Said r d s
-run_said r d s i = record {
-  values = i.values;
-  accepted = rules_chip r i.values i.accepted;
-  layers = i.layers;
-  units = i.units;
-  dates = i.dates;
-  seen = design_seen d i.values i.layers i.units i.dates i.drawn;
+  seen = design_seen size d i.values i.layers i.units i.dates i.drawn;
   changes = i.changes;
   edits = i.edits;
 }
@@ -187,17 +168,17 @@ said_once r d s a b =
 
 module _ (rules design script : List ℕ) (libraries reports : List (List ℕ)) (library : List ℕ) (parts : AreParts rules design script libraries reports) (join : IsJoinOf rules libraries library)
     (plan : IsPlan (plan_of (values_of join.accepted))) where
-  given : (k : ℕ) → k < length libraries → IsPartFilled rules design script (part k (length libraries)) (get_or libraries k []) (get_or reports k [])
+  given : (k : ℕ) → k < length libraries → IsFilled (asked.Part (part k (length libraries))) rules design script 1 None (get_or libraries k []) (get_or reports k [])
   given k lt = parts.each k (get_or libraries k []) (get_or reports k []) (slice_get-get_or libraries k [] lt) (slice_get-get_or reports k [] (subst (λ n. k < n) (sym parts.count) lt))
 
-  abbrev inputs : WholeInputs rules design script
-  inputs = (given 0 join.some).inputs
+  abbrev inputs : Inputs unlimited rules design script
+  inputs = (given 0 join.some).0
 
   abbrev layers : Layers
   layers = layers_by inputs.changes inputs.layers
 
-  same : (k : ℕ) (lt : k < length libraries) → AreSame rules design script (whole_said rules design script (given k lt).inputs) (whole_said rules design script inputs)
-  same k lt = said_once rules design script (whole_said rules design script (given k lt).inputs) (whole_said rules design script inputs)
+  same : (k : ℕ) (lt : k < length libraries) → AreSame rules design script (said unlimited rules design script (given k lt).0) (said unlimited rules design script inputs)
+  same k lt = said_once rules design script (said unlimited rules design script (given k lt).0) (said unlimited rules design script inputs)
 
   -- the rules of the join are those of the parts
   rules_are : inputs.values ≡ values_of join.accepted
@@ -207,14 +188,14 @@ module _ (rules design script : List ℕ) (libraries reports : List (List ℕ)) 
       → slice_get libraries k ≡ Some (fill_text inputs.units inputs.dates (values_of join.accepted) (part_fill (plan_of (values_of join.accepted)) layers (part k (length libraries))))
   library_of k lt =
       let s = same k lt in
-      slice_get-get_or libraries k [] lt ∙ ap Some ((given k lt).fill.library_is
+      slice_get-get_or libraries k [] lt ∙ ap Some ((given k lt).1.library_is
       ∙ ((λ t. fill_text (s.units_are t) (s.dates_are t) (s.values_are t) (part_fill (plan_of (s.values_are t)) (layers_by (s.changes_are t) (s.layers_are t)) (part k (length libraries))))
       ∙ (λ t. fill_text inputs.units inputs.dates (rules_are t) (part_fill (plan_of (rules_are t)) layers (part k (length libraries))))))
 
   report_of : (k : ℕ) (lt : k < length libraries) → get_or reports k [] ≡ part_report inputs.values layers.metal (low_fill (plan_of inputs.values) layers) (part k (length libraries))
   report_of k lt =
       let s = same k lt in
-      (given k lt).fill.report_is
+      (given k lt).1.report_is
       ∙ (λ t. part_report (s.values_are t) (layers_by (s.changes_are t) (s.layers_are t)).metal (low_fill (plan_of (s.values_are t)) (layers_by (s.changes_are t) (s.layers_are t))) (part k (length libraries)))
 
   whole_library : library ≡ fill_text inputs.units inputs.dates inputs.values (low_fill (plan_of inputs.values) layers)
@@ -231,10 +212,10 @@ module _ (rules design script : List ℕ) (libraries reports : List (List ℕ)) 
       ∙ (ap (flat_map (λ x. x)) (fill_by_all lines reports (length libraries) [] parts.count report_of)
       ∙ (flat_map-map (λ x. x) lines (range_with_len 0 (length libraries)) ∙ parts_report inputs.values layers.metal (low_fill (plan_of inputs.values) layers) (length libraries) join.some))
 
-  of_run : (limit : Option ℕ) (whole lines : List ℕ) → IsFilled rules design script 1 limit whole lines → (library ≡ whole) × (concat reports ≡ lines)
+  of_run : (limit : Option ℕ) (whole lines : List ℕ) → IsFilled asked.Whole rules design script 1 limit whole lines → (library ≡ whole) × (concat reports ≡ lines)
   of_run limit whole lines filled =
-      let only = filled.fill.alone refl in
-      let s = said_once rules design script (whole_said rules design script inputs) (run_said rules design script filled.inputs) in (
+      let only = filled.1.alone refl in
+      let s = said_once rules design script (said unlimited rules design script inputs) (said limited rules design script filled.0) in (
         whole_library
             ∙ ((λ t. fill_text (s.units_are t) (s.dates_are t) (s.values_are t) (low_fill (plan_of (s.values_are t)) (layers_by (s.changes_are t) (s.layers_are t)))) ∙ sym only.library_is),
         whole_report

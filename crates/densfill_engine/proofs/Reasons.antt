@@ -16,7 +16,6 @@ use Rattle.fill_text.specs.declared.keys.TextKey.TheVariants as text
 use Rattle.fill_text.specs.declared.rule_error.RuleError.{RuleError}
 use Rattle.fill_text.specs.declared.rule_error.RuleError.TheVariants.{BadPitch, BadRect, BadRule, BadWindows, TooManyPlaces}
 use Rattle.fill_text.specs.Script.{Change}
-use Rattle.fill_text.specs.declared.rule_error.RuleError.TheVariants as rule
 use Rattle.fill_text.specs.declared.script.ScriptError.{ScriptError}
 use Rattle.fill_text.specs.declared.script.ScriptError.TheVariants as script
 use Rattle.fill_report.specs.RulesReport.{metal_report}
@@ -83,10 +82,6 @@ rules_taken (Some xs) bytes values n same len short given = rw (← same, short_
     short_enough m short = grind (arith, nat_tests)
 
 -- so of a chip of any size
-pub chip_is : (rules : Option (List ℕ)) (values : Values) → IfSome rules (λ text. chip_answer text ≡ Ok values) → IfSome rules (λ r. IsOk (chip_answer r))
-chip_is None values read = tt
-chip_is (Some r) values read = is_ok_of _ values read
-
 pub chip_taken : (remaining : Option (List ℕ)) (bytes : List ℕ) (values : Values) (n : ℕ) → IfSome remaining (λ xs. bytes ≡ xs) → n ≡ length bytes → n ≤ 2147483648 → chip_of bytes ≡ Ok values
     → IfSome remaining (λ text. chip_answer text ≡ Ok values)
 chip_taken None bytes values n same len short given = tt

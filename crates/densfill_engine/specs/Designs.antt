@@ -1,15 +1,19 @@
 -- What the bytes of a design draw on the layers that the rules name.
-use Rattle.std.specs.Prelude.{◌≡◌, ◌⊎◌, ◌^◌, ◌<◌, ◌≤◌, ℕ, ℤ, false, List, length, Option, Some, None}
+use Rattle.std.specs.Prelude.{◌≡◌, ◌⊎◌, ◌&&◌, ◌^◌, ◌<◌, ◌≤◌, ℕ, ℤ, false, true, List, length, Option, Some, None}
 use Rattle.densfill_io.specs.declared.input.InputError.TheVariants.{TooLong, Device, Memory}
+use Rattle.fill_base.specs.Coordinates.{IsInRange}
+use Rattle.fill_base.specs.Squares.{squares}
+use Rattle.fill_base.specs.declared.layer.Layer.{Layer}
+use Rattle.fill_base.specs.declared.rect.Rect.{Rect}
 use Rattle.fill_text.specs.Rules.{Values, keep_layer, metal_layer}
 use Rattle.fill_job.specs.Plans.{Layers, PointSet}
 use Rattle.gds_grammar.specs.Values.{Cell, Contents}
 use Rattle.gds_grammar.specs.Outcomes as library
-use Rattle.fill_base.specs.declared.layer.Layer.{Layer}
 use Rattle.gds_cells.specs.Copies.{drawn, AllStayInRange}
-use Rattle.gds_cells.specs.Designs.{copies_of}
+use Rattle.gds_cells.specs.Designs.{AllFine, copies_of, index_of}
 use Rattle.gds_flatten.specs.Flattening as flatten
 use Rattle.gds_cells.specs.declared.error.FlattenError.{FlattenError}
+use Rattle.densfill_engine.specs.Scopes.{Size, limited, unlimited}
 use Rattle.densfill_engine.specs.declared.refusal.DesignError.{DesignError}
 use Rattle.densfill_engine.specs.declared.refusal.DesignError.TheVariants.{Library, Flatten, Crowded}
 use Rattle.densfill_engine.specs.declared.refusal.InputFault.{InputFault}
@@ -20,47 +24,112 @@ pub record IsRead (bytes : List ℕ) (design : Contents) : Type 0 where
   pub short : length bytes ≤ 2 ^ 31
   pub spelled : library.Spells bytes design
 
+-- references and shapes are sound, and within the limits of a run there are not too many copies
+abbrev pub IsCountable : Size → List Cell → List ℕ → Layer → Type 0
+IsCountable limited cells top layer = flatten.IsCountable cells top layer
+IsCountable unlimited cells top layer = flatten.IsSound cells top × AllFine cells (index_of cells top) layer
+
 -- the squares are those that the top draws on the layer, and nothing is refused
-pub record IsDrawnOn (cells : List Cell) (top : List ℕ) (layer : Layer) (p : PointSet) : Type 0 where
-  pub countable : flatten.IsCountable cells top layer
+pub record IsDrawnOn (size : Size) (cells : List Cell) (top : List ℕ) (layer : Layer) (p : PointSet) : Type 0 where
+  pub countable : IsCountable size cells top layer
   pub inside : AllStayInRange (copies_of cells top layer)
   pub squares_are : p ≡ drawn (copies_of cells top layer)
 
 -- the same where there is a layer, and no square where there is none
-abbrev pub IsKeptOut : List Cell → List ℕ → Option Layer → PointSet → Type 0
-IsKeptOut cells top None keep = (x y : ℤ) → keep x y ≡ false
-IsKeptOut cells top (Some layer) keep = IsDrawnOn cells top layer keep
+abbrev pub IsKeptOut : Size → List Cell → List ℕ → Option Layer → PointSet → Type 0
+IsKeptOut size cells top None keep = (x y : ℤ) → keep x y ≡ false
+IsKeptOut size cells top (Some layer) keep = IsDrawnOn size cells top layer keep
 
 -- the metal is what the design's top draws on the checked layer
-pub record IsDrawn (bytes : List ℕ) (values : Values) (metal : PointSet) : Type 0 where
+pub record IsDrawn (size : Size) (bytes : List ℕ) (values : Values) (metal : PointSet) : Type 0 where
   pub design : Contents
   pub read : IsRead bytes design
-  pub drawn : IsDrawnOn design.cells values.top (metal_layer values) metal
+  pub drawn : IsDrawnOn size design.cells values.top (metal_layer values) metal
 
 -- so it is, and the keep-outs are what the same top draws on theirs
-pub record AreDrawn (bytes : List ℕ) (values : Values) (layers : Layers) : Type 0 where
-  pub metal : IsDrawn bytes values layers.metal
-  pub kept : IsKeptOut metal.design.cells values.top (keep_layer values) layers.keep
+pub record AreDrawn (size : Size) (bytes : List ℕ) (values : Values) (layers : Layers) : Type 0 where
+  pub metal : IsDrawn size bytes values layers.metal
+  pub kept : IsKeptOut size metal.design.cells values.top (keep_layer values) layers.keep
 
 -- these are metal and keep-outs, and the library has these units and dates
-pub record IsDesign (bytes : List ℕ) (values : Values) (layers : Layers) (units dates : List ℕ) : Type 0 where
-  pub drawn : AreDrawn bytes values layers
+pub record IsDesign (size : Size) (bytes : List ℕ) (values : Values) (layers : Layers) (units dates : List ℕ) : Type 0 where
+  pub drawn : AreDrawn size bytes values layers
   pub units_are : units ≡ drawn.metal.design.units
   pub dates_are : dates ≡ drawn.metal.design.dates
 
--- why the checked layer of a design of these bytes can't be flattened
-pub record IsUnflattened (bytes : List ℕ) (values : Values) (e : FlattenError) : Type 0 where
+-- ---- near a rectangle, where there is one: of a design of any size then
+
+abbrev pub size_near : Option Rect → Size
+size_near None = limited
+size_near (Some frame) = unlimited
+
+-- the squares within it
+abbrev pub squares_within : Option Rect → PointSet → PointSet
+squares_within None p = p
+squares_within (Some frame) p = λ x y. p x y && squares frame x y
+
+abbrev pub layers_within : Option Rect → Layers → Layers
+layers_within frame layers = record { metal = squares_within frame layers.metal; keep = squares_within frame layers.keep }
+
+-- a part knows besides that all squares lie within the coordinates
+abbrev pub IsRanged : Option Rect → PointSet → Type 0
+IsRanged None p = Unit {0}
+IsRanged (Some frame) p = (x y : ℤ) → p x y ≡ true → IsInRange x y
+
+-- copies count, and are too many, where they meet it
+abbrev pub IsCountableNear : Option Rect → List Cell → List ℕ → Layer → Type 0
+IsCountableNear None cells top layer = flatten.IsCountable cells top layer
+IsCountableNear (Some frame) cells top layer = flatten.IsCountableOn cells top layer frame
+
+abbrev pub IsRefusedNear : Option Rect → List Cell → List ℕ → Layer → FlattenError → Type 0
+IsRefusedNear None cells top layer e = flatten.IsRefused cells top layer e
+IsRefusedNear (Some frame) cells top layer e = flatten.IsRefusedOn cells top layer frame e
+
+-- the squares are those within it that the top draws on the layer
+pub record IsDrawnNear (frame : Option Rect) (cells : List Cell) (top : List ℕ) (layer : Layer) (p : PointSet) : Type 0 where
+  pub countable : IsCountableNear frame cells top layer
+  pub inside : AllStayInRange (copies_of cells top layer)
+  pub ranged : IsRanged frame (drawn (copies_of cells top layer))
+  pub squares_are : (x y : ℤ) → p x y ≡ squares_within frame (drawn (copies_of cells top layer)) x y
+
+abbrev pub IsKeptNear : Option Rect → List Cell → List ℕ → Option Layer → PointSet → Type 0
+IsKeptNear frame cells top None keep = (x y : ℤ) → keep x y ≡ false
+IsKeptNear frame cells top (Some layer) keep = IsDrawnNear frame cells top layer keep
+
+-- the squares are those within it of the metal of a design
+pub record IsMetalNear (frame : Option Rect) (bytes : List ℕ) (values : Values) (p : PointSet) : Type 0 where
+  pub metal : PointSet
+  pub drawn : IsDrawn (size_near frame) bytes values metal
+  pub within : p ≡ squares_within frame metal
+
+-- metal and keep-outs are those within it of a design
+pub record IsDesignNear (frame : Option Rect) (bytes : List ℕ) (values : Values) (near : Layers) (units dates : List ℕ) : Type 0 where
+  pub layers : Layers
+  pub whole : IsDesign (size_near frame) bytes values layers units dates
+  pub metal_in : IsRanged frame layers.metal
+  pub keep_in : IsRanged frame layers.keep
+  pub within : near ≡ layers_within frame layers
+
+-- ---- refusals
+
+-- why the checked layer of a design of these bytes can't be flattened there
+pub record IsUnflattened (frame : Option Rect) (bytes : List ℕ) (values : Values) (e : FlattenError) : Type 0 where
   pub design : Contents
   pub read : IsRead bytes design
-  pub refused : flatten.IsRefused design.cells values.top (metal_layer values) e
+  pub refused : IsRefusedNear frame design.cells values.top (metal_layer values) e
 
 -- why the keep-outs' layer can't be, where the checked one is
-pub record IsUnflattenedBehind (bytes : List ℕ) (values : Values) (e : FlattenError) : Type 0 where
+pub record IsUnflattenedBehind (frame : Option Rect) (bytes : List ℕ) (values : Values) (e : FlattenError) : Type 0 where
   pub metal : PointSet
-  pub drawn : IsDrawn bytes values metal
+  pub drawn : IsDrawn (size_near frame) bytes values metal
+  pub few : IsCountableNear frame drawn.design.cells values.top (metal_layer values)
   pub layer : Layer
   pub named : keep_layer values ≡ Some layer
-  pub refused : flatten.IsRefused drawn.design.cells values.top layer e
+  pub refused : IsRefusedNear frame drawn.design.cells values.top layer e
+
+-- why there is no metal there, or none of the keep-outs behind it
+abbrev pub IsUndrawn : Option Rect → List ℕ → Values → FlattenError → Type 0
+IsUndrawn frame bytes values e = IsUnflattened frame bytes values e ⊎ IsUnflattenedBehind frame bytes values e
 
 -- Why a design of these bytes gives nothing: it could not be read, or memory ran out; it's too long; it's no library, or its top
 -- can't be flattened, for a cause of this kind.
@@ -71,11 +140,3 @@ IsFaultBy refused bytes (Unread TooLong) = 2 ^ 31 < length bytes
 IsFaultBy refused bytes (Refused (Library e)) = (length bytes ≤ 2 ^ 31) × library.IsRefused bytes e
 IsFaultBy refused bytes (Refused (Flatten e)) = refused e
 IsFaultBy refused bytes (Refused (Crowded number count)) = ⊥
-
--- why there is no metal
-abbrev pub IsMetalFault : List ℕ → Values → InputFault DesignError → Type 0
-IsMetalFault bytes values fault = IsFaultBy (IsUnflattened bytes values) bytes fault
-
--- why there is no metal, or none of the keep-outs behind it
-abbrev pub IsDesignFault : List ℕ → Values → InputFault DesignError → Type 0
-IsDesignFault bytes values fault = IsFaultBy (λ e. IsUnflattened bytes values e ⊎ IsUnflattenedBehind bytes values e) bytes fault

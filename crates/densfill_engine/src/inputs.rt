@@ -9,20 +9,21 @@ ghost use Rattle.fill_text.specs.Script.{change_of};
 ghost use Rattle.fill_text.specs.ValuesOfChips.{chip_values};
 ghost use Rattle.fill_text.specs.ValuesOfRules.{values_of};
 ghost use Rattle.fill_job.specs.Basis.{layers_in};
-ghost use Rattle.gds_flatten.specs.Flattening.{IsRefused};
 ghost use Rattle.gds_grammar.specs.Values.{contents_of};
-ghost use Rattle.densfill_engine.specs.Designs.{IsDesign, IsDesignFault, IsDrawn, IsDrawnOn, IsKeptOut, IsMetalFault};
+ghost use Rattle.densfill_engine.specs.Designs.{IsDesignNear, IsDrawnNear, IsFaultBy, IsKeptNear, IsMetalNear, IsRefusedNear, IsUndrawn, IsUnflattened};
 ghost use Rattle.densfill_engine.specs.Inputs.{chip_answer, rules_answer, script_answer, IsFaultOf};
 
+use crate::metal::one_list;
 use crate::refusal::{DesignError, InputFault};
+use crate::view::View;
 use densfill_io::{InputError, Tap, read_input};
 use fill_base::{Layer, Rect};
 use fill_region::{Region, region_of_rects};
 use fill_text::{
     ChipRules, Edit, RuleError, Rules, ScriptError, read_chip_rules, read_rules, read_script,
 };
-use gds_flatten::laws::layers_suffice;
-use gds_flatten::{FlattenError, flatten_parts};
+use gds_flatten::laws::{layers_suffice, layers_suffice_within};
+use gds_flatten::{FlattenError, flatten_parts, flatten_within};
 use gds_grammar::{Library, read_layers};
 use std::alloc::{AllocError, Global};
 use std::io::Read;
@@ -84,18 +85,26 @@ pub fn take_edits<S: Read>(
     Ok(edits)
 }
 
-/// What the library's top draws on a layer: lists of rectangles that cover it, and may overlap.
+/// What the library's top draws on a layer within what is looked at: lists of rectangles that cover it, and may overlap.
 fn drawn_on(
     rt: &(impl Threads + Sync),
     alloc: Global,
     library: &Library<'_>,
-    rules: &Rules,
+    view: &View,
     layer: Layer,
 ) -> Result<Vec<Vec<Rect>>, FlattenError>
-    ensures drawn { IfOk result (λ lists. IsDrawnOn (contents_of library.now).cells (values_of rules.now).top layer (covered (flat_map vec_items lists.items))) }
-    ensures refused { IfErr result (λ e. IsRefused (contents_of library.now).cells (values_of rules.now).top layer e) }
+    ensures drawn { IfOk result (λ lists. IsDrawnNear view.now.frame (contents_of library.now).cells (values_of view.now.rules).top layer (covered (flat_map vec_items lists.items))) }
+    ensures refused { IfErr result (λ e. IsRefusedNear view.now.frame (contents_of library.now).cells (values_of view.now.rules).top layer e) }
 {
-    flatten_parts(rt, alloc, library, rules.top(), layer)
+    let top = view.rules.top();
+    match &view.frame {
+        None => flatten_parts(rt, alloc, library, top, layer),
+        Some(frame) => {
+            let rects = flatten_within(rt, alloc, library, top, layer, frame)?;
+            let lists = one_list(alloc, rects)?;
+            Ok(lists)
+        }
+    }
 }
 
 /// The same as a region.
@@ -103,13 +112,13 @@ fn region_on(
     rt: &(impl Threads + Sync),
     alloc: Global,
     library: &Library<'_>,
-    rules: &Rules,
+    view: &View,
     layer: Layer,
 ) -> Result<Region, FlattenError>
-    ensures drawn { IfOk result (λ r. IsDrawnOn (contents_of library.now).cells (values_of rules.now).top layer (holds r)) }
-    ensures refused { IfErr result (λ e. IsRefused (contents_of library.now).cells (values_of rules.now).top layer e) }
+    ensures drawn { IfOk result (λ r. IsDrawnNear view.now.frame (contents_of library.now).cells (values_of view.now.rules).top layer (holds r)) }
+    ensures refused { IfErr result (λ e. IsRefusedNear view.now.frame (contents_of library.now).cells (values_of view.now.rules).top layer e) }
 {
-    let lists = drawn_on(rt, alloc, library, rules, layer)?;
+    let lists = drawn_on(rt, alloc, library, view, layer)?;
     let region = region_of(rt, alloc, &lists)?;
     Ok(region)
 }
@@ -131,52 +140,53 @@ fn kept_out(
     rt: &(impl Threads + Sync),
     alloc: Global,
     library: &Library<'_>,
-    rules: &Rules,
+    view: &View,
     layer: Option<Layer>,
 ) -> Result<Region, FlattenError>
-    ensures kept { IfOk result (λ r. IsKeptOut (contents_of library.now).cells (values_of rules.now).top layer (holds r)) }
-    ensures refused { IfErr result (λ e. (l : Layer) × (layer ≡ Some l) × (IsRefused (contents_of library.now).cells (values_of rules.now).top l e)) }
+    ensures kept { IfOk result (λ r. IsKeptNear view.now.frame (contents_of library.now).cells (values_of view.now.rules).top layer (holds r)) }
+    ensures refused { IfErr result (λ e. (l : Layer) × (layer ≡ Some l) × (IsRefusedNear view.now.frame (contents_of library.now).cells (values_of view.now.rules).top l e)) }
 {
     match layer {
-        Some(layer) => region_on(rt, alloc, library, rules, layer),
+        Some(layer) => region_on(rt, alloc, library, view, layer),
         None => Ok(Region::empty(alloc)),
     }
 }
 
-/// The metal that the design of these bytes draws on the checked layer, as lists of rectangles that cover it. Of other layers
+/// The metal that the design of these bytes draws on the checked layer within what is looked at, as lists of rectangles that cover it. Of other layers
 /// nothing is kept.
 fn metal_of(
     rt: &(impl Threads + Sync),
     alloc: Global,
     bytes: &[u8],
-    rules: &Rules,
+    view: &View,
 ) -> Result<Vec<Vec<Rect>>, InputFault<DesignError>>
     requires { length bytes.now ≤ 2 ^ 31 }
-    ensures metal { IfOk result (λ lists. IsDrawn bytes.now (values_of rules.now) (covered (flat_map vec_items lists.items))) }
-    ensures refused { IfErr result (λ f. IsMetalFault bytes.now (values_of rules.now) f) }
+    ensures metal { IfOk result (λ lists. IsMetalNear view.now.frame bytes.now (values_of view.now.rules) (covered (flat_map vec_items lists.items))) }
+    ensures refused { IfErr result (λ f. IsFaultBy (IsUnflattened view.now.frame bytes.now (values_of view.now.rules)) bytes.now f) }
     ensures taken { ¬ IsErrOf result (InputFault.Unread InputError.Device) }
 {
     layers_suffice();
-    let layer = rules.metal_layer();
+    layers_suffice_within();
+    let layer = view.rules.metal_layer();
     let library = read_layers(alloc, bytes, &[layer])?;
-    let lists = drawn_on(rt, alloc, &library, rules, layer)?;
+    let lists = drawn_on(rt, alloc, &library, view, layer)?;
     Ok(lists)
 }
 
-/// The metal that the design behind the tap draws on the checked layer, as lists of rectangles that cover it, and may overlap.
+/// The same of the design behind the tap.
 pub fn take_metal<D: Read>(
     rt: &(impl Threads + Sync),
     alloc: Global,
     tap: &mut Tap<D>,
-    rules: &Rules,
+    view: &View,
 ) -> Result<Vec<Vec<Rect>>, InputFault<DesignError>>
     requires { has_failed tap.old ≡ false }
     ensures device { IsErrOf result (InputFault.Unread InputError.Device) ↔ (has_failed tap.new ≡ true) }
-    ensures metal { IfOk result (λ lists. IfSome (D.remaining (under tap.old)) (λ bytes. IsDrawn bytes (values_of rules.now) (covered (flat_map vec_items lists.items)))) }
-    ensures refused { IfErr result (λ f. IfSome (D.remaining (under tap.old)) (λ bytes. IsMetalFault bytes (values_of rules.now) f)) }
+    ensures metal { IfOk result (λ lists. IfSome (D.remaining (under tap.old)) (λ bytes. IsMetalNear view.now.frame bytes (values_of view.now.rules) (covered (flat_map vec_items lists.items)))) }
+    ensures refused { IfErr result (λ f. IfSome (D.remaining (under tap.old)) (λ bytes. IsFaultBy (IsUnflattened view.now.frame bytes (values_of view.now.rules)) bytes f)) }
 {
     let bytes = read_input(alloc, tap, MOST_BYTES)?;
-    metal_of(rt, alloc, &bytes, rules)
+    metal_of(rt, alloc, &bytes, view)
 }
 
 /// What a design gives to a fill.
@@ -195,33 +205,34 @@ pub struct Design {
 /// What the three inputs of a fill say.
 #[derive(Drop)]
 pub struct Task {
-    /// The rules.
-    pub rules: Rules,
+    /// What is looked at.
+    pub view: View,
     /// What the design gives.
     pub design: Design,
-    /// The script's edits, in their order.
+    /// The script's edits that count there, in their order.
     pub edits: Vec<Edit>,
 }
 
-/// What the design of these bytes draws on the checked layer and on that of the keep-outs, with its units and dates. It is read
-/// once, and the checked layer is flattened first.
+/// What the design of these bytes draws within what is looked at, on the checked layer and on that of the keep-outs, with its units
+/// and dates. It is read once, and the checked layer is flattened first.
 fn design_of(
     rt: &(impl Threads + Sync),
     alloc: Global,
     bytes: &[u8],
-    rules: &Rules,
+    view: &View,
 ) -> Result<Design, InputFault<DesignError>>
     requires { length bytes.now ≤ 2 ^ 31 }
-    ensures design { IfOk result (λ d. IsDesign bytes.now (values_of rules.now) (layers_in d.metal d.keep) d.units d.dates) }
-    ensures refused { IfErr result (λ f. IsDesignFault bytes.now (values_of rules.now) f) }
+    ensures design { IfOk result (λ d. IsDesignNear view.now.frame bytes.now (values_of view.now.rules) (layers_in d.metal d.keep) d.units d.dates) }
+    ensures refused { IfErr result (λ f. IsFaultBy (IsUndrawn view.now.frame bytes.now (values_of view.now.rules)) bytes.now f) }
     ensures taken { ¬ IsErrOf result (InputFault.Unread InputError.Device) }
 {
     layers_suffice();
-    let layer = rules.metal_layer();
-    let keep_layer = rules.keep_layer();
+    layers_suffice_within();
+    let layer = view.rules.metal_layer();
+    let keep_layer = view.rules.keep_layer();
     let library = read_layers(alloc, bytes, &[layer, keep_layer.unwrap_or(layer)])?;
-    let metal = region_on(rt, alloc, &library, rules, layer)?;
-    let keep = kept_out(rt, alloc, &library, rules, keep_layer)?;
+    let metal = region_on(rt, alloc, &library, view, layer)?;
+    let keep = kept_out(rt, alloc, &library, view, keep_layer)?;
     Ok(Design {
         metal,
         keep,
@@ -230,18 +241,18 @@ fn design_of(
     })
 }
 
-/// What the design behind the tap draws on the checked layer and on that of the keep-outs, with its units and dates.
+/// The same of the design behind the tap.
 pub fn take_design<D: Read>(
     rt: &(impl Threads + Sync),
     alloc: Global,
     tap: &mut Tap<D>,
-    rules: &Rules,
+    view: &View,
 ) -> Result<Design, InputFault<DesignError>>
     requires { has_failed tap.old ≡ false }
     ensures device { IsErrOf result (InputFault.Unread InputError.Device) ↔ (has_failed tap.new ≡ true) }
-    ensures design { IfOk result (λ d. IfSome (D.remaining (under tap.old)) (λ bytes. IsDesign bytes (values_of rules.now) (layers_in d.metal d.keep) d.units d.dates)) }
-    ensures refused { IfErr result (λ f. IfSome (D.remaining (under tap.old)) (λ bytes. IsDesignFault bytes (values_of rules.now) f)) }
+    ensures design { IfOk result (λ d. IfSome (D.remaining (under tap.old)) (λ bytes. IsDesignNear view.now.frame bytes (values_of view.now.rules) (layers_in d.metal d.keep) d.units d.dates)) }
+    ensures refused { IfErr result (λ f. IfSome (D.remaining (under tap.old)) (λ bytes. IsFaultBy (IsUndrawn view.now.frame bytes (values_of view.now.rules)) bytes f)) }
 {
     let bytes = read_input(alloc, tap, MOST_BYTES)?;
-    design_of(rt, alloc, &bytes, rules)
+    design_of(rt, alloc, &bytes, view)
 }

@@ -143,10 +143,10 @@ pub(crate) fn metal_after(alloc: Global, edits: &[Edit]) -> Result<Vec<Vec<Rect>
 }
 
 /// The list alone.
-fn one_list(alloc: Global, rects: Vec<Rect>) -> Result<Vec<Vec<Rect>>, AllocError>
-    ensures { IfOk result (λ v. flat_map vec_items v.items ≡ rects.items) }
+pub(crate) fn one_list<T: Drop>(alloc: Global, list: Vec<T>) -> Result<Vec<Vec<T>>, AllocError>
+    ensures { IfOk result (λ v. flat_map vec_items v.items ≡ list.items) }
 {
     let mut lists = Vec::new(alloc);
-    lists.push(rects)?;
+    lists.push(list)?;
     Ok(lists)
 }

@@ -2,7 +2,7 @@
 use crate::devices::broken_off;
 use crate::inputs::{Broken, EMPTY, RULES, Short};
 use crate::wire::{LIBRARY, REPORT, WIRE};
-use densfill_engine::{Crew, Filled, InputFault, Inputs, Refusal, deliver, prepare};
+use densfill_engine::{Crew, Filled, InputFault, Inputs, Refusal, Scope, deliver, prepare};
 use densfill_io::{InputError, Tap};
 use std::alloc::Global;
 use std::io;
@@ -41,7 +41,7 @@ fn fill_of<R: Read + Drop, D: Read + Drop, S: Read + Drop>(
         workers: 1,
         limit: None,
     };
-    prepare(rt, alloc, &mut inputs, crew)
+    prepare(rt, alloc, &mut inputs, Scope::Whole, crew)
 }
 
 /// A hundred boxes, in one array.

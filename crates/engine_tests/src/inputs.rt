@@ -1,5 +1,5 @@
 //! Fault lines that no case shows, and runs of `rects` and `check` over readers and writers that fail.
-use densfill_engine::{DesignError, InputFault, Refusal, RunFault, check, rects};
+use densfill_engine::{DesignError, InputFault, Refusal, RunFault, Scope, check, rects};
 use densfill_io::{InputError, Tap};
 use fill_parts::PartRulesError;
 use fill_text::{Key, NumberKey, RuleError};
@@ -144,6 +144,7 @@ fn a_script_and_a_design_without_metal_are_reported(rt: HostRuntime) {
     let done = check(
         &rt,
         rt.alloc(),
+        Scope::Whole,
         &mut Tap::new(RULES),
         &mut Tap::new(EMPTY),
         &mut Tap::new(&mut of_check),
@@ -186,6 +187,7 @@ fn refusal_of_design(rt: &(impl Threads + Sync), alloc: Global, rules: &[u8]) ->
     check(
         rt,
         alloc,
+        Scope::Whole,
         &mut Tap::new(rules),
         &mut Tap::new(Broken),
         &mut out,

@@ -2,7 +2,7 @@
 
 use crate::fills::FILLED;
 use crate::inputs::{EMPTY, NOTHING, RULES};
-use densfill_engine::{Inputs, check_part, join_part, prepare_part};
+use densfill_engine::{Crew, Inputs, Scope, check, join_part, prepare};
 use densfill_io::Tap;
 use fill_parts::Part;
 use fill_text::read_rules;
@@ -13,12 +13,12 @@ use std::test::Fail;
 fn a_part_has_the_lines_of_its_rows(rt: HostRuntime) -> Result<(), Fail> {
     let mut written = Vec::new(rt.alloc());
     let whole = Part::new(1, 1).ok_or("no such part")?;
-    check_part(
+    check(
         &rt,
         rt.alloc(),
+        Scope::Part(whole),
         &mut Tap::new(RULES),
         &mut Tap::new(EMPTY),
-        whole,
         &mut Tap::new(&mut written),
     )?;
     assert!(rt; written.as_slice() == NOTHING);
@@ -34,7 +34,11 @@ fn a_fill_library_is_read_and_written_again(rt: HostRuntime) -> Result<(), Fail>
         design: Tap::new(EMPTY),
         script: Tap::new(b"".as_slice()),
     };
-    let filled = prepare_part(&rt, alloc, &mut inputs, whole)?;
+    let crew = Crew {
+        workers: 1,
+        limit: None,
+    };
+    let filled = prepare(&rt, alloc, &mut inputs, Scope::Part(whole), crew)?;
     assert!(rt; filled.report.as_slice() == FILLED);
     let rules = read_rules(alloc, RULES)?;
     let mut places = no_places(alloc, &rules)?;

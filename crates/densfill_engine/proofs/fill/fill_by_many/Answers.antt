@@ -17,7 +17,7 @@ pub returns-in_err-book-2-clause-unfinished : goal.returns-in_err-book-2-clause-
 returns-in_err-book-2-clause-unfinished g c =
     let task = c.args.task in
     let crew = c.args.crew in
-    let values = values_of task.rules in
+    let values = values_of task.view.rules in
     let p = err_from_is_err_and c.from_residual-in_err-book-2.result c.from_residual-in_err-book-2.ensures.1 in
     λ is.
     let (b, after, left, rounds) = c.in_err-book-2.ensures.unfinished (ap Err (as_error c.from_residual-in_err-book-2.result p.0 c.in_err-book-2.field-0.0 Unfinished p.1 p.2 is)) in
@@ -29,7 +29,7 @@ pub returns-in_err-book-2-clause-mixed : goal.returns-in_err-book-2-clause-mixed
 returns-in_err-book-2-clause-mixed g c =
     let task = c.args.task in
     let crew = c.args.crew in
-    let values = values_of task.rules in
+    let values = values_of task.view.rules in
     let p = err_from_is_err_and c.from_residual-in_err-book-2.result c.from_residual-in_err-book-2.ensures.1 in
     λ is.
     let (b, after, left, rounds) = c.in_err-book-2.ensures.mixed (ap Err (as_error c.from_residual-in_err-book-2.result p.0 c.in_err-book-2.field-0.0 Mixed p.1 p.2 is)) in
@@ -41,10 +41,10 @@ pub returns-clause-filled : goal.returns-clause-filled
 returns-clause-filled g c =
     let task = c.args.task in
     let crew = c.args.crew in
-    let values = values_of task.rules in
+    let values = values_of task.view.rules in
     let design = task.design in
     if_both c.texts_of.result _ _ _ (λ f library report.
-    subst (λ (l : List Edit). IsFillOf values (layers_in design.metal design.keep) design.units design.dates (map change_of l) crew.workers crew.limit f.library.items f.report.items) c.deref.ensures.value
-    (texts_of_run (fill_terms values design.metal design.keep) c.in_ok-book.book c.in_ok-book-2.book c.in_ok-book.pass c.deref.result.now crew.workers crew.limit
+    subst (λ (l : List Edit). IsFillOf task.view.told values (layers_in design.metal design.keep) design.units design.dates (map change_of l) crew.workers crew.limit f.library.items f.report.items) c.deref.ensures.value
+    (texts_of_run task.view.told (fill_terms values design.metal design.keep) c.in_ok-book.book c.in_ok-book-2.book c.in_ok-book.pass c.deref.result.now crew.workers crew.limit
     design.units design.dates f.library.items f.report.items c.rules_make_a_plan.ensures c.requires.workers.0 refl c.in_ok-book.ensures.book c.in_ok-book.ensures.pass
     c.in_ok-book-2.ensures.finished library report)) c.texts_of.ensures.library c.texts_of.ensures.report

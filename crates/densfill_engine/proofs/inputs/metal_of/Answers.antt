@@ -5,7 +5,7 @@ use Rattle.std.specs.Vec.{vec_items}
 use Rattle.fill_region.specs.Squares.{covered}
 use Rattle.fill_text.specs.ValuesOfRules.{values_of}
 use Rattle.gds_grammar.specs.Values.{contents_of}
-use Rattle.densfill_engine.proofs.Checking.{among_first, metal_drawn, not_flattened}
+use Rattle.densfill_engine.proofs.Drawing.{among_first, metal_near, not_flattened}
 use Rattle.densfill_engine.proofs.inputs.metal_of.Goals as goal
 
 pub returns-in_err-lists-clause-refused : goal.returns-in_err-lists-clause-refused
@@ -13,13 +13,13 @@ returns-in_err-lists-clause-refused g c =
     let p = err_from_is_err_and c.from_residual-in_err-lists.result c.from_residual-in_err-lists.ensures.1 in
     let read = c.in_ok-library.ensures.ok in
     let layer = c.metal_layer-layer.result in
-    rw (p.1, p.2) (not_flattened c.args.bytes.now (values_of c.args.rules.now) read.0 (contents_of c.in_ok-library.library) (layer ∷ [])
-    c.layers_suffice.ensures c.requires read.1 read.2 layer c.metal_layer-layer.ensures (among_first layer []) c.in_err-lists.field-0.0 c.in_err-lists.ensures.refused)
+    rw (p.1, p.2) (not_flattened c.args.bytes.now (values_of c.args.view.now.rules) read.0 (contents_of c.in_ok-library.library) (layer ∷ []) c.args.view.now.frame
+    c.layers_suffice.ensures c.layers_suffice_within.ensures c.requires read.1 read.2 layer c.metal_layer-layer.ensures (among_first layer []) c.in_err-lists.field-0.0 c.in_err-lists.ensures.refused)
 
 pub returns-clause-metal : goal.returns-clause-metal
 returns-clause-metal g c =
     let read = c.in_ok-library.ensures.ok in
     let layer = c.metal_layer-layer.result in
-    metal_drawn c.args.bytes.now (values_of c.args.rules.now) read.0 (contents_of c.in_ok-library.library) (layer ∷ [])
-    c.layers_suffice.ensures c.requires read.1 read.2 layer c.metal_layer-layer.ensures (among_first layer [])
+    metal_near c.args.bytes.now (values_of c.args.view.now.rules) read.0 (contents_of c.in_ok-library.library) (layer ∷ []) c.args.view.now.frame
+    c.layers_suffice.ensures c.layers_suffice_within.ensures c.requires read.1 read.2 layer c.metal_layer-layer.ensures (among_first layer [])
     (covered (flat_map vec_items c.in_ok-lists.lists.items)) c.in_ok-lists.ensures.drawn

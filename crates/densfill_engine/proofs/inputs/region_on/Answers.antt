@@ -5,10 +5,10 @@ use Rattle.fill_region.specs.Squares.{covered}
 use Rattle.fill_text.specs.ValuesOfRules.{values_of}
 use Rattle.fill_job.specs.Plans.{PointSet}
 use Rattle.gds_grammar.specs.Values.{contents_of}
-use Rattle.densfill_engine.specs.Designs.{IsDrawnOn}
+use Rattle.densfill_engine.specs.Designs.{IsDrawnNear}
 use Rattle.densfill_engine.proofs.inputs.region_on.Goals as goal
 
 pub returns-clause-drawn : goal.returns-clause-drawn
 returns-clause-drawn g c =
-    subst (λ (p : PointSet). IsDrawnOn (contents_of c.args.library.now).cells (values_of c.args.rules.now).top c.args.layer p)
+    subst (λ (p : PointSet). IsDrawnNear c.args.view.now.frame (contents_of c.args.library.now).cells (values_of c.args.view.now.rules).top c.args.layer p)
     (ap (λ lists. covered (flat_map vec_items lists)) (sym c.deref.ensures.value) ∙ c.in_ok-region.ensures) c.in_ok-lists.ensures.drawn

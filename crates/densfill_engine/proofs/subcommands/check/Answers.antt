@@ -7,34 +7,34 @@ use Rattle.std.specs.Vec.{vec_items}
 use Rattle.densfill_io.specs.Taps.{under}
 use Rattle.fill_region.specs.Squares.{covered}
 use Rattle.fill_text.specs.ValuesOfRules.{values_of}
-use Rattle.densfill_engine.proofs.Checking.{design_reason, check_written, check_reason, as_error}
+use Rattle.densfill_engine.proofs.Checking.{as_error, check_reason, check_written, design_reason}
 use Rattle.densfill_engine.proofs.subcommands.check.Goals as goal
 
-pub returns-in_err-lists-clause-refused : goal.returns-in_err-lists-clause-refused
-returns-in_err-lists-clause-refused g c =
-    let p = err_from_is_err_and c.from_residual-in_err-lists.result c.from_residual-in_err-lists.ensures.1 in
-    rw (p.1, p.2) (design_reason (g.R.Read.remaining (under c.args.rules.now)) (g.D.Read.remaining (under c.args.design.now))
-    (values_of c.in_ok-values.values) c.in_err-lists.field-0.0 c.in_ok-values.ensures.rules c.in_err-lists.ensures.refused)
+pub returns-in-Err-clause-refused : goal.returns-in-Err-clause-refused
+returns-in-Err-clause-refused g c =
+    let v = c.in_ok-view.view in
+    design_reason c.args.scope (g.R.Read.remaining (under c.args.rules.now)) (g.D.Read.remaining (under c.args.design.now)) (values_of v.rules) v.told v.frame c.in_ok-view.ensures.view
+    c.in-Err.fault c.in-Err.ensures.refused c.design_fault.result c.design_fault.ensures.told
 
 pub returns-in_err-write_report-clause-refused : goal.returns-in_err-write_report-clause-refused
 returns-in_err-write_report-clause-refused g c =
     let p = err_from_is_err_and c.from_residual-in_err-write_report.result c.from_residual-in_err-write_report.ensures.1 in
-    rw (p.1, p.2) (check_reason (g.R.Read.remaining (under c.args.rules.now)) (g.D.Read.remaining (under c.args.design.now))
-    (values_of c.in_ok-values.values) (covered (flat_map vec_items c.in_ok-lists.lists.items)) c.in_err-write_report.field-0.0 c.in_ok-values.ensures.rules c.in_ok-lists.ensures.metal
-    c.in_err-write_report.ensures.refused)
+    let v = c.in_ok-view.view in
+    rw (p.1, p.2) (check_reason c.args.scope (g.R.Read.remaining (under c.args.rules.now)) (g.D.Read.remaining (under c.args.design.now)) (values_of v.rules) v.told v.frame c.in_ok-view.ensures.view
+    (covered (flat_map vec_items c.in-Ok.lists.items)) c.in-Ok.ensures.metal c.in_err-write_report.field-0.0 c.in_err-write_report.ensures.refused)
 
 pub returns-in_err-write_report-clause-prefix : goal.returns-in_err-write_report-clause-prefix
 returns-in_err-write_report-clause-prefix g c =
     let p = err_from_is_err_and c.from_residual-in_err-write_report.result c.from_residual-in_err-write_report.ensures.1 in
-    λ is. check_written (g.R.Read.remaining (under c.args.rules.now)) (g.D.Read.remaining (under c.args.design.now))
-    (values_of c.in_ok-values.values) (covered (flat_map vec_items c.in_ok-lists.lists.items))
+    let v = c.in_ok-view.view in
+    λ is. check_written c.args.scope (g.R.Read.remaining (under c.args.rules.now)) (g.D.Read.remaining (under c.args.design.now)) (values_of v.rules) v.told v.frame c.in_ok-view.ensures.view
+    (covered (flat_map vec_items c.in-Ok.lists.items)) c.in-Ok.ensures.metal
     (λ text. (k : ℕ) × Appends (g.W.Write.contents (under c.args.out.now)) (g.W.Write.contents (under c.write_report.new.out)) (take k text))
-    c.in_ok-values.ensures.rules c.in_ok-lists.ensures.metal (c.in_err-write_report.ensures.prefix
-    (ap Err (as_error c.from_residual-in_err-write_report.result p.0 c.in_err-write_report.field-0.0 Report p.1 p.2 is)))
+    (c.in_err-write_report.ensures.prefix (ap Err (as_error c.from_residual-in_err-write_report.result p.0 c.in_err-write_report.field-0.0 Report p.1 p.2 is)))
 
 pub returns-clause-written : goal.returns-clause-written
 returns-clause-written g c =
-    check_written (g.R.Read.remaining (under c.args.rules.now)) (g.D.Read.remaining (under c.args.design.now))
-    (values_of c.in_ok-values.values) (covered (flat_map vec_items c.in_ok-lists.lists.items))
-    (Appends (g.W.Write.contents (under c.args.out.now)) (g.W.Write.contents (under c.write_report.new.out)))
-    c.in_ok-values.ensures.rules c.in_ok-lists.ensures.metal c.in_ok-write_report.ensures.whole
+    let v = c.in_ok-view.view in
+    check_written c.args.scope (g.R.Read.remaining (under c.args.rules.now)) (g.D.Read.remaining (under c.args.design.now)) (values_of v.rules) v.told v.frame c.in_ok-view.ensures.view
+    (covered (flat_map vec_items c.in-Ok.lists.items)) c.in-Ok.ensures.metal
+    (Appends (g.W.Write.contents (under c.args.out.now)) (g.W.Write.contents (under c.write_report.new.out))) c.in_ok-write_report.ensures.whole
