@@ -135,7 +135,6 @@ class Picking(unittest.TestCase):
         wide = self.STRIPES | {"frame_x2": 8_000_000}
         self.assertEqual(parts_for(self.work("check", structure("TOP"), **wide), 64 << 30), 4)
         self.assertEqual(parts_for(self.work("check", structure("TOP"), **self.STRIPES | {"win_nx": 400_000}), 64 << 30), 2)
-        self.assertEqual([self.work(does, structure("TOP"), **wide).is_joinable() for does in ("check", "fill")], [True, False])
         with self.assertRaisesRegex(NoParts, "places, in however many parts"):
             parts_for(self.work("check", structure("TOP"), **wide | {"frame_x2": 16_000_000}), 64 << 30)
 

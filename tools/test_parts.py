@@ -157,19 +157,26 @@ def boxes(text: bytes) -> dict[int, set[int]]:
 class LargeChips(Case):
     """Chips that one run doesn't take: more parts give what fewer do."""
 
-    def given(self, does: str, count: int) -> tuple[bytes, dict[int, set[int]]]:
-        """The report and the boxes of so many parts together."""
+    def given(self, does: str, count: int) -> tuple[bytes, bytes]:
+        """The report and, of a fill, the joined library of so many parts, whose boxes are those of the parts, none of them in two."""
         report = b""
         rows: dict[int, set[int]] = {}
-        for number in range(1, count + 1):
+        names = [f"{number}-of-{count}.gds" for number in range(1, count + 1)]
+        for number, name in enumerate(names, 1):
             part = ("--part", f"{number}/{count}")
-            done = self.fill("out.gds", *part) if does == "fill" else self.run_words("check", "rules.csv", "design.gds", *part)
+            done = self.fill(name, *part) if does == "fill" else self.run_words("check", "rules.csv", "design.gds", *part)
             self.assertEqual((done.returncode, done.stderr), (0, b""))
             report += done.stdout
-            own = boxes((self.folder / "out.gds").read_bytes()) if does == "fill" else {}
+            own = boxes((self.folder / name).read_bytes()) if does == "fill" else {}
             self.assertFalse(own.keys() & rows.keys())
             rows |= own
-        return report, rows
+        if does == "check":
+            return report, b""
+        done = self.run_words("join", "rules.csv", "joined.gds", *names)
+        self.assertEqual((done.returncode, done.stdout, done.stderr), (0, b"", b""))
+        joined = (self.folder / "joined.gds").read_bytes()
+        self.assertEqual(boxes(joined), rows)
+        return report, joined
 
     def test_more_parts_give_the_same(self) -> None:
         for name, rules, does, counts in (("places", PLACES, "fill", (3, 4, 11)), ("windows", WINDOWS, "check", (2, 3))):
@@ -181,6 +188,17 @@ class LargeChips(Case):
             for count in counts[1:]:
                 with self.subTest(chip=name, count=count):
                     self.assertEqual(self.given(does, count), first)
+
+    def test_parts_that_are_not_joined(self) -> None:
+        self.write(Chip("places", PLACES, TALL, EDITS))
+        self.given("fill", 4)
+        first, second, third, last = (f"{number}-of-4.gds" for number in range(1, 5))
+        for parts, told in (((second, first, third, last), f"part 1: 39 NotAFill in {second}"), ((first, first, third, last), f"part 2: 39 NotAFill in {first}"),
+                            ((first, second, third, last, last), f"part 1: 39 NotAFill in {first}"), ((first,), f"part 1: 28 TooManyPlaces in {first}")):
+            with self.subTest(parts=parts):
+                done = self.run_words("join", "rules.csv", "none.gds", *parts)
+                self.assertEqual((done.returncode, done.stdout, done.stderr), (2, b"", f"densfill: {told}\n".encode()))
+                self.assertFalse((self.folder / "none.gds").exists())
 
 
 class Lines(Case):

@@ -132,8 +132,6 @@ def picked(given: argparse.Namespace, earlier: Asked | None) -> int:
     if not given.parts and earlier and not given.memory:
         return earlier.parts
     work = read_work(given.rules, given.design, given.command)
-    if not work.is_joinable():
-        raise NoParts(f"{given.rules}: fills of more than 2^20 windows or 2^24 places are not joined: check in parts, or fill them one by one")
     if given.parts:
         warn(work, given.parts, given.memory)
         return int(given.parts)

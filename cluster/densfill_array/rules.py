@@ -81,10 +81,6 @@ class Work:
         """A part of so many that has too many windows or places for a run."""
         return self.cut.too_large(parts, first) if self.cut else None
 
-    def is_joinable(self) -> bool:
-        """Whether the program joins what the parts give: reports are put one after another, but a fill may have so many places and windows."""
-        return self.does == "check" or not self.cut or self.cut.too_large(1) is None
-
     def copies(self, parts: int) -> float:
         """Copies of shapes that a part looks at, about."""
         return self.load.copies * self.chip.share(parts)

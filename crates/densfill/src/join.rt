@@ -13,11 +13,11 @@ use std::rt::Files;
 /// Takes the library that a path names behind those of the parts before it.
 fn take_next<R: Files>(rt: &R, alloc: Global, joiner: Joiner, path: &str) -> Result<Joiner, Refusal>
     requires joiner { IsJoiner joiner }
-    requires more { joiner.taken < joiner.count }
+    requires more { joiner.parts.taken < joiner.parts.count }
     ensures joiner { IfOk result IsJoiner }
-    ensures taken { IfOk result (λ j. (j.rules ≡ joiner.rules) × (j.count ≡ joiner.count) × (j.taken ≡ joiner.taken + 1)) }
+    ensures taken { IfOk result (λ j. (j.parts.chip ≡ joiner.parts.chip) × (j.parts.whole ≡ joiner.parts.whole) × (j.parts.count ≡ joiner.parts.count) × (j.parts.taken ≡ joiner.parts.taken + 1)) }
     ensures joined { IfOk result (λ j. (p : R.File) × IfSome (R.File.remaining p) (λ bytes. (texts : List (List ℕ)) → AreJoined texts joiner → AreJoined (texts ++ bytes ∷ []) j)) }
-    ensures refused { IfErr result (λ e. IsUnopenedPart (joiner.taken + 1) e
+    ensures refused { IfErr result (λ e. IsUnopenedPart (joiner.parts.taken + 1) e
         ⊎ ((p : R.File) × IfSome (R.File.remaining p) (λ bytes. (texts : List (List ℕ)) → AreJoined texts joiner → IsPartReason joiner (texts ++ bytes ∷ []) e))) }
 {
     let mut part = opened_part(rt, path, joiner.next())?;
@@ -33,9 +33,9 @@ fn take_all<R: Files>(
 ) -> Result<Joiner, Refusal>
     requires joiner { IsJoiner joiner }
     requires none { AreJoined [] joiner }
-    requires count { joiner.count ≡ length paths.now }
+    requires count { joiner.parts.count ≡ length paths.now }
     ensures joiner { IfOk result IsJoiner }
-    ensures whole { IfOk result (λ j. (j.rules ≡ joiner.rules) × (j.taken ≡ j.count)) }
+    ensures whole { IfOk result (λ j. (j.parts.chip ≡ joiner.parts.chip) × (j.parts.whole ≡ joiner.parts.whole) × (j.parts.taken ≡ j.parts.count)) }
     ensures joined { IfOk result (λ j. (ps : List R.File) × (length ps ≡ length paths.now) × IfSome (all_known (map R.File.remaining ps)) (λ texts. AreJoined texts j)) }
     ensures refused { IfErr result (λ e. (ps : List R.File) × IfSome (all_known (map R.File.remaining ps)) (λ texts. IsPartReason joiner texts e)) }
 {

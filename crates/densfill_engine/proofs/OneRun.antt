@@ -1,6 +1,6 @@
 -- The parts of a chip, joined, are one run.
-use Rattle.std.proofs.Common.{◌≡◌, refl, ap, sym, subst, ◌∙◌, ℕ, ◌<◌, ◌^◌, ◌==◌, arith, Bool, true, false, List, [], ◌∷◌, ◌++◌, length, get_or, Option, Some, None, Result, Ok, Err}
-use Rattle.std.specs.Prelude.{if◌then◌else◌, nat_lt, slice_get}
+use Rattle.std.proofs.Common.{◌≡◌, refl, ap, sym, subst, ◌∙◌, ℕ, ◌<◌, ◌==◌, arith, true, false, List, [], ◌∷◌, ◌++◌, length, get_or, Option, Some, None, Result, Ok, Err}
+use Rattle.std.specs.Prelude.{slice_get}
 use Rattle.std.specs.List.{AllByRecursion, concat, flat_map, range_with_len}
 use Rattle.std.proofs.Math.Path.{fun_ext}
 use Rattle.std.proofs.lemmas.Bool.Decides.{nat_tests}
@@ -9,14 +9,10 @@ use Rattle.std.proofs.lemmas.List.Folds.{flat_map-map}
 use Rattle.std.proofs.lemmas.List.FromFn.{fill_by_all}
 use Rattle.std.proofs.lemmas.Option.{slice_get-get_or}
 use Rattle.fill_base.specs.declared.layer.Layer.{Layer}
-use Rattle.fill_text.specs.Rules.{Values, keep_layer, metal_layer, rules_of}
+use Rattle.fill_text.specs.Rules.{Values, keep_layer, metal_layer}
 use Rattle.fill_text.specs.Script.{Change}
-use Rattle.fill_text.specs.ValuesOfRules.{values_of}
-use Rattle.fill_text.specs.declared.rule_error.RuleError.{RuleError}
-use Rattle.fill_job.specs.Laws.{AcceptedRulesMakeAPlan}
-use Rattle.fill_job.specs.Plans.{IsPlan, Layers, PointSet, plan_of}
+use Rattle.fill_job.specs.Plans.{Layers, PointSet, plan_of}
 use Rattle.fill_core.specs.Boxes.{low_fill}
-use Rattle.fill_core.proofs.Sound.{low_sound}
 use Rattle.fill_report.specs.BookReport.{fill_report}
 use Rattle.fill_parts.specs.Laws.{part}
 use Rattle.fill_parts.specs.PartFill.{layers_by, part_fill}
@@ -34,13 +30,11 @@ use Rattle.gds_cells.specs.Copies.{drawn}
 use Rattle.gds_cells.specs.Designs.{copies_of}
 use Rattle.gds_out.specs.FillText.{fill_text}
 use Rattle.gds_join.proofs.Libraries.{parts_library}
-use Rattle.densfill_io.specs.declared.input.InputError.TheVariants.{TooLong}
 use Rattle.densfill_engine.specs.Designs.{IsDesign, IsKeptOut}
 use Rattle.densfill_engine.specs.Fills.{Inputs, IsFilled}
-use Rattle.densfill_engine.specs.Inputs.{answer_of, chip_answer, rules_answer, script_answer, told_by}
+use Rattle.densfill_engine.specs.Inputs.{answer_of, chip_answer, script_answer}
 use Rattle.densfill_engine.specs.Joiners.{IsJoinOf}
-use Rattle.densfill_engine.specs.OneRun.{AreOneRun, AreParts, PartsAreOneRun}
-use Rattle.densfill_engine.specs.declared.refusal.InputFault.TheVariants.{Refused, Unread}
+use Rattle.densfill_engine.specs.OneRun.{AreParts, PartsAreOneRun}
 use Rattle.densfill_engine.specs.Scopes.{Size, limited, unlimited}
 use Rattle.densfill_engine.specs.declared.scope.Scope.TheVariants as asked
 use Rattle.densfill_engine.proofs.Reasons.{rules_chip}
@@ -166,8 +160,7 @@ said_once r d s a b =
 
 -- ---- all parts together
 
-module _ (rules design script : List ℕ) (libraries reports : List (List ℕ)) (library : List ℕ) (parts : AreParts rules design script libraries reports) (join : IsJoinOf rules libraries library)
-    (plan : IsPlan (plan_of (values_of join.accepted))) where
+module _ (rules design script : List ℕ) (libraries reports : List (List ℕ)) (library : List ℕ) (parts : AreParts rules design script libraries reports) (join : IsJoinOf rules libraries library) where
   given : (k : ℕ) → k < length libraries → IsFilled (asked.Part (part k (length libraries))) rules design script 1 None (get_or libraries k []) (get_or reports k [])
   given k lt = parts.each k (get_or libraries k []) (get_or reports k []) (slice_get-get_or libraries k [] lt) (slice_get-get_or reports k [] (subst (λ n. k < n) (sym parts.count) lt))
 
@@ -181,11 +174,11 @@ module _ (rules design script : List ℕ) (libraries reports : List (List ℕ)) 
   same k lt = said_once rules design script (said unlimited rules design script (given k lt).0) (said unlimited rules design script inputs)
 
   -- the rules of the join are those of the parts
-  rules_are : inputs.values ≡ values_of join.accepted
-  rules_are = one_answer (chip_answer rules) inputs.values (values_of join.accepted) inputs.accepted (rules_chip rules (values_of join.accepted) join.said)
+  rules_are : inputs.values ≡ join.values
+  rules_are = one_answer (chip_answer rules) inputs.values join.values inputs.accepted join.said
 
   library_of : (k : ℕ) (lt : k < length libraries)
-      → slice_get libraries k ≡ Some (fill_text inputs.units inputs.dates (values_of join.accepted) (part_fill (plan_of (values_of join.accepted)) layers (part k (length libraries))))
+      → slice_get libraries k ≡ Some (fill_text inputs.units inputs.dates join.values (part_fill (plan_of join.values) layers (part k (length libraries))))
   library_of k lt =
       let s = same k lt in
       slice_get-get_or libraries k [] lt ∙ ap Some ((given k lt).1.library_is
@@ -201,7 +194,7 @@ module _ (rules design script : List ℕ) (libraries reports : List (List ℕ)) 
   whole_library : library ≡ fill_text inputs.units inputs.dates inputs.values (low_fill (plan_of inputs.values) layers)
   whole_library =
       let sizes = has_sizes design inputs.drawn.drawn.metal.design inputs.drawn.drawn.metal.read.spelled in
-      parts_library join.accepted inputs.units inputs.dates layers libraries library plan join.some (ap length inputs.drawn.units_are ∙ sizes.units) (ap length inputs.drawn.dates_are ∙ sizes.dates)
+      parts_library join.values inputs.units inputs.dates layers libraries library join.plan join.some (ap length inputs.drawn.units_are ∙ sizes.units) (ap length inputs.drawn.dates_are ∙ sizes.dates) join.few
       library_of join.joined
       ∙ sym (λ t. fill_text inputs.units inputs.dates (rules_are t) (low_fill (plan_of (rules_are t)) layers))
 
@@ -222,28 +215,15 @@ module _ (rules design script : List ℕ) (libraries reports : List (List ℕ)) 
             ∙ ((λ t. fill_report (s.values_are t) (layers_by (s.changes_are t) (s.layers_are t)).metal (low_fill (plan_of (s.values_are t)) (layers_by (s.changes_are t) (s.layers_are t)))) ∙ sym only.report_is),
       )
 
--- rules that are answered are those of an accepted file
-accepted : (text : List ℕ) (values : Values) → rules_answer text ≡ Ok values → rules_of text ≡ Ok values
-accepted text values e = by (nat_lt (2 ^ 31) (length text)) (rules_of text) e
-  where
-    by : (long : Bool) (r : Result Values RuleError) → (if long then Err (Unread TooLong) else told_by Refused r) ≡ Ok values → r ≡ Ok values
-    by true r e = cc e
-    by false (Ok v) e = cc e
-    by false (Err x) e = cc e
-
-pub parts_are_one : AcceptedRulesMakeAPlan → PartsAreOneRun
-parts_are_one law rules design script libraries reports library parts join =
-    one (law rules (values_of join.accepted) (accepted rules (values_of join.accepted) join.said))
-  where
-    one : IsPlan (plan_of (values_of join.accepted)) → AreOneRun rules design script library (concat reports)
-    one plan =
-        let all = inputs rules design script libraries reports library parts join plan in
-        record {
-          inputs = all;
-          fill = record {
-            library_is = whole_library rules design script libraries reports library parts join plan;
-            report_is = whole_report rules design script libraries reports library parts join plan;
-            sound = low_sound (plan_of all.values) (layers_by all.changes all.layers) (subst (λ (v : Values). IsPlan (plan_of v)) (sym (rules_are rules design script libraries reports library parts join plan)) plan);
-          };
-          run = of_run rules design script libraries reports library parts join plan;
-        }
+pub parts_are_one : PartsAreOneRun
+parts_are_one rules design script libraries reports library parts join =
+    let all = inputs rules design script libraries reports library parts join in
+    record {
+      inputs = all;
+      fill = record {
+        library_is = whole_library rules design script libraries reports library parts join;
+        report_is = whole_report rules design script libraries reports library parts join;
+        sound = (given rules design script libraries reports library parts join 0 join.some).1.sound;
+      };
+      run = of_run rules design script libraries reports library parts join;
+    }

@@ -116,7 +116,7 @@ fewer_faults values none = by
     by false false true true false false f h = cc h
     by false false true true true false f h = cc h
 
-rules_of_chip : (file : List ℕ) (values : Values) → rules_of file ≡ Ok values → chip_of file ≡ Ok values
+pub rules_of_chip : (file : List ℕ) (values : Values) → rules_of file ≡ Ok values → chip_of file ≡ Ok values
 unfolding rules_of chip_of
 rules_of_chip file values given =
     let rows = rows_of file in

@@ -202,6 +202,7 @@ flatten_fault flatten.Memory = Memory
 abbrev pub part_fault : PartError → Fault
 part_fault (parts.Library error) = library_fault error
 part_fault parts.NotAFill = NotAFill
+part_fault parts.TooManyPlaces = TooManyPlaces
 part_fault parts.OtherDesign = OtherDesign
 part_fault parts.PlaceTwice = PlaceTwice
 part_fault parts.OtherRows = OtherRows

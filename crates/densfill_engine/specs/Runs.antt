@@ -5,7 +5,7 @@ use Rattle.fill_text.specs.Rules.{Values}
 use Rattle.fill_text.specs.Script.{Change, change_of}
 use Rattle.fill_text.specs.declared.script.Edit.{Edit}
 use Rattle.fill_job.specs.Plans.{Layers, plan_of}
-use Rattle.fill_core.specs.Accounts.{Account, state_of}
+use Rattle.fill_core.specs.Accounts.{Account}
 use Rattle.fill_core.specs.Histories.{edits_in, events_in}
 use Rattle.fill_core.specs.Machine.{State}
 use Rattle.fill_core.specs.Shares.{Held, nothing_with}

@@ -252,6 +252,7 @@ impl From<PartError> for Fault {
         match error {
             PartError::Library(error) => error.into(),
             PartError::NotAFill => Fault::NotAFill,
+            PartError::TooManyPlaces => Fault::TooManyPlaces,
             PartError::OtherDesign => Fault::OtherDesign,
             PartError::PlaceTwice => Fault::PlaceTwice,
             PartError::OtherRows => Fault::OtherRows,

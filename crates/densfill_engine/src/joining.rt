@@ -1,129 +1,132 @@
 //! The fill libraries of parts, joined: each is read and judged behind those of the parts before it.
-ghost use Rattle.std.specs.Prelude.{◌≡◌, ◌↔◌, ◌⊎◌, ◌+◌, ◌<◌, ◌≤◌, [], ◌∷◌, ◌++◌, List, ℕ, false, true, take, Err, IfErr, IfOk, IfSome, IsErrOf, OnOk};
+ghost use Rattle.std.specs.Prelude.{◌≡◌, ◌↔◌, ◌⊎◌, ◌+◌, ◌<◌, ◌≤◌, [], ◌∷◌, ◌++◌, List, ℕ, false, true, take, Err, Ok, IfErr, IfOk, IfSome, IsErrOf, OnOk, is_ok, is_some};
 ghost use Rattle.std.specs.Io.KnownBytes.{Appends};
-ghost use Rattle.fill_state.specs.Filling.{is_filled};
 ghost use Rattle.densfill_io.specs.Taps.{has_failed, under};
-ghost use Rattle.gds_out.specs.Laws.{raster_in};
-ghost use Rattle.densfill_engine.specs.Joiners.{AreJoined, IsJoiner, IsJoinOf, IsJoinReason, IsPartReason, OpensFor};
+ghost use Rattle.fill_text.specs.Rules.{rules_of};
+ghost use Rattle.fill_text.specs.ValuesOfChips.{chip_values};
+ghost use Rattle.fill_text.specs.ValuesOfRules.{values_of};
+ghost use Rattle.gds_join.specs.Fills.{filled_in};
+ghost use Rattle.gds_join.specs.Joined.{IsJoinedSo, design_of};
+ghost use Rattle.densfill_engine.specs.Inputs.{IsFaultOf, chip_answer};
+ghost use Rattle.densfill_engine.specs.Joiners.{AreJoined, IsJoiner, IsJoinOf, IsJoinReason, IsPartReason, OpensFor, is_one_run};
 ghost use Rattle.densfill_engine.specs.Joining.{IsPartTaken, IsUntaken};
 
-use crate::inputs::{MOST_BYTES, take_rules};
+use crate::inputs::MOST_BYTES;
 use crate::refusal::{InputFault, Refusal, RunFault};
 use densfill_io::{InputError, Tap, read_input, write_settled};
-use fill_parts::Part;
-use fill_state::Filled;
-use fill_text::Rules;
+use fill_parts::laws::chip_rules_make_a_plan;
+use fill_text::{ChipRules, RuleError, Rules, read_chip_rules, read_rules};
 use gds_join::laws::{none_are_taken, one_more_is_taken, taken_are_joined};
-use gds_join::{PartError, fill_text, no_places, take_part};
-use std::alloc::Global;
+use gds_join::{Joined, PartError};
+use std::alloc::{AllocError, Global};
 use std::io::{Read, Write};
 
 /// The parts that are taken so far, one after another.
 #[derive(Drop)]
 pub struct Joiner {
-    rules: Rules,
-    /// The places of all of them.
-    filled: Filled,
-    /// The units and dates of the first one.
-    design: Option<([u8; 16], [u8; 24])>,
-    /// How many there are.
-    taken: u32,
-    /// How many there are to be.
-    count: u32,
+    parts: Joined,
 }
 
-/// Takes the fill library that the reader behind the tap gives, of a part, behind those of the parts before it, whose places are
-/// these: the units and dates, which are those of the first part if this isn't it. Its places are then among them.
+/// The rules that a rule file says, where one run takes its chip.
+fn whole_rules(alloc: Global, text: &[u8]) -> Result<Option<Rules>, AllocError>
+    ensures some { IfOk result (λ o. is_some o ≡ is_ok (rules_of text.now)) }
+    ensures rules { IfOk result (λ o. IfSome o (λ r. rules_of text.now ≡ Ok (values_of r))) }
+{
+    match read_rules(alloc, text) {
+        Ok(rules) => Ok(Some(rules)),
+        Err(RuleError::Memory) => Err(AllocError),
+        Err(_) => Ok(None),
+    }
+}
+
+/// The rules of a chip of any size that the reader behind the tap gives, and the same where one run takes the chip.
+fn take_both<R: Read>(
+    alloc: Global,
+    tap: &mut Tap<R>,
+) -> Result<(ChipRules, Option<Rules>), InputFault<RuleError>>
+    requires { has_failed tap.old ≡ false }
+    ensures device { IsErrOf result (InputFault.Unread InputError.Device) ↔ (has_failed tap.new ≡ true) }
+    ensures rules { IfOk result (λ p. IfSome (R.remaining (under tap.old)) (λ text. (chip_answer text ≡ Ok (chip_values p.0)) × (is_some p.1 ≡ is_one_run text))) }
+    ensures whole { IfOk result (λ p. IfSome p.1 (λ w. values_of w ≡ chip_values p.0)) }
+    ensures refused { IfErr result (λ f. IfSome (R.remaining (under tap.old)) (λ text. IsFaultOf RuleError.Memory (chip_answer text) f)) }
+{
+    let text = read_input(alloc, tap, MOST_BYTES)?;
+    let chip = read_chip_rules(alloc, &text)?;
+    let whole = match whole_rules(alloc, &text) {
+        Ok(whole) => whole,
+        Err(_) => return Err(InputFault::Refused(RuleError::Memory)),
+    };
+    Ok((chip, whole))
+}
+
+/// Takes the fill library that the reader behind the tap gives, of the next part, behind those of the parts before it.
 ///
 /// # Errors
-/// Those of an input, and those of `gds_join::take_part`. The places are then of no use.
-pub fn join_part<P: Read>(
+/// Those of an input, and those of `gds_join::Joined::take`.
+fn join_part<P: Read>(
     alloc: Global,
-    rules: &Rules,
-    filled: &mut Filled,
-    design: Option<([u8; 16], [u8; 24])>,
-    part: Part,
+    parts: Joined,
     tap: &mut Tap<P>,
-) -> Result<([u8; 16], [u8; 24]), InputFault<PartError>>
-    requires raster { filled.old.raster ≡ raster_in rules.now }
+) -> Result<Joined, InputFault<PartError>>
+    requires joined { IsJoinedSo parts }
+    requires more { parts.taken < parts.count }
     requires tap { has_failed tap.old ≡ false }
     ensures device { IsErrOf result (InputFault.Unread InputError.Device) ↔ (has_failed tap.new ≡ true) }
-    ensures raster { IfOk result (λ d. filled.new.raster ≡ filled.old.raster) }
-    ensures taken { IfOk result (λ d. IfSome (P.remaining (under tap.old)) (λ bytes. IsPartTaken rules.now part design (is_filled filled.old) (is_filled filled.new) bytes d)) }
-    ensures refused { IfErr result (λ f. IfSome (P.remaining (under tap.old)) (λ bytes. IsUntaken rules.now part design (is_filled filled.old) bytes f)) }
+    ensures joined { IfOk result IsJoinedSo }
+    ensures same { IfOk result (λ j. (j.chip ≡ parts.chip) × (j.whole ≡ parts.whole) × (j.count ≡ parts.count) × (j.taken ≡ parts.taken + 1)) }
+    ensures taken { IfOk result (λ j. IfSome (P.remaining (under tap.old)) (λ bytes. IsPartTaken parts j bytes)) }
+    ensures refused { IfErr result (λ f. IfSome (P.remaining (under tap.old)) (λ bytes. IsUntaken parts bytes f)) }
 {
     let bytes = read_input(alloc, tap, MOST_BYTES)?;
-    let found = take_part(alloc, rules, filled, design, part, &bytes)?;
-    Ok(found)
+    let parts = parts.take(alloc, &bytes)?;
+    Ok(parts)
 }
 
 impl Joiner {
-    /// No part yet, of so many, under the rules that the reader behind the tap gives.
+    /// No part yet, of so many, under the rules that the reader behind the tap gives, of a chip of any size.
     ///
     /// # Errors
-    /// `Rules` as `check` answers it, `Run` where memory is refused.
+    /// `Rules` as `check` of a part answers it.
     pub fn begin<R: Read>(alloc: Global, rules: &mut Tap<R>, count: u32) -> Result<Joiner, Refusal>
         requires rules { has_failed rules.old ≡ false }
         requires count { (1 ≤ count) × (count ≤ 4096) }
         ensures joiner { IfOk result IsJoiner }
-        ensures begun { IfOk result (λ j. (AreJoined [] j) × (j.count ≡ count) × IfSome (R.remaining (under rules.old)) (λ r. OpensFor r j)) }
+        ensures begun { IfOk result (λ j. (AreJoined [] j) × (j.parts.count ≡ count) × IfSome (R.remaining (under rules.old)) (λ r. OpensFor r j)) }
         ensures refused { IfErr result (λ e. IfSome (R.remaining (under rules.old)) (λ r. IsJoinReason r [] count e)) }
         ensures rules_device { IsErrOf result (Refusal.Rules (InputFault.Unread InputError.Device)) ↔ (has_failed rules.new ≡ true) }
     {
         none_are_taken();
-        let values = take_rules(alloc, rules)?;
-        let filled = match no_places(alloc, &values) {
-            Ok(filled) => filled,
-            Err(_) => return Err(Refusal::Run(RunFault::Memory)),
-        };
+        let (chip, whole) = take_both(alloc, rules)?;
         Ok(Joiner {
-            rules: values,
-            filled,
-            design: None,
-            taken: 0,
-            count,
+            parts: Joined::begin(alloc, chip, whole, count),
         })
     }
 
     /// The number of the next part, from 1 on.
     pub fn next(&self) -> u32
-        requires { self.now.taken < self.now.count }
-        ensures { result ≡ self.now.taken + 1 }
+        requires { IsJoiner self.now }
+        ensures { result ≡ self.now.parts.taken + 1 }
     {
-        self.taken + 1
+        self.parts.taken + 1
     }
 
     /// Takes the fill library of the next part, behind those of the parts before it.
     ///
     /// # Errors
-    /// `Part` with the part's number: those of an input, and those of `gds_join::take_part`.
+    /// `Part` with the part's number: those of an input, and those of `gds_join::Joined::take`.
     pub fn take<P: Read>(self, alloc: Global, tap: &mut Tap<P>) -> Result<Joiner, Refusal>
         requires joiner { IsJoiner self }
-        requires more { self.taken < self.count }
+        requires more { self.parts.taken < self.parts.count }
         requires tap { has_failed tap.old ≡ false }
         ensures joiner { IfOk result IsJoiner }
-        ensures taken { IfOk result (λ j. (j.rules ≡ self.rules) × (j.count ≡ self.count) × (j.taken ≡ self.taken + 1)) }
+        ensures taken { IfOk result (λ j. (j.parts.chip ≡ self.parts.chip) × (j.parts.whole ≡ self.parts.whole) × (j.parts.count ≡ self.parts.count) × (j.parts.taken ≡ self.parts.taken + 1)) }
         ensures joined { IfOk result (λ j. IfSome (P.remaining (under tap.old)) (λ bytes. (texts : List (List ℕ)) → AreJoined texts self → AreJoined (texts ++ bytes ∷ []) j)) }
         ensures refused { IfErr result (λ e. IfSome (P.remaining (under tap.old)) (λ bytes. (texts : List (List ℕ)) → AreJoined texts self → IsPartReason self (texts ++ bytes ∷ []) e)) }
     {
         one_more_is_taken();
-        let Joiner {
-            rules,
-            mut filled,
-            design,
-            taken,
-            count,
-        } = self;
-        let number = taken + 1;
-        let part = Part::new(number, count).unwrap();
-        match join_part(alloc, &rules, &mut filled, design, part, tap) {
-            Ok(found) => Ok(Joiner {
-                rules,
-                filled,
-                design: Some(found),
-                taken: number,
-                count,
-            }),
+        let number = self.parts.taken + 1;
+        match join_part(alloc, self.parts, tap) {
+            Ok(parts) => Ok(Joiner { parts }),
             Err(fault) => Err(Refusal::Part(number, fault)),
         }
     }
@@ -134,13 +137,13 @@ impl Joiner {
     /// `Memory` where memory is refused.
     pub fn text(&self, alloc: Global) -> Result<Vec<u8>, RunFault>
         requires joiner { IsJoiner self.now }
-        requires whole { self.now.taken ≡ self.now.count }
+        requires whole { self.now.parts.taken ≡ self.now.parts.count }
         ensures joined { IfOk result (λ v. (rules : List ℕ) (texts : List (List ℕ)) → OpensFor rules self.now → AreJoined texts self.now → IsJoinOf rules texts v.items) }
         ensures refused { IfErr result (λ e. e ≡ RunFault.Memory) }
     {
         taken_are_joined();
-        let (units, dates) = self.design.unwrap();
-        let text = fill_text(alloc, &units, &dates, &self.rules, &self.filled)?;
+        chip_rules_make_a_plan(&self.parts.chip);
+        let text = self.parts.text(alloc)?;
         Ok(text)
     }
 }

@@ -2,8 +2,6 @@
 ghost use Rattle.densfill_engine.specs.Laws.{MetalIsReplayed};
 ghost use Rattle.densfill_engine.specs.OneRun.{PartsAreOneRun};
 
-use fill_job::laws::accepted_rules_make_a_plan;
-
 /// The metal that `rects` reports is that of a fill which is opened on nothing and edited by the script, edit by edit.
 pub fn metal_is_replayed()
     ensures { MetalIsReplayed }
@@ -12,6 +10,4 @@ pub fn metal_is_replayed()
 /// The fill libraries of all parts, joined, are the library of one run, and their reports, one after another, its report.
 pub fn parts_are_one_run()
     ensures { PartsAreOneRun }
-{
-    accepted_rules_make_a_plan();
-}
+{}

@@ -20,7 +20,7 @@ mod view;
 pub use crew::Crew;
 pub use fill::{deliver, prepare};
 pub use inputs::Inputs;
-pub use joining::{Joiner, join_part, settle};
+pub use joining::{Joiner, settle};
 pub use metal::metal_left;
 pub use refusal::{DesignError, InputFault, Refusal, RunFault};
 pub use scope::Scope;

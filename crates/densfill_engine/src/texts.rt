@@ -89,7 +89,7 @@ fn library_of<B: FillBook>(
     match told {
         Told::Everything => {
             let marks = marks_of(alloc, book)?;
-            fill_library(alloc, units, dates, book.rules(), &marks)
+            fill_library(alloc, units, dates, book.rules(), marks)
         }
         Told::Rows(rows) => {
             let places = told_places(alloc, book, rows)?;

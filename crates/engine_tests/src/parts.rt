@@ -2,11 +2,9 @@
 
 use crate::fills::FILLED;
 use crate::inputs::{EMPTY, NOTHING, RULES};
-use densfill_engine::{Crew, Inputs, Scope, check, join_part, prepare};
+use densfill_engine::{Crew, Inputs, Joiner, Scope, check, prepare};
 use densfill_io::Tap;
 use fill_parts::Part;
-use fill_text::read_rules;
-use gds_join::{fill_text, no_places};
 use std::test::Fail;
 
 #[test]
@@ -40,10 +38,8 @@ fn a_fill_library_is_read_and_written_again(rt: HostRuntime) -> Result<(), Fail>
     };
     let filled = prepare(&rt, alloc, &mut inputs, Scope::Part(whole), crew)?;
     assert!(rt; filled.report.as_slice() == FILLED);
-    let rules = read_rules(alloc, RULES)?;
-    let mut places = no_places(alloc, &rules)?;
-    let mut tap = Tap::new(filled.library.as_slice());
-    let (units, dates) = join_part(alloc, &rules, &mut places, None, whole, &mut tap)?;
-    assert!(rt; fill_text(alloc, &units, &dates, &rules, &places)? == filled.library);
+    let joiner = Joiner::begin(alloc, &mut Tap::new(RULES), 1)?;
+    let joiner = joiner.take(alloc, &mut Tap::new(filled.library.as_slice()))?;
+    assert!(rt; joiner.text(alloc)? == filled.library);
     Ok(())
 }

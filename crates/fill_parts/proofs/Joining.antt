@@ -5,22 +5,23 @@ use Rattle.std.proofs.lemmas.Bool.{and_from, and_parts}
 use Rattle.fill_raster.specs.Axes.{bands}
 use Rattle.fill_raster.specs.Lattice.{in_raster, tile_of}
 use Rattle.fill_raster.proofs.Blocks.{tile_parts}
-use Rattle.fill_raster.proofs.RasterLaws.{place_has_a_tile}
 use Rattle.fill_raster.proofs.Ranges.{both}
-use Rattle.fill_job.specs.Plans.{Plan, IsPlan, Layers}
+use Rattle.fill_job.specs.Plans.{Plan, Layers}
 use Rattle.fill_job.specs.Searches.{some_below}
 use Rattle.fill_job.proofs.Searching.{some_below_finds, some_below_has}
 use Rattle.fill_core.specs.Boxes.{low_fill}
 use Rattle.fill_parts.specs.Needs.{row_at}
 use Rattle.fill_parts.specs.PartFill.{part_fill}
 use Rattle.fill_parts.specs.Laws.{HasOnePart, PartsMakeTheFill, PartsAreApart, part}
+use Rattle.fill_parts.specs.Smaller.{IsPlanOfAnySize}
 use Rattle.fill_parts.proofs.Cutting.{one_part, row_of_is, same_part}
+use Rattle.fill_parts.proofs.Leveling.{place_tile}
 
 low_on : (plan : Plan) (layers : Layers) (i j : ℤ) → low_fill plan layers i j ≡ true → in_raster plan.raster i j ≡ true
 low_on plan layers i j h = (and_parts (in_raster plan.raster i j) _ (and_parts _ _ h).0).0
 
-own_part : (plan : Plan) (i j : ℤ) (count : ℕ) → IsPlan plan → 0 < count → in_raster plan.raster i j ≡ true → HasOnePart (bands plan.raster.up) count (row_at plan.raster i j)
-own_part plan i j count is some on = one_part (bands plan.raster.up) count (row_at plan.raster i j) some (tile_parts plan.raster (tile_of plan.raster i j) (place_has_a_tile plan.raster is.raster i j on)).row_below
+own_part : (plan : Plan) (i j : ℤ) (count : ℕ) → IsPlanOfAnySize plan → 0 < count → in_raster plan.raster i j ≡ true → HasOnePart (bands plan.raster.up) count (row_at plan.raster i j)
+own_part plan i j count is some on = one_part (bands plan.raster.up) count (row_at plan.raster i j) some (tile_parts plan.raster (tile_of plan.raster i j) (place_tile plan.raster i j is.axes.places_across is.axes.places_up on)).row_below
 
 pub parts_fill : PartsMakeTheFill
 parts_fill plan layers count is some = fun_ext (λ i. fun_ext (λ j.

@@ -15,7 +15,7 @@ use Rattle.fill_job.specs.Plans.{Plan, IsPlan, Layers, plan_of}
 use Rattle.fill_job.proofs.Searching.{some_below_has, some_within_same}
 use Rattle.fill_core.specs.Boxes.{low_fill}
 use Rattle.fill_report.specs.BookReport.{boxes_of}
-use Rattle.fill_report.specs.Report.{line_at, measures_of, nothing, window_line}
+use Rattle.fill_report.specs.Report.{line_at, measures_of, window_line}
 use Rattle.fill_report.specs.declared.line.Measures.{Measures}
 use Rattle.fill_parts.specs.Cuts.{Part, IsPart, first_row, past_row}
 use Rattle.fill_parts.specs.Needs.{IsEnough, LayersAgree, has_tile, has_windows, is_level, needs_tile, needs_windows}

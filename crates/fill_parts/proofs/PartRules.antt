@@ -1,6 +1,6 @@
 -- The rules of a part's chip.
-use Rattle.std.proofs.Common.{◌≡◌, ◌↔◌, refl, ap, sym, subst, ◌∙◌, ℕ, ◌-◌, ◌*◌, ◌≤◌, ◌<◌, ◌==◌, inl, inr, ◌⊎◌, ℤ, ◌<ℤ◌, arith, Bool, true, false, ◌&&◌, [], ◌∷◌}
-use Rattle.std.specs.Prelude.{Option, Some, None, IsSome, Result, Ok, Err, bytes_eq, int_lt, nat_le, if◌then◌else◌}
+use Rattle.std.proofs.Common.{◌≡◌, ◌↔◌, refl, ap, sym, subst, ◌∙◌, ℕ, zero, suc, min, ◌-◌, ◌*◌, ◌≤◌, ◌<◌, ◌==◌, inl, inr, ◌⊎◌, ℤ, ◌<ℤ◌, arith, Bool, true, false, ◌&&◌, [], ◌∷◌}
+use Rattle.std.specs.Prelude.{Option, Some, None, IsSome, Result, Ok, Err, bytes_eq, int_lt, nat_le, nat_lt, if◌then◌else◌}
 use Rattle.std.proofs.lemmas.Bool.{cases_Bool, eq-eqb, false_from_ne_true}
 use Rattle.std.proofs.lemmas.Bool.Decides.{nat_tests}
 use Rattle.fill_base.specs.Coordinates.{AreCoordinates, IsCoordinate}
@@ -25,19 +25,20 @@ use Rattle.fill_text.specs.ValuesOfRules.{values_of}
 use Rattle.fill_text.proofs.FirstFaults.{none_at, unless_holds}
 use Rattle.fill_text.proofs.GridTests.{axis_decided}
 use Rattle.fill_text.proofs.Rectangles.{both, is_rect_facts, is_rect_true}
-use Rattle.fill_job.specs.Plans.{Plan, plan_of}
+use Rattle.fill_job.specs.Plans.{plan_of}
 use Rattle.fill_job.specs.Searches.{some_below}
 use Rattle.fill_job.proofs.Searching.{some_below_finds}
-use Rattle.fill_parts.specs.Cuts.{Part}
-use Rattle.fill_parts.specs.PartChip.{by_size, looks_at, part_alone, part_rules, part_tiles, part_windows}
+use Rattle.fill_parts.specs.Cuts.{Part, first_row, past_row}
+use Rattle.fill_parts.specs.PartChip.{by_size, looks_at, own_tiles, part_alone, part_rules}
 use Rattle.fill_parts.specs.PartRows.{chip_tiles, looked_at_windows, looks_at_row}
 use Rattle.fill_parts.specs.Smaller.{AreRowsOf, AreSome, Rows, bands_alone, spans_alone}
+use Rattle.fill_parts.specs.SmallerRules.{rows_alone, rules_alone}
 use Rattle.fill_parts.specs.declared.part_rules.PartRulesError.{PartRulesError}
 use Rattle.fill_parts.specs.declared.part_rules.PartRulesError.TheVariants.{Windows, Places, Memory as NoMemory}
 use Rattle.fill_parts.proofs.BandsAlone.{framed_rows}
 use Rattle.fill_parts.proofs.SpansAlone.{spans_are}
 use Rattle.fill_parts.proofs.Chipping.{begin_coordinate, coordinate_read, end_coordinate, high_edge, low_edge, span_begin}
-use Rattle.fill_parts.proofs.Looking.{chip_rows_are, chip_windows, first_before, past_behind, past_within}
+use Rattle.fill_parts.proofs.Looking.{chip_rows_are, first_before, past_behind, past_within}
 
 -- ---- the frame of a part's rows of tiles
 
@@ -89,25 +90,7 @@ windows_up values = either values.ignores
 moved : (P : Axis → spans.Axis → Type 0) (a b : Axis) (s r : spans.Axis) → a ≡ b → s ≡ r → P a s → P b r
 moved P a b s r a_is s_is h = subst (λ x. P x r) a_is (subst (λ y. P a y) s_is h)
 
--- these rows of a chip are the part's
-abbrev pub IsAlone : Part → Axis → spans.Axis → ChipRows → Type 0
-IsAlone k a s alone = alone ≡ record { bottom = (bands_alone a (chip_tiles k a s)).low; top = (bands_alone a (chip_tiles k a s)).high; first_window = axis_begin s (looked_at_windows k a s).from; windows = (looked_at_windows k a s).to - (looked_at_windows k a s).from }
-
--- so the values with these rows are those of the part's
-alone_rules : (values : Values) (k : Part) (alone : ChipRows) → IsAlone k (raster_of values.numbers).up (whole_windows values.numbers).up alone → with_rows values alone ≡ part_alone values k
-alone_rules values k alone e = ap (with_rows values) (e ∙ sym (ap rows (windows_up values)))
-  where
-    rows : spans.Axis → ChipRows
-    rows s = record { bottom = (bands_alone (raster_of values.numbers).up (chip_tiles k (raster_of values.numbers).up s)).low; top = (bands_alone (raster_of values.numbers).up (chip_tiles k (raster_of values.numbers).up s)).high; first_window = axis_begin (whole_windows values.numbers).up (looked_at_windows k (raster_of values.numbers).up s).from; windows = (looked_at_windows k (raster_of values.numbers).up s).to - (looked_at_windows k (raster_of values.numbers).up s).from }
-
 -- ---- why they are refused
-
--- a part that looks at a window looks at some rows of them
-some_windows : (plan : Plan) (k : Part) → some_below (looks_at plan k) plan.windows.up.count ≡ true → AreSome (part_windows plan k) plan.windows.up.count
-some_windows plan k looks =
-    let found = some_below_finds (looks_at plan k) plan.windows.up.count looks in
-    let w = chip_windows plan k found.0 found.1 found.2 in
-    record { some = (let from = w.0 in let to = w.1 in omega (arith, from, to)); within = past_within (looks_at plan k) plan.windows.up.count }
 
 if_fails : (b : Bool) (e : RuleError) → fault_if b e ≡ None → b ≡ false
 if_fails true e none = cc none
@@ -130,24 +113,15 @@ judged_by_size v m c r x y p = rw (m, c, r, x, y, p) (sizes (nat_le ((whole_wind
     sizes true false = refl
     sizes false n = refl
 
--- a part's rules are refused for how many windows or places they have, and for nothing else
-refused_by_size : (values : Values) (k : Part) → first_some (chip_faults values) ≡ None → AreChipNumbers values → some_below (looks_at (plan_of values) k) (plan_of values).windows.up.count ≡ true
-    → judged (part_alone values k) ≡ as_read (by_size (part_alone values k))
-refused_by_size values k none is some = judged_by_size (part_alone values k)
+-- rules of some rows are refused for how many windows or places they have, and for nothing else
+refused_by_size : (values : Values) (tiles windows : Rows) → first_some (chip_faults values) ≡ None → AreChipNumbers values → AreRowsOf tiles (bands (raster_of values.numbers).up) → AreSome windows (whole_windows values.numbers).up.count
+    → judged (rules_alone values tiles windows) ≡ as_read (by_size (rules_alone values tiles windows))
+refused_by_size values tiles windows none is rows some = judged_by_size (rules_alone values tiles windows)
     (if_fails _ _ (none_at (chip_faults values) 0 none)) (if_fails _ _ (none_at (chip_faults values) 1 none)) rect (both _ _ axes).0 up
     (unless_holds _ BadPitch (none_at (chip_faults values) 4 none))
   where
-    tiles : Rows
-    tiles = part_tiles (plan_of values) k
-
-    windows : Rows
-    windows = part_windows (plan_of values) k
-
     a : Axis
     a = (raster_of values.numbers).up
-
-    rows : AreRowsOf (part_tiles (plan_of values) k) (bands a)
-    rows = chip_rows_are k a (plan_of values).windows.up
 
     corners : AreCoordinates (frame_of values.numbers).left (frame_of values.numbers).bottom (frame_of values.numbers).right (frame_of values.numbers).top × ((frame_of values.numbers).left <ℤ (frame_of values.numbers).right) × ((frame_of values.numbers).bottom <ℤ (frame_of values.numbers).top)
     corners = is_rect_facts (frame_of values.numbers) (unless_holds (is_rect (frame_of values.numbers)) BadRect (none_at (chip_faults values) 2 none))
@@ -155,12 +129,12 @@ refused_by_size values k none is some = judged_by_size (part_alone values k)
     axes : (is_axis (whole_windows values.numbers).across && is_axis (whole_windows values.numbers).up) ≡ true
     axes = unless_holds (is_axis (whole_windows values.numbers).across && is_axis (whole_windows values.numbers).up) BadWindows (none_at (chip_faults values) 3 none)
 
-    rect : is_rect (sides (frame_of values.numbers).left (bands_alone a (part_tiles (plan_of values) k)).low (frame_of values.numbers).right (bands_alone a (part_tiles (plan_of values) k)).high) ≡ true
-    rect = is_rect_true (sides (frame_of values.numbers).left (bands_alone a (part_tiles (plan_of values) k)).low (frame_of values.numbers).right (bands_alone a (part_tiles (plan_of values) k)).high)
+    rect : is_rect (sides (frame_of values.numbers).left (bands_alone a tiles).low (frame_of values.numbers).right (bands_alone a tiles).high) ≡ true
+    rect = is_rect_true (sides (frame_of values.numbers).left (bands_alone a tiles).low (frame_of values.numbers).right (bands_alone a tiles).high)
         (record { left_is = corners.0.left_is; bottom_is = bottom_coordinate a tiles is.places_up rows; right_is = corners.0.right_is; top_is = top_coordinate a tiles is.places_up rows }) corners.1 (framed_rows a tiles is.places_up rows).some
 
     up : is_axis (spans_alone (whole_windows values.numbers).up windows) ≡ true
-    up = sym (axis_decided (spans_alone (whole_windows values.numbers).up windows) true ((λ _. spans_are (whole_windows values.numbers).up windows is.windows_up (subst (λ (s : spans.Axis). AreSome (part_windows (plan_of values) k) s.count) (windows_up values) (some_windows (plan_of values) k some))), (λ _. refl)))
+    up = sym (axis_decided (spans_alone (whole_windows values.numbers).up windows) true ((λ _. spans_are (whole_windows values.numbers).up windows is.windows_up some), (λ _. refl)))
 
 -- ---- as the code finds them
 
@@ -178,23 +152,18 @@ top_some a rows n y is are other n_is y_is =
     eqb_false : (m n : ℕ) → (m ≡ n → ⊥) → (m == n) ≡ false
     eqb_false m n h = false_from_ne_true (m == n) (λ e. h (eqb_is m n e))
 
-pub alone_is : (k : Part) (a : Axis) (s : spans.Axis) (t u w x : ℕ) (bottom top first : ℤ) → t ≡ (chip_tiles k a s).from → u ≡ (chip_tiles k a s).to → w ≡ (looked_at_windows k a s).from → x ≡ (looked_at_windows k a s).to
-    → bottom ≡ (bands_alone a (record { from = t; to = u })).low → top ≡ (bands_alone a (record { from = t; to = u })).high → first ≡ axis_begin s w → IsAlone k a s (record { bottom = bottom; top = top; first_window = first; windows = x - w })
-alone_is k a s t u w x bottom top first t_is u_is w_is x_is bottom_is top_is first_is = rw (bottom_is, top_is, first_is, t_is, u_is, w_is, x_is) refl
-
 -- a part looks at a window by either axis of windows
 pub looks_by_plan : (values : Values) (k : Part) → some_below (looks_at_row k (raster_of values.numbers).up (whole_windows values.numbers).up) (whole_windows values.numbers).up.count ≡ some_below (looks_at (plan_of values) k) (plan_of values).windows.up.count
 looks_by_plan values k = sym (ap (λ (s : spans.Axis). some_below (looks_at_row k (raster_of values.numbers).up s) s.count) (windows_up values))
 
 -- what the rules of these rows are judged to be
-module _ (values : Values) (k : Part) (alone : ChipRows) (none : first_some (chip_faults values) ≡ None) (is : AreChipNumbers values)
-    (looks : some_below (looks_at_row k (raster_of values.numbers).up (whole_windows values.numbers).up) (whole_windows values.numbers).up.count ≡ true)
-    (rows : IsAlone k (raster_of values.numbers).up (whole_windows values.numbers).up alone) where
-  as_sized : judged (with_rows values alone) ≡ as_read (by_size (part_alone values k))
-  as_sized = ap judged (alone_rules values k alone rows) ∙ refused_by_size values k none is (sym (looks_by_plan values k) ∙ looks)
+module _ (values : Values) (tiles windows : Rows) (alone : ChipRows) (none : first_some (chip_faults values) ≡ None) (is : AreChipNumbers values)
+    (t_are : AreRowsOf tiles (bands (raster_of values.numbers).up)) (w_are : AreSome windows (whole_windows values.numbers).up.count) (rows : alone ≡ rows_alone values tiles windows) where
+  as_sized : judged (with_rows values alone) ≡ as_read (by_size (rules_alone values tiles windows))
+  as_sized = ap (λ (r : ChipRows). judged (with_rows values r)) rows ∙ refused_by_size values tiles windows none is t_are w_are
 
-  pub rules_given : (v : Values) → judged (with_rows values alone) ≡ Ok v → by_size (part_alone values k) ≡ Ok v
-  rules_given v given = back (by_size (part_alone values k)) (sym as_sized ∙ given)
+  pub rules_given : (v : Values) → judged (with_rows values alone) ≡ Ok v → by_size (rules_alone values tiles windows) ≡ Ok v
+  rules_given v given = back (by_size (rules_alone values tiles windows)) (sym as_sized ∙ given)
     where
       read_value : Result Values RuleError → Values
       read_value (Ok w) = w
@@ -206,9 +175,9 @@ module _ (values : Values) (k : Part) (alone : ChipRows) (none : first_some (chi
       back (Err Places) e = cc e
       back (Err NoMemory) e = cc e
 
-  pub windows_refused : (BadWindows ≡ Memory) ⊎ (judged (with_rows values alone) ≡ Err BadWindows) → Gives NoMemory values_of (Err Windows) (by_size (part_alone values k))
+  pub windows_refused : (BadWindows ≡ Memory) ⊎ (judged (with_rows values alone) ≡ Err BadWindows) → Gives NoMemory values_of (Err Windows) (by_size (rules_alone values tiles windows))
   windows_refused (inl e) = cc e
-  windows_refused (inr given) = inr (back (by_size (part_alone values k)) (sym as_sized ∙ given))
+  windows_refused (inr given) = inr (back (by_size (rules_alone values tiles windows)) (sym as_sized ∙ given))
     where
       back : (r : Result Values PartRulesError) → as_read r ≡ Err BadWindows → r ≡ Err Windows
       back (Ok w) e = cc e
@@ -216,9 +185,9 @@ module _ (values : Values) (k : Part) (alone : ChipRows) (none : first_some (chi
       back (Err Places) e = cc e
       back (Err NoMemory) e = cc e
 
-  pub places_refused : (TooManyPlaces ≡ Memory) ⊎ (judged (with_rows values alone) ≡ Err TooManyPlaces) → Gives NoMemory values_of (Err Places) (by_size (part_alone values k))
+  pub places_refused : (TooManyPlaces ≡ Memory) ⊎ (judged (with_rows values alone) ≡ Err TooManyPlaces) → Gives NoMemory values_of (Err Places) (by_size (rules_alone values tiles windows))
   places_refused (inl e) = cc e
-  places_refused (inr given) = inr (back (by_size (part_alone values k)) (sym as_sized ∙ given))
+  places_refused (inr given) = inr (back (by_size (rules_alone values tiles windows)) (sym as_sized ∙ given))
     where
       back : (r : Result Values PartRulesError) → as_read r ≡ Err TooManyPlaces → r ≡ Err Places
       back (Ok w) e = cc e
@@ -239,45 +208,74 @@ sized_is v w given = back (nat_le ((whole_windows v.numbers).across.count * (who
     back true false e = cc e
     back false y e = cc e
 
--- the rows of windows that are looked at are some, and no more than there are
-pub record AreLookedAt (s : spans.Axis) (f t : ℕ) : Type 0 where
-  pub below : f < s.count
-  pub ordered : f ≤ t
-  pub count : IsCount (t - f)
-
-pub are_looked_at : (k : Part) (a : Axis) (s : spans.Axis) (f t : ℕ) → areas.IsAxis s → some_below (looks_at_row k a s) s.count ≡ true → f ≡ (looked_at_windows k a s).from → t ≡ (looked_at_windows k a s).to → AreLookedAt s f t
-are_looked_at k a s f t is looks f_is t_is =
-    let found = some_below_finds (looks_at_row k a s) s.count looks in
-    let low = first_before (looks_at_row k a s) s.count found.0 found.1 found.2 in
-    let high = past_behind (looks_at_row k a s) s.count found.0 found.1 found.2 in
-    let within = past_within (looks_at_row k a s) s.count in
-    let most = is.count_is.most in
-    record { below = omega (arith, f_is, t_is, low, high, within); ordered = omega (arith, f_is, t_is, low, high); count = record { least = omega (arith, f_is, t_is, low, high); most = omega (arith, f_is, t_is, within, most) } }
-
 pub rows_are : (k : Part) (a : Axis) (s : spans.Axis) (t u : ℕ) → t ≡ (chip_tiles k a s).from → u ≡ (chip_tiles k a s).to → AreRowsOf (record { from = t; to = u }) (bands a)
 rows_are k a s t u t_is u_is = rw (t_is, u_is) (chip_rows_are k a s)
 
 pub read_as : (y z : ℤ) → y ≡ z → IsCoordinate z → read y ≡ z
 read_as y z e is = rw e (coordinate_read z is)
 
--- ---- the rows that the rules of a part are made of, found on axes that are those of the chip
+-- ---- the rows that rules are made of, found on axes that are those of the chip
 
-module _ (values : Values) (k : Part) (a : Axis) (s : spans.Axis) (t u w x : ℕ) (is_a : IsAxis a) (is_s : areas.IsAxis s) (a_is : a ≡ (raster_of values.numbers).up) (s_is : s ≡ (whole_windows values.numbers).up)
+abbrev pub chip_rows : ℤ → ℤ → ℤ → ℕ → ChipRows
+chip_rows bottom top first windows = record { bottom = bottom; top = top; first_window = first; windows = windows }
+
+module _ (values : Values) (tiles windows : Rows) (a : Axis) (s : spans.Axis) (is_a : IsAxis a) (is_s : areas.IsAxis s) (a_is : a ≡ (raster_of values.numbers).up) (s_is : s ≡ (whole_windows values.numbers).up)
+    (t_are : AreRowsOf tiles (bands (raster_of values.numbers).up)) (w_are : AreSome windows (whole_windows values.numbers).up.count) where
+  pub rows_here : AreRowsOf tiles (bands a)
+  rows_here = subst (λ (b : Axis). AreRowsOf tiles (bands b)) (sym a_is) t_are
+
+  pub below_here : windows.from < s.count
+  below_here = subst (λ (r : spans.Axis). windows.from < r.count) (sym s_is) (let some = w_are.some in let within = w_are.within in omega (arith, some, within))
+
+  pub count_here : IsCount (windows.to - windows.from)
+  count_here = let some = w_are.some in let within = subst (λ (r : spans.Axis). windows.to ≤ r.count) (sym s_is) w_are.within in let most = is_s.count_is.most in record { least = omega (arith, some); most = omega (arith, within, most) }
+
+  pub alone_here : (bottom top first end : ℤ) → bottom ≡ (bands_alone a tiles).low → top ≡ (bands_alone a tiles).high → IsExtent s windows.from first end
+      → chip_rows (read bottom) (read top) (read first) (windows.to - windows.from) ≡ rows_alone values tiles windows
+  alone_here bottom top first end bottom_is top_is extent =
+      let b : read bottom ≡ (bands_alone (raster_of values.numbers).up tiles).low = read_as bottom _ bottom_is (bottom_coordinate a tiles is_a rows_here) ∙ ap (λ (b : Axis). (bands_alone b tiles).low) a_is in
+      let t : read top ≡ (bands_alone (raster_of values.numbers).up tiles).high = read_as top _ top_is (top_coordinate a tiles is_a rows_here) ∙ ap (λ (b : Axis). (bands_alone b tiles).high) a_is in
+      let f : read first ≡ axis_begin (whole_windows values.numbers).up windows.from = coordinate_read first (span_begin s windows.from first end extent) ∙ (extent.begins ∙ ap (λ (r : spans.Axis). axis_begin r windows.from) s_is) in
+      rw (b, t, f) refl
+
+-- ---- the rows of a part, and its own
+
+module _ (values : Values) (k : Part) (t u w x : ℕ)
     (tiles : (t ≡ (chip_tiles k (raster_of values.numbers).up (whole_windows values.numbers).up).from) × (u ≡ (chip_tiles k (raster_of values.numbers).up (whole_windows values.numbers).up).to))
     (windows : (w ≡ (looked_at_windows k (raster_of values.numbers).up (whole_windows values.numbers).up).from) × (x ≡ (looked_at_windows k (raster_of values.numbers).up (whole_windows values.numbers).up).to)) where
-  pub rows_here : AreRowsOf (record { from = t; to = u }) (bands a)
-  rows_here = subst (λ (b : Axis). AreRowsOf (record { from = t; to = u }) (bands b)) (sym a_is) (rows_are k (raster_of values.numbers).up (whole_windows values.numbers).up t u tiles.0 tiles.1)
+  pub tiles_here : AreRowsOf (record { from = t; to = u }) (bands (raster_of values.numbers).up)
+  tiles_here = rows_are k (raster_of values.numbers).up (whole_windows values.numbers).up t u tiles.0 tiles.1
 
-  pub windows_here : some_below (looks_at_row k (raster_of values.numbers).up (whole_windows values.numbers).up) (whole_windows values.numbers).up.count ≡ true → AreLookedAt s w x
-  windows_here looks = subst (λ (r : spans.Axis). AreLookedAt r w x) (sym s_is) (are_looked_at k (raster_of values.numbers).up (whole_windows values.numbers).up w x (subst areas.IsAxis s_is is_s) looks windows.0 windows.1)
+  pub windows_here : some_below (looks_at_row k (raster_of values.numbers).up (whole_windows values.numbers).up) (whole_windows values.numbers).up.count ≡ true → AreSome (record { from = w; to = x }) (whole_windows values.numbers).up.count
+  windows_here looks =
+      let s = (whole_windows values.numbers).up in let a = (raster_of values.numbers).up in
+      let found = some_below_finds (looks_at_row k a s) s.count looks in
+      let low = first_before (looks_at_row k a s) s.count found.0 found.1 found.2 in
+      let high = past_behind (looks_at_row k a s) s.count found.0 found.1 found.2 in
+      let within = past_within (looks_at_row k a s) s.count in
+      let w_is = windows.0 in let x_is = windows.1 in
+      record { some = omega (arith, w_is, x_is, low, high); within = omega (arith, x_is, within) }
 
-  pub alone_here : (bottom top first end : ℤ) → bottom ≡ (bands_alone a (record { from = t; to = u })).low → top ≡ (bands_alone a (record { from = t; to = u })).high → IsExtent s w first end
-      → IsAlone k (raster_of values.numbers).up (whole_windows values.numbers).up (record { bottom = read bottom; top = read top; first_window = read first; windows = x - w })
-  alone_here bottom top first end bottom_is top_is extent =
-      alone_is k (raster_of values.numbers).up (whole_windows values.numbers).up t u w x (read bottom) (read top) (read first) tiles.0 tiles.1 windows.0 windows.1
-      (read_as bottom _ bottom_is (bottom_coordinate a (record { from = t; to = u }) is_a rows_here) ∙ ap (λ (b : Axis). (bands_alone b (record { from = t; to = u })).low) a_is)
-      (read_as top _ top_is (top_coordinate a (record { from = t; to = u }) is_a rows_here) ∙ ap (λ (b : Axis). (bands_alone b (record { from = t; to = u })).high) a_is)
-      (coordinate_read first (span_begin s w first end extent) ∙ (extent.begins ∙ ap (λ (r : spans.Axis). axis_begin r w) s_is))
+  pub part_alone_here : rules_alone values (record { from = t; to = u }) (record { from = w; to = x }) ≡ part_alone values k
+  part_alone_here = rw (tiles.0, tiles.1, windows.0, windows.1) (ap (λ (s : spans.Axis). with_rows values (rows s)) (sym (windows_up values)))
+    where
+      rows : spans.Axis → ChipRows
+      rows s = record { bottom = (bands_alone (raster_of values.numbers).up (chip_tiles k (raster_of values.numbers).up s)).low; top = (bands_alone (raster_of values.numbers).up (chip_tiles k (raster_of values.numbers).up s)).high; first_window = axis_begin (whole_windows values.numbers).up (looked_at_windows k (raster_of values.numbers).up s).from; windows = (looked_at_windows k (raster_of values.numbers).up s).to - (looked_at_windows k (raster_of values.numbers).up s).from }
+
+-- a part's own rows of tiles are some, or the lowest
+pub own_tiles_are : (k : Part) (n : ℕ) → past_row k n ≤ n → AreRowsOf (own_tiles k n) n
+own_tiles_are k n within = by (nat_lt (first_row k n) (past_row k n)) (λ h. lt h)
+  where
+    lt : nat_lt (first_row k n) (past_row k n) ≡ true → first_row k n < past_row k n
+    lt h = grind (arith, nat_tests)
+
+    lowest : (m : ℕ) → AreRowsOf (record { from = 0; to = min 1 m }) m
+    lowest zero = inr (refl, refl, refl)
+    lowest (suc m) = inl (record { some = omega arith; within = omega arith })
+
+    by : (b : Bool) → (b ≡ true → first_row k n < past_row k n) → AreRowsOf (if b then record { from = first_row k n; to = past_row k n } else record { from = 0; to = min 1 n }) n
+    by true some = inl (record { some = some refl; within = within })
+    by false some = lowest n
 
 -- a part whose rows are some looks at a window
 pub looks_here : {A : Type 0} (values : Values) (k : Part) (a : Axis) (s : spans.Axis) (x : A) → a ≡ (raster_of values.numbers).up → s ≡ (whole_windows values.numbers).up → (Some x ≡ None) ↔ (some_below (looks_at_row k a s) s.count ≡ false)

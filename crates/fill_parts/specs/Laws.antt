@@ -27,7 +27,7 @@ use Rattle.fill_report.specs.declared.line.Measures.{Measures}
 use Rattle.fill_parts.specs.Cuts.{IsPart, Part, cut, first_row, has_row, past_row}
 use Rattle.fill_parts.specs.Needs.{IsEnough, AgreeInside, LayersAgree, in_coordinates, is_inside, layers_met, met_with, needed_sides, needs_tile, needs_windows, has_tile, has_windows, is_level}
 use Rattle.fill_parts.specs.PartChip.{HoldsPart, IsChipOf, chip_plan, looks_at, part_windows, rows_fill, rows_told}
-use Rattle.fill_parts.specs.Smaller.{AreAxes, AreRowsOf, Rows, AreSome, IsHeldBy, IsSmaller}
+use Rattle.fill_parts.specs.Smaller.{AreAxes, AreRowsOf, Rows, AreSome, IsHeldBy, IsPlanOfAnySize, IsSmaller}
 use Rattle.fill_parts.specs.SmallerRules.{Cover, rules_alone}
 use Rattle.fill_parts.specs.PartReport.{part_lines, rows_lines, part_check, part_report}
 use Rattle.fill_parts.specs.PartFill.{part_fill, near_fill, layers_by, layers_with, rect_of}
@@ -156,12 +156,12 @@ PartsTellTheReport = (values : Values) (layers : Layers) (own : ℕ → Layers) 
 
 -- a place is filled where it is in the fill of some part
 abbrev pub PartsMakeTheFill : Type 0
-PartsMakeTheFill = (plan : Plan) (layers : Layers) (count : ℕ) → IsPlan plan → 0 < count
+PartsMakeTheFill = (plan : Plan) (layers : Layers) (count : ℕ) → IsPlanOfAnySize plan → 0 < count
     → (λ i j. some_below (λ k. part_fill plan layers (part k count) i j) count) ≡ low_fill plan layers
 
 -- and no place is in the fill of two parts
 abbrev pub PartsAreApart : Type 0
-PartsAreApart = (plan : Plan) (layers : Layers) (count k l : ℕ) (i j : ℤ) → IsPlan plan → 0 < count
+PartsAreApart = (plan : Plan) (layers : Layers) (count k l : ℕ) (i j : ℤ) → IsPlanOfAnySize plan → 0 < count
     → part_fill plan layers (part k count) i j ≡ true → part_fill plan layers (part l count) i j ≡ true → k ≡ l
 
 -- ---- one part, whole

@@ -1,5 +1,5 @@
 -- A part of a chip as a smaller chip: the rows of tiles and of windows that it has, its rules, and what they give of the part.
-use Rattle.std.specs.Prelude.{◌≡◌, ℕ, ℤ, ◌-◌, ◌*◌, ◌<◌, Bool, ◌&&◌, not, true, List, Result, Ok, Err, nat_le, nat_lt, if◌then◌else◌, ◌≤ℤ◌, ◌<ℤ◌}
+use Rattle.std.specs.Prelude.{◌≡◌, ℕ, ℤ, ◌-◌, ◌*◌, ◌<◌, Bool, ◌&&◌, not, true, List, Result, Ok, Err, min, nat_le, nat_lt, if◌then◌else◌, ◌≤ℤ◌, ◌<ℤ◌}
 use Rattle.fill_raster.specs.Axes.{band_of, bands, first, past}
 use Rattle.fill_raster.specs.Lattice.{tiles}
 use Rattle.fill_text.specs.Chips.{with_rows}
@@ -12,7 +12,7 @@ use Rattle.fill_core.specs.Boxes.{low_fill}
 use Rattle.fill_core.specs.Soundness.{IsSound}
 use Rattle.fill_report.specs.BookReport.{boxes_of}
 use Rattle.fill_report.specs.Report.{lines_above, measures_of, nothing}
-use Rattle.fill_parts.specs.Cuts.{Part}
+use Rattle.fill_parts.specs.Cuts.{Part, first_row, past_row}
 use Rattle.fill_parts.specs.Needs.{needs_tile}
 use Rattle.fill_parts.specs.PartFill.{part_fill}
 use Rattle.fill_parts.specs.PartReport.{part_check, part_report}
@@ -55,6 +55,17 @@ part_alone values part = rules_alone values (part_tiles (plan_of values) part) (
 -- the rules of the part as a smaller chip, or what there is too much of
 abbrev pub part_rules : Values → Part → Result Values PartRulesError
 part_rules values part = by_size (part_alone values (looking_part values part))
+
+-- the part's own rows of tiles; where it has none, the lowest of them
+abbrev pub own_tiles : Part → ℕ → Rows
+own_tiles part count =
+    if nat_lt (first_row part count) (past_row part count)
+    then record { from = first_row part count; to = past_row part count }
+    else record { from = 0; to = min 1 count }
+
+-- the values of these rows alone, under which the part's fill library is read; of the windows they keep the lowest row
+abbrev pub own_alone : Values → Part → Values
+own_alone values part = rules_alone values (own_tiles part (bands (raster_of values.numbers).up)) (record { from = 0; to = 1 })
 
 -- the plan of the part's rules
 abbrev pub chip_plan : Values → Part → Plan

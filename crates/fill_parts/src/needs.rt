@@ -6,7 +6,7 @@ ghost use Rattle.fill_area.specs.Axes.{IsRangeOf, IsTouching};
 ghost use Rattle.fill_raster.specs.Axes.{bands};
 ghost use Rattle.fill_raster.specs.Lattice.{tile_bottom, tile_top, tiles};
 ghost use Rattle.fill_text.specs.ValuesOfRules.{values_of};
-ghost use Rattle.fill_job.specs.Plans.{PointSet, plan_of};
+ghost use Rattle.fill_job.specs.Plans.{plan_of};
 ghost use Rattle.fill_parts.specs.Needs.{HoldsItsWindows, IsEnough, in_coordinates, is_inside, needs_tile, row_of};
 ghost use Rattle.fill_parts.specs.steps.Hulls.{HoldsTile, IsEnoughBelow, Reaches, sides_by};
 

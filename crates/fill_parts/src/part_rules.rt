@@ -1,5 +1,5 @@
 //! A part of a chip of any size as a smaller chip: its rules, and which of its rows are the part's own.
-ghost use Rattle.std.specs.Prelude.{◌≡◌, ◌&&◌, ◌-◌, ◌≤◌, ℤ, false, true, IfOk};
+ghost use Rattle.std.specs.Prelude.{◌≡◌, ◌&&◌, ◌-◌, ◌≤◌, ℤ, false, nat_lt, true, IfOk};
 ghost use Rattle.fill_base.specs.Sides.{Sides};
 ghost use Rattle.fill_base.specs.Squares.{squares};
 ghost use Rattle.fill_raster.specs.Axes.{IsAxis, bands};
@@ -10,10 +10,12 @@ ghost use Rattle.fill_text.specs.ValuesOfChips.{chip_values};
 ghost use Rattle.fill_text.specs.ValuesOfRules.{values_of};
 ghost use Rattle.fill_job.specs.Plans.{PointSet, plan_of};
 ghost use Rattle.fill_job.specs.Searches.{some_below};
+ghost use Rattle.fill_parts.specs.Cuts.{first_row, past_row};
 ghost use Rattle.fill_parts.specs.Needs.{IsEnough, in_coordinates, is_inside};
-ghost use Rattle.fill_parts.specs.PartChip.{HoldsPart, by_size, counted_from, looks_at, part_alone, part_rules, rows_told};
+ghost use Rattle.fill_parts.specs.PartChip.{HoldsPart, by_size, counted_from, looks_at, own_alone, own_tiles, part_alone, part_rules, rows_told};
 ghost use Rattle.fill_parts.specs.PartRows.{chip_tiles, looked_at_windows, looks_at_row};
-ghost use Rattle.fill_parts.specs.Smaller.{AreRowsOf, bands_alone};
+ghost use Rattle.fill_parts.specs.Smaller.{AreRowsOf, AreSome, bands_alone};
+ghost use Rattle.fill_parts.specs.SmallerRules.{rules_alone};
 ghost use Rattle.fill_parts.specs.Told.{tiles_in, windows_in};
 
 use crate::chip::PartRows;
@@ -100,6 +102,34 @@ fn counted_from(rows: Range<u32>, low: u32) -> Range<u32>
     rows.start.saturating_sub(low)..rows.end.saturating_sub(low)
 }
 
+/// The rules of some rows of tiles and of windows alone.
+fn rules_alone(
+    alloc: Global,
+    chip: &ChipRules,
+    tiles: &Range<u32>,
+    windows: &Range<u32>,
+) -> Result<Rules, PartRulesError>
+    requires tiles { AreRowsOf (record { from = tiles.now.start; to = tiles.now.end }) (bands (raster_of (chip_values chip.now).numbers).up) }
+    requires windows { AreSome (record { from = windows.now.start; to = windows.now.end }) (whole_windows (chip_values chip.now).numbers).up.count }
+    ensures { Gives PartRulesError.Memory values_of result (by_size (rules_alone (chip_values chip.now) (record { from = tiles.now.start; to = tiles.now.end }) (record { from = windows.now.start; to = windows.now.end }))) }
+{
+    chip.keeps_faultless();
+    let places = chip.place_rows();
+    let (first_window, _) = chip.window_rows().extent(windows.start);
+    let alone = ChipRows {
+        bottom: bottom_of(places, tiles),
+        top: top_of(places, tiles),
+        first_window,
+        windows: windows.end - windows.start,
+    };
+    match chip.with_rows(alloc, alone) {
+        Ok(rules) => Ok(rules),
+        Err(RuleError::BadWindows) => Err(PartRulesError::Windows),
+        Err(RuleError::TooManyPlaces) => Err(PartRulesError::Places),
+        Err(_) => Err(PartRulesError::Memory),
+    }
+}
+
 impl Part {
     /// The rules of the part's rows alone.
     fn rules_of(
@@ -114,21 +144,42 @@ impl Part {
         ensures { Gives PartRulesError.Memory values_of result (by_size (part_alone (chip_values chip.now) self)) }
     {
         chip.keeps_faultless();
-        let places = chip.place_rows();
-        let windows = chip.window_rows();
-        let (first_window, _) = windows.extent(rows.windows.start);
-        let alone = ChipRows {
-            bottom: bottom_of(places, &rows.tiles),
-            top: top_of(places, &rows.tiles),
-            first_window,
-            windows: rows.windows.end - rows.windows.start,
-        };
-        match chip.with_rows(alloc, alone) {
-            Ok(rules) => Ok(rules),
-            Err(RuleError::BadWindows) => Err(PartRulesError::Windows),
-            Err(RuleError::TooManyPlaces) => Err(PartRulesError::Places),
-            Err(_) => Err(PartRulesError::Memory),
+        rules_alone(alloc, chip, &rows.tiles, &rows.windows)
+    }
+
+    /// Whether some rows of tiles of a chip are the part's own.
+    pub fn has_tiles(self, chip: &ChipRules) -> bool
+        ensures { let n = bands (raster_of (chip_values chip.now).numbers).up in result ≡ nat_lt (first_row self n) (past_row self n) }
+    {
+        let own = self.rows(chip.place_rows().bands());
+        own.start < own.end
+    }
+
+    /// The part's own rows of tiles, of so many; where it has none, the lowest of them.
+    fn own_tiles(self, count: u32) -> Range<u32>
+        ensures from { result.start ≡ (own_tiles self count).from }
+        ensures to { result.end ≡ (own_tiles self count).to }
+        ensures are { AreRowsOf (record { from = result.start; to = result.end }) count }
+    {
+        let own = self.rows(count);
+        if own.start < own.end {
+            own
+        } else {
+            0..count.min(1)
         }
+    }
+
+    /// The rules of the part's own rows of tiles alone, or where it has none of the lowest one: those under which its fill library is
+    /// read. Of the windows they keep the lowest row.
+    ///
+    /// # Errors
+    /// `Places` where these rows have more than 2^24 places. `Memory` where memory runs out.
+    pub fn own_rules(self, alloc: Global, chip: &ChipRules) -> Result<Rules, PartRulesError>
+        ensures { Gives PartRulesError.Memory values_of result (by_size (own_alone (chip_values chip.now) self)) }
+    {
+        chip.keeps_faultless();
+        let tiles = self.own_tiles(chip.place_rows().bands());
+        rules_alone(alloc, chip, &tiles, &(0..1))
     }
 
     /// The chip of a part that looks at no window, so has neither lines nor fill: that of the last part, of which none of the

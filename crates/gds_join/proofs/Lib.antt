@@ -3,7 +3,9 @@ pub mod Libraries
 pub mod Places
 pub mod Marking
 pub mod Marked
-pub mod Putting
 pub mod Taking
+pub mod Own
+pub mod Fills
 pub mod Turns
 pub mod Numbering
+pub mod NoneBetween

@@ -4,7 +4,6 @@ use Rattle.std.proofs.Math.Path.{fun_ext}
 use Rattle.std.specs.List.{slice_get}
 use Rattle.std.proofs.lemmas.List.{length_push}
 use Rattle.std.proofs.lemmas.Option.{slice_get_within}
-use Rattle.fill_text.specs.ValuesOfRules.{values_of}
 use Rattle.fill_job.specs.Searches.{some_below}
 use Rattle.fill_job.proofs.Searching.{some_below_same}
 use Rattle.fill_parts.specs.Laws.{part}
@@ -15,7 +14,7 @@ use Rattle.gds_join.specs.Laws.{NoneAreTaken, OneMoreIsTaken, TakenAreJoined}
 
 pub none_taken : NoneAreTaken
 unfolding some_below
-none_taken rules count now none = record {
+none_taken values count now none = record {
   fills = λ k. now;
   each = λ k bytes is. absurd (cc is);
   union = λ i j. none i j;
@@ -64,18 +63,18 @@ of_some : (design : Option Design) (e d : Design) → design ≡ Some e → IsOf
 of_some design e d is same = subst (λ (o : Option Design). IsOfDesign o d.0 d.1) is same
 
 pub one_more : OneMoreIsTaken
-one_more rules count texts design old new bytes d are is =
+one_more values count texts design old new bytes d are is =
     let n = length texts in
     let fills = with_one are.fills n is.filled in
     record {
       fills = fills;
-      each = pushed (λ k b. (e : Design) × (Some d ≡ Some e) × IsPartText rules (part k count) e.0 e.1 b (fills k)) texts bytes
+      each = pushed (λ k b. (e : Design) × (Some d ≡ Some e) × IsPartText values (part k count) e.0 e.1 b (fills k)) texts bytes
           (λ k b at. let found = are.each k b at in (
             found.0,
             ap Some (sym (of_some design found.0 d found.1 is.same)),
-            subst (λ (f : PlaceSet). IsPartText rules (part k count) found.0.0 found.0.1 b f) (sym (before_is are.fills n is.filled k (slice_get_within texts k b at))) found.2,
+            subst (λ (f : PlaceSet). IsPartText values (part k count) found.0.0 found.0.1 b f) (sym (before_is are.fills n is.filled k (slice_get_within texts k b at))) found.2,
           ))
-          (d, refl, subst (λ (f : PlaceSet). IsPartText rules (part n count) d.0 d.1 bytes f) (sym (this_is are.fills n is.filled)) is.is_part);
+          (d, refl, subst (λ (f : PlaceSet). IsPartText values (part n count) d.0 d.1 bytes f) (sym (this_is are.fills n is.filled)) is.is_part);
       union = λ i j. is.union i j ∙ (ap (λ b. b || is.filled i j) (are.union i j
           ∙ some_below_same (λ k. are.fills k i j) (λ k. fills k i j) n (λ k lt. ap (λ (f : PlaceSet). f i j) (sym (before_is are.fills n is.filled k lt))))
           ∙ (ap (λ b. some_below (λ k. fills k i j) n || b) (ap (λ (f : PlaceSet). f i j) (sym (this_is are.fills n is.filled)))
@@ -86,11 +85,11 @@ some_is : (e d : Design) → Some d ≡ Some e → e ≡ d
 some_is e d h = cc h
 
 pub all_taken : TakenAreJoined
-all_taken rules texts d now out are text = record {
+all_taken values texts d now out are text = record {
   units = d.0;
   dates = d.1;
   fills = are.fills;
   each = λ k bytes at. let found = are.each k bytes at in
-      subst (λ (e : Design). IsPartText rules (part k (length texts)) e.0 e.1 bytes (are.fills k)) (some_is found.0 d found.1) found.2;
-  text = text ∙ ap (fill_text d.0 d.1 (values_of rules)) (fun_ext (λ i. fun_ext (λ j. are.union i j)));
+      subst (λ (e : Design). IsPartText values (part k (length texts)) e.0 e.1 bytes (are.fills k)) (some_is found.0 d found.1) found.2;
+  text = text ∙ ap (fill_text d.0 d.1 values) (fun_ext (λ i. fun_ext (λ j. are.union i j)));
 }

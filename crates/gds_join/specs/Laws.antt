@@ -1,11 +1,13 @@
 -- What holds of the fill libraries of parts.
-use Rattle.std.specs.Prelude.{◌≡◌, ◌↔◌, ℕ, ◌<◌, ℤ, false, List, [], ◌∷◌, ◌++◌, length, slice_get, Option, Some, None}
+use Rattle.std.specs.Prelude.{◌≡◌, ◌↔◌, ℕ, ◌<◌, ◌≤◌, ℤ, false, List, [], ◌∷◌, ◌++◌, length, slice_get, Option, Some, None}
 use Rattle.fill_text.specs.ValuesOfRules.{values_of}
 use Rattle.fill_text.specs.declared.rules.Rules.{Rules}
-use Rattle.fill_job.specs.Plans.{IsPlan, Layers, plan_of}
+use Rattle.fill_job.specs.Plans.{Layers, plan_of}
 use Rattle.fill_core.specs.Boxes.{low_fill}
 use Rattle.fill_parts.specs.Laws.{part}
 use Rattle.fill_parts.specs.PartFill.{part_fill}
+use Rattle.fill_parts.specs.Smaller.{IsPlanOfAnySize}
+use Rattle.fill_text.specs.Rules.{Values}
 use Rattle.gds_grammar.specs.Outcomes.{Spells}
 use Rattle.gds_grammar.specs.Values.{Contents}
 use Rattle.gds_out.specs.FillText.{fill_text}
@@ -42,17 +44,17 @@ ReadingIsExact = (rules : Rules) (bytes : List ℕ) (contents : Contents) → Sp
 
 -- the libraries of all parts of one fill, joined, are the library of that fill
 abbrev pub PartsMakeTheLibrary : Type 0
-PartsMakeTheLibrary = (rules : Rules) (units dates : List ℕ) (layers : Layers) (texts : List (List ℕ)) (out : List ℕ) → IsPlan (plan_of (values_of rules)) → 0 < length texts → length units ≡ 16 → length dates ≡ 24
-    → ((k : ℕ) → k < length texts → slice_get texts k ≡ Some (fill_text units dates (values_of rules) (part_fill (plan_of (values_of rules)) layers (part k (length texts)))))
-    → IsJoined rules texts out → out ≡ fill_text units dates (values_of rules) (low_fill (plan_of (values_of rules)) layers)
+PartsMakeTheLibrary = (values : Values) (units dates : List ℕ) (layers : Layers) (texts : List (List ℕ)) (out : List ℕ) → IsPlanOfAnySize (plan_of values) → 0 < length texts → length units ≡ 16 → length dates ≡ 24 → length texts ≤ 4096
+    → ((k : ℕ) → k < length texts → slice_get texts k ≡ Some (fill_text units dates values (part_fill (plan_of values) layers (part k (length texts)))))
+    → IsJoined values texts out → out ≡ fill_text units dates values (low_fill (plan_of values) layers)
 
 -- Parts are taken one after another: none, one more, and all.
 abbrev pub NoneAreTaken : Type 0
-NoneAreTaken = (rules : Rules) (count : ℕ) (now : PlaceSet) → ((i j : ℤ) → now i j ≡ false) → AreTaken rules count [] None now
+NoneAreTaken = (values : Values) (count : ℕ) (now : PlaceSet) → ((i j : ℤ) → now i j ≡ false) → AreTaken values count [] None now
 
 abbrev pub OneMoreIsTaken : Type 0
-OneMoreIsTaken = (rules : Rules) (count : ℕ) (texts : List (List ℕ)) (design : Option Design) (old new : PlaceSet) (bytes : List ℕ) (d : Design) → AreTaken rules count texts design old
-    → IsTaken rules (part (length texts) count) design old new bytes d → AreTaken rules count (texts ++ bytes ∷ []) (Some d) new
+OneMoreIsTaken = (values : Values) (count : ℕ) (texts : List (List ℕ)) (design : Option Design) (old new : PlaceSet) (bytes : List ℕ) (d : Design) → AreTaken values count texts design old
+    → IsTaken values (part (length texts) count) design old new bytes d → AreTaken values count (texts ++ bytes ∷ []) (Some d) new
 
 abbrev pub TakenAreJoined : Type 0
-TakenAreJoined = (rules : Rules) (texts : List (List ℕ)) (d : Design) (now : PlaceSet) (out : List ℕ) → AreTaken rules (length texts) texts (Some d) now → out ≡ fill_text d.0 d.1 (values_of rules) now → IsJoined rules texts out
+TakenAreJoined = (values : Values) (texts : List (List ℕ)) (d : Design) (now : PlaceSet) (out : List ℕ) → AreTaken values (length texts) texts (Some d) now → out ≡ fill_text d.0 d.1 values now → IsJoined values texts out

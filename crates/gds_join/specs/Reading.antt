@@ -4,13 +4,13 @@ use Rattle.std.specs.List.{flat_map, list_any, range_with_len}
 use Rattle.std.specs.Ordering.{int_eq}
 use Rattle.fill_base.specs.declared.place.Point.{Point}
 use Rattle.fill_raster.specs.Lattice.{Lattice, in_raster}
+use Rattle.fill_text.specs.Rules.{Values, raster_of}
 use Rattle.fill_text.specs.ValuesOfRules.{values_of}
 use Rattle.fill_text.specs.declared.rules.Rules.{Rules}
 use Rattle.gds_cells.specs.References.{grid_point, is_bad_array, is_bad_transform}
 use Rattle.gds_grammar.specs.Values.{Shape, Contents, boundary, path, reference, array}
 use Rattle.gds_out.specs.FillContents.{corner_of}
 use Rattle.gds_out.specs.FillText.{fill_text}
-use Rattle.gds_out.specs.Laws.{raster_in}
 use Rattle.gds_out.specs.Places.{PlaceSet}
 
 -- where the single references of a shape stand; a reference that flattening refuses stands nowhere
@@ -35,12 +35,16 @@ abbrev pub places_in : Lattice → Contents → PlaceSet
 places_in r contents i j = in_raster r i j && list_any (is_point (corner_of r i j)) (corners_in contents)
 
 -- the bytes are the fill library of these rules, with these units and dates, of these places of the raster
-pub record IsFillText (rules : Rules) (bytes units dates : List ℕ) (filled : PlaceSet) : Type 0 where
+pub record IsFillOf (values : Values) (bytes units dates : List ℕ) (filled : PlaceSet) : Type 0 where
   pub units_size : length units ≡ 16
   pub dates_size : length dates ≡ 24
-  pub on_raster : (i j : ℤ) → filled i j ≡ true → in_raster (raster_in rules) i j ≡ true
-  pub text : bytes ≡ fill_text units dates (values_of rules) filled
+  pub on_raster : (i j : ℤ) → filled i j ≡ true → in_raster (raster_of values.numbers) i j ≡ true
+  pub text : bytes ≡ fill_text units dates values filled
 
 -- the bytes are no fill library of these rules
-abbrev pub IsNoFill : Rules → List ℕ → Type 0
-IsNoFill rules bytes = (units dates : List ℕ) (filled : PlaceSet) → IsFillText rules bytes units dates filled → ⊥
+abbrev pub IsNoFill : Values → List ℕ → Type 0
+IsNoFill values bytes = (units dates : List ℕ) (filled : PlaceSet) → IsFillOf values bytes units dates filled → ⊥
+
+-- so by a rule file that one run takes
+abbrev pub IsFillText : Rules → List ℕ → List ℕ → List ℕ → PlaceSet → Type 0
+IsFillText rules = IsFillOf (values_of rules)

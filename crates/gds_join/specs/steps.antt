@@ -1,3 +1,3 @@
 -- What serves the functions of the crate alone.
 pub mod Far
-pub mod Putting
+pub mod Strips

@@ -15,6 +15,9 @@ pub enum PartError {
     /// It is no fill library of these rules: its names, layer, box or places are others, or it isn't written as such a library is.
     #[error("no fill library of these rules")]
     NotAFill,
+    /// The part's own rows of tiles have more than 2^24 places.
+    #[error("too many places in a part")]
+    TooManyPlaces,
     /// Its units or dates are not those of the first part.
     #[error("the units or dates are not those of the first part")]
     OtherDesign,

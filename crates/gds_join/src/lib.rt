@@ -4,12 +4,12 @@
 
 mod error;
 mod fill;
-mod join;
+mod joined;
 pub mod laws;
+mod meeting;
 mod number;
 mod reading;
-mod take;
 
 pub use error::PartError;
-pub use fill::{PartFill, fill_text, read_fill};
-pub use take::{no_places, take_part};
+pub use fill::{PartFill, fill_text, no_places, read_fill};
+pub use joined::{First, Joined};

@@ -23,7 +23,7 @@ of_its_tile r t i j on is = and_from (in_raster r i j) (tile_of r i j == t) on (
 pub tile_on : (r : Lattice) (t : ℕ) (i j : ℤ) → in_tile r t i j ≡ true → (in_raster r i j ≡ true) × (tile_of r i j ≡ t)
 tile_on r t i j h = let p = and_parts (in_raster r i j) (tile_of r i j == t) h in (p.0, eqb-true _ _ p.1)
 
-unmarked : (m : Marked) (i j : ℤ) → in_block m.block i j ≡ false → is_marked m i j ≡ false
+pub unmarked : (m : Marked) (i j : ℤ) → in_block m.block i j ≡ false → is_marked m i j ≡ false
 unmarked m i j off = rw off refl
 
 -- in a tile the marks are those of the tile

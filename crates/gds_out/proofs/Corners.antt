@@ -1,5 +1,5 @@
 -- The corners of boxes, as they are reckoned and written.
-use Rattle.std.proofs.Common.{◌≡◌, refl, ap, sym, subst, unsigned_abs, ◌∙◌, ℕ, zero, suc, ◌*◌, ◌≤◌, ◌<◌, le_of_lt, ℤ, pos, negsuc, ◌+ℤ◌, ◌*ℤ◌, ◌≤ℤ◌, ◌<ℤ◌, arith, true, false, ◌&&◌, ◌==◌, w64, FitsSigned, List, [], ◌∷◌, map}
+use Rattle.std.proofs.Common.{◌≡◌, refl, ap, sym, subst, ◌∙◌, ℕ, zero, suc, ◌*◌, ◌≤◌, ◌<◌, le_of_lt, ℤ, pos, negsuc, ◌+ℤ◌, ◌*ℤ◌, ◌≤ℤ◌, ◌<ℤ◌, arith, true, false, ◌&&◌, ◌==◌, w64, FitsSigned, List, [], ◌∷◌, map}
 use Rattle.std.specs.List.{All}
 use Rattle.std.proofs.lemmas.Int.{ints}
 use Rattle.std.proofs.Math.Nat.{mul-le-mul}

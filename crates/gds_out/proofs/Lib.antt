@@ -16,3 +16,4 @@ pub mod Entries
 pub mod Grammatical
 pub mod Reread
 pub mod SomeRows
+pub mod Sheets

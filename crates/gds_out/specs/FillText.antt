@@ -80,11 +80,14 @@ stack_records cell r s =
 abbrev pub stacks_records : List ℕ → Lattice → PlaceSet → List Rec
 stacks_records cell r filled = flat_map (stack_records cell r) (stacks filled r)
 
--- BGNSTR, STRNAME, the stacks, ENDSTR
-abbrev pub top_records : List ℕ → Values → PlaceSet → List Rec
-top_records dates v filled =
+-- BGNSTR, STRNAME, the stacks of places of a raster, ENDSTR
+abbrev pub top_records_on : List ℕ → Values → Lattice → PlaceSet → List Rec
+top_records_on dates v r filled =
     rec 0x05 0x02 dates ∷ rec 0x06 0x06 (padded v.fill_top)
-    ∷ (stacks_records v.fill_cell (raster_of v.numbers) filled ++ rec 0x07 0x00 [] ∷ [])
+    ∷ (stacks_records v.fill_cell r filled ++ rec 0x07 0x00 [] ∷ [])
+
+abbrev pub top_records : List ℕ → Values → PlaceSet → List Rec
+top_records dates v filled = top_records_on dates v (raster_of v.numbers) filled
 
 -- ---- the library: HEADER with the number 600, BGNLIB, LIBNAME, UNITS, the two cells, ENDLIB
 
@@ -92,10 +95,17 @@ abbrev pub head_records : List ℕ → List ℕ → Values → List Rec
 head_records units dates v =
     rec 0x00 0x02 (0x02 ∷ 0x58 ∷ []) ∷ rec 0x01 0x02 dates ∷ rec 0x02 0x06 (padded v.fill_lib) ∷ rec 0x03 0x05 units ∷ []
 
-abbrev pub fill_records : List ℕ → List ℕ → Values → PlaceSet → List Rec
-fill_records units dates v filled =
-    head_records units dates v ++ (cell_records dates v ++ (top_records dates v filled ++ rec 0x04 0x00 [] ∷ []))
+abbrev pub fill_records_on : List ℕ → List ℕ → Values → Lattice → PlaceSet → List Rec
+fill_records_on units dates v r filled =
+    head_records units dates v ++ (cell_records dates v ++ (top_records_on dates v r filled ++ rec 0x04 0x00 [] ∷ []))
 
--- the text of the fill library with these units, dates and rules and this set of filled places
+abbrev pub fill_records : List ℕ → List ℕ → Values → PlaceSet → List Rec
+fill_records units dates v filled = fill_records_on units dates v (raster_of v.numbers) filled
+
+-- the text of the fill library with these units, dates and rules and this set of filled places of a raster
+abbrev pub fill_text_on : List ℕ → List ℕ → Values → Lattice → PlaceSet → List ℕ
+fill_text_on units dates v r filled = flat_map spelling (fill_records_on units dates v r filled)
+
+-- and of the rules' raster
 abbrev pub fill_text : List ℕ → List ℕ → Values → PlaceSet → List ℕ
-fill_text units dates v filled = flat_map spelling (fill_records units dates v filled)
+fill_text units dates v filled = fill_text_on units dates v (raster_of v.numbers) filled

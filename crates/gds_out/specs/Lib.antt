@@ -1,4 +1,5 @@
 pub mod Places
+pub mod Strips
 pub mod FillText
 pub mod FillContents
 pub mod Laws

@@ -2,16 +2,17 @@
 
 ghost use Rattle.std.specs.Prelude.{◌≡◌, ◌≤◌, ◌≤ℤ◌, ◌+ℤ◌, ◌*ℤ◌, ◌==◌, ◌&&◌, pos, negsuc, length, OnOk};
 ghost use Rattle.fill_base.specs.Limits.{IsLength};
+ghost use Rattle.fill_raster.specs.Axes.{box_begin};
 ghost use Rattle.gds_record.specs.Numbers.{IsStored};
-ghost use Rattle.fill_text.specs.Rules.{raster_of};
 ghost use Rattle.fill_text.specs.ValuesOfRules.{values_of};
 ghost use Rattle.gds_out.specs.FillText.{cell_records, reference_records, array_records, stack_records};
-ghost use Rattle.gds_out.specs.steps.Ranges.{three_points, IsArray, IsStackOf};
+ghost use Rattle.gds_out.specs.Strips.{IsSheet, sheet_raster};
+ghost use Rattle.gds_out.specs.steps.Ranges.{at, three_points, IsArray, IsStackOf};
 ghost use Rattle.gds_out.specs.steps.Writing.{Adds};
 
+use crate::sheet::Sheet;
 use crate::writer::Writer;
 use fill_base::Point;
-use fill_raster::Place;
 use fill_stacks::Stack;
 use fill_text::Rules;
 use gds_record::{form, kind};
@@ -84,19 +85,31 @@ fn is_one_box(stack: Stack) -> bool
     stack.columns == 1 && stack.rows == 1
 }
 
-/// Writes a reference, or for more than one box an array, for a stack of boxes.
-pub(crate) fn put_stack(writer: &mut Writer, rules: &Rules, stack: Stack) -> Result<(), AllocError>
-    requires { IsStackOf (raster_of (values_of rules.now).numbers) stack }
-    ensures { OnOk result (Adds writer.old writer.new (stack_records (values_of rules.now).fill_cell (raster_of (values_of rules.now).numbers) stack)) }
+/// The lower left corner of the first box of a stack.
+fn corner_of(sheet: &Sheet<'_>, stack: Stack) -> Point
+    requires sheet { IsSheet sheet.now }
+    requires stack { IsStackOf (sheet_raster sheet.now) stack }
+    ensures { result ≡ at (box_begin (sheet_raster sheet.now).across stack.column) (box_begin (sheet_raster sheet.now).up stack.row) }
 {
-    let rect = rules.raster().box_of(Place {
-        i: stack.column,
-        j: stack.row,
-    });
-    let corner = Point {
-        x: rect.x1(),
-        y: rect.y1(),
-    };
+    let rules = sheet.rules;
+    Point {
+        x: rules.origin_x() + stack.column * rules.step_x(),
+        y: rules.origin_y() + stack.row * rules.step_y(),
+    }
+}
+
+/// Writes a reference, or for more than one box an array, for a stack of boxes.
+pub(crate) fn put_stack(
+    writer: &mut Writer,
+    sheet: &Sheet<'_>,
+    stack: Stack,
+) -> Result<(), AllocError>
+    requires sheet { IsSheet sheet.now }
+    requires stack { IsStackOf (sheet_raster sheet.now) stack }
+    ensures { OnOk result (Adds writer.old writer.new (stack_records (values_of sheet.now.rules.now).fill_cell (sheet_raster sheet.now) stack)) }
+{
+    let rules = sheet.rules;
+    let corner = corner_of(sheet, stack);
     if is_one_box(stack) {
         return put_reference(writer, rules.fill_cell(), corner);
     }

@@ -7,6 +7,8 @@ mod elements;
 pub mod laws;
 mod library;
 mod rows;
+mod sheet;
 mod writer;
 
-pub use library::fill_library;
+pub use library::{fill_library, sheet_library};
+pub use sheet::{Sheet, Strip};

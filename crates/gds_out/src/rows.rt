@@ -3,22 +3,22 @@
 ghost use Rattle.std.specs.Prelude.{◌≡◌, ◌++◌, ◌≤ℤ◌, ℤ, pos, ◌+ℤ◌, true, negsuc, map, IfOk, OnOk};
 ghost use Rattle.std.specs.List.{flat_map};
 ghost use Rattle.fill_raster.specs.Axes.{first, extent, is_on};
-ghost use Rattle.fill_text.specs.Rules.{raster_of};
 ghost use Rattle.fill_text.specs.ValuesOfRules.{values_of};
 ghost use Rattle.fill_stacks.specs.Counting.{as_piece};
 ghost use Rattle.fill_stacks.specs.Places.{row_pieces};
 ghost use Rattle.fill_stacks.specs.Runs.{run, pieces};
 ghost use Rattle.gds_out.specs.FillText.{stack_records, stacks_records};
 ghost use Rattle.gds_out.specs.Places.{AreOfTiles, marked_by};
+ghost use Rattle.gds_out.specs.Strips.{IsSheet, marked_in, sheet_raster};
 ghost use Rattle.gds_out.specs.steps.Rows.{AreBegun, begun, counts, heights_down};
 ghost use Rattle.gds_out.specs.steps.Writing.{Adds};
 
 use crate::columns::next_column;
 use crate::elements::put_stack;
+use crate::sheet::Sheet;
 use crate::writer::Writer;
 use fill_raster::{Marks, Place, Raster};
 use fill_stacks::{Counted, Piece, Stack, heights, levels};
-use fill_text::Rules;
 use std::alloc::{AllocError, Global};
 
 /// How many columns a piece has at most.
@@ -74,18 +74,29 @@ fn push_counts(list: &mut Vec<u16>, row: &[Counted]) -> Result<(), AllocError>
     Ok(())
 }
 
+/// The pieces that a row of a sheet is written in, from left to right.
+fn sheet_pieces(alloc: Global, sheet: &Sheet<'_>, j: i64) -> Result<Vec<Piece>, AllocError>
+    requires { IsSheet sheet.now }
+    ensures { IfOk result (λ v. v.items ≡ map as_piece (row_pieces (marked_in sheet.now.strips.now) (sheet_raster sheet.now) j)) }
+{
+    match sheet.strip_at(j) {
+        Some(strip) => pieces_of_row(alloc, strip.raster, &strip.marks, j),
+        None => Ok(Vec::new(alloc)),
+    }
+}
+
 /// How high the stack of each piece is, from its row on: of the pieces of the highest row first, and in a row from left to right.
-fn stack_heights(alloc: Global, raster: Raster, marks: &[&Marks]) -> Result<Vec<u16>, AllocError>
-    requires { AreOfTiles raster marks.now }
-    ensures { IfOk result (λ v. v.items ≡ heights_down (marked_by marks.now) raster (first raster.up) (extent raster.up)) }
+fn stack_heights(alloc: Global, sheet: &Sheet<'_>) -> Result<Vec<u16>, AllocError>
+    requires { IsSheet sheet.now }
+    ensures { IfOk result (λ v. v.items ≡ heights_down (marked_in sheet.now.strips.now) (sheet_raster sheet.now) (first sheet.now.up) (extent sheet.now.up)) }
 {
     let mut list = Vec::new(alloc);
     let mut above = Vec::new(alloc);
-    let rows = raster.rows();
+    let rows = sheet.rows();
     let mut j = rows.end;
     while j > rows.start {
         j -= 1;
-        let row = pieces_of_row(alloc, raster, marks, j)?;
+        let row = sheet_pieces(alloc, sheet, j)?;
         above = heights(alloc, &row, &above)?;
         push_counts(&mut list, &above)?;
     }
@@ -95,13 +106,14 @@ fn stack_heights(alloc: Global, raster: Raster, marks: &[&Marks]) -> Result<Vec<
 /// Writes the stacks that begin in a row: of the pieces with no row of their stack below them, each as high as the heights say.
 fn put_row(
     writer: &mut Writer,
-    rules: &Rules,
+    sheet: &Sheet<'_>,
     j: i64,
     levels: &[Counted],
     heights: &[u16],
 ) -> Result<(), AllocError>
-    requires { AreBegun (raster_of (values_of rules.now).numbers) j levels.now heights.now }
-    ensures { OnOk result (Adds writer.old writer.new (flat_map (stack_records (values_of rules.now).fill_cell (raster_of (values_of rules.now).numbers)) (begun j levels.now heights.now))) }
+    requires sheet { IsSheet sheet.now }
+    requires begun { AreBegun (sheet_raster sheet.now) j levels.now heights.now }
+    ensures { OnOk result (Adds writer.old writer.new (flat_map (stack_records (values_of sheet.now.rules.now).fill_cell (sheet_raster sheet.now)) (begun j levels.now heights.now))) }
 {
     for k in 0..levels.len() {
         let Counted { piece, rows } = levels[k];
@@ -112,7 +124,7 @@ fn put_row(
                 columns: piece.count,
                 rows: heights[k],
             };
-            put_stack(writer, rules, stack)?;
+            put_stack(writer, sheet, stack)?;
         }
     }
     Ok(())
@@ -122,21 +134,19 @@ fn put_row(
 pub(crate) fn put_rows(
     alloc: Global,
     writer: &mut Writer,
-    rules: &Rules,
-    marks: &[&Marks],
+    sheet: &Sheet<'_>,
 ) -> Result<(), AllocError>
-    requires { AreOfTiles (raster_of (values_of rules.now).numbers) marks.now }
-    ensures { OnOk result (Adds writer.old writer.new (stacks_records (values_of rules.now).fill_cell (raster_of (values_of rules.now).numbers) (marked_by marks.now))) }
+    requires { IsSheet sheet.now }
+    ensures { OnOk result (Adds writer.old writer.new (stacks_records (values_of sheet.now.rules.now).fill_cell (sheet_raster sheet.now) (marked_in sheet.now.strips.now))) }
 {
-    let raster = rules.raster();
-    let mut left = stack_heights(alloc, raster, marks)?;
+    let mut left = stack_heights(alloc, sheet)?;
     let mut below = Vec::new(alloc);
-    let rows = raster.rows();
+    let rows = sheet.rows();
     for j in rows.start..rows.end {
-        let row = pieces_of_row(alloc, raster, marks, j)?;
+        let row = sheet_pieces(alloc, sheet, j)?;
         below = levels(alloc, &row, &below)?;
         let others = left.len() - below.len();
-        put_row(writer, rules, j, &below, &left[others..])?;
+        put_row(writer, sheet, j, &below, &left[others..])?;
         left.truncate(others);
     }
     Ok(())

@@ -1,7 +1,8 @@
 use Rattle.std.proofs.Common.{◌∙◌, sym, ap, inr, [], length, map, Ok}
 use Rattle.std.proofs.lemmas.Result.{err_from_is_err_and}
-use Rattle.fill_text.specs.ValuesOfRules.{values_of}
-use Rattle.fill_text.specs.declared.rules.Rules.{Rules}
+use Rattle.std.specs.Prelude.{is_some}
+use Rattle.fill_text.specs.ValuesOfChips.{chip_values}
+use Rattle.fill_text.specs.declared.chip.ChipRules.{ChipRules}
 use Rattle.densfill_engine.specs.Joiners.{AreJoined, IsJoinOf, IsJoinReason, IsPartReason, OpensFor}
 use Rattle.densfill_engine.specs.declared.refusal.Refusal.TheVariants.{Run}
 use Rattle.densfill.specs.Outcomes.{all_known}
@@ -53,5 +54,5 @@ returns-clause-joined g c =
       all.1,
       both_known (λ r. OpensFor r j) (λ texts. AreJoined texts k) (λ r texts. IsJoinOf r texts c.in_ok-text.text.items)
           (g.R.File.Read.remaining c.in_ok-rules.rules.inner) (all_known (map g.R.File.Read.remaining all.0))
-          (λ r texts opens h. c.in_ok-text.ensures.joined r texts (opens ∙ ap (λ (q : Rules). Ok (values_of q)) (sym c.in_ok-joiner-2.ensures.whole.0)) h) c.in_ok-joiner.ensures.begun.2 all.2,
+          (λ r texts opens h. c.in_ok-text.ensures.joined r texts (opens.0 ∙ ap (λ (q : ChipRules). Ok (chip_values q)) (sym c.in_ok-joiner-2.ensures.whole.0), ap is_some c.in_ok-joiner-2.ensures.whole.1 ∙ opens.1) h) c.in_ok-joiner.ensures.begun.2 all.2,
     )

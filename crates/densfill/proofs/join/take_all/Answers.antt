@@ -10,7 +10,8 @@ use Rattle.densfill.proofs.join.take_all.Goals as goal
 pub loop-path-init : goal.loop-path-init
 loop-path-init g c = record {
   joiner = c.requires.joiner;
-  rules = refl;
+  chip = refl;
+  whole = refl;
   count = refl;
   taken = c.requires.none.count;
   files = ([], refl, none_known (λ texts. AreJoined texts c.args.joiner) c.requires.none);
@@ -19,7 +20,7 @@ loop-path-init g c = record {
 pub take_next-requires-clause-more : goal.take_next-requires-clause-more
 take_next-requires-clause-more g c =
     let i = c.loop-path.invariant in
-    more c.loop-path.joined.taken c.loop-path.path-index c.loop-path.joined.count c.args.joiner.count (length c.args.paths.now) i.taken i.count c.requires.count c.loop-path-test.true
+    more c.loop-path.joined.parts.taken c.loop-path.path-index c.loop-path.joined.parts.count c.args.joiner.parts.count (length c.args.paths.now) i.taken i.count c.requires.count c.loop-path-test.true
   where
     more : (t n c d m : ℕ) → t ≡ n → c ≡ d → d ≡ m → n < m → t < c
     more t n c d m e f h lt = omega (arith, e, f, h, lt)
@@ -34,12 +35,12 @@ returns-in_err-joined-clause-refused g c =
       | inl unopened ↦ (
         i.files.0,
         known_weaker (λ texts. AreJoined texts j) (λ texts. IsPartReason c.args.joiner texts e) (all_known (map g.R.File.Read.remaining i.files.0))
-            (λ texts joined. same_reason j c.args.joiner texts e i.rules i.count (unopened_reason j texts e unopened joined)) i.files.2,
+            (λ texts joined. same_reason j c.args.joiner texts e i.chip i.whole i.count (unopened_reason j texts e unopened joined)) i.files.2,
       )
       | inr q ↦ (
         i.files.0 ++ q.0 ∷ [],
         file_pushed g.R.File.Read.remaining (λ texts. AreJoined texts j) (λ bytes. (texts : List (List ℕ)) → AreJoined texts j → IsPartReason j (texts ++ bytes ∷ []) e) (λ texts. IsPartReason c.args.joiner texts e) i.files.0 q.0
-            (λ xs x h k. same_reason j c.args.joiner (xs ++ x ∷ []) e i.rules i.count (k xs h)) i.files.2 q.1,
+            (λ xs x h k. same_reason j c.args.joiner (xs ++ x ∷ []) e i.chip i.whole i.count (k xs h)) i.files.2 q.1,
       )
     ])
 
@@ -49,9 +50,10 @@ loop-path-preserved g c =
     let e = c.in_ok-joined.ensures in
     record {
       joiner = e.joiner;
-      rules = e.taken.0 ∙ i.rules;
-      count = e.taken.1 ∙ i.count;
-      taken = e.taken.2 ∙ ap (λ n. n + 1) i.taken;
+      chip = e.taken.0 ∙ i.chip;
+      whole = e.taken.1 ∙ i.whole;
+      count = e.taken.2 ∙ i.count;
+      taken = e.taken.3 ∙ ap (λ n. n + 1) i.taken;
       files = (
         i.files.0 ++ e.joined.0 ∷ [],
         length_push i.files.0 e.joined.0 ∙ ap (λ n. n + 1) i.files.1,
@@ -69,7 +71,7 @@ pub returns-clause-whole : goal.returns-clause-whole
 returns-clause-whole g c =
     let i = c.loop-path.invariant in
     let all : c.loop-path.path-index ≡ length c.args.paths.now = end c.loop-path.path-index (length c.args.paths.now) c.loop-path-test.false c.loop-path.auto.path-index-end in
-    (i.rules, i.taken ∙ (all ∙ (sym c.requires.count ∙ sym i.count)))
+    (i.chip, i.whole, i.taken ∙ (all ∙ (sym c.requires.count ∙ sym i.count)))
   where
     end : (k n : ℕ) → n ≤ k → k ≤ n → k ≡ n
     end k n h f = omega (arith, h, f)

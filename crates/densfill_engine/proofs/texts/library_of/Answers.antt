@@ -13,9 +13,9 @@ use Rattle.densfill_engine.proofs.texts.library_of.Goals as goal
 pub returns-in_ok-marks-in-Everything : goal.returns-in_ok-marks-in-Everything
 returns-in_ok-marks-in-Everything g c =
     let a = g.B.FillBook.account c.args.book.now in
-    IfOk-weaker c.fill_library.result _ _ (λ v given. text_is v.items c.args.units.now c.args.dates.now (values_of c.rules.result.now) a.rules (marked_by c.deref.result.now)
+    IfOk-weaker c.fill_library.result _ _ (λ v given. text_is v.items c.args.units.now c.args.dates.now (values_of c.rules.result.now) a.rules (marked_by c.in_ok-marks-in-Everything.marks.items)
     (places_told c.args.told.now (plan_of a.rules) (state_of a).fill) given c.rules.ensures
-    (ap marked_by c.deref.ensures.value ∙ (c.in_ok-marks-in-Everything.ensures.marked ∙ ap (λ (t : Told). places_told t (plan_of a.rules) (state_of a).fill) (sym c.in-Everything.is)))) c.fill_library.ensures
+    (c.in_ok-marks-in-Everything.ensures.marked ∙ ap (λ (t : Told). places_told t (plan_of a.rules) (state_of a).fill) (sym c.in-Everything.is))) c.fill_library.ensures
 
 pub returns-in_ok-places-in-Rows : goal.returns-in_ok-places-in-Rows
 returns-in_ok-places-in-Rows g c =

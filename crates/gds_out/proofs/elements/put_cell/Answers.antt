@@ -1,4 +1,4 @@
-use Rattle.std.proofs.Common.{[], ap, ◌∙◌}
+use Rattle.std.proofs.Common.{[], ap}
 use Rattle.fill_base.specs.declared.layer.Layer.{Layer}
 use Rattle.fill_text.specs.Rules.{fill_layer, raster_of}
 use Rattle.fill_text.specs.ValuesOfRules.{values_of}

@@ -1,14 +1,13 @@
-use Rattle.std.proofs.Common.{◌≡◌, ◌∙◌, ◌-◌, ◌+◌, ap, sym, subst, pos, ◌+ℤ◌, ◌-ℤ◌, true, arith, length, vec_len, rules}
+use Rattle.std.proofs.Common.{◌≡◌, ◌∙◌, ◌-◌, ◌+◌, ap, sym, subst, pos, ◌+ℤ◌, ◌-ℤ◌, arith, length, vec_len, rules}
 use Rattle.std.specs.List.{flat_map}
 use Rattle.std.proofs.lemmas.Grind.{common_steps}
 use Rattle.std.proofs.lemmas.Int.{ints}
 use Rattle.fill_base.proofs.Signed.{read, read_is, is_lt, not_lt}
-use Rattle.fill_raster.specs.Axes.{first, past, is_on}
-use Rattle.fill_raster.specs.Lattice.{Lattice, IsLattice}
+use Rattle.fill_raster.specs.Axes.{first, past}
+use Rattle.fill_raster.specs.Lattice.{Lattice}
 use Rattle.fill_raster.proofs.Ranges.{past_bounded, first_past}
 use Rattle.fill_raster.proofs.Reading.{first_read, past_read}
 use Rattle.fill_raster.proofs.Searching.{here, one_on, step_fits}
-use Rattle.fill_text.specs.Rules.{raster_of}
 use Rattle.fill_text.specs.ValuesOfRules.{values_of}
 use Rattle.fill_stacks.specs.Counting.{AreRising, levels_at}
 use Rattle.fill_stacks.specs.Places.{places_along}
@@ -16,8 +15,7 @@ use Rattle.fill_stacks.specs.Stacks.{row_stacks}
 use Rattle.fill_stacks.proofs.RowPieces.{levels_rise}
 use Rattle.fill_stacks.proofs.Stacking.{flat_flat}
 use Rattle.gds_out.specs.FillText.{stack_records}
-use Rattle.gds_out.specs.Places.{marked_by}
-use Rattle.gds_out.proofs.Corners.{on_axis}
+use Rattle.gds_out.specs.Strips.{marked_in, sheet_raster}
 use Rattle.gds_out.proofs.RowStacks.{IsRow, begun_from, enough, from_index, levels_next, no_levels, row_of}
 use Rattle.gds_out.proofs.RowTurns.{rows_begin, rows_more, rows_done, next_to}
 use Rattle.gds_out.proofs.rows.put_rows.Goals.{After-len-in-loop-j}
@@ -25,53 +23,39 @@ use Rattle.gds_out.proofs.rows.put_rows.Goals as goal
 
 pub loop-j-init : goal.loop-j-init
 loop-j-init c =
-    let r = raster_of (values_of c.args.rules.now).numbers in
-    let filled = marked_by c.args.marks.now in
-    let found : IsLattice c.raster-raster.result = search rules in
-    let is : IsLattice r = subst (λ (q : Lattice). IsLattice q) c.raster-raster.ensures.raster found in
-    let s : read c.rows-rows.result.start ≡ first r.up = ap read (c.rows-rows.ensures.first ∙ ap (λ (q : Lattice). first q.up) c.raster-raster.ensures.raster) ∙ first_read r.up is.up in
+    let r = sheet_raster c.args.sheet.now in
+    let filled = marked_in c.args.sheet.now.strips.now in
+    let s : read c.rows-rows.result.start ≡ first r.up = ap read c.rows-rows.ensures.first ∙ first_read r.up c.requires.up in
     rw s (record {
       from = here (first r.up);
       to = first_past r.up;
-      rows = rows_begin (λ k. flat_map (stack_records (values_of c.args.rules.now).fill_cell r) (row_stacks filled r k)) (first r.up) _;
-      left = rw c.raster-raster.ensures.raster at c.in_ok-left.ensures;
+      rows = rows_begin (λ k. flat_map (stack_records (values_of c.args.sheet.now.rules.now).fill_cell r) (row_stacks filled r k)) (first r.up) _;
+      left = c.in_ok-left.ensures;
       below = c.new-below.ensures.items ∙ no_levels filled r;
     })
 
-pub pieces_of_row-requires-clause-row : goal.pieces_of_row-requires-clause-row
-pieces_of_row-requires-clause-row c =
-    let r = raster_of (values_of c.args.rules.now).numbers in
-    let found : IsLattice c.raster-raster.result = search rules in
-    let is : IsLattice r = subst (λ (q : Lattice). IsLattice q) c.raster-raster.ensures.raster found in
-    let p : read c.rows-rows.result.end ≡ past r.up = ap read (c.rows-rows.ensures.past ∙ ap (λ (q : Lattice). past q.up) c.raster-raster.ensures.raster) ∙ past_read r.up is.up in
-    let lt = is_lt c.loop-j.j (past r.up) (rw (c.loop-j.j-is, p) at c.loop-j-test.true) in
-    let inv = rw c.loop-j.j-is at c.loop-j.invariant in
-    rw c.loop-j.j-is (subst (λ (q : Lattice). is_on q.up c.loop-j.j ≡ true) (sym c.raster-raster.ensures.raster) (on_axis r.up c.loop-j.j is.up inv.from lt))
-
 pub levels-requires : goal.levels-requires
 levels-requires c =
-    let r = raster_of (values_of c.args.rules.now).numbers in
-    let filled = marked_by c.args.marks.now in
+    let r = sheet_raster c.args.sheet.now in
+    let filled = marked_in c.args.sheet.now.strips.now in
     let e = c.deref-in-loop-j.ensures.value ∙ (rw c.loop-j.j-is at c.loop-j.invariant).below in
     subst AreRising (sym e) (levels_rise filled r (c.loop-j.j -ℤ pos 1))
 
 -- the row's levels
-levels_are : (c : After-len-in-loop-j) → c.in_ok-below.below.items ≡ levels_at (marked_by c.args.marks.now) (raster_of (values_of c.args.rules.now).numbers) c.loop-j.j
+levels_are : (c : After-len-in-loop-j) → c.in_ok-below.below.items ≡ levels_at (marked_in c.args.sheet.now.strips.now) (sheet_raster c.args.sheet.now) c.loop-j.j
 levels_are c =
-    let r = raster_of (values_of c.args.rules.now).numbers in
+    let r = sheet_raster c.args.sheet.now in
     let inv = rw c.loop-j.j-is at c.loop-j.invariant in
-    levels_next (marked_by c.args.marks.now) r c.loop-j.j _ _ _ inv.from (c.deref-in-loop-j.ensures.value ∙ inv.below)
-    (c.deref.ensures.value ∙ rw (c.raster-raster.ensures.raster, c.loop-j.j-is) at c.in_ok-row.ensures) c.in_ok-below.ensures
+    levels_next (marked_in c.args.sheet.now.strips.now) r c.loop-j.j _ _ _ inv.from (c.deref-in-loop-j.ensures.value ∙ inv.below)
+    (c.deref.ensures.value ∙ rw c.loop-j.j-is at c.in_ok-row.ensures) c.in_ok-below.ensures
 
 -- as many heights are left as there are pieces in the rows from this one on
-counted : (c : After-len-in-loop-j) → let r : Lattice = raster_of (values_of c.args.rules.now).numbers in
-    (c.len-in-loop-j.result + (c.len.result - c.len-in-loop-j.result) ≡ c.len.result) × IsRow (marked_by c.args.marks.now) r c.loop-j.j c.in_ok-below.below.items c.loop-j.left.items (c.len.result - c.len-in-loop-j.result)
+counted : (c : After-len-in-loop-j) → let r : Lattice = sheet_raster c.args.sheet.now in
+    (c.len-in-loop-j.result + (c.len.result - c.len-in-loop-j.result) ≡ c.len.result) × IsRow (marked_in c.args.sheet.now.strips.now) r c.loop-j.j c.in_ok-below.below.items c.loop-j.left.items (c.len.result - c.len-in-loop-j.result)
 counted c =
-    let r = raster_of (values_of c.args.rules.now).numbers in
-    let filled = marked_by c.args.marks.now in
-    let found : IsLattice c.raster-raster.result = search rules in
-    let is : IsLattice r = subst (λ (q : Lattice). IsLattice q) c.raster-raster.ensures.raster found in
-    let p : read c.rows-rows.result.end ≡ past r.up = ap read (c.rows-rows.ensures.past ∙ ap (λ (q : Lattice). past q.up) c.raster-raster.ensures.raster) ∙ past_read r.up is.up in
+    let r = sheet_raster c.args.sheet.now in
+    let filled = marked_in c.args.sheet.now.strips.now in
+    let p : read c.rows-rows.result.end ≡ past r.up = ap read c.rows-rows.ensures.past ∙ past_read r.up c.requires.up in
     let lt = is_lt c.loop-j.j (past r.up) (rw (c.loop-j.j-is, p) at c.loop-j-test.true) in
     let inv = rw c.loop-j.j-is at c.loop-j.invariant in
     let long = enough filled r c.loop-j.j c.in_ok-below.below.items c.loop-j.left.items inv.from lt (levels_are c) inv.left in
@@ -84,25 +68,23 @@ counted c =
 pub overflow_sub-others : goal.overflow_sub-others
 overflow_sub-others c = let sum = (counted ((goal.at.overflow_sub-others c).After-len-in-loop-j)).0 in omega (arith, sum)
 
-pub put_row-requires : goal.put_row-requires
-put_row-requires c =
-    let row = (counted ((goal.at.put_row-requires c).After-len-in-loop-j)).1 in
-    let r = raster_of (values_of c.args.rules.now).numbers in
+pub put_row-requires-clause-begun : goal.put_row-requires-clause-begun
+put_row-requires-clause-begun c =
+    let row = (counted ((goal.at.put_row-requires-clause-begun c).After-len-in-loop-j)).1 in
+    let r = sheet_raster c.args.sheet.now in
     rw c.loop-j.j-is (from_index r c.loop-j.j _ _ _ _ _ c.deref-in-loop-j-2.ensures.value c.deref-in-loop-j-3.ensures.value row.are)
 
 pub loop-j-preserved : goal.loop-j-preserved
 loop-j-preserved c =
     let at = (goal.at.loop-j-preserved c).After-len-in-loop-j in
     let row = (counted at).1 in
-    let r = raster_of (values_of c.args.rules.now).numbers in
-    let filled = marked_by c.args.marks.now in
-    let f = stack_records (values_of c.args.rules.now).fill_cell r in
-    let found : IsLattice c.raster-raster.result = search rules in
-    let is : IsLattice r = subst (λ (q : Lattice). IsLattice q) c.raster-raster.ensures.raster found in
-    let p : read c.rows-rows.result.end ≡ past r.up = ap read (c.rows-rows.ensures.past ∙ ap (λ (q : Lattice). past q.up) c.raster-raster.ensures.raster) ∙ past_read r.up is.up in
+    let r = sheet_raster c.args.sheet.now in
+    let filled = marked_in c.args.sheet.now.strips.now in
+    let f = stack_records (values_of c.args.sheet.now.rules.now).fill_cell r in
+    let p : read c.rows-rows.result.end ≡ past r.up = ap read c.rows-rows.ensures.past ∙ past_read r.up c.requires.up in
     let lt = is_lt c.loop-j.j (past r.up) (rw (c.loop-j.j-is, p) at c.loop-j-test.true) in
     let inv = rw c.loop-j.j-is at c.loop-j.invariant in
-    let next : read (c.loop-j.j +ℤ pos 1) ≡ c.loop-j.j +ℤ pos 1 = read_is _ (step_fits c.loop-j.j (past r.up) (search rules) lt (past_bounded r.up is.up).most) in
+    let next : read (c.loop-j.j +ℤ pos 1) ≡ c.loop-j.j +ℤ pos 1 = read_is _ (step_fits c.loop-j.j (past r.up) (search rules) lt (past_bounded r.up c.requires.up).most) in
     let back : c.loop-j.j ≡ (c.loop-j.j +ℤ pos 1) -ℤ pos 1 = omega (arith, ints) in
     let begun = begun_from c.loop-j.j _ _ _ _ _ _ c.deref-in-loop-j-2.ensures.value c.deref-in-loop-j-3.ensures.value row.stacks in
     rw (c.loop-j.j-is, next) (record {
@@ -115,12 +97,10 @@ loop-j-preserved c =
 
 pub returns : goal.returns
 returns c =
-    let r = raster_of (values_of c.args.rules.now).numbers in
-    let filled = marked_by c.args.marks.now in
-    let f = stack_records (values_of c.args.rules.now).fill_cell r in
-    let found : IsLattice c.raster-raster.result = search rules in
-    let is : IsLattice r = subst (λ (q : Lattice). IsLattice q) c.raster-raster.ensures.raster found in
-    let p : read c.rows-rows.result.end ≡ past r.up = ap read (c.rows-rows.ensures.past ∙ ap (λ (q : Lattice). past q.up) c.raster-raster.ensures.raster) ∙ past_read r.up is.up in
+    let r = sheet_raster c.args.sheet.now in
+    let filled = marked_in c.args.sheet.now.strips.now in
+    let f = stack_records (values_of c.args.sheet.now.rules.now).fill_cell r in
+    let p : read c.rows-rows.result.end ≡ past r.up = ap read c.rows-rows.ensures.past ∙ past_read r.up c.requires.up in
     let over = not_lt c.loop-j.j (past r.up) (rw (c.loop-j.j-is, p) at c.loop-j-test.false) in
     let inv = rw c.loop-j.j-is at c.loop-j.invariant in
     let all = flat_flat f (row_stacks filled r) (places_along r.up) in
