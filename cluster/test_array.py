@@ -121,11 +121,13 @@ class Picking(unittest.TestCase):
         self.assertEqual(self.work("check", top, structure("ROW", reference("TOP", 0, 0))).load.copies, 1)
 
     # Four rows of windows without gaps and eight rows of tiles of five rows of places: two level with each window, of which the lower one
-    # begins above the window's edge, and the upper one ends below it, so that a part takes two more.
+    # begins above the window's edge, and the upper one ends below it, so that a part takes two more where nothing beside a frame counts.
     STRIPES = {"win_h": 100, "win_step_y": 100, "win_ny": 4, "tile_ny": 5}
 
     def test_rows_that_a_part_looks_at(self) -> None:
-        cut = Cut({key: value for key, value in (RULES | self.STRIPES).items() if isinstance(value, int)})
+        numbers = {key: value for key, value in (RULES | self.STRIPES).items() if isinstance(value, int)}
+        self.assertEqual(Cut(numbers, False).part(2, 4), PartRows(Rows(1, 2), Rows(2, 4)))
+        cut = Cut(numbers, True)
         self.assertEqual(cut.part(2, 4), PartRows(Rows(1, 2), Rows(1, 5)))
         self.assertEqual(cut.part(1, 1), PartRows(Rows(0, 4), Rows(0, 8)))
         self.assertEqual(cut.part(1, 9), cut.part(9, 9))
@@ -133,10 +135,10 @@ class Picking(unittest.TestCase):
 
     def test_windows_and_places_that_one_run_does_not_take(self) -> None:
         wide = self.STRIPES | {"frame_x2": 8_000_000}
-        self.assertEqual(parts_for(self.work("check", structure("TOP"), **wide), 64 << 30), 4)
+        self.assertEqual(parts_for(self.work("check", structure("TOP"), **wide), 64 << 30), 2)
         self.assertEqual(parts_for(self.work("check", structure("TOP"), **self.STRIPES | {"win_nx": 400_000}), 64 << 30), 2)
         with self.assertRaisesRegex(NoParts, "places, in however many parts"):
-            parts_for(self.work("check", structure("TOP"), **wide | {"frame_x2": 16_000_000}), 64 << 30)
+            parts_for(self.work("check", structure("TOP"), **wide | {"frame_x2": 32_000_000}), 64 << 30)
 
     def test_no_rule_file(self) -> None:
         with self.assertRaisesRegex(NoParts, "no rule file"):

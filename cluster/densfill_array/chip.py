@@ -47,9 +47,10 @@ class PartRows:
 
 @dataclass(frozen=True)
 class Cut:
-    """The numbers of a rule file, as a chip is cut by them."""
+    """The numbers of a rule file, as a chip is cut by them, and whether nothing counts beside the frame."""
 
     n: Mapping[str, int]
+    ignores: bool
 
     @cached_property
     def places(self) -> int:
@@ -101,11 +102,14 @@ class Cut:
         return PartRows(windows, self.covering(needed, windows))
 
     def covering(self, needed: Rows, windows: Rows) -> Rows:
-        """The needed rows of tiles, or the lowest one, and as many more as it takes to cover what counts of the windows."""
+        """The needed rows of tiles, or the lowest one, and where nothing counts beside the frame as many more as it takes to cover
+        what counts of the windows."""
         if not self.tiles:
             return Rows(0, 0)
-        bottom = max(self.n["frame_y1"], self.window_begin(windows.first))
-        top = min(self.n["frame_y2"], self.window_end(windows.past - 1))
+        bottom, top = self.n["frame_y2"], self.n["frame_y1"]
+        if self.ignores:
+            bottom = max(self.n["frame_y1"], self.window_begin(windows.first))
+            top = min(self.n["frame_y2"], self.window_end(windows.past - 1))
         begun = bisect_left(range(self.tiles), True, key=lambda row: self.tile_begin(row) > bottom)
         first = max(0, min(begun - 1, needed.first if needed else self.tiles - 1))
         ended = bisect_left(range(self.tiles), True, key=lambda row: self.tile_end(row) >= top)

@@ -11,12 +11,11 @@ from contextlib import AbstractContextManager, nullcontext
 from pathlib import Path
 from typing import NoReturn
 
-from .chip import Cut
 from .engines import ENGINES, Jobs, Limits, NotSubmitted, shown, submit_array, submit_joining
 from .folder import Asked, Changed, Part, missing, read_asked, stamp, write_aside, write_asked
 from .local import Pool
 from .part import NotJoined, Stopped, join, ranges, run_part, told_processors
-from .rules import MOST_PARTS, NoParts, Work, numbers_of, parts_for, read_keys, read_work
+from .rules import MOST_PARTS, NoParts, Work, cut_of, parts_for, read_keys, read_work
 from .queue import note
 from .table import progress, states, table
 
@@ -280,7 +279,7 @@ def run_batch(given: argparse.Namespace, folder: Path, asked: Asked) -> bool:
 
 def tell_parts(rules: Path, parts: int) -> None:
     """Tells what each part has in the rows that it looks at."""
-    cut = Cut(numbers_of(read_keys(rules)))
+    cut = cut_of(read_keys(rules))
     for number, part in enumerate(cut.parts(parts), 1):
         print(f"part {number} of {parts}: {cut.windows_of(part):,} windows and {cut.places_of(part):,} places in the rows that it looks at",
               file=sys.stderr)

@@ -49,6 +49,11 @@ def numbers_of(keys: dict[str, str]) -> dict[str, int]:
     return {key: int(value) for key, value in keys.items() if value.removeprefix("-").isdigit()}
 
 
+def cut_of(keys: dict[str, str]) -> Cut:
+    """A chip as it is cut by these keys."""
+    return Cut(numbers_of(keys), keys.get("padding") == "ignore")
+
+
 def tile_rows(n: dict[str, int]) -> int:
     """How many rows of tiles the raster has: its places are those whose box lies in the frame."""
     return math.ceil(places_on(n, "y", "h") / n["tile_ny"])
@@ -95,7 +100,7 @@ def read_work(rules: Path, design: Path, does: str) -> Work:
     try:
         n = numbers_of(keys)
         chip = chip_of(n, does)
-        return Work(does, chip, load_of(n, does, design.stat().st_size, *elements_and_copies(design, n, keys["top"])), Cut(n))
+        return Work(does, chip, load_of(n, does, design.stat().st_size, *elements_and_copies(design, n, keys["top"])), cut_of(keys))
     except KeyError as error:
         raise NoParts(f"{rules}: the key {error} has no fit value: {NO_RULES}") from error
     except ZeroDivisionError as error:

@@ -1,15 +1,14 @@
 -- What a run looks at: all of a chip, or a part of it as a smaller chip, near a rectangle.
 use Rattle.std.specs.Prelude.{◌≡◌, ◌&&◌, ◌≤◌, ℕ, ℤ, Bool, List, Option, Some, None, Ok, IfSome, int_lt}
 use Rattle.std.specs.List.{filter}
-use Rattle.fill_base.specs.Sides.{Sides}
+use Rattle.fill_base.specs.Sides.{sides_of}
 use Rattle.fill_base.specs.Squares.{squares}
 use Rattle.fill_base.specs.declared.rect.Rect.{Rect}
 use Rattle.fill_text.specs.Rules.{Values, windows_of}
 use Rattle.fill_text.specs.declared.script.Edit.{Edit}
 use Rattle.fill_job.specs.Plans.{Plan, PointSet, plan_of}
 use Rattle.fill_parts.specs.Cuts.{Part}
-use Rattle.fill_parts.specs.Laws.{part}
-use Rattle.fill_parts.specs.Needs.{IsEnough, in_coordinates, is_inside}
+use Rattle.fill_parts.specs.Needs.{in_coordinates, needed_sides}
 use Rattle.fill_parts.specs.PartChip.{HoldsPart, part_rules, rows_fill, rows_told}
 use Rattle.fill_parts.specs.PartFill.{rect_of}
 use Rattle.fill_parts.specs.PartReport.{part_check}
@@ -58,9 +57,9 @@ report_told (Rows rows) values metal fill = rows_told values (windows_in rows) r
 abbrev pub Frames : Values → Part → Rect → Type 0
 Frames values k frame = (metal : PointSet) → part_check values (λ x y. metal x y && squares frame x y) k ≡ part_check values metal k
 
--- the rectangle holds all that a chip of these rules looks at, as far as there are coordinates
+-- the rectangle is the least round all that a chip of these rules looks at, as far as there are coordinates
 abbrev pub HoldsChip : Values → Rect → Type 0
-HoldsChip values frame = (s : Sides) × IsEnough (plan_of values) (part 0 1) s × ((x y : ℤ) → squares frame x y ≡ is_inside (in_coordinates s) x y)
+HoldsChip values frame = sides_of frame ≡ in_coordinates (needed_sides (plan_of values))
 
 -- so of the part as a smaller chip
 abbrev pub HoldsNeeds : Values → Part → Rect → Type 0

@@ -1,8 +1,8 @@
--- What a part looks at is the same for metals that agree there.
+-- What a chip looks at is the same for metals that agree there.
 use Rattle.std.proofs.Common.{◌≡◌, refl, ap, ◌∙◌, ℕ, ◌<◌, arith, inl, inr, ℤ, pos, ◌+ℤ◌, ◌-ℤ◌, ◌≤ℤ◌, ◌<ℤ◌, Bool, true, false, ◌&&◌, ◌||◌, not}
 use Rattle.std.specs.Prelude.{◌==◌, nat_lt}
 use Rattle.std.proofs.Math.Path.{fun_ext}
-use Rattle.std.proofs.lemmas.Bool.{and_from, and_parts, cases_Bool}
+use Rattle.std.proofs.lemmas.Bool.{and_from, cases_Bool}
 use Rattle.std.proofs.lemmas.Bool.Decides.{nat_tests}
 use Rattle.std.proofs.lemmas.Int.{ints, clamps}
 use Rattle.fill_base.specs.Counts.{is_between, count_between}
@@ -18,24 +18,21 @@ use Rattle.fill_area.specs.Grid.{Grid, parts_across, parts_up, window_left, wind
 use Rattle.fill_raster.specs.Axes.{box_begin, box_end}
 use Rattle.fill_raster.specs.Lattice.{in_raster, in_tile, tile_of, tiles, tile_left, tile_right, tile_bottom, tile_top}
 use Rattle.fill_raster.proofs.RasterLaws.{place_has_a_tile}
-use Rattle.fill_job.specs.Plans.{Plan, IsPlan, Layers, PointSet, blocked, conflicts, holds_box, is_taken, meets_box, in_window_of, low_windows}
-use Rattle.fill_job.specs.ReadSets.{touches}
-use Rattle.fill_job.proofs.ReadSets.{bounded, holding_touches, wanted_same, grown_ordered}
-use Rattle.fill_job.proofs.Searching.{some_below_has, some_pair_same, some_within_same}
-use Rattle.fill_parts.specs.Cuts.{Part}
-use Rattle.fill_parts.specs.Needs.{AgreeInside, IsEnough, LayersAgree, LieInside, has_tile, has_windows, is_level, needs_tile, needs_windows}
-use Rattle.fill_parts.specs.Laws.{AreasAgree, LowWindowsAgree, PartFillIsWanted, WantedAgree, FillsAgree}
-use Rattle.fill_parts.specs.PartFill.{near_fill}
+use Rattle.fill_job.specs.Plans.{Plan, IsPlan, Layers, PointSet, WindowSet, blocked, conflicts, is_taken, meets_box, in_window_of, low_windows}
+use Rattle.fill_job.proofs.ReadSets.{bounded, grown_ordered}
+use Rattle.fill_job.proofs.Searching.{some_within_same}
+use Rattle.fill_parts.specs.Needs.{AgreeInside, IsEnough, LayersAgree, LieInside, has_tile, window_sides}
+use Rattle.fill_parts.specs.Laws.{AreasAgree, FillsAgree, LowWindowsAgree, PartFillIsWanted}
 
 -- ---- squares of a rectangle between the sides
 
 within : (low high l h x : ℤ) → l ≤ℤ low → high ≤ℤ h → low ≤ℤ x → x <ℤ high → is_between l h x ≡ true
 within low high l h x a b c d = is_between_true l h x (omega (arith, ints)) (omega (arith, ints))
 
-pub agree_at : (s : Sides) (p q : PointSet) (left bottom right top : ℤ) → AgreeInside s p q → LieInside s left bottom right top
-    → (x y : ℤ) → left ≤ℤ x → x <ℤ right → bottom ≤ℤ y → y <ℤ top → p x y ≡ q x y
-agree_at s p q left bottom right top agree inside x y from_left to_right from_bottom to_top =
-    agree x y (and_from _ _ (within left right s.left s.right x inside.from_left inside.to_right from_left to_right) (within bottom top s.bottom s.top y inside.from_bottom inside.to_top from_bottom to_top))
+pub agree_at : (s t : Sides) (p q : PointSet) → AgreeInside s p q → LieInside t s
+    → (x y : ℤ) → t.left ≤ℤ x → x <ℤ t.right → t.bottom ≤ℤ y → y <ℤ t.top → p x y ≡ q x y
+agree_at s t p q agree inside x y from_left to_right from_bottom to_top =
+    agree x y (and_from _ _ (within t.left t.right s.left s.right x inside.from_left inside.to_right from_left to_right) (within t.bottom t.top s.bottom s.top y inside.from_bottom inside.to_top from_bottom to_top))
 
 pub area_same : (p q : PointSet) (left bottom right top : ℤ) → left ≤ℤ right → bottom ≤ℤ top
     → ((x y : ℤ) → left ≤ℤ x → x <ℤ right → bottom ≤ℤ y → y <ℤ top → p x y ≡ q x y) → area_between p left bottom right top ≡ area_between q left bottom right top
@@ -61,44 +58,22 @@ window_same p q g a b wide tall each =
     counted low high b e x from to = (omega (arith, ints, clamps), omega (arith, ints, clamps))
 
 pub areas_agree : AreasAgree
-areas_agree plan k s p q is enough agree a b column row needed =
-    window_same p q plan.windows a b is.windows.across.length_is is.windows.up.length_is (agree_at s p q _ _ _ _ agree (enough.windows a b column row needed))
+areas_agree plan s p q is enough agree a b column row =
+    window_same p q plan.windows a b is.windows.across.length_is is.windows.up.length_is (agree_at s (window_sides plan.windows a b) p q agree (enough.windows a b column row))
 
 pub lt_is : (a b : ℕ) → nat_lt a b ≡ true → a < b
 lt_is a b h = grind (arith, nat_tests)
 
 pub low_agree : LowWindowsAgree
-low_agree plan k s p q is enough agree a b needed = elim (cases_Bool (nat_lt a plan.windows.across.count)) [
+low_agree plan s p q is enough agree a b = elim (cases_Bool (nat_lt a plan.windows.across.count)) [
   | inr beyond ↦ rw beyond refl
   | inl column ↦ elim (cases_Bool (nat_lt b plan.windows.up.count)) [
     | inr above ↦ rw (column, above) refl
-    | inl row ↦ rw (areas_agree plan k s p q is enough agree a b (lt_is _ _ column) (lt_is _ _ row) needed) refl
+    | inl row ↦ rw (areas_agree plan s p q is enough agree a b (lt_is _ _ column) (lt_is _ _ row)) refl
   ]
 ]
 
--- ---- a place of a tile that is needed
-
--- a window that touches the tile is level with it, and so it's needed
-or_second : (a b : Bool) → b ≡ true → a || b ≡ true
-or_second true b h = refl
-or_second false b h = h
-
-touched_needed : (plan : Plan) (k : Part) (tile a b : ℕ) → tile < tiles plan.raster → needs_tile plan k tile ≡ true → touches plan tile a b ≡ true → needs_windows plan k b ≡ true
-touched_needed plan k tile a b lt needed touched =
-    let level : is_level plan tile b ≡ true = (and_parts (nat_lt b plan.windows.up.count) (is_level plan tile b) (and_parts _ _ touched).1).1 in
-    or_second (has_windows plan k b) _ (some_below_has (λ t. needs_tile plan k t && is_level plan t b) (tiles plan.raster) tile lt (and_from _ _ needed level))
-
-pub held_same : (low other holds : Bool) → (holds ≡ true → low ≡ other) → low && holds ≡ other && holds
-held_same low other true e = rw (e refl) refl
-held_same true true false e = refl
-held_same true false false e = refl
-held_same false true false e = refl
-held_same false false false e = refl
-
--- what is asked of a place
-pub record AreSame (plan : Plan) (p q : Layers) (i j : ℤ) : Type 0 where
-  pub taken : is_taken plan p i j ≡ is_taken plan q i j
-  pub in_low : in_window_of plan (low_windows plan p.metal) i j ≡ in_window_of plan (low_windows plan q.metal) i j
+-- ---- a place
 
 lower : (l t b s : ℤ) → l ≤ℤ (t -ℤ s) → t ≤ℤ b → l ≤ℤ (b -ℤ s)
 lower l t b s h k = omega (arith, ints)
@@ -113,94 +88,52 @@ further : (h z d s : ℤ) → d ≤ℤ s → (z +ℤ s) ≤ℤ h → (z +ℤ d) 
 further h z d s g k = omega (arith, ints)
 
 -- a distance of at most the spacing
-same_meeting : (plan : Plan) (k : Part) (s : Sides) (d : ℤ) (p q : PointSet) → IsPlan plan → IsEnough plan k s → AgreeInside s p q → IsSpacing d → d ≤ℤ plan.spacing
-    → (tile : ℕ) (i j : ℤ) → tile < tiles plan.raster → needs_tile plan k tile ≡ true → in_tile plan.raster tile i j ≡ true → meets_box plan.raster d p i j ≡ meets_box plan.raster d q i j
+same_meeting : (plan : Plan) (s : Sides) (d : ℤ) (p q : PointSet) → IsPlan plan → IsEnough plan s → AgreeInside s p q → IsSpacing d → d ≤ℤ plan.spacing
+    → (tile : ℕ) (i j : ℤ) → tile < tiles plan.raster → in_tile plan.raster tile i j ≡ true → meets_box plan.raster d p i j ≡ meets_box plan.raster d q i j
 unfolding meets_box
-same_meeting plan k s d p q is enough agree few near tile i j lt needed h =
+same_meeting plan s d p q is enough agree few near tile i j lt h =
     let r = plan.raster in
     let b = bounded plan tile i j is h in
-    let halo = enough.halos tile lt needed in
+    let halo = enough.halos tile lt in
     some_within_same p q (box_begin r.across i -ℤ d) (box_begin r.up j -ℤ d) (box_end r.across i +ℤ d) (box_end r.up j +ℤ d)
     (grown_ordered (box_begin r.across i) r.across.length d is.raster.across.length_is few)
     (grown_ordered (box_begin r.up j) r.up.length d is.raster.up.length_is few)
-    (agree_at s p q _ _ _ _ agree (record {
+    (agree_at s (record { left = box_begin r.across i -ℤ d; bottom = box_begin r.up j -ℤ d; right = box_end r.across i +ℤ d; top = box_end r.up j +ℤ d }) p q agree (record {
       from_left = lower s.left (tile_left r tile) (box_begin r.across i) d (nearer s.left (tile_left r tile) d plan.spacing near halo.from_left) b.left;
       from_bottom = lower s.bottom (tile_bottom r tile) (box_begin r.up j) d (nearer s.bottom (tile_bottom r tile) d plan.spacing near halo.from_bottom) b.bottom;
       to_right = upper s.right (tile_right r tile) (box_end r.across i) d (further s.right (tile_right r tile) d plan.spacing near halo.to_right) b.right;
       to_top = upper s.top (tile_top r tile) (box_end r.up j) d (further s.top (tile_top r tile) d plan.spacing near halo.to_top) b.top;
     }))
 
-same_taken : (plan : Plan) (k : Part) (s : Sides) (p q : Layers) → IsPlan plan → IsEnough plan k s → LayersAgree s p q
-    → (tile : ℕ) (i j : ℤ) → tile < tiles plan.raster → needs_tile plan k tile ≡ true → in_tile plan.raster tile i j ≡ true → is_taken plan p i j ≡ is_taken plan q i j
-same_taken plan k s p q is enough agree tile i j lt needed h =
+same_taken : (plan : Plan) (s : Sides) (p q : Layers) → IsPlan plan → IsEnough plan s → LayersAgree s p q
+    → (tile : ℕ) (i j : ℤ) → tile < tiles plan.raster → in_tile plan.raster tile i j ≡ true → is_taken plan p i j ≡ is_taken plan q i j
+same_taken plan s p q is enough agree tile i j lt h =
     let none : IsSpacing (pos 0) = record { least = omega (arith, ints); most = omega (arith, ints) } in
-    ap (λ b. b || blocked plan p.keep i j) (same_meeting plan k s plan.spacing p.metal q.metal is enough agree.metal is.spacing (same plan.spacing) tile i j lt needed h)
-    ∙ ap (λ b. conflicts plan q.metal i j || b) (same_meeting plan k s (pos 0) p.keep q.keep is enough agree.keep none is.spacing.least tile i j lt needed h)
+    ap (λ b. b || blocked plan p.keep i j) (same_meeting plan s plan.spacing p.metal q.metal is enough agree.metal is.spacing (same plan.spacing) tile i j lt h)
+    ∙ ap (λ b. conflicts plan q.metal i j || b) (same_meeting plan s (pos 0) p.keep q.keep is enough agree.keep none is.spacing.least tile i j lt h)
   where
     same : (z : ℤ) → z ≤ℤ z
     same z = omega (arith, ints)
 
-same_low : (plan : Plan) (k : Part) (s : Sides) (p q : Layers) → IsPlan plan → IsEnough plan k s → LayersAgree s p q
-    → (tile : ℕ) (i j : ℤ) → tile < tiles plan.raster → needs_tile plan k tile ≡ true → in_tile plan.raster tile i j ≡ true
-    → in_window_of plan (low_windows plan p.metal) i j ≡ in_window_of plan (low_windows plan q.metal) i j
-unfolding in_window_of
-same_low plan k s p q is enough agree tile i j lt needed h =
-    some_pair_same (λ a b. low_windows plan p.metal a b && holds_box plan a b i j) (λ a b. low_windows plan q.metal a b && holds_box plan a b i j) plan.windows.across.count plan.windows.up.count
-    (λ a b column row. held_same (low_windows plan p.metal a b) (low_windows plan q.metal a b) (holds_box plan a b i j)
-    (λ holds. low_agree plan k s p.metal q.metal is enough agree.metal a b (touched_needed plan k tile a b lt needed (holding_touches plan tile i j a b is h column row holds))))
-
-pub place_same : (plan : Plan) (k : Part) (s : Sides) (p q : Layers) → IsPlan plan → IsEnough plan k s → LayersAgree s p q
-    → (tile : ℕ) (i j : ℤ) → tile < tiles plan.raster → needs_tile plan k tile ≡ true → in_tile plan.raster tile i j ≡ true → AreSame plan p q i j
-place_same plan k s p q is enough agree tile i j lt needed h = record {
-  taken = same_taken plan k s p q is enough agree tile i j lt needed h;
-  in_low = same_low plan k s p q is enough agree tile i j lt needed h;
-}
-
-pub wanted_agree : WantedAgree
-wanted_agree plan k s p q is enough agree tile lt needed = fun_ext (λ i. fun_ext (λ j.
-    wanted_same (in_tile plan.raster tile i j) (is_taken plan p i j) (in_window_of plan (low_windows plan p.metal) i j) (is_taken plan q i j) (in_window_of plan (low_windows plan q.metal) i j)
-    (λ h. (place_same plan k s p q is enough agree tile i j lt needed h).taken)
-    (λ h. (place_same plan k s p q is enough agree tile i j lt needed h).in_low)))
+same_low : (plan : Plan) (s : Sides) (p q : Layers) → IsPlan plan → IsEnough plan s → LayersAgree s p q → (i j : ℤ) → in_window_of plan (low_windows plan p.metal) i j ≡ in_window_of plan (low_windows plan q.metal) i j
+same_low plan s p q is enough agree i j = ap (λ (low : WindowSet). in_window_of plan low i j) (fun_ext (λ a. fun_ext (λ b. low_agree plan s p.metal q.metal is enough agree.metal a b)))
 
 -- ---- fills
 
 pub nat_same : (n : ℕ) → (n == n) ≡ true
 nat_same n = grind (arith, nat_tests)
 
--- o: the place is on the raster; n: its tile is needed
-filled_same : (o a b c d n : Bool) → (o ≡ true → n ≡ true → a ≡ c) → (o ≡ true → n ≡ true → b ≡ d) → ((o && not a) && b) && n ≡ ((o && not c) && d) && n
-filled_same false a b c d n x y = refl
-filled_same true a b c d true x y = rw (x refl refl, y refl refl) refl
-filled_same true a b c d false x y = no_end (not a && b) (not c && d)
-  where
-    no_end : (u v : Bool) → u && false ≡ v && false
-    no_end true true = refl
-    no_end true false = refl
-    no_end false true = refl
-    no_end false false = refl
-
-own_needed : (plan : Plan) (k : Part) (tile : ℕ) → has_tile plan k tile ≡ true → needs_tile plan k tile ≡ true
-own_needed plan k tile h = rw h refl
-
-own_place : (plan : Plan) (k : Part) (s : Sides) (p q : Layers) → IsPlan plan → IsEnough plan k s → LayersAgree s p q
-    → (i j : ℤ) → in_raster plan.raster i j ≡ true → needs_tile plan k (tile_of plan.raster i j) ≡ true → AreSame plan p q i j
-own_place plan k s p q is enough agree i j on needed =
-    let t = tile_of plan.raster i j in
-    place_same plan k s p q is enough agree t i j (place_has_a_tile plan.raster is.raster i j on) needed (and_from _ _ on (nat_same t))
-
-pub near_same : (plan : Plan) (k : Part) (s : Sides) (p q : Layers) → IsPlan plan → IsEnough plan k s → LayersAgree s p q → (i j : ℤ) → near_fill plan p k i j ≡ near_fill plan q k i j
-near_same plan k s p q is enough agree i j =
-    filled_same (in_raster plan.raster i j) (is_taken plan p i j) (in_window_of plan (low_windows plan p.metal) i j) (is_taken plan q i j) (in_window_of plan (low_windows plan q.metal) i j)
-    (needs_tile plan k (tile_of plan.raster i j))
-    (λ on needed. (own_place plan k s p q is enough agree i j on needed).taken)
-    (λ on needed. (own_place plan k s p q is enough agree i j on needed).in_low)
+-- o: the place is on the raster
+filled_same : (o a b c d : Bool) → (o ≡ true → a ≡ c) → b ≡ d → (o && not a) && b ≡ (o && not c) && d
+filled_same false a b c d x y = refl
+filled_same true a b c d x y = rw (x refl, y) refl
 
 pub fills_agree : FillsAgree
-fills_agree plan k s p q is enough agree = fun_ext (λ i. fun_ext (λ j.
+fills_agree plan s p q is enough agree = fun_ext (λ i. fun_ext (λ j.
+    let t = tile_of plan.raster i j in
     filled_same (in_raster plan.raster i j) (is_taken plan p i j) (in_window_of plan (low_windows plan p.metal) i j) (is_taken plan q i j) (in_window_of plan (low_windows plan q.metal) i j)
-    (has_tile plan k (tile_of plan.raster i j))
-    (λ on own. (own_place plan k s p q is enough agree i j on (own_needed plan k (tile_of plan.raster i j) own)).taken)
-    (λ on own. (own_place plan k s p q is enough agree i j on (own_needed plan k (tile_of plan.raster i j) own)).in_low)))
+    (λ on. same_taken plan s p q is enough agree t i j (place_has_a_tile plan.raster is.raster i j on) (and_from _ _ on (nat_same t)))
+    (same_low plan s p q is enough agree i j)))
 
 -- o: on the raster; m: of its own tile; c: taken; w: in a low window; n: the tile is the part's
 own_wanted : (o m c w n : Bool) → m ≡ true → ((o && not c) && w) && n ≡ ((o && m) && (not c && w)) && n

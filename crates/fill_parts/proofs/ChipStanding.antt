@@ -39,22 +39,22 @@ ends_sooner a rows step some are = rw (past_alone a rows step some are) (sooner 
 -- where a part's fill is empty, or the part has rows of tiles that hold it
 pub stands : (values : Values) (k : Part) → AreAxes (plan_of values) → 0 < bands (plan_of values).raster.up → some_below (looks_at (plan_of values) k) (plan_of values).windows.up.count ≡ true → StandsIn values k (part_alone values k)
 stands values k is some looks = record {
-  from = begins_later (plan_of values).raster.up (part_tiles (plan_of values) k) is.places_up.step_is.least;
-  to = ends_sooner (plan_of values).raster.up (part_tiles (plan_of values) k) is.places_up.step_is.least is.places_up.band_is.least rows;
+  from = begins_later (plan_of values).raster.up (part_tiles values k) is.places_up.step_is.least;
+  to = ends_sooner (plan_of values).raster.up (part_tiles values k) is.places_up.step_is.least is.places_up.band_is.least rows;
   fill = λ layers i j filled.
       let parts = and_parts (low_fill (plan_of values) layers i j) (has_tile (plan_of values) k (tile_of (plan_of values).raster i j)) filled in
       let on = filled_on (plan_of values) layers i j parts.0 in
       let within = and_parts (is_on (plan_of values).raster.across i) (is_on (plan_of values).raster.up j) on in
       let tile = place_tile (plan_of values).raster i j is.places_across is.places_up on in
-      let held : IsHeldBy (plan_of values) (part_tiles (plan_of values) k) (part_windows (plan_of values) k) (tile_of (plan_of values).raster i j) = held_by (plan_of values) k (tile_of (plan_of values).raster i j) is tile (true_or (has_tile (plan_of values) k (tile_of (plan_of values).raster i j)) _ parts.1) in
+      let held : IsHeldBy (plan_of values) (part_tiles values k) (part_windows (plan_of values) k) (tile_of (plan_of values).raster i j) = held_by values k (tile_of (plan_of values).raster i j) is tile (true_or (has_tile (plan_of values) k (tile_of (plan_of values).raster i j)) _ parts.1) in
       let row = place_row (plan_of values).raster i j is.places_across within.0 in
-      let there = back_alone (plan_of values).raster.up (part_tiles (plan_of values) k) j is.places_up.step_is.least is.places_up.band_is.least rows
+      let there = back_alone (plan_of values).raster.up (part_tiles values k) j is.places_up.step_is.least is.places_up.band_is.least rows
       (on_in (plan_of values).raster.up j is.places_up.step_is.least (on_within (plan_of values).raster.up j within.1)) (rw row at held.from) (rw row at held.to) in
       (there.low, there.high);
 }
   where
-    rows : AreSome (part_tiles (plan_of values) k) (bands (plan_of values).raster.up)
-    rows = some_rows (part_tiles (plan_of values) k) (bands (plan_of values).raster.up) (part_chip values k is looks).rows some
+    rows : AreSome (part_tiles values k) (bands (plan_of values).raster.up)
+    rows = some_rows (part_tiles values k) (bands (plan_of values).raster.up) (part_chip values k is looks).rows some
 
 pub any_size : (values : Values) → AreChipNumbers values → IsPlanOfAnySize (plan_of values)
 any_size values is = record {

@@ -157,14 +157,14 @@ module _ (values : Values) (k : Part) (numbers : AreChipNumbers values) (looks :
   chip : IsChipOf values k
   chip = part_chip values k axes looks
 
-  smaller : IsSmaller (plan_of values) (chip_plan values k) (part_tiles (plan_of values) k) (part_windows (plan_of values) k)
+  smaller : IsSmaller (plan_of values) (chip_plan values k) (part_tiles values k) (part_windows (plan_of values) k)
   smaller = chip_smaller values k axes chip
 
   -- where there is no row of tiles, both rasters are one, without a place
   up_same : bands (plan_of values).raster.up ≡ 0 → (chip_plan values k).raster.up ≡ (plan_of values).raster.up
-  up_same none = none_alone (plan_of values).raster.up (part_tiles (plan_of values) k) (none_of chip.rows).0 (none_of chip.rows).1
+  up_same none = none_alone (plan_of values).raster.up (part_tiles values k) (none_of chip.rows).0 (none_of chip.rows).1
     where
-      none_of : AreRowsOf (part_tiles (plan_of values) k) (bands (plan_of values).raster.up) → ((part_tiles (plan_of values) k).from ≡ 0) × ((part_tiles (plan_of values) k).to ≡ bands (plan_of values).raster.up)
+      none_of : AreRowsOf (part_tiles values k) (bands (plan_of values).raster.up) → ((part_tiles values k).from ≡ 0) × ((part_tiles values k).to ≡ bands (plan_of values).raster.up)
       none_of are = elim are [
         | inl some ↦ absurd (let s = some.some in let w = some.within in omega (arith, s, w, none))
         | inr is ↦ (is.0, is.1 ∙ sym is.2)
@@ -181,7 +181,7 @@ module _ (values : Values) (k : Part) (numbers : AreChipNumbers values) (looks :
       no_place (plan_of values).raster i j (banded (plan_of values).raster.up axes.places_up) none (ap (λ (r : Lattice). in_raster r i j) (sym (raster_same none)) ∙ filled_on (chip_plan values k) layers i j filled))
 
   own_tiles : Rows
-  own_tiles = counted_from (part_tiles (plan_of values) k).from (own_rows k (bands (plan_of values).raster.up))
+  own_tiles = counted_from (part_tiles values k).from (own_rows k (bands (plan_of values).raster.up))
 
   own_windows : Rows
   own_windows = counted_from (part_windows (plan_of values) k).from (own_rows k (plan_of values).windows.up.count)
@@ -191,9 +191,9 @@ module _ (values : Values) (k : Part) (numbers : AreChipNumbers values) (looks :
   fill_held layers = elim (cases_lt 0 (bands (plan_of values).raster.up)) [
     | inl some ↦ fun_ext (λ i. fun_ext (λ j.
         same_and (low_fill (chip_plan values k) layers i j) _ _ (λ filled.
-        row_moved k (bands (plan_of values).raster.up) (part_tiles (plan_of values) k).from (band_of (chip_plan values k).raster.up j)
-        ∙ ap (has_row k (bands (plan_of values).raster.up)) (sym (band_alone (plan_of values).raster.up (part_tiles (plan_of values) k) j (banded (plan_of values).raster.up axes.places_up)
-        (some_rows (part_tiles (plan_of values) k) (bands (plan_of values).raster.up) chip.rows some)
+        row_moved k (bands (plan_of values).raster.up) (part_tiles values k).from (band_of (chip_plan values k).raster.up j)
+        ∙ ap (has_row k (bands (plan_of values).raster.up)) (sym (band_alone (plan_of values).raster.up (part_tiles values k) j (banded (plan_of values).raster.up axes.places_up)
+        (some_rows (part_tiles values k) (bands (plan_of values).raster.up) chip.rows some)
         (and_parts (is_on (plan_of values).raster.across i) (is_on (chip_plan values k).raster.up j) (filled_on (chip_plan values k) layers i j filled)).1)))
         ∙ sym (fill_of_chip values k layers axes some looks i j)))
     | inr none ↦ (let zero : bands (plan_of values).raster.up ≡ 0 = omega (arith, none) in fun_ext (λ i. fun_ext (λ j.
@@ -219,7 +219,7 @@ module _ (values : Values) (k : Part) (numbers : AreChipNumbers values) (looks :
         ≡ rows_told (part_alone values k) own_windows (part_windows (plan_of values) k).from metal boxes
     unfolding own_windows
     told_rows metal boxes = elim (cases_lt low high) [
-      | inl lt ↦ told_by (plan_of values) (chip_plan values k) (part_tiles (plan_of values) k) (part_windows (plan_of values) k) (limits_of values) (measures_of metal boxes (chip_plan values k).windows) k smaller
+      | inl lt ↦ told_by (plan_of values) (chip_plan values k) (part_tiles values k) (part_windows (plan_of values) k) (limits_of values) (measures_of metal boxes (chip_plan values k).windows) k smaller
           axes.windows_across.count_is.least (own_within (plan_of values) k part)
           ∙ (ap (λ n. lines_above from (chip_plan values k).windows (limits_of values) (measures_of metal boxes (chip_plan values k).windows) ((low - from) * (chip_plan values k).windows.across.count) (n * (chip_plan values k).windows.across.count))
           (sym (moved low high from (own_within (plan_of values) k part lt).0 lt))
@@ -282,7 +282,7 @@ module _ (values : Values) (k : Part) (numbers : AreChipNumbers values) (looks :
         let from = (part_windows (plan_of values) k).from in
         let back : from + (b - from) ≡ b = there b from row.0 in
         let inside : b - from < (chip_plan values k).windows.up.count = rw smaller.rows (less b from (part_windows (plan_of values) k).to row.0 row.1) in
-        sym (measures_alone (plan_of values) (chip_plan values k) (part_tiles (plan_of values) k) (part_windows (plan_of values) k) metal u v smaller same a (b - from) inside
+        sym (measures_alone (plan_of values) (chip_plan values k) (part_tiles values k) (part_windows (plan_of values) k) metal u v smaller same a (b - from) inside
         ∙ ap (λ n. measures_of metal v (plan_of values).windows a n) back))
       where
         there : (b f : ℕ) → f ≤ b → f + (b - f) ≡ b
@@ -311,16 +311,16 @@ module _ (values : Values) (k : Part) (numbers : AreChipNumbers values) (looks :
     checks_held metal = sym (lines_same metal nothing nothing refl ∙ told_rows metal nothing)
 
     pub held : (small : Values) → by_size (part_alone values k) ≡ Ok small → IsPlan (plan_of small)
-        → HoldsPart values k small (counted_from (part_tiles (plan_of values) k).from (own_rows k (bands (plan_of values).raster.up))) (counted_from (part_windows (plan_of values) k).from (own_rows k (plan_of values).windows.up.count)) (part_windows (plan_of values) k).from
+        → HoldsPart values k small (counted_from (part_tiles values k).from (own_rows k (bands (plan_of values).raster.up))) (counted_from (part_windows (plan_of values) k).from (own_rows k (plan_of values).windows.up.count)) (part_windows (plan_of values) k).from
     unfolding own_tiles own_windows
     held small sized plan = subst (λ (v : Values). HoldsPart values k v own_tiles own_windows (part_windows (plan_of values) k).from) e (record {
-      rows = rows_alone values (part_tiles (plan_of values) k) (part_windows (plan_of values) k);
+      rows = rows_alone values (part_tiles values k) (part_windows (plan_of values) k);
       alone = refl;
       fill = fill_held;
       stands = stands_in;
       lines = lines_held;
       checks = checks_held;
-      sound = λ layers. chip_sound values (rows_alone values (part_tiles (plan_of values) k) (part_windows (plan_of values) k)) layers (subst (λ (v : Values). IsPlan (plan_of v)) (sym e) plan);
+      sound = λ layers. chip_sound values (rows_alone values (part_tiles values k) (part_windows (plan_of values) k)) layers (subst (λ (v : Values). IsPlan (plan_of v)) (sym e) plan);
     })
       where
         e : part_alone values k ≡ small
@@ -429,12 +429,12 @@ module _ (values : Values) (k : Part) (a : Axis) (s : spans.Axis) (a_is : a ≡ 
   s_path : s ≡ (plan_of values).windows.up
   s_path = s_is ∙ sym (windows_up values)
 
-  pub tiles_as : (n start end low f t : ℕ) → n ≡ bands a → start ≡ first_row k n → end ≡ past_row k n → low ≡ (chip_tiles k a s).from → f ≡ (counted_from low (record { from = start; to = end })).from → t ≡ (counted_from low (record { from = start; to = end })).to
-      → record { from = f; to = t } ≡ counted_from (part_tiles (plan_of values) k).from (own_rows k (bands (plan_of values).raster.up))
+  pub tiles_as : (n start end low f t : ℕ) → n ≡ bands a → start ≡ first_row k n → end ≡ past_row k n → low ≡ (chip_tiles values.ignores k a s).from → f ≡ (counted_from low (record { from = start; to = end })).from → t ≡ (counted_from low (record { from = start; to = end })).to
+      → record { from = f; to = t } ≡ counted_from (part_tiles values k).from (own_rows k (bands (plan_of values).raster.up))
   tiles_as n start end low f t n_is start_is end_is low_is f_is t_is =
       let count : n ≡ bands (plan_of values).raster.up = n_is ∙ ap bands a_is in
-      rows_as (first_row k (bands (plan_of values).raster.up)) (past_row k (bands (plan_of values).raster.up)) (part_tiles (plan_of values) k).from start end low f t f_is t_is (start_is ∙ ap (first_row k) count) (end_is ∙ ap (past_row k) count)
-      (low_is ∙ (λ i. (chip_tiles k (a_is i) (s_path i)).from))
+      rows_as (first_row k (bands (plan_of values).raster.up)) (past_row k (bands (plan_of values).raster.up)) (part_tiles values k).from start end low f t f_is t_is (start_is ∙ ap (first_row k) count) (end_is ∙ ap (past_row k) count)
+      (low_is ∙ (λ i. (chip_tiles values.ignores k (a_is i) (s_path i)).from))
 
   pub below_is : (low : ℕ) → low ≡ (looked_at_windows k a s).from → low ≡ (part_windows (plan_of values) k).from
   below_is low low_is = low_is ∙ (λ i. (looked_at_windows k (a_is i) (s_path i)).from)

@@ -1,29 +1,20 @@
--- The lines of a part are the same for metals that agree there.
-use Rattle.std.proofs.Common.{◌≡◌, refl, ap, ◌∙◌, ℕ, zero, suc, ◌+◌, ◌*◌, ◌-◌, ◌/◌, ◌%◌, ◌<◌, ◌≤◌, arith, ℤ, pos, ◌≤ℤ◌, ◌<ℤ◌, Bool, true, false, ◌&&◌, ◌||◌, List, ◌++◌}
+-- The lines of a chip are the same for metals that agree where it looks.
+use Rattle.std.proofs.Common.{◌≡◌, refl, ap, ◌∙◌, ℕ, zero, suc, ◌+◌, ◌*◌, ◌-◌, ◌/◌, ◌%◌, ◌<◌, ◌≤◌, arith, pos, true, ◌||◌, List, ◌++◌}
 use Rattle.std.specs.List.{flat_map, range_with_len}
-use Rattle.std.proofs.lemmas.Bool.{and_from}
 use Rattle.std.proofs.lemmas.Nat.{le-div, div_below, mod_below}
-use Rattle.fill_base.specs.Sides.{Sides}
-use Rattle.fill_base.proofs.Between.{is_between_true}
-use Rattle.fill_area.specs.Grid.{window_bottom, window_top}
-use Rattle.fill_raster.specs.Axes.{first, past}
-use Rattle.fill_raster.specs.Lattice.{in_raster, box_squares, tile_of}
-use Rattle.fill_raster.proofs.RasterLaws.{places_range}
-use Rattle.fill_raster.proofs.Ranges.{first_past}
 use Rattle.fill_text.specs.Rules.{Values, limits_of, windows_of}
-use Rattle.fill_job.specs.Plans.{Plan, IsPlan, Layers, plan_of}
-use Rattle.fill_job.proofs.Searching.{some_below_has, some_within_same}
+use Rattle.fill_job.specs.Plans.{PointSet, plan_of}
 use Rattle.fill_core.specs.Boxes.{low_fill}
 use Rattle.fill_report.specs.BookReport.{boxes_of}
-use Rattle.fill_report.specs.Report.{line_at, measures_of, window_line}
+use Rattle.fill_report.specs.Report.{line_above, line_at, measures_of, told_line, window_line}
 use Rattle.fill_report.specs.declared.line.Measures.{Measures}
 use Rattle.fill_parts.specs.Cuts.{Part, IsPart, first_row, past_row}
-use Rattle.fill_parts.specs.Needs.{IsEnough, LayersAgree, has_tile, has_windows, is_level, needs_tile, needs_windows}
-use Rattle.fill_parts.specs.PartFill.{near_fill}
+use Rattle.fill_parts.specs.Needs.{has_windows, window_sides}
+use Rattle.fill_parts.specs.PartChip.{rows_told}
 use Rattle.fill_parts.specs.PartReport.{part_lines}
+use Rattle.fill_parts.specs.Smaller.{Rows}
 use Rattle.fill_parts.specs.Laws.{LinesAgree}
-use Rattle.fill_parts.proofs.Agreeing.{agree_at, areas_agree, held_same, near_same, window_same}
-use Rattle.fill_parts.proofs.Leveling.{axes_of, level_meeting}
+use Rattle.fill_parts.proofs.Agreeing.{agree_at, areas_agree, fills_agree, window_same}
 use Rattle.fill_parts.proofs.Cutting.{cut_le, cut_ends, is_row_of}
 
 -- ---- lines one after another
@@ -34,53 +25,10 @@ flat_range f g a (suc n) each =
     ap (λ t. t ++ flat_map f (range_with_len (a + 1) n)) (each a (omega arith) (omega arith))
     ∙ ap (λ t. g a ++ t) (flat_range f g (a + 1) n (λ k low high. each k (omega (arith, low)) (omega (arith, high))))
 
--- ---- a box that shares a square with a window of the part is of a tile that it needs
-
-or_second : (a b : Bool) → b ≡ true → a || b ≡ true
-or_second true b h = refl
-or_second false b h = h
-
-and_true : (a b : Bool) → b ≡ true → a && b ≡ a
-and_true true b h = h
-and_true false b h = refl
-
-level_needed : (plan : Plan) (k : Part) (b : ℕ) (i j x y : ℤ) → IsPlan plan → b < plan.windows.up.count → has_windows plan k b ≡ true → in_raster plan.raster i j ≡ true
-    → window_bottom plan.windows b ≤ℤ y → y <ℤ window_top plan.windows b → box_squares plan.raster i j x y ≡ true → needs_tile plan k (tile_of plan.raster i j) ≡ true
-level_needed plan k b i j x y is row own on low high holds =
-    let t = tile_of plan.raster i j in
-    or_second (has_tile plan k t) _ (some_below_has (λ c. has_windows plan k c && is_level plan t c) plan.windows.up.count b row (and_from _ _ own (level_meeting plan b i j x y (axes_of plan is) on low high holds)))
-
-boxes_same : (plan : Plan) (k : Part) (s : Sides) (p q : Layers) → IsPlan plan → IsEnough plan k s → LayersAgree s p q → (b : ℕ) (x y : ℤ) → b < plan.windows.up.count → has_windows plan k b ≡ true
-    → window_bottom plan.windows b ≤ℤ y → y <ℤ window_top plan.windows b → boxes_of plan (near_fill plan p k) x y ≡ boxes_of plan (low_fill plan q) x y
-boxes_same plan k s p q is enough agree b x y row own low high =
-    let r = plan.raster in
-    some_within_same (λ i j. near_fill plan p k i j && box_squares r i j x y) (λ i j. low_fill plan q i j && box_squares r i j x y) (first r.across) (first r.up) (past r.across) (past r.up) (first_past r.across) (first_past r.up)
-    (λ i j left right bottom top.
-    let on : in_raster r i j ≡ true = places_range r is.raster i j ∙ and_from _ _ (is_between_true _ _ i left right) (is_between_true _ _ j bottom top) in
-    held_same (near_fill plan p k i j) (low_fill plan q i j) (box_squares r i j x y)
-    (λ holds. near_same plan k s p q is enough agree i j ∙ and_true (low_fill plan q i j) (needs_tile plan k (tile_of r i j)) (level_needed plan k b i j x y is row own on low high holds)))
-
 -- ---- the measures of a window
-
-own_needed : (plan : Plan) (k : Part) (b : ℕ) → has_windows plan k b ≡ true → needs_windows plan k b ≡ true
-own_needed plan k b h = rw h refl
 
 pub same_measures : (m n : Measures) → m.drawn ≡ n.drawn → m.fill ≡ n.fill → m.total ≡ n.total → m ≡ n
 same_measures m n drawn fill total = λ k. record { drawn = drawn k; fill = fill k; total = total k }
-
-pub measures_same : (plan : Plan) (k : Part) (s : Sides) (p q : Layers) → IsPlan plan → IsEnough plan k s → LayersAgree s p q → (a b : ℕ) → a < plan.windows.across.count → b < plan.windows.up.count → has_windows plan k b ≡ true
-    → measures_of p.metal (boxes_of plan (near_fill plan p k)) plan.windows a b ≡ measures_of q.metal (boxes_of plan (low_fill plan q)) plan.windows a b
-measures_same plan k s p q is enough agree a b column row own =
-    let w = plan.windows in
-    let u = boxes_of plan (near_fill plan p k) in let v = boxes_of plan (low_fill plan q) in
-    let needed = own_needed plan k b own in
-    let metal = agree_at s p.metal q.metal _ _ _ _ agree.metal (enough.windows a b column row needed) in
-    let boxes = λ (x y : ℤ) (low : window_bottom w b ≤ℤ y) (high : y <ℤ window_top w b). boxes_same plan k s p q is enough agree b x y row own low high in
-    same_measures _ _
-    (ap pos (areas_agree plan k s p.metal q.metal is enough agree.metal a b column row needed))
-    (ap pos (window_same u v w a b is.windows.across.length_is is.windows.up.length_is (λ x y left right low high. boxes x y low high)))
-    (ap pos (window_same (λ x y. p.metal x y || u x y) (λ x y. q.metal x y || v x y) w a b is.windows.across.length_is is.windows.up.length_is
-    (λ x y left right low high. rw (metal x y left right low high, boxes x y low high) refl)))
 
 -- ---- the line at a place of the report
 
@@ -129,8 +77,35 @@ lines_by values k m n some_columns part each =
     below : (a b c : ℕ) → a < b → b ≤ c → a < c
     below a b c h k = omega (arith, h, k)
 
+-- the lines of some rows, told with as many rows more
+pub told_alike : (values : Values) (rows : Rows) (below : ℕ) (m n : ℕ → ℕ → Measures) → 1 ≤ (windows_of values).across.count → rows.from ≤ rows.to → rows.to ≤ (windows_of values).up.count
+    → ((a b : ℕ) → a < (windows_of values).across.count → b < (windows_of values).up.count → rows.from ≤ b → b < rows.to → m a b ≡ n a b)
+    → flat_map (line_above below (windows_of values) (limits_of values) m) (range_with_len (rows.from * (windows_of values).across.count) ((rows.to - rows.from) * (windows_of values).across.count))
+    ≡ flat_map (line_above below (windows_of values) (limits_of values) n) (range_with_len (rows.from * (windows_of values).across.count) ((rows.to - rows.from) * (windows_of values).across.count))
+told_alike values rows below m n some ordered within each =
+    flat_range (line_above below (windows_of values) (limits_of values) m) (line_above below (windows_of values) (limits_of values) n) (rows.from * (windows_of values).across.count) ((rows.to - rows.from) * (windows_of values).across.count)
+    (λ l from to.
+    let columns : 0 < (windows_of values).across.count = positive (windows_of values).across.count some in
+    let row = row_bounds l (windows_of values).across.count rows.from rows.to columns from to ordered in
+    ap (λ t. told_line (windows_of values) (limits_of values) t (l % (windows_of values).across.count) (l / (windows_of values).across.count) (below + l / (windows_of values).across.count))
+    (each (l % (windows_of values).across.count) (l / (windows_of values).across.count) (mod_below l (windows_of values).across.count columns) (under _ _ _ row.1 within) row.0 row.1))
+  where
+    positive : (n : ℕ) → 1 ≤ n → 0 < n
+    positive n h = omega (arith, h)
+
+    under : (a b c : ℕ) → a < b → b ≤ c → a < c
+    under a b c h k = omega (arith, h, k)
+
+-- ---- the lines of layers that agree
+
 pub lines_agree : LinesAgree
-lines_agree values k s p q is part enough agree =
+lines_agree values rows below s p q is enough agree ordered within =
     let plan = plan_of values in
-    lines_by values k (measures_of p.metal (boxes_of plan (near_fill plan p k)) plan.windows) (measures_of q.metal (boxes_of plan (low_fill plan q)) plan.windows) is.windows.across.count_is.least part
-    (λ a b column row own. measures_same plan k s p q is enough agree a b column row own)
+    let v = boxes_of plan (low_fill plan q) in
+    ap (λ (f : PointSet). rows_told values rows below p.metal (boxes_of plan f)) (fills_agree plan s p q is enough agree)
+    ∙ told_alike values rows below (measures_of p.metal v plan.windows) (measures_of q.metal v plan.windows) is.windows.across.count_is.least ordered within
+    (λ a b column row from to.
+    let metal = agree_at s (window_sides plan.windows a b) p.metal q.metal agree.metal (enough.windows a b column row) in
+    same_measures _ _ (ap pos (areas_agree plan s p.metal q.metal is enough agree.metal a b column row)) refl
+    (ap pos (window_same (λ x y. p.metal x y || v x y) (λ x y. q.metal x y || v x y) plan.windows a b is.windows.across.length_is is.windows.up.length_is
+    (λ x y left right low high. ap (λ c. c || v x y) (metal x y left right low high)))))

@@ -13,17 +13,17 @@ use Rattle.fill_raster.specs.Axes.{IsAxis, bands, band_begin, band_end}
 use Rattle.fill_raster.specs.Lattice.{in_raster, tile_of, tiles}
 use Rattle.fill_raster.specs.declared.axis.Axis.{Axis}
 use Rattle.fill_raster.proofs.Blocks.{tile_parts}
-use Rattle.fill_text.specs.Rules.{whole_windows, windows_with}
+use Rattle.fill_text.specs.Rules.{Values, whole_windows, windows_with}
 use Rattle.fill_job.specs.Plans.{Plan, WindowSet, holds_box, in_window_of, low_windows, plan_of}
 use Rattle.fill_job.specs.Searches.{some_below, some_pair}
 use Rattle.fill_job.proofs.Searching.{some_below_finds, some_below_has}
 use Rattle.fill_core.specs.Boxes.{low_fill}
 use Rattle.fill_parts.specs.Cuts.{Part}
 use Rattle.fill_parts.specs.Laws.{PartIsASmallerChip, PartOfNoWindowHasNothing}
-use Rattle.fill_parts.specs.Needs.{has_tile, has_windows, is_level, needs_tile, row_of}
+use Rattle.fill_parts.specs.Needs.{has_tile, has_windows, is_level, row_of}
 use Rattle.fill_parts.specs.PartChip.{looks_at, part_tiles, part_windows}
 use Rattle.fill_parts.specs.PartFill.{part_fill}
-use Rattle.fill_parts.specs.PartRows.{chip_tiles, counted_bottom, counted_top, first_of, first_tiles, is_tile_row_level, is_window_row_level, needed_tiles, needs_row, own_rows, past_of, past_tiles}
+use Rattle.fill_parts.specs.PartRows.{begins_by, chip_tiles, ends_from, first_of, first_tiles, is_tile_row_level, is_window_row_level, needed_tiles, needs_row, own_rows, past_of, past_tiles}
 use Rattle.fill_parts.specs.Smaller.{AreAxes, AreRowsOf, AreSome, IsHeldBy, Rows, bands_alone}
 use Rattle.fill_parts.proofs.Cutting.{row_of_is}
 use Rattle.fill_parts.proofs.Leveling.{level_holding, place_tile}
@@ -151,14 +151,14 @@ window_row_level a s rows t b is from to above below =
 
 -- ---- the rows of tiles of the chip
 
--- the first one is no higher than the first that is needed, and is the lowest or begins no higher than what may count
-record IsFirst (k : Part) (a : Axis) (s : spans.Axis) (t : ℕ) : Type 0 where
+-- the first one is no higher than the first that is needed, and is the lowest or begins no higher than the frame has to
+record IsFirst (i : Bool) (k : Part) (a : Axis) (s : spans.Axis) (t : ℕ) : Type 0 where
   below : t ≤ (needed_tiles k a s).from
-  begins : (t ≡ 0) ⊎ (band_begin a t ≤ℤ counted_bottom k a s)
+  begins : (t ≡ 0) ⊎ (band_begin a t ≤ℤ begins_by i k a s)
 
-is_first : (k : Part) (a : Axis) (s : spans.Axis) → IsFirst k a s (first_tiles k a s)
-is_first k a s = elim (past_passes (λ t. nat_le t (needed_tiles k a s).from && int_le (band_begin a t) (counted_bottom k a s)) (bands a)) [
-  | inl none ↦ (let e : first_tiles k a s ≡ 0 = before _ none in record { below = none_below (first_tiles k a s) _ e; begins = inl e })
+is_first : (i : Bool) (k : Part) (a : Axis) (s : spans.Axis) → IsFirst i k a s (first_tiles i k a s)
+is_first i k a s = elim (past_passes (λ t. nat_le t (needed_tiles k a s).from && int_le (band_begin a t) (begins_by i k a s)) (bands a)) [
+  | inl none ↦ (let e : first_tiles i k a s ≡ 0 = before _ none in record { below = none_below (first_tiles i k a s) _ e; begins = inl e })
   | inr some ↦ (let parts = and_parts _ _ some.1 in record { below = le_is _ _ parts.0; begins = inr (true_le _ _ parts.1) })
 ]
   where
@@ -168,28 +168,28 @@ is_first k a s = elim (past_passes (λ t. nat_le t (needed_tiles k a s).from && 
     none_below : (t n : ℕ) → t ≡ 0 → t ≤ n
     none_below t n e = omega (arith, e)
 
-first_few : (k : Part) (a : Axis) (s : spans.Axis) → 0 < bands a → first_tiles k a s < bands a
-first_few k a s some = less (past_of (λ t. nat_le t (needed_tiles k a s).from && int_le (band_begin a t) (counted_bottom k a s)) (bands a)) (bands a) (past_within _ (bands a)) some
+first_few : (i : Bool) (k : Part) (a : Axis) (s : spans.Axis) → 0 < bands a → first_tiles i k a s < bands a
+first_few i k a s some = less (past_of (λ t. nat_le t (needed_tiles k a s).from && int_le (band_begin a t) (begins_by i k a s)) (bands a)) (bands a) (past_within _ (bands a)) some
   where
     less : (p n : ℕ) → p ≤ n → 0 < n → p - 1 < n
     less p n h k = omega (arith, h, k)
 
--- the one past the last lies behind all that are needed and behind the first one, and is past all or the last ends no lower than what may count
-pub record IsPast (k : Part) (a : Axis) (s : spans.Axis) (t : ℕ) : Type 0 where
+-- the one past the last lies behind all that are needed and behind the first one, and is past all or the last ends no lower than the frame has to
+pub record IsPast (i : Bool) (k : Part) (a : Axis) (s : spans.Axis) (t : ℕ) : Type 0 where
   pub needed : (needed_tiles k a s).to ≤ t
-  pub some : first_tiles k a s < t
+  pub some : first_tiles i k a s < t
   pub most : t ≤ bands a
-  pub ends : (t ≡ bands a) ⊎ (counted_top k a s ≤ℤ band_end a (t - 1))
+  pub ends : (t ≡ bands a) ⊎ (ends_from i k a s ≤ℤ band_end a (t - 1))
 
-pub is_past : (k : Part) (a : Axis) (s : spans.Axis) → 0 < bands a → IsPast k a s (past_tiles k a s)
-is_past k a s some = elim (first_passes q (bands a)) [
-  | inl all ↦ (let e : past_tiles k a s ≡ bands a = whole (first_of q (bands a)) (bands a) all in rw e (record {
+pub is_past : (i : Bool) (k : Part) (a : Axis) (s : spans.Axis) → 0 < bands a → IsPast i k a s (past_tiles i k a s)
+is_past i k a s some = elim (first_passes q (bands a)) [
+  | inl all ↦ (let e : past_tiles i k a s ≡ bands a = whole (first_of q (bands a)) (bands a) all in rw e (record {
     needed = past_within (needs_row k a s) (bands a);
-    some = first_few k a s some;
+    some = first_few i k a s some;
     most = same (bands a);
     ends = inl refl;
   }))
-  | inr found ↦ (let e : past_tiles k a s ≡ first_of q (bands a) + 1 = next (first_of q (bands a)) (bands a) found.0 in
+  | inr found ↦ (let e : past_tiles i k a s ≡ first_of q (bands a) + 1 = next (first_of q (bands a)) (bands a) found.0 in
       let parts = and_parts _ _ found.1 in let rows = and_parts _ _ parts.0 in
       let back : first_of q (bands a) + 1 - 1 ≡ first_of q (bands a) = again (first_of q (bands a)) in
       rw e (record {
@@ -201,7 +201,7 @@ is_past k a s some = elim (first_passes q (bands a)) [
 ]
   where
     q : ℕ → Bool
-    q t = (nat_le (needed_tiles k a s).to (t + 1) && nat_le (first_tiles k a s) t) && int_le (counted_top k a s) (band_end a t)
+    q t = (nat_le (needed_tiles k a s).to (t + 1) && nat_le (first_tiles i k a s) t) && int_le (ends_from i k a s) (band_end a t)
 
     same : (n : ℕ) → n ≤ n
     same n = omega arith
@@ -222,9 +222,9 @@ is_past k a s some = elim (first_passes q (bands a)) [
     up f n h = omega (arith, h)
 
 -- the rows of tiles are some, or there are none at all
-pub chip_rows_are : (k : Part) (a : Axis) (s : spans.Axis) → AreRowsOf (chip_tiles k a s) (bands a)
-chip_rows_are k a s = elim (cases_lt 0 (bands a)) [
-  | inl some ↦ (let past = is_past k a s some in inl (record { some = past.some; within = past.most }))
+pub chip_rows_are : (i : Bool) (k : Part) (a : Axis) (s : spans.Axis) → AreRowsOf (chip_tiles i k a s) (bands a)
+chip_rows_are i k a s = elim (cases_lt 0 (bands a)) [
+  | inl some ↦ (let past = is_past i k a s some in inl (record { some = past.some; within = past.most }))
   | inr none ↦ (let all = zero (bands a) none in inr (first_none _ (bands a) (past_within _ (bands a)) all, past_none (bands a) _ all, all))
 ]
   where
@@ -288,11 +288,12 @@ needed_row : (plan : Plan) (k : Part) (t : ℕ) → t < bands plan.raster.up →
     → ((needed_tiles k plan.raster.up plan.windows.up).from ≤ t) × (t < (needed_tiles k plan.raster.up plan.windows.up).to)
 needed_row plan k t lt needs = (first_before (needs_row k plan.raster.up plan.windows.up) (bands plan.raster.up) t lt needs, past_behind (needs_row k plan.raster.up plan.windows.up) (bands plan.raster.up) t lt needs)
 
-chip_row : (plan : Plan) (k : Part) (t : ℕ) → t < bands plan.raster.up → needs_row k plan.raster.up plan.windows.up t ≡ true → ((part_tiles plan k).from ≤ t) × (t < (part_tiles plan k).to)
-chip_row plan k t lt needs =
+chip_row : (values : Values) (k : Part) (t : ℕ) → let plan = plan_of values in t < bands plan.raster.up → needs_row k plan.raster.up plan.windows.up t ≡ true → ((part_tiles values k).from ≤ t) × (t < (part_tiles values k).to)
+chip_row values k t lt needs =
+    let plan = plan_of values in
     let row = needed_row plan k t lt needs in
-    let first = is_first k plan.raster.up plan.windows.up in
-    let past = is_past k plan.raster.up plan.windows.up (positive t (bands plan.raster.up) lt) in
+    let first = is_first values.ignores k plan.raster.up plan.windows.up in
+    let past = is_past values.ignores k plan.raster.up plan.windows.up (positive t (bands plan.raster.up) lt) in
     (down _ _ t first.below row.0, behind t _ _ row.1 past.needed)
   where
     positive : (t n : ℕ) → t < n → 0 < n
@@ -304,23 +305,15 @@ chip_row plan k t lt needs =
     behind : (t n p : ℕ) → t < n → n ≤ p → t < p
     behind t n p h k = omega (arith, h, k)
 
--- a tile needs what its row does
 row_below : (plan : Plan) (tile : ℕ) → tile < tiles plan.raster → row_of plan.raster tile < bands plan.raster.up
 row_below plan tile lt = (tile_parts plan.raster tile lt).row_below
 
-tile_row : (plan : Plan) (k : Part) (tile : ℕ) → AreAxes plan → needs_tile plan k tile ≡ true → needs_row k plan.raster.up plan.windows.up (row_of plan.raster tile) ≡ true
-tile_row plan k tile are needs = elim (cases_Bool (has_tile plan k tile)) [
-  | inl own ↦ true_or (has_tile plan k tile) _ own
-  | inr other ↦ (let found = some_below_finds (λ b. has_windows plan k b && is_level plan tile b) plan.windows.up.count (second _ _ other needs) in
-      let parts = and_parts (has_windows plan k found.0) (is_level plan tile found.0) found.2 in
-      let level = and_parts _ _ parts.1 in
-      let rows = row_of_is k plan.windows.up.count found.0 parts.0 in
-      or_second (has_tile plan k tile) _ (tile_row_level plan.raster.up plan.windows.up (own_rows k plan.windows.up.count) (row_of plan.raster tile) found.0 are.windows_up rows.low rows.high (true_lt _ _ level.0) (true_lt _ _ level.1)))
-]
-  where
-    second : (a b : Bool) → a ≡ false → a || b ≡ true → b ≡ true
-    second true b none is = absurd (let e : true ≡ false = none in cc)
-    second false b none is = is
+-- a tile that is level with the part's own windows is of a row that it needs
+pub level_needed : (plan : Plan) (k : Part) (tile b : ℕ) → AreAxes plan → has_windows plan k b ≡ true → is_level plan tile b ≡ true → needs_row k plan.raster.up plan.windows.up (row_of plan.raster tile) ≡ true
+level_needed plan k tile b are own level =
+    let parts = and_parts _ _ level in
+    let rows = row_of_is k plan.windows.up.count b own in
+    or_second (has_tile plan k tile) _ (tile_row_level plan.raster.up plan.windows.up (own_rows k plan.windows.up.count) (row_of plan.raster tile) b are.windows_up rows.low rows.high (true_lt _ _ parts.0) (true_lt _ _ parts.1))
 
 pub level_looked_at : (plan : Plan) (k : Part) (tile b : ℕ) → AreAxes plan → tile < tiles plan.raster → needs_row k plan.raster.up plan.windows.up (row_of plan.raster tile) ≡ true → is_level plan tile b ≡ true → looks_at plan k b ≡ true
 level_looked_at plan k tile b are lt needs level =
@@ -328,10 +321,11 @@ level_looked_at plan k tile b are lt needs level =
     let parts = and_parts _ _ level in
     or_second (has_windows plan k b) _ (window_row_level plan.raster.up plan.windows.up (needed_tiles k plan.raster.up plan.windows.up) (row_of plan.raster tile) b are.places_up row.0 row.1 (true_lt _ _ parts.0) (true_lt _ _ parts.1))
 
-pub held_by : (plan : Plan) (k : Part) (tile : ℕ) → AreAxes plan → tile < tiles plan.raster → needs_tile plan k tile ≡ true → IsHeldBy plan (part_tiles plan k) (part_windows plan k) tile
-held_by plan k tile are lt needs =
-    let needed = tile_row plan k tile are needs in
-    let rows = chip_row plan k (row_of plan.raster tile) (row_below plan tile lt) needed in
+pub held_by : (values : Values) (k : Part) (tile : ℕ) → let plan = plan_of values in AreAxes plan → tile < tiles plan.raster → needs_row k plan.raster.up plan.windows.up (row_of plan.raster tile) ≡ true
+    → IsHeldBy plan (part_tiles values k) (part_windows plan k) tile
+held_by values k tile are lt needed =
+    let plan = plan_of values in
+    let rows = chip_row values k (row_of plan.raster tile) (row_below plan tile lt) needed in
     record {
       from = rows.0;
       to = rows.1;
@@ -342,18 +336,18 @@ held_by plan k tile are lt needs =
 
 pub part_chip : PartIsASmallerChip
 part_chip values k is looks = record {
-  rows = chip_rows_are k a (plan_of values).windows.up;
+  rows = chip_rows_are values.ignores k a (plan_of values).windows.up;
   windows = record {
     some = (let w = chip_windows plan k found.0 found.1 found.2 in let from = w.0 in let to = w.1 in omega (arith, from, to));
     within = past_within (looks_at plan k) plan.windows.up.count;
   };
-  cover = record {
-    below = subst (λ (z : ℤ). (bands_alone a (part_tiles (plan_of values) k)).low ≤ℤ int_max a.low z) (same_bottom values.ignores (part_windows (plan_of values) k).from)
-        (begins_below a (part_tiles (plan_of values) k).from _ (low_max a.low _) first.begins);
-    above = subst (λ (z : ℤ). int_min a.high z ≤ℤ (bands_alone a (part_tiles (plan_of values) k)).high) (same_top values.ignores ((part_windows (plan_of values) k).to - 1))
-        (ends_above a (part_tiles (plan_of values) k).to (bands a) _ (high_min a.high _) ends);
+  cover = λ ignored. record {
+    below = subst (λ (z : ℤ). (bands_alone a (part_tiles values k)).low ≤ℤ int_max a.low z) (same_bottom values.ignores (part_windows (plan_of values) k).from)
+        (begins_below a (part_tiles values k).from _ (low_max a.low _) (subst (λ (z : ℤ). ((part_tiles values k).from ≡ 0) ⊎ (band_begin a (part_tiles values k).from ≤ℤ z)) (begins_at ignored) (is_first values.ignores k a (plan_of values).windows.up).begins));
+    above = subst (λ (z : ℤ). int_min a.high z ≤ℤ (bands_alone a (part_tiles values k)).high) (same_top values.ignores ((part_windows (plan_of values) k).to - 1))
+        (ends_above a (part_tiles values k).to (bands a) _ (high_min a.high _) (subst (λ (z : ℤ). ((part_tiles values k).to ≡ bands a) ⊎ (z ≤ℤ band_end a ((part_tiles values k).to - 1))) (ends_at ignored) ends));
   };
-  held = λ tile lt needs. held_by plan k tile is lt needs;
+  held = λ tile lt needs. held_by values k tile is lt needs;
 }
   where
     plan : Plan
@@ -365,16 +359,27 @@ part_chip values k is looks = record {
     found : (b : ℕ) × (b < (plan_of values).windows.up.count) × (looks_at (plan_of values) k b ≡ true)
     found = some_below_finds (looks_at (plan_of values) k) (plan_of values).windows.up.count looks
 
-    first : IsFirst k a (plan_of values).windows.up (part_tiles (plan_of values) k).from
-    first = is_first k a (plan_of values).windows.up
+    begins_at : values.ignores ≡ true → begins_by values.ignores k a (plan_of values).windows.up ≡ int_max a.low (axis_begin (plan_of values).windows.up (part_windows (plan_of values) k).from)
+    begins_at ignored = at values.ignores ignored
+      where
+        at : (i : Bool) → i ≡ true → begins_by i k a (plan_of values).windows.up ≡ int_max a.low (axis_begin (plan_of values).windows.up (part_windows (plan_of values) k).from)
+        at true e = refl
+        at false e = absurd (let f : false ≡ true = e in cc)
 
-    ends : ((part_tiles (plan_of values) k).to ≡ bands a) ⊎ (counted_top k a (plan_of values).windows.up ≤ℤ band_end a ((part_tiles (plan_of values) k).to - 1))
-    ends = elim (chip_rows_are k a (plan_of values).windows.up) [
-      | inl some ↦ (is_past k a (plan_of values).windows.up (some_bands some)).ends
+    ends_at : values.ignores ≡ true → ends_from values.ignores k a (plan_of values).windows.up ≡ int_min a.high (axis_end (plan_of values).windows.up ((part_windows (plan_of values) k).to - 1))
+    ends_at ignored = at values.ignores ignored
+      where
+        at : (i : Bool) → i ≡ true → ends_from i k a (plan_of values).windows.up ≡ int_min a.high (axis_end (plan_of values).windows.up ((part_windows (plan_of values) k).to - 1))
+        at true e = refl
+        at false e = absurd (let f : false ≡ true = e in cc)
+
+    ends : ((part_tiles values k).to ≡ bands a) ⊎ (ends_from values.ignores k a (plan_of values).windows.up ≤ℤ band_end a ((part_tiles values k).to - 1))
+    ends = elim (chip_rows_are values.ignores k a (plan_of values).windows.up) [
+      | inl some ↦ (is_past values.ignores k a (plan_of values).windows.up (some_bands some)).ends
       | inr none ↦ inl (none.1 ∙ sym none.2)
     ]
       where
-        some_bands : AreSome (part_tiles (plan_of values) k) (bands a) → 0 < bands a
+        some_bands : AreSome (part_tiles values k) (bands a) → 0 < bands a
         some_bands are = let some = are.some in let within = are.within in omega (arith, some, within)
 
     same_bottom : (i : Bool) (b : ℕ) → window_bottom (windows_with values.numbers i) b ≡ window_bottom (whole_windows values.numbers) b

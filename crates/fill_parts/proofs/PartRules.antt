@@ -208,8 +208,8 @@ sized_is v w given = back (nat_le ((whole_windows v.numbers).across.count * (who
     back true false e = cc e
     back false y e = cc e
 
-pub rows_are : (k : Part) (a : Axis) (s : spans.Axis) (t u : ℕ) → t ≡ (chip_tiles k a s).from → u ≡ (chip_tiles k a s).to → AreRowsOf (record { from = t; to = u }) (bands a)
-rows_are k a s t u t_is u_is = rw (t_is, u_is) (chip_rows_are k a s)
+pub rows_are : (i : Bool) (k : Part) (a : Axis) (s : spans.Axis) (t u : ℕ) → t ≡ (chip_tiles i k a s).from → u ≡ (chip_tiles i k a s).to → AreRowsOf (record { from = t; to = u }) (bands a)
+rows_are i k a s t u t_is u_is = rw (t_is, u_is) (chip_rows_are i k a s)
 
 pub read_as : (y z : ℤ) → y ≡ z → IsCoordinate z → read y ≡ z
 read_as y z e is = rw e (coordinate_read z is)
@@ -241,10 +241,10 @@ module _ (values : Values) (tiles windows : Rows) (a : Axis) (s : spans.Axis) (i
 -- ---- the rows of a part, and its own
 
 module _ (values : Values) (k : Part) (t u w x : ℕ)
-    (tiles : (t ≡ (chip_tiles k (raster_of values.numbers).up (whole_windows values.numbers).up).from) × (u ≡ (chip_tiles k (raster_of values.numbers).up (whole_windows values.numbers).up).to))
+    (tiles : (t ≡ (chip_tiles values.ignores k (raster_of values.numbers).up (whole_windows values.numbers).up).from) × (u ≡ (chip_tiles values.ignores k (raster_of values.numbers).up (whole_windows values.numbers).up).to))
     (windows : (w ≡ (looked_at_windows k (raster_of values.numbers).up (whole_windows values.numbers).up).from) × (x ≡ (looked_at_windows k (raster_of values.numbers).up (whole_windows values.numbers).up).to)) where
   pub tiles_here : AreRowsOf (record { from = t; to = u }) (bands (raster_of values.numbers).up)
-  tiles_here = rows_are k (raster_of values.numbers).up (whole_windows values.numbers).up t u tiles.0 tiles.1
+  tiles_here = rows_are values.ignores k (raster_of values.numbers).up (whole_windows values.numbers).up t u tiles.0 tiles.1
 
   pub windows_here : some_below (looks_at_row k (raster_of values.numbers).up (whole_windows values.numbers).up) (whole_windows values.numbers).up.count ≡ true → AreSome (record { from = w; to = x }) (whole_windows values.numbers).up.count
   windows_here looks =
@@ -260,7 +260,7 @@ module _ (values : Values) (k : Part) (t u w x : ℕ)
   part_alone_here = rw (tiles.0, tiles.1, windows.0, windows.1) (ap (λ (s : spans.Axis). with_rows values (rows s)) (sym (windows_up values)))
     where
       rows : spans.Axis → ChipRows
-      rows s = record { bottom = (bands_alone (raster_of values.numbers).up (chip_tiles k (raster_of values.numbers).up s)).low; top = (bands_alone (raster_of values.numbers).up (chip_tiles k (raster_of values.numbers).up s)).high; first_window = axis_begin (whole_windows values.numbers).up (looked_at_windows k (raster_of values.numbers).up s).from; windows = (looked_at_windows k (raster_of values.numbers).up s).to - (looked_at_windows k (raster_of values.numbers).up s).from }
+      rows s = record { bottom = (bands_alone (raster_of values.numbers).up (chip_tiles values.ignores k (raster_of values.numbers).up s)).low; top = (bands_alone (raster_of values.numbers).up (chip_tiles values.ignores k (raster_of values.numbers).up s)).high; first_window = axis_begin (whole_windows values.numbers).up (looked_at_windows k (raster_of values.numbers).up s).from; windows = (looked_at_windows k (raster_of values.numbers).up s).to - (looked_at_windows k (raster_of values.numbers).up s).from }
 
 -- a part's own rows of tiles are some, or the lowest
 pub own_tiles_are : (k : Part) (n : ℕ) → past_row k n ≤ n → AreRowsOf (own_tiles k n) n

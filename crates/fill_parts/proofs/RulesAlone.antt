@@ -14,7 +14,7 @@ use Rattle.fill_text.specs.Chips.{value_with_rows}
 use Rattle.fill_text.specs.declared.keys.NumberKey.TheVariants.{FrameY1, FrameY2}
 use Rattle.fill_parts.specs.Laws.{RulesAloneMakeASmallerChip}
 use Rattle.fill_parts.specs.Smaller.{bands_alone, spans_alone}
-use Rattle.fill_parts.specs.SmallerRules.{rows_alone, rules_alone}
+use Rattle.fill_parts.specs.SmallerRules.{Cover, rows_alone, rules_alone}
 use Rattle.fill_parts.proofs.BandsAlone.{IsFramed, framed_rows}
 use Rattle.fill_parts.proofs.RowsAlone.{further}
 
@@ -40,8 +40,8 @@ smaller_chip values rows windows is tiles grid cover = record {
   rows = up values.ignores;
   left = left values.ignores;
   right = right values.ignores;
-  begins = λ b lt. begins values.ignores b (inside b lt);
-  ends = λ b lt. ends values.ignores b (inside b lt);
+  begins = λ b lt. begins values.ignores cover b (inside b lt);
+  ends = λ b lt. ends values.ignores cover b (inside b lt);
   spacing = refl;
   least = refl;
 }
@@ -106,25 +106,25 @@ smaller_chip values rows windows is tiles grid cover = record {
         longer y z l h = omega (arith, ints)
 
     -- the frame keeps as much of a number between the windows' edges as the whole one
-    kept : (z : ℤ) → axis_begin axis windows.from ≤ℤ z → z ≤ℤ axis_end axis (windows.to - 1)
+    kept : (z : ℤ) → Cover values rows windows → axis_begin axis windows.from ≤ℤ z → z ≤ℤ axis_end axis (windows.to - 1)
         → kept_within (bands_alone (raster_of values.numbers).up rows).low (bands_alone (raster_of values.numbers).up rows).high z ≡ kept_within (value_of values FrameY1) (value_of values FrameY2) z
-    kept z from to = kept_alike (value_of values FrameY1) (value_of values FrameY2) (bands_alone (raster_of values.numbers).up rows).low (bands_alone (raster_of values.numbers).up rows).high (axis_begin axis windows.from) (axis_end axis (windows.to - 1)) z
-        frame.low frame.some frame.high cover.below cover.above from to
+    kept z over from to = kept_alike (value_of values FrameY1) (value_of values FrameY2) (bands_alone (raster_of values.numbers).up rows).low (bands_alone (raster_of values.numbers).up rows).high (axis_begin axis windows.from) (axis_end axis (windows.to - 1)) z
+        frame.low frame.some frame.high over.below over.above from to
 
-    begins : (i : Bool) (b : ℕ) → windows.from + b ≤ windows.to - 1 → part_begin (parts_up (windows_with new i)) b ≡ part_begin (parts_up (windows_with values.numbers i)) (windows.from + b)
-    begins true b le =
+    begins : (i : Bool) → (i ≡ true → Cover values rows windows) → (b : ℕ) → windows.from + b ≤ windows.to - 1 → part_begin (parts_up (windows_with new i)) b ≡ part_begin (parts_up (windows_with values.numbers i)) (windows.from + b)
+    begins true over b le =
         ap (kept_within (bands_alone (raster_of values.numbers).up rows).low (bands_alone (raster_of values.numbers).up rows).high) (at b)
-        ∙ kept (axis_begin axis (windows.from + b)) (from_bottom b) (before (axis_begin axis (windows.from + b)) (axis_end axis (windows.to - 1)) axis.length wide (to_top b le))
+        ∙ kept (axis_begin axis (windows.from + b)) (over refl) (from_bottom b) (before (axis_begin axis (windows.from + b)) (axis_end axis (windows.to - 1)) axis.length wide (to_top b le))
       where
         before : (z t l : ℤ) → pos 1 ≤ℤ l → (z +ℤ l) ≤ℤ t → z ≤ℤ t
         before z t l h k = omega (arith, ints)
-    begins false b le = ap (kept_within lowest highest) (at b)
+    begins false over b le = ap (kept_within lowest highest) (at b)
 
-    ends : (i : Bool) (b : ℕ) → windows.from + b ≤ windows.to - 1 → part_end (parts_up (windows_with new i)) b ≡ part_end (parts_up (windows_with values.numbers i)) (windows.from + b)
-    ends true b le =
+    ends : (i : Bool) → (i ≡ true → Cover values rows windows) → (b : ℕ) → windows.from + b ≤ windows.to - 1 → part_end (parts_up (windows_with new i)) b ≡ part_end (parts_up (windows_with values.numbers i)) (windows.from + b)
+    ends true over b le =
         ap (kept_within (bands_alone (raster_of values.numbers).up rows).low (bands_alone (raster_of values.numbers).up rows).high) (at_end b)
-        ∙ kept (axis_end axis (windows.from + b)) (behind (axis_begin axis windows.from) (axis_begin axis (windows.from + b)) axis.length wide (from_bottom b)) (to_top b le)
+        ∙ kept (axis_end axis (windows.from + b)) (over refl) (behind (axis_begin axis windows.from) (axis_begin axis (windows.from + b)) axis.length wide (from_bottom b)) (to_top b le)
       where
         behind : (y z l : ℤ) → pos 1 ≤ℤ l → y ≤ℤ z → y ≤ℤ (z +ℤ l)
         behind y z l h k = omega (arith, ints)
-    ends false b le = ap (kept_within lowest highest) (at_end b)
+    ends false over b le = ap (kept_within lowest highest) (at_end b)

@@ -1,6 +1,6 @@
 -- The definitions of some rows alone, computed: ten places of six squares at steps of ten from 2 on in a frame from 0 to 100, three to
 -- a band, and twelve windows of twenty squares at steps of ten from -10 on.
-use Rattle.std.proofs.Common.{◌≡◌, refl, ℕ, pos, negsuc}
+use Rattle.std.proofs.Common.{◌≡◌, refl, ℕ, pos, negsuc, true, false}
 use Rattle.fill_area.specs.declared.axis.Axis as spans
 use Rattle.fill_raster.specs.Axes.{bands, first, past}
 use Rattle.fill_raster.specs.declared.axis.Axis.{Axis}
@@ -71,7 +71,11 @@ looked_at : looked_at_windows third places tens ≡ rows 3 6
 unfolding first past first_of past_of some_below
 looked_at = refl
 
--- from 30 to 60 may count, so it takes the first and the third band too
-tiles : chip_tiles third places tens ≡ rows 0 3
+-- from 30 to 60 may count, so where nothing beside the frame does it takes the first and the third band too
+tiles : chip_tiles true third places tens ≡ rows 0 3
 unfolding first past first_of past_of some_below
 tiles = refl
+
+tiles_alone : chip_tiles false third places tens ≡ rows 1 2
+unfolding first past first_of past_of some_below
+tiles_alone = refl

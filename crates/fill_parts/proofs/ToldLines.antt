@@ -153,5 +153,5 @@ own_within plan k part lt = (low, high)
 pub lines_told : PartLinesAreTold
 lines_told values k layers is part some looks =
     lines_of_chip values k layers is part some looks
-    ∙ told_by (plan_of values) (chip_plan values k) (part_tiles (plan_of values) k) (part_windows (plan_of values) k) (limits_of values)
+    ∙ told_by (plan_of values) (chip_plan values k) (part_tiles values k) (part_windows (plan_of values) k) (limits_of values)
     (measures_of layers.metal (boxes_of (chip_plan values k) (low_fill (chip_plan values k) layers)) (chip_plan values k).windows) k (chip_smaller values k is (part_chip values k is looks)) is.windows_across.count_is.least (own_within (plan_of values) k part)

@@ -25,12 +25,12 @@ use Rattle.fill_report.specs.Report.{lines_above, measures_of}
 use Rattle.fill_report.specs.RulesReport.{metal_report}
 use Rattle.fill_report.specs.declared.line.Measures.{Measures}
 use Rattle.fill_parts.specs.Cuts.{IsPart, Part, cut, first_row, has_row, past_row}
-use Rattle.fill_parts.specs.Needs.{IsEnough, AgreeInside, LayersAgree, in_coordinates, is_inside, layers_met, met_with, needed_sides, needs_tile, needs_windows, has_tile, has_windows, is_level}
+use Rattle.fill_parts.specs.Needs.{IsEnough, AgreeInside, LayersAgree, LieInside, in_coordinates, is_inside, layers_met, met_with, needed_sides, has_tile, has_windows, is_level}
 use Rattle.fill_parts.specs.PartChip.{HoldsPart, IsChipOf, chip_plan, looks_at, part_windows, rows_fill, rows_told}
 use Rattle.fill_parts.specs.Smaller.{AreAxes, AreRowsOf, Rows, AreSome, IsHeldBy, IsPlanOfAnySize, IsSmaller}
 use Rattle.fill_parts.specs.SmallerRules.{Cover, rules_alone}
 use Rattle.fill_parts.specs.PartReport.{part_lines, rows_lines, part_check, part_report}
-use Rattle.fill_parts.specs.PartFill.{part_fill, near_fill, layers_by, layers_with, rect_of}
+use Rattle.fill_parts.specs.PartFill.{part_fill, layers_by, layers_with, rect_of}
 
 abbrev pub part : ℕ → ℕ → Part
 part number count = record { number = number; count = count }
@@ -72,40 +72,39 @@ abbrev pub PartsMakeTheCheck : Type 0
 PartsMakeTheCheck = (values : Values) (metal : PointSet) (count : ℕ) → 0 < count
     → flat_map (λ k. part_check values metal (part k count)) (range_with_len 0 count) ≡ metal_report metal values
 
--- ---- what a part needs
+-- ---- what a chip needs
 
 -- metal within the coordinates agrees with what of it lies between the sides and within the coordinates
 abbrev pub ClippedAgrees : Type 0
 ClippedAgrees = (s : Sides) (p : PointSet) → ((x y : ℤ) → p x y ≡ true → IsInRange x y) → AgreeInside s p (met_with (in_coordinates s) p)
 
--- the least rectangle is enough
-abbrev pub NeededSidesAreEnough : Type 0
-NeededSidesAreEnough = (plan : Plan) (k : Part) → IsEnough plan k (needed_sides plan k)
+-- the needed sides are enough, and the least that are
+pub record AreLeast (plan : Plan) (s : Sides) : Type 0 where
+  pub enough : IsEnough plan s
+  pub least : (t : Sides) → IsEnough plan t → LieInside s t
 
--- Of two sets of metal that agree between sides that are enough, all that a part looks at is the same: the areas of the windows
--- that it needs,
+abbrev pub NeededSidesAreLeast : Type 0
+NeededSidesAreLeast = (plan : Plan) → IsPlan plan → AreLeast plan (needed_sides plan)
+
+-- Of two sets of metal that agree between sides that are enough, all that a chip looks at is the same: the areas of its windows,
 abbrev pub AreasAgree : Type 0
-AreasAgree = (plan : Plan) (k : Part) (s : Sides) (p q : PointSet) → IsPlan plan → IsEnough plan k s → AgreeInside s p q
-    → (a b : ℕ) → a < plan.windows.across.count → b < plan.windows.up.count → needs_windows plan k b ≡ true → window_area p plan.windows a b ≡ window_area q plan.windows a b
+AreasAgree = (plan : Plan) (s : Sides) (p q : PointSet) → IsPlan plan → IsEnough plan s → AgreeInside s p q
+    → (a b : ℕ) → a < plan.windows.across.count → b < plan.windows.up.count → window_area p plan.windows a b ≡ window_area q plan.windows a b
 
 -- which of them are low,
 abbrev pub LowWindowsAgree : Type 0
-LowWindowsAgree = (plan : Plan) (k : Part) (s : Sides) (p q : PointSet) → IsPlan plan → IsEnough plan k s → AgreeInside s p q
-    → (a b : ℕ) → needs_windows plan k b ≡ true → low_windows plan p a b ≡ low_windows plan q a b
+LowWindowsAgree = (plan : Plan) (s : Sides) (p q : PointSet) → IsPlan plan → IsEnough plan s → AgreeInside s p q
+    → (a b : ℕ) → low_windows plan p a b ≡ low_windows plan q a b
 
--- the wanted places of the tiles that it needs,
-abbrev pub WantedAgree : Type 0
-WantedAgree = (plan : Plan) (k : Part) (s : Sides) (p q : Layers) → IsPlan plan → IsEnough plan k s → LayersAgree s p q
-    → (tile : ℕ) → tile < tiles plan.raster → needs_tile plan k tile ≡ true → wanted plan p (low_windows plan p.metal) tile ≡ wanted plan q (low_windows plan q.metal) tile
-
--- its own fill,
+-- its fill,
 abbrev pub FillsAgree : Type 0
-FillsAgree = (plan : Plan) (k : Part) (s : Sides) (p q : Layers) → IsPlan plan → IsEnough plan k s → LayersAgree s p q → part_fill plan p k ≡ part_fill plan q k
+FillsAgree = (plan : Plan) (s : Sides) (p q : Layers) → IsPlan plan → IsEnough plan s → LayersAgree s p q → low_fill plan p ≡ low_fill plan q
 
--- and its lines, of which the fill is that of the tiles that it needs alone
+-- and the lines of rows of its windows
 abbrev pub LinesAgree : Type 0
-LinesAgree = (values : Values) (k : Part) (s : Sides) (p q : Layers) → IsPlan (plan_of values) → IsPart k → IsEnough (plan_of values) k s → LayersAgree s p q
-    → part_report values p.metal (near_fill (plan_of values) p k) k ≡ part_report values q.metal (low_fill (plan_of values) q) k
+LinesAgree = (values : Values) (rows : Rows) (below : ℕ) (s : Sides) (p q : Layers) → let plan = plan_of values in IsPlan plan → IsEnough plan s → LayersAgree s p q
+    → rows.from ≤ rows.to → rows.to ≤ plan.windows.up.count
+    → rows_told values rows below p.metal (boxes_of plan (low_fill plan p)) ≡ rows_told values rows below q.metal (boxes_of plan (low_fill plan q))
 
 -- ---- edits
 
@@ -147,13 +146,6 @@ PartFillIsWanted = (plan : Plan) (layers : Layers) (k : Part) (i j : ℤ) → le
 
 -- ---- all parts together
 
--- Each part finds its lines in a metal of its own that agrees with the whole one where it looks: one after another they are the
--- report of the whole.
-abbrev pub PartsTellTheReport : Type 0
-PartsTellTheReport = (values : Values) (layers : Layers) (own : ℕ → Layers) (s : ℕ → Sides) (count : ℕ) → IsPlan (plan_of values) → 0 < count → count ≤ 4096
-    → ((k : ℕ) → k < count → IsEnough (plan_of values) (part k count) (s k) × LayersAgree (s k) (own k) layers)
-    → flat_map (λ k. part_report values (own k).metal (near_fill (plan_of values) (own k) (part k count)) (part k count)) (range_with_len 0 count) ≡ fill_report values layers.metal (low_fill (plan_of values) layers)
-
 -- a place is filled where it is in the fill of some part
 abbrev pub PartsMakeTheFill : Type 0
 PartsMakeTheFill = (plan : Plan) (layers : Layers) (count : ℕ) → IsPlanOfAnySize plan → 0 < count
@@ -171,11 +163,11 @@ pub record TellsPart (values : Values) (k : Part) (small : Values) (tiles window
   pub places : rows_fill (plan_of small) tiles (low_fill (plan_of small) near) ≡ part_fill (plan_of values) layers k
   pub lines : rows_told small windows below near.metal (boxes_of (plan_of small) (low_fill (plan_of small) near)) ≡ part_report values layers.metal (low_fill (plan_of values) layers) k
 
--- Of a design whose metal and keep-outs lie within the coordinates, a chip that holds the part needs but what lies between sides that are
--- enough for all of the chip, and of the edits those that have a square there.
+-- Of a design whose metal and keep-outs lie within the coordinates, a chip that holds the part needs but what lies between its needed sides,
+-- and of the edits those that have a square there.
 abbrev pub ChipRunIsThePart : Type 0
-ChipRunIsThePart = (values : Values) (k : Part) (small : Values) (tiles windows : Rows) (below : ℕ) (s : Sides) (layers : Layers) (touches : Edit → Bool) (edits : List Edit) → HoldsPart values k small tiles windows below
-    → IsPlan (plan_of small) → windows.from ≤ windows.to → windows.to ≤ (plan_of small).windows.up.count → IsEnough (plan_of small) (part 0 1) s
+ChipRunIsThePart = (values : Values) (k : Part) (small : Values) (tiles windows : Rows) (below : ℕ) (layers : Layers) (touches : Edit → Bool) (edits : List Edit) → let s = needed_sides (plan_of small) in
+    HoldsPart values k small tiles windows below → IsPlan (plan_of small) → windows.from ≤ windows.to → windows.to ≤ (plan_of small).windows.up.count
     → ((x y : ℤ) → layers.metal x y ≡ true → IsInRange x y) → ((x y : ℤ) → layers.keep x y ≡ true → IsInRange x y)
     → ((edit : Edit) → touches edit ≡ false → (x y : ℤ) → is_inside s x y ≡ true → squares (rect_of edit) x y ≡ false)
     → TellsPart values k small tiles windows below (layers_with (filter touches edits) (layers_met (in_coordinates s) layers)) (layers_by (map change_of edits) layers)
@@ -190,9 +182,10 @@ SmallerChipWantsTheSame = (whole small : Plan) (rows windows : Rows) (layers : L
     ((b : ℕ) → b < whole.windows.up.count → is_level whole there b ≡ true → (windows.from ≤ b) × (b < windows.to))
     → wanted small layers (low_windows small layers.metal) tile ≡ wanted whole layers (low_windows whole layers.metal) there
 
--- The rules of some rows of tiles and of windows alone make such a plan, if the tiles cover what counts of the windows.
+-- The rules of some rows of tiles and of windows alone make such a plan, if the tiles cover what counts of the windows, or all counts of
+-- these wherever the frame ends.
 abbrev pub RulesAloneMakeASmallerChip : Type 0
-RulesAloneMakeASmallerChip = (values : Values) (rows windows : Rows) → let plan = plan_of values in AreAxes plan → AreRowsOf rows (bands plan.raster.up) → AreSome windows plan.windows.up.count → Cover values rows windows
+RulesAloneMakeASmallerChip = (values : Values) (rows windows : Rows) → let plan = plan_of values in AreAxes plan → AreRowsOf rows (bands plan.raster.up) → AreSome windows plan.windows.up.count → (values.ignores ≡ true → Cover values rows windows)
     → IsSmaller plan (plan_of (rules_alone values rows windows)) rows windows
 
 -- And a window measures in it what it measures in the chip: its metal, and the boxes of a complete fill, if all tiles level with the

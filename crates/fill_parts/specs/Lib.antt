@@ -8,4 +8,3 @@ pub mod SmallerRules
 pub mod PartChip
 pub mod Told
 pub mod Laws
-pub mod steps

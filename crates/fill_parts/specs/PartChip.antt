@@ -13,10 +13,10 @@ use Rattle.fill_core.specs.Soundness.{IsSound}
 use Rattle.fill_report.specs.BookReport.{boxes_of}
 use Rattle.fill_report.specs.Report.{lines_above, measures_of, nothing}
 use Rattle.fill_parts.specs.Cuts.{Part, first_row, past_row}
-use Rattle.fill_parts.specs.Needs.{needs_tile}
+use Rattle.fill_parts.specs.Needs.{row_of}
 use Rattle.fill_parts.specs.PartFill.{part_fill}
 use Rattle.fill_parts.specs.PartReport.{part_check, part_report}
-use Rattle.fill_parts.specs.PartRows.{chip_tiles, looked_at_windows, looks_at_row}
+use Rattle.fill_parts.specs.PartRows.{chip_tiles, looked_at_windows, looks_at_row, needs_row}
 use Rattle.fill_parts.specs.Smaller.{Rows, AreRowsOf, AreSome, IsHeldBy}
 use Rattle.fill_parts.specs.SmallerRules.{Cover, rules_alone}
 use Rattle.fill_parts.specs.declared.part_rules.PartRulesError.{PartRulesError}
@@ -30,8 +30,8 @@ looks_at plan part = looks_at_row part plan.raster.up plan.windows.up
 abbrev pub part_windows : Plan → Part → Rows
 part_windows plan part = looked_at_windows part plan.raster.up plan.windows.up
 
-abbrev pub part_tiles : Plan → Part → Rows
-part_tiles plan part = chip_tiles part plan.raster.up plan.windows.up
+abbrev pub part_tiles : Values → Part → Rows
+part_tiles values part = chip_tiles values.ignores part (plan_of values).raster.up (plan_of values).windows.up
 
 -- the part whose rows these are: itself, but where it looks at no window the last one, which always looks at some
 abbrev pub looking_part : Values → Part → Part
@@ -50,7 +50,7 @@ by_size values =
 
 -- the values of the part's rows alone
 abbrev pub part_alone : Values → Part → Values
-part_alone values part = rules_alone values (part_tiles (plan_of values) part) (part_windows (plan_of values) part)
+part_alone values part = rules_alone values (part_tiles values part) (part_windows (plan_of values) part)
 
 -- the rules of the part as a smaller chip, or what there is too much of
 abbrev pub part_rules : Values → Part → Result Values PartRulesError
@@ -71,12 +71,14 @@ own_alone values part = rules_alone values (own_tiles part (bands (raster_of val
 abbrev pub chip_plan : Values → Part → Plan
 chip_plan values part = plan_of (part_alone values part)
 
--- these rows are some, or none of no tiles, the tiles cover what counts of the windows, and each tile that the part needs is of them
+-- these rows are some, or none of no tiles, the tiles cover what counts of the windows where nothing beside the frame does, and each tile
+-- of a row that the part needs is of them
 pub record IsChipOf (values : Values) (part : Part) : Type 0 where
-  pub rows : AreRowsOf (part_tiles (plan_of values) part) (bands (plan_of values).raster.up)
+  pub rows : AreRowsOf (part_tiles values part) (bands (plan_of values).raster.up)
   pub windows : AreSome (part_windows (plan_of values) part) (plan_of values).windows.up.count
-  pub cover : Cover values (part_tiles (plan_of values) part) (part_windows (plan_of values) part)
-  pub held : (tile : ℕ) → tile < tiles (plan_of values).raster → needs_tile (plan_of values) part tile ≡ true → IsHeldBy (plan_of values) (part_tiles (plan_of values) part) (part_windows (plan_of values) part) tile
+  pub cover : values.ignores ≡ true → Cover values (part_tiles values part) (part_windows (plan_of values) part)
+  pub held : (tile : ℕ) → tile < tiles (plan_of values).raster → needs_row part (plan_of values).raster.up (plan_of values).windows.up (row_of (plan_of values).raster tile) ≡ true
+      → IsHeldBy (plan_of values) (part_tiles values part) (part_windows (plan_of values) part) tile
 
 -- ---- what a smaller chip gives of a part
 

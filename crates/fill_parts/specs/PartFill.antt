@@ -10,15 +10,12 @@ use Rattle.fill_job.specs.Plans.{Plan, Layers, PointSet}
 use Rattle.fill_core.specs.Boxes.{low_fill}
 use Rattle.fill_core.specs.Machine.{layers_after}
 use Rattle.fill_parts.specs.Cuts.{Part}
-use Rattle.fill_parts.specs.Needs.{has_tile, is_inside, needs_tile}
+use Rattle.fill_parts.specs.Needs.{has_tile, is_inside}
 use Rattle.fill_raster.specs.Lattice.{tile_of}
 
--- of the fill of the whole metal the places in the part's tiles, and those in the tiles that its lines depend on
+-- of the fill of the whole metal the places in the part's tiles
 abbrev pub part_fill : Plan → Layers → Part → PointSet
 part_fill plan metal part i j = low_fill plan metal i j && has_tile plan part (tile_of plan.raster i j)
-
-abbrev pub near_fill : Plan → Layers → Part → PointSet
-near_fill plan metal part i j = low_fill plan metal i j && needs_tile plan part (tile_of plan.raster i j)
 
 -- metal and keep-outs after edits, one after another
 unfoldable pub layers_with : List Edit → Layers → Layers

@@ -48,21 +48,23 @@ looks_at_row part a s b = has_row part s.count b || is_window_row_level a s (nee
 abbrev pub looked_at_windows : Part → Axis → spans.Axis → Rows
 looked_at_windows part a s = rows_of (looks_at_row part a s) s.count
 
--- where what may count of those windows begins and ends: in the frame
-abbrev pub counted_bottom : Part → Axis → spans.Axis → ℤ
-counted_bottom part a s = int_max a.low (axis_begin s (looked_at_windows part a s).from)
+-- The frame of the part's chip begins at the first of these lines or below it, and ends at the second or above it: where nothing counts
+-- beside a frame, it holds what may count of those windows; else it may be cut between them.
+abbrev pub begins_by : Bool → Part → Axis → spans.Axis → ℤ
+begins_by ignores part a s = if ignores then int_max a.low (axis_begin s (looked_at_windows part a s).from) else a.high
 
-abbrev pub counted_top : Part → Axis → spans.Axis → ℤ
-counted_top part a s = int_min a.high (axis_end s ((looked_at_windows part a s).to - 1))
+abbrev pub ends_from : Bool → Part → Axis → spans.Axis → ℤ
+ends_from ignores part a s = if ignores then int_min a.high (axis_end s ((looked_at_windows part a s).to - 1)) else a.low
 
--- The rows of tiles of the part's chip: those that it needs, and below and above these as many as it takes to cover what may count of
--- its windows. The first is the last one, up to the first that it needs, which begins where that does or lower, or the lowest of all; the
--- last is the first one, from the last that it needs on, which ends where that does or higher, or the highest of all.
-abbrev pub first_tiles : Part → Axis → spans.Axis → ℕ
-first_tiles part a s = past_of (λ t. nat_le t (needed_tiles part a s).from && int_le (band_begin a t) (counted_bottom part a s)) (bands a) - 1
+-- The rows of tiles of the part's chip: those that it needs, and below and above these as many as it takes for such a frame. The first is
+-- the last one, up to the first that it needs, which begins where that has to or lower, or the lowest of all; the last is the first one,
+-- from the last that it needs on, which ends where that has to or higher, or the highest of all.
+abbrev pub first_tiles : Bool → Part → Axis → spans.Axis → ℕ
+first_tiles ignores part a s = past_of (λ t. nat_le t (needed_tiles part a s).from && int_le (band_begin a t) (begins_by ignores part a s)) (bands a) - 1
 
-abbrev pub past_tiles : Part → Axis → spans.Axis → ℕ
-past_tiles part a s = min (bands a) (first_of (λ t. (nat_le (needed_tiles part a s).to (t + 1) && nat_le (first_tiles part a s) t) && int_le (counted_top part a s) (band_end a t)) (bands a) + 1)
+abbrev pub past_tiles : Bool → Part → Axis → spans.Axis → ℕ
+past_tiles ignores part a s =
+    min (bands a) (first_of (λ t. (nat_le (needed_tiles part a s).to (t + 1) && nat_le (first_tiles ignores part a s) t) && int_le (ends_from ignores part a s) (band_end a t)) (bands a) + 1)
 
-abbrev pub chip_tiles : Part → Axis → spans.Axis → Rows
-chip_tiles part a s = record { from = first_tiles part a s; to = past_tiles part a s }
+abbrev pub chip_tiles : Bool → Part → Axis → spans.Axis → Rows
+chip_tiles ignores part a s = record { from = first_tiles ignores part a s; to = past_tiles ignores part a s }

@@ -1,8 +1,9 @@
 //! The rows of tiles and of windows that a part of a chip has as a smaller chip, found by arithmetic.
-ghost use Rattle.std.specs.Prelude.{◌≡◌, ◌↔◌, ◌<◌, ◌≤◌, ◌⊎◌, ℕ, Bool, false, true, None, IfSome, ◌&&◌, ◌+◌, ◌-◌, int_le, min, nat_le};
+ghost use Rattle.std.specs.Prelude.{◌≡◌, ◌↔◌, ◌<◌, ◌≤◌, ◌⊎◌, ℕ, Bool, false, true, None, IfSome, ◌&&◌, ◌+◌, ◌-◌, if◌then◌else◌, int_le, min, nat_le};
+ghost use Rattle.std.specs.Int.{int_max, int_min};
 ghost use Rattle.fill_base.specs.Coordinates.{IsCoordinate};
 ghost use Rattle.fill_area.specs.Axes as areas;
-ghost use Rattle.fill_area.specs.Axes.{IsIndex};
+ghost use Rattle.fill_area.specs.Axes.{IsIndex, axis_begin, axis_end};
 ghost use Rattle.fill_raster.specs.Axes.{IsAxis, band_begin, band_end, bands};
 ghost use Rattle.fill_job.specs.Searches.{some_below};
 ghost use Rattle.fill_parts.specs.PartRows.{chip_tiles, first_of, is_tile_row_level, is_window_row_level, looked_at_windows, looks_at_row, needed_tiles, past_of};
@@ -92,6 +93,26 @@ fn ended_from(places: Places, needed: u32, first: u32, line: i64) -> u32
     places.bands().min(last + 1)
 }
 
+/// The lines that the frame of some windows has to reach, from below and from above: those between which they may count, where
+/// nothing beside the frame does; else any.
+fn frame_lines(ignores: bool, places: Places, windows: Spans, looked_at: &Range<u32>) -> (i64, i64)
+    requires places { IsAxis places }
+    requires windows { areas.IsAxis windows }
+    requires some { looked_at.now.start < looked_at.now.end }
+    requires within { looked_at.now.end ≤ windows.count }
+    ensures begins { result.0 ≡ (if ignores then int_max places.low (axis_begin windows looked_at.now.start) else places.high) }
+    ensures ends { result.1 ≡ (if ignores then int_min places.high (axis_end windows (looked_at.now.end - 1)) else places.low) }
+    ensures bottom { IsCoordinate result.0 }
+    ensures top { IsCoordinate result.1 }
+{
+    if !ignores {
+        return (places.high, places.low);
+    }
+    let (begin, _) = windows.extent(looked_at.start);
+    let (_, end) = windows.extent(looked_at.end - 1);
+    (places.low.max(begin), places.high.min(end))
+}
+
 impl Part {
     /// The rows of tiles whose fill has to be known: its own, those level with its windows, and those between.
     fn needed_tiles(self, places: Places, windows: Spans) -> Range<u32>
@@ -116,30 +137,36 @@ impl Part {
         joined(self.rows(windows.count), level, windows.count)
     }
 
-    /// Its rows of tiles, where it looks at these windows: those that it needs, and as many below and above as it takes to cover
-    /// what may count of the windows.
-    fn chip_tiles(self, places: Places, windows: Spans, looked_at: &Range<u32>) -> Range<u32>
+    /// Its rows of tiles, where it looks at these windows: those that it needs and, where nothing beside a frame counts, as many
+    /// below and above as it takes to cover what may count of the windows.
+    fn chip_tiles(
+        self,
+        ignores: bool,
+        places: Places,
+        windows: Spans,
+        looked_at: &Range<u32>,
+    ) -> Range<u32>
         requires places { IsAxis places }
         requires windows { areas.IsAxis windows }
         requires from { looked_at.now.start ≡ (looked_at_windows self places windows).from }
         requires to { looked_at.now.end ≡ (looked_at_windows self places windows).to }
         requires some { looked_at.now.start < looked_at.now.end }
-        ensures from { result.start ≡ (chip_tiles self places windows).from }
-        ensures to { result.end ≡ (chip_tiles self places windows).to }
+        ensures from { result.start ≡ (chip_tiles ignores self places windows).from }
+        ensures to { result.end ≡ (chip_tiles ignores self places windows).to }
     {
         let needed = self.needed_tiles(places, windows);
-        let (begin, _) = windows.extent(looked_at.start);
-        let (_, end) = windows.extent(looked_at.end - 1);
-        let first = begun_up_to(places, needed.start, places.low.max(begin));
-        first..ended_from(places, needed.end, first, places.high.min(end))
+        let (begins_by, ends_from) = frame_lines(ignores, places, windows, looked_at);
+        let first = begun_up_to(places, needed.start, begins_by);
+        first..ended_from(places, needed.end, first, ends_from)
     }
 
-    /// The rows of the part as a smaller chip, of the rows of places and of windows of the whole one; none where it looks at no window.
-    pub fn chip_rows(self, places: Places, windows: Spans) -> Option<PartRows>
+    /// The rows of the part as a smaller chip, of the rows of places and of windows of the whole one, of which all counts or nothing
+    /// beside the frame; none where it looks at no window.
+    pub fn chip_rows(self, ignores: bool, places: Places, windows: Spans) -> Option<PartRows>
         requires places { IsAxis places }
         requires windows { areas.IsAxis windows }
         ensures none { (result ≡ None) ↔ (some_below (looks_at_row self places windows) windows.count ≡ false) }
-        ensures tiles { IfSome result (λ r. (r.tiles.start ≡ (chip_tiles self places windows).from) × (r.tiles.end ≡ (chip_tiles self places windows).to)) }
+        ensures tiles { IfSome result (λ r. (r.tiles.start ≡ (chip_tiles ignores self places windows).from) × (r.tiles.end ≡ (chip_tiles ignores self places windows).to)) }
         ensures windows { IfSome result (λ r. (r.windows.start ≡ (looked_at_windows self places windows).from) × (r.windows.end ≡ (looked_at_windows self places windows).to)) }
     {
         let looked_at = self.looked_at_windows(places, windows);
@@ -147,7 +174,7 @@ impl Part {
             return None;
         }
         Some(PartRows {
-            tiles: self.chip_tiles(places, windows, &looked_at),
+            tiles: self.chip_tiles(ignores, places, windows, &looked_at),
             windows: looked_at,
         })
     }

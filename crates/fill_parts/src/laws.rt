@@ -1,7 +1,7 @@
 //! What holds of every cut into parts, whatever the code does. Each function's contract is the law.
 ghost use Rattle.fill_text.specs.ValuesOfChips.{chip_values};
 ghost use Rattle.fill_job.specs.Plans.{plan_of};
-ghost use Rattle.fill_parts.specs.Laws.{AreasAgree, ChipRunIsThePart, PartLinesAreTold, ClippedAgrees, EachRowIsInOnePart, EditsAgree, EditsAreChanges, EditsInsideSuffice, EditsOpenAnew, EditsOutsideDoNothing, PartsMakeTheCheck, PartsTellTheReport, FillAfterEdits, FillsAgree, LinesAgree, LowWindowsAgree, NeededSidesAreEnough, PartFillIsOfItsChip, PartFillIsWanted, PartLinesAreOfItsChip, PartIsASmallerChip, PartOfNoWindowHasNothing, PartsAreApart, PartsFollow, PartsMakeTheFill, PartsMakeTheReport, RowsFollow, RulesAloneMakeASmallerChip, SmallerChipMeasuresTheSame, SmallerChipWantsTheSame, WantedAgree};
+ghost use Rattle.fill_parts.specs.Laws.{AreasAgree, ChipRunIsThePart, PartLinesAreTold, ClippedAgrees, EachRowIsInOnePart, EditsAgree, EditsAreChanges, EditsInsideSuffice, EditsOpenAnew, EditsOutsideDoNothing, PartsMakeTheCheck, FillAfterEdits, FillsAgree, LinesAgree, LowWindowsAgree, NeededSidesAreLeast, PartFillIsOfItsChip, PartFillIsWanted, PartLinesAreOfItsChip, PartIsASmallerChip, PartOfNoWindowHasNothing, PartsAreApart, PartsFollow, PartsMakeTheFill, PartsMakeTheReport, RowsFollow, RulesAloneMakeASmallerChip, SmallerChipMeasuresTheSame, SmallerChipWantsTheSame};
 ghost use Rattle.fill_parts.specs.Smaller.{IsPlanOfAnySize};
 
 use fill_text::ChipRules;
@@ -26,12 +26,12 @@ pub fn parts_make_the_report()
     ensures { PartsMakeTheReport }
 {}
 
-/// The rectangle that a part asks for holds all that it needs.
-pub fn needed_sides_are_enough()
-    ensures { NeededSidesAreEnough }
+/// The sides that a chip needs are enough, and the least that are.
+pub fn needed_sides_are_least()
+    ensures { NeededSidesAreLeast }
 {}
 
-/// Metals that agree where a part looks have the same areas in its windows.
+/// Metals that agree where a chip looks have the same areas in its windows.
 pub fn areas_agree()
     ensures { AreasAgree }
 {}
@@ -41,17 +41,12 @@ pub fn low_windows_agree()
     ensures { LowWindowsAgree }
 {}
 
-/// And the same places of its tiles are wanted.
-pub fn wanted_agree()
-    ensures { WantedAgree }
-{}
-
-/// And the part's fill is the same.
+/// And its fill is the same.
 pub fn fills_agree()
     ensures { FillsAgree }
 {}
 
-/// And so are its lines, of which the fill is that of the tiles level with its windows.
+/// And so are the lines of rows of its windows.
 pub fn lines_agree()
     ensures { LinesAgree }
 {}
@@ -89,11 +84,6 @@ pub fn clipped_agrees()
 /// An edit beside the rectangle changes nothing there.
 pub fn edits_outside_do_nothing()
     ensures { EditsOutsideDoNothing }
-{}
-
-/// Lines that each part finds in its own metal are the report of the whole.
-pub fn parts_tell_the_report()
-    ensures { PartsTellTheReport }
 {}
 
 /// Edits do what the changes of a script say.

@@ -41,16 +41,6 @@ impl Part {
         })
     }
 
-    /// The whole, as the only part of one.
-    pub fn whole() -> Part
-        ensures { result ≡ record { number = 0; count = 1 } }
-    {
-        Part {
-            number: 0,
-            count: 1,
-        }
-    }
-
     /// The last of as many parts.
     pub fn last(self) -> Part
         ensures { result ≡ record { number = self.count - 1; count = self.count } }

@@ -1,6 +1,6 @@
 //! A part of a chip of any size as a smaller chip: its rules, and which of its rows are the part's own.
 ghost use Rattle.std.specs.Prelude.{◌≡◌, ◌&&◌, ◌-◌, ◌≤◌, ℤ, false, nat_lt, true, IfOk};
-ghost use Rattle.fill_base.specs.Sides.{Sides};
+ghost use Rattle.fill_base.specs.Sides.{sides_of};
 ghost use Rattle.fill_base.specs.Squares.{squares};
 ghost use Rattle.fill_raster.specs.Axes.{IsAxis, bands};
 ghost use Rattle.fill_report.specs.Report.{nothing};
@@ -11,7 +11,7 @@ ghost use Rattle.fill_text.specs.ValuesOfRules.{values_of};
 ghost use Rattle.fill_job.specs.Plans.{PointSet, plan_of};
 ghost use Rattle.fill_job.specs.Searches.{some_below};
 ghost use Rattle.fill_parts.specs.Cuts.{first_row, past_row};
-ghost use Rattle.fill_parts.specs.Needs.{IsEnough, in_coordinates, is_inside};
+ghost use Rattle.fill_parts.specs.Needs.{in_coordinates, needed_sides};
 ghost use Rattle.fill_parts.specs.PartChip.{HoldsPart, by_size, counted_from, looks_at, own_alone, own_tiles, part_alone, part_rules, rows_told};
 ghost use Rattle.fill_parts.specs.PartRows.{chip_tiles, looked_at_windows, looks_at_row};
 ghost use Rattle.fill_parts.specs.Smaller.{AreRowsOf, AreSome, bands_alone};
@@ -19,7 +19,7 @@ ghost use Rattle.fill_parts.specs.SmallerRules.{rules_alone};
 ghost use Rattle.fill_parts.specs.Told.{tiles_in, windows_in};
 
 use crate::chip::PartRows;
-use crate::hull::Hull;
+use crate::needs::{around_windows, needed_rect};
 use crate::part::Part;
 use fill_base::{LOWEST, Rect};
 use fill_job::laws::rules_make_a_plan;
@@ -139,7 +139,7 @@ impl Part {
         rows: &PartRows,
     ) -> Result<Rules, PartRulesError>
         requires looks { some_below (looks_at_row self (raster_of (chip_values chip.now).numbers).up (whole_windows (chip_values chip.now).numbers).up) (whole_windows (chip_values chip.now).numbers).up.count ≡ true }
-        requires tiles { let t = chip_tiles self (raster_of (chip_values chip.now).numbers).up (whole_windows (chip_values chip.now).numbers).up in (rows.now.tiles.start ≡ t.from) × (rows.now.tiles.end ≡ t.to) }
+        requires tiles { let t = chip_tiles (chip_values chip.now).ignores self (raster_of (chip_values chip.now).numbers).up (whole_windows (chip_values chip.now).numbers).up in (rows.now.tiles.start ≡ t.from) × (rows.now.tiles.end ≡ t.to) }
         requires windows { let w = looked_at_windows self (raster_of (chip_values chip.now).numbers).up (whole_windows (chip_values chip.now).numbers).up in (rows.now.windows.start ≡ w.from) × (rows.now.windows.end ≡ w.to) }
         ensures { Gives PartRulesError.Memory values_of result (by_size (part_alone (chip_values chip.now) self)) }
     {
@@ -193,7 +193,11 @@ impl Part {
         chip.keeps_faultless();
         let last = self.last();
         let rows = last
-            .chip_rows(chip.place_rows(), chip.window_rows())
+            .chip_rows(
+                chip.ignores_padding(),
+                chip.place_rows(),
+                chip.window_rows(),
+            )
             .unwrap();
         let rules = last.rules_of(alloc, chip, &rows)?;
         rules_make_a_plan(&rules);
@@ -221,7 +225,7 @@ impl Part {
         chip.keeps_faultless();
         let places = chip.place_rows();
         let windows = chip.window_rows();
-        let Some(rows) = self.chip_rows(places, windows) else {
+        let Some(rows) = self.chip_rows(chip.ignores_padding(), places, windows) else {
             return self.empty_chip(alloc, chip);
         };
         let rules = self.rules_of(alloc, chip, &rows)?;
@@ -238,25 +242,24 @@ impl Part {
 }
 
 impl PartChip {
-    /// A rectangle round all that the part looks at, as far as there are coordinates.
+    /// The least rectangle round all that the part looks at, as far as there are coordinates.
     pub fn needed_rect(&self) -> Rect
-        ensures { (s : Sides) × IsEnough (plan_of (values_of self.now.rules)) (record { number = 0; count = 1 }) s × ((x y : ℤ) → squares result x y ≡ is_inside (in_coordinates s) x y) }
+        ensures { sides_of result ≡ in_coordinates (needed_sides (plan_of (values_of self.now.rules))) }
     {
-        Part::whole().needed_rect(&self.rules)
+        needed_rect(&self.rules)
     }
 
-    /// A rectangle round the part's own windows; the square at the least coordinates where it has none. Of any metal, what lies within
+    /// The rectangle round the part's own windows; the square at the least coordinates where it has none. Of any metal, what lies within
     /// gives the part's lines without fill.
     pub fn window_rect(&self) -> Rect
         ensures { (metal : PointSet) → rows_told (values_of self.now.rules) (windows_in self.now.told) self.now.told.below (λ x y. metal x y && squares result x y) nothing
             ≡ rows_told (values_of self.now.rules) (windows_in self.now.told) self.now.told.below metal nothing }
     {
         rules_make_a_plan(&self.rules);
-        let own = self.told.windows.start..self.told.windows.end;
-        let hull = Hull::none().cover_windows(&self.rules.windows(), own);
-        match hull.rect() {
-            Some(rect) => rect,
-            None => Rect::from_edges(LOWEST, LOWEST, LOWEST + 1, LOWEST + 1),
+        let own = &self.told.windows;
+        if own.start >= own.end {
+            return Rect::from_edges(LOWEST, LOWEST, LOWEST + 1, LOWEST + 1);
         }
+        around_windows(&self.rules.windows(), own)
     }
 }

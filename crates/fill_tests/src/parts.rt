@@ -1,7 +1,7 @@
 //! Cuts, and what parts need, of ten rows of places in three rows of tiles under four rows of windows.
 
 use fill_base::Rect;
-use fill_parts::{Hull, Part};
+use fill_parts::{Part, needed_rect};
 use fill_text::{ChipRules, Rules, read_chip_rules, read_rules};
 use std::alloc::Global;
 use std::test::Fail;
@@ -68,43 +68,13 @@ fn ten_rows_in_three_parts(rt: HostRuntime) -> Result<(), Fail> {
     Ok(())
 }
 
-/// How many of the tiles a part needs, and the sum of their numbers.
-fn needed_tiles(rules: &Rules, part: Part) -> (u32, u32) {
-    let (mut count, mut sum) = (0u32, 0u32);
-    for tile in 0..rules.raster().tiles() {
-        if part.needs_tile(rules, tile) {
-            count = count.wrapping_add(1);
-            sum = sum.wrapping_add(tile);
-        }
-    }
-    (count, sum)
-}
-
-/// Tiles 0 to 2 of nine are level with the lowest windows, and 3 to 8 with the highest.
+/// Tiles from 3 to 97 with a spacing of 2 round them lie within the windows; of boxes as far to the right as may be not.
 #[test]
-fn tiles_level_with_the_windows_are_needed(rt: HostRuntime) -> Result<(), Fail> {
-    let rules = rules(rt.alloc())?;
-    assert!(rt; needed_tiles(&rules, part(1, 4)?) == (3, 3));
-    assert!(rt; needed_tiles(&rules, part(4, 4)?) == (6, 33));
-    Ok(())
-}
-
-#[test]
-fn needed_metal_reaches_to_the_windows_level_with_needed_tiles(
-    rt: HostRuntime,
-) -> Result<(), Fail> {
-    let rules = rules(rt.alloc())?;
-    assert!(rt; part(1, 4)?.needed(&rules).rect() == Some(Rect::new(0, 0, 100, 50)?));
-    assert!(rt; part(4, 4)?.needed(&rules).rect() == Some(Rect::new(0, 25, 100, 100)?));
-    assert!(rt; part(4, 4)?.own_windows(&rules).rect() == Some(Rect::new(0, 75, 100, 100)?));
-    Ok(())
-}
-
-#[test]
-fn a_part_without_rows_needs_nothing(rt: HostRuntime) -> Result<(), Fail> {
-    let rules = rules(rt.alloc())?;
-    assert!(rt; part(1, 8)?.needed(&rules).rect().is_none());
-    assert!(rt; Hull::none().rect().is_none());
+fn a_chip_needs_its_windows_and_what_lies_near_its_boxes(rt: HostRuntime) -> Result<(), Fail> {
+    assert!(rt; needed_rect(&rules(rt.alloc())?) == Rect::new(0, 0, 100, 100)?);
+    let wide = RULES.replace(rt.alloc(), "win_w,100", "win_w,50")?;
+    let wide = read_rules(rt.alloc(), wide.as_bytes())?;
+    assert!(rt; needed_rect(&wide) == Rect::new(0, 0, 99, 100)?);
     Ok(())
 }
 
@@ -114,31 +84,35 @@ fn rules_of(alloc: Global, chip: &ChipRules, part: Part) -> Result<Rules, Fail> 
 }
 
 /// The first quarter has the lowest row of windows; the lowest row of tiles is level with it, and with the next row of windows, which
-/// the second row of tiles covers. The last quarter needs the two upper rows of tiles, and takes the lowest too.
+/// the second row of tiles covers. The last quarter needs the two upper rows of tiles, and takes the lowest too where padding is ignored.
 #[test]
 fn a_part_has_the_rules_of_a_smaller_chip(rt: HostRuntime) -> Result<(), Fail> {
     let alloc = rt.alloc();
     let chip = read_chip_rules(alloc, RULES.as_bytes())?;
     let first = rules_of(alloc, &chip, part(1, 4)?)?;
-    assert!(rt; first.frame() == Rect::new(0, 0, 100, 77)?);
+    assert!(rt; first.frame() == Rect::new(0, 0, 100, 37)?);
     assert!(rt; first.win_y() == 0 && first.win_ny() == 2);
     let last = rules_of(alloc, &chip, part(4, 4)?)?;
-    assert!(rt; last.frame() == Rect::new(0, 0, 100, 100)?);
+    assert!(rt; last.frame() == Rect::new(0, 43, 100, 100)?);
     assert!(rt; last.win_y() == 25 && last.win_ny() == 3);
     assert!(rt; rules_of(alloc, &chip, part(1, 1)?)? == rules(alloc)?);
+    let ignoring = format!(in alloc; "{RULES}padding,ignore\n")?;
+    let chip = read_chip_rules(alloc, ignoring.as_bytes())?;
+    assert!(rt; rules_of(alloc, &chip, part(1, 4)?)?.frame() == Rect::new(0, 0, 100, 77)?);
+    assert!(rt; rules_of(alloc, &chip, part(4, 4)?)?.frame() == Rect::new(0, 0, 100, 100)?);
     Ok(())
 }
 
-/// Of the last quarter's three rows of tiles the uppermost is its own, and of its three rows of windows too; one row lies below these. The
-/// first eighth looks at no window: its chip is the last one's, without a row of its own.
+/// Of the last quarter's two rows of tiles the upper one is its own, and of its three rows of windows the uppermost; one row lies below
+/// these. The first eighth looks at no window: its chip is the last one's, without a row of its own.
 #[test]
 fn a_part_tells_its_own_rows(rt: HostRuntime) -> Result<(), Fail> {
     let alloc = rt.alloc();
     let chip = read_chip_rules(alloc, RULES.as_bytes())?;
     let last = part(4, 4)?.chip(alloc, &chip)?;
-    assert!(rt; last.told.tiles == (2..3) && last.told.windows == (2..3));
+    assert!(rt; last.told.tiles == (1..2) && last.told.windows == (2..3));
     assert!(rt; last.told.below == 1);
-    assert!(rt; last.needed_rect() == Rect::new(0, 1, 100, 100)?);
+    assert!(rt; last.needed_rect() == Rect::new(0, 25, 100, 100)?);
     assert!(rt; last.window_rect() == Rect::new(0, 75, 100, 100)?);
     let empty = part(1, 8)?.chip(alloc, &chip)?;
     assert!(rt; empty.rules == rules_of(alloc, &chip, part(8, 8)?)?);

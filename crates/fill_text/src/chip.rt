@@ -65,6 +65,13 @@ impl ChipRules {
         self.numbers.places_up()
     }
 
+    /// Whether what lies beside the frame counts nothing.
+    pub fn ignores_padding(&self) -> bool
+        ensures { result ≡ (chip_values self.now).ignores }
+    {
+        self.ignores
+    }
+
     /// The values have no fault, and their numbers are those that a plan of any size asks for. This does nothing when it
     /// runs: its contract is the law.
     pub fn keeps_faultless(&self)

@@ -36,11 +36,11 @@ returns-clause-rules c = rules_of_own (chip_values c.args.chip.now) c.args.self 
 pub returns-clause-part : goal.returns-clause-part
 returns-clause-part c =
     let values = chip_values c.args.chip.now in
-    held_as values c.args.self (values_of c.in_ok-rules.rules) (counted_from (part_tiles (plan_of values) c.args.self).from (own_rows c.args.self (bands (plan_of values).raster.up)))
+    held_as values c.args.self (values_of c.in_ok-rules.rules) (counted_from (part_tiles values c.args.self).from (own_rows c.args.self (bands (plan_of values).raster.up)))
     (counted_from (part_windows (plan_of values) c.args.self).from (own_rows c.args.self (plan_of values).windows.up.count)) (record { from = c.counted_from.result.start; to = c.counted_from.result.end })
     (record { from = c.counted_from-2.result.start; to = c.counted_from-2.result.end }) (part_windows (plan_of values) c.args.self).from c.in-Some.rows.windows.start
     (tiles_as (chip_values c.args.chip.now) c.args.self c.place_rows-places.result c.window_rows-windows.result c.place_rows-places.ensures.value c.window_rows-windows.ensures.value
-    c.bands.result c.rows.result.start c.rows.result.end c.in-Some.rows.tiles.start c.counted_from.result.start c.counted_from.result.end c.bands.ensures c.rows.ensures.first c.rows.ensures.past c.in-Some.ensures.tiles.0 c.counted_from.ensures.from c.counted_from.ensures.to)
+    c.bands.result c.rows.result.start c.rows.result.end c.in-Some.rows.tiles.start c.counted_from.result.start c.counted_from.result.end c.bands.ensures c.rows.ensures.first c.rows.ensures.past (rw c.ignores_padding.ensures at c.in-Some.ensures.tiles.0) c.counted_from.ensures.from c.counted_from.ensures.to)
     (windows_as (chip_values c.args.chip.now) c.args.self c.place_rows-places.result c.window_rows-windows.result c.place_rows-places.ensures.value c.window_rows-windows.ensures.value
     c.rows-2.result.start c.rows-2.result.end c.in-Some.rows.windows.start c.counted_from-2.result.start c.counted_from-2.result.end c.rows-2.ensures.first c.rows-2.ensures.past c.in-Some.ensures.windows.0 c.counted_from-2.ensures.from c.counted_from-2.ensures.to)
     (below_is (chip_values c.args.chip.now) c.args.self c.place_rows-places.result c.window_rows-windows.result c.place_rows-places.ensures.value c.window_rows-windows.ensures.value c.in-Some.rows.windows.start c.in-Some.ensures.windows.0)

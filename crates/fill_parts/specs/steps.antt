@@ -1,3 +1,0 @@
--- What serves the functions of the crate alone.
-pub mod Edges
-pub mod Hulls
