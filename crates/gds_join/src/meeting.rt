@@ -24,28 +24,29 @@ fn part_at(parts: &[Filled], j: i64) -> Option<&Filled>
     parts.iter().find(|part| has_row(part, j))
 }
 
-/// Whether the part that has a place's row fills it.
-fn is_taken(parts: &[Filled], place: Place) -> bool
-    ensures { result ≡ filled_in parts.now place.i place.j }
-{
-    match part_at(parts, place.j) {
-        Some(part) => part.has(place),
-        None => false,
-    }
-}
-
-/// Whether a fill has a place that some parts have, in a row, from one column on and before another.
-fn row_meets(parts: &[Filled], fill: &Filled, left: i64, right: i64, j: i64) -> bool
-    ensures yes { result ≡ true → Meets (is_filled fill.now) (filled_in parts.now) }
-    ensures no { result ≡ false → (i : ℤ) → is_between left right i ≡ true → (is_filled fill.now i j && filled_in parts.now i j) ≡ false }
+/// Whether two fills both have a place of a row, from one column on and before another.
+fn row_meets(part: &Filled, fill: &Filled, left: i64, right: i64, j: i64) -> bool
+    ensures yes { result ≡ true → (i : ℤ) × (is_filled fill.now i j ≡ true) × (is_filled part.now i j ≡ true) }
+    ensures no { result ≡ false → (i : ℤ) → is_between left right i ≡ true → (is_filled fill.now i j && is_filled part.now i j) ≡ false }
 {
     for i in left..right {
         let place = Place { i, j };
-        if fill.has(place) && is_taken(parts, place) {
+        if fill.has(place) && part.has(place) {
             return true;
         }
     }
     false
+}
+
+/// Whether a fill has a place that some parts have, in a row, from one column on and before another.
+fn meets_at(parts: &[Filled], fill: &Filled, left: i64, right: i64, j: i64) -> bool
+    ensures yes { result ≡ true → Meets (is_filled fill.now) (filled_in parts.now) }
+    ensures no { result ≡ false → (i : ℤ) → is_between left right i ≡ true → (is_filled fill.now i j && filled_in parts.now i j) ≡ false }
+{
+    match part_at(parts, j) {
+        Some(part) => row_meets(part, fill, left, right, j),
+        None => false,
+    }
 }
 
 /// Whether a fill has a place that some parts have.
@@ -56,7 +57,7 @@ pub(crate) fn meets(parts: &[Filled], fill: &Filled) -> bool
     let raster = fill.raster();
     let (columns, rows) = (raster.columns(), raster.rows());
     for j in rows.start..rows.end {
-        if row_meets(parts, fill, columns.start, columns.end, j) {
+        if meets_at(parts, fill, columns.start, columns.end, j) {
             return true;
         }
     }

@@ -33,7 +33,7 @@ loop-j-preserved c =
     let lt = is_lt c.loop-j.j (past r.up) (rw (c.loop-j.j-is, p) at c.loop-j-test.true) in
     let inv = rw c.loop-j.j-is at c.loop-j.invariant in
     let next : read (c.loop-j.j +ℤ pos 1) ≡ c.loop-j.j +ℤ pos 1 = read_is _ (step_fits c.loop-j.j (past r.up) (search rules) lt (past_bounded r.up is.up).most) in
-    let this = rw (c.loop-j.j-is, left, right) at (c.row_meets.ensures.no c.if-row_meets.false) in
+    let this = rw (c.loop-j.j-is, left, right) at (c.meets_at.ensures.no c.if-meets_at.false) in
     rw (c.loop-j.j-is, next) (record {
       from = one_on _ _ inv.from;
       to = next_to c.loop-j.j (past r.up) lt;
