@@ -62,9 +62,10 @@ all_known [] = Some []
 all_known (None ∷ files) = None
 all_known (Some bytes ∷ files) = option_map (λ others. bytes ∷ others) (all_known files)
 
--- part K of N, as a line names it, and as a definition does
-abbrev pub part_named : ℕ → ℕ → Scope
-part_named number count = asked.Part (record { number = number - 1; count = count })
+-- what of a chip a line asks for: all of it, or part K of N, where it names one
+abbrev pub scope_named : Option (ℕ × ℕ) → Scope
+scope_named None = asked.Whole
+scope_named (Some part) = asked.Part (record { number = part.0 - 1; count = part.1 })
 
 -- an input could not be opened, or this is why opened files, whose bytes `remaining` tells, give no report of this much of a chip
 abbrev pub IsCheckCause : {F : Type 0} → (F → Option (List ℕ)) → Scope → Refusal → Type 0
@@ -81,13 +82,11 @@ IsFillCause {F} remaining scope workers limit refusal =
 abbrev pub IsCause : {F : Type 0} → (F → Option (List ℕ)) → Option Said → Refusal → Type 0
 IsCause {F} remaining (Some (line.rects rules script)) refusal =
     (IsUnopened of_rules refusal ⊎ IsUnopened of_script refusal) ⊎ ((r s : F) × IfSome (remaining r) (λ r. IfSome (remaining s) (λ s. IsReason r s refusal)))
-IsCause remaining (Some (line.check rules design)) refusal = IsCheckCause remaining asked.Whole refusal
-IsCause remaining (Some (line.check_part rules design number count)) refusal = IsCheckCause remaining (part_named number count) refusal
+IsCause remaining (Some (line.check rules design part)) refusal = IsCheckCause remaining (scope_named part) refusal
 IsCause {F} remaining (Some (line.join rules out parts)) refusal =
     IsUnopened of_rules refusal ⊎ ((r : F) × (ps : List F) × IfSome (remaining r) (λ r. IfSome (all_known (map remaining ps)) (λ texts.
     IsJoinReason r texts (length parts) refusal ⊎ ((length texts ≡ length parts) × IsUnsettled r texts refusal))))
-IsCause remaining (Some (line.fill rules design script out workers limit)) refusal = IsFillCause remaining asked.Whole workers limit refusal
-IsCause remaining (Some (line.fill_part rules design script out number count)) refusal = IsFillCause remaining (part_named number count) 1 None refusal
+IsCause remaining (Some (line.fill rules design script out part workers limit)) refusal = IsFillCause remaining (scope_named part) workers limit refusal
 IsCause remaining None refusal = ⊥
 
 -- a text was written whole to a file
@@ -108,13 +107,11 @@ IsFillReport {F} remaining contents scope workers limit before after =
 abbrev pub IsReport : {F : Type 0} → (F → Option (List ℕ)) → (F → Option (List ℕ)) → Option Said → Option (List ℕ) → Option (List ℕ) → Type 0
 IsReport {F} remaining contents (Some (line.rects rules script)) before after =
     (r s : F) × IfSome (remaining r) (λ r. IfSome (remaining s) (λ s. IsOkAnd (report_answer r s) (Appends before after)))
-IsReport remaining contents (Some (line.check rules design)) before after = IsCheckReport remaining asked.Whole before after
-IsReport remaining contents (Some (line.check_part rules design number count)) before after = IsCheckReport remaining (part_named number count) before after
+IsReport remaining contents (Some (line.check rules design part)) before after = IsCheckReport remaining (scope_named part) before after
 IsReport {F} remaining contents (Some (line.join rules out parts)) before after =
     ((r : F) × (ps : List F) × (length ps ≡ length parts) × IfSome (remaining r) (λ r. IfSome (all_known (map remaining ps)) (λ texts.
     (library : List ℕ) × IsJoinOf r texts library × IsFile contents library))) × (after ≡ before)
-IsReport remaining contents (Some (line.fill rules design script out workers limit)) before after = IsFillReport remaining contents asked.Whole workers limit before after
-IsReport remaining contents (Some (line.fill_part rules design script out number count)) before after = IsFillReport remaining contents (part_named number count) 1 None before after
+IsReport remaining contents (Some (line.fill rules design script out part workers limit)) before after = IsFillReport remaining contents (scope_named part) workers limit before after
 IsReport remaining contents None before after = ⊥
 
 -- the path of the part's library that a refusal is of, counted from 1
@@ -134,11 +131,9 @@ path_in parts Report = None
 abbrev pub path_of : Option Said → Refusal → Option (List ℕ)
 path_of None refusal = None
 path_of (Some (line.rects rules script)) refusal = None
-path_of (Some (line.check rules design)) refusal = None
-path_of (Some (line.check_part rules design number count)) refusal = None
+path_of (Some (line.check rules design part)) refusal = None
 path_of (Some (line.join rules out parts)) refusal = path_in parts refusal
-path_of (Some (line.fill rules design script out workers limit)) refusal = None
-path_of (Some (line.fill_part rules design script out number count)) refusal = None
+path_of (Some (line.fill rules design script out part workers limit)) refusal = None
 
 -- the run gave up for a cause, and told it; want of memory of the command line is told as that of the run
 abbrev pub GaveUp : {F : Type 0} → (F → Option (List ℕ)) → Option Said → Option (List ℕ) → Option (List ℕ) → Bool → ℕ → Type 0

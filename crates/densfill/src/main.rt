@@ -5,15 +5,15 @@ mod join;
 mod open;
 mod target;
 
-ghost use Rattle.std.specs.Prelude.{◌≡◌, ◌⊎◌, ◌↔◌, ◌<◌, ◌≤◌, false, true, Some, None, map, option_map, IfErr, IsSome, OnErr, OnOk};
+ghost use Rattle.std.specs.Prelude.{◌≡◌, ◌⊎◌, ◌↔◌, ◌<◌, ◌≤◌, false, true, Some, None, map, option_map, IfErr, IfSome, IsSome, OnErr, OnOk};
 ghost use Rattle.std.specs.IoError.{error_kind};
 ghost use Rattle.std.specs.Process.{exit_status};
 ghost use Rattle.densfill_io.specs.Taps.{has_failed, under};
 ghost use Rattle.densfill_engine.specs.Refusals.{refusal_status};
-ghost use Rattle.densfill_args.specs.Lines.{text_of, IsBounded};
+ghost use Rattle.densfill_args.specs.Lines.{text_of, IsBounded, IsPart};
 ghost use Rattle.densfill_args.specs.Grammar.{said_in, IsFaultless, IsTaken};
 ghost use Rattle.densfill_args.specs.Grammar as said;
-ghost use Rattle.densfill.specs.Outcomes.{GaveUp, IsCause, IsCheckCause, IsCheckReport, IsFillCause, IsFillReport, IsReport, IsTold, IsToldOf, part_named, path_at, path_in, path_of};
+ghost use Rattle.densfill.specs.Outcomes.{GaveUp, IsCause, IsCheckCause, IsCheckReport, IsFillCause, IsFillReport, IsReport, IsTold, IsToldOf, path_at, path_in, path_of, scope_named};
 
 use densfill_args::{Line, LineError, read_line};
 use densfill_engine::{Crew, Refusal, RunFault, Scope, check, deliver, prepare, rects};
@@ -36,18 +36,15 @@ const USAGE: u8 = 1;
 /// Memory ran out outside the inputs and outputs.
 pub(crate) const OUT_OF_MEMORY: Refusal = Refusal::Run(RunFault::Memory);
 
-/// Who fills a part.
-const ALONE: Crew = Crew {
-    workers: 1,
-    limit: None,
-};
-
-/// The part that a line names.
-fn part_of(number: u32, count: u32) -> Scope
-    requires { (1 ≤ number) × (number ≤ count) × (count ≤ 4096) }
-    ensures { result ≡ part_named number count }
+/// What of a chip a line asks for: the part that it names, or all of it.
+fn scope_of(part: Option<(u32, u32)>) -> Scope
+    requires { IfSome part IsPart }
+    ensures { result ≡ scope_named part }
 {
-    Scope::Part(Part::new(number, count).unwrap())
+    match part {
+        Some((number, count)) => Scope::Part(Part::new(number, count).unwrap()),
+        None => Scope::Whole,
+    }
 }
 
 /// Does what a line of `rects` asks for.
@@ -124,13 +121,11 @@ fn run<R: Alloc<A = Global> + Files + Threads + Wait + Sync, W: Write + Drop>(
 {
     match line {
         Line::Rects { rules, script } => rects_of(rt, alloc, rules, script, out),
-        Line::Check { rules, design } => check_of(rt, alloc, rules, design, Scope::Whole, out),
-        Line::CheckPart {
+        Line::Check {
             rules,
             design,
-            number,
-            count,
-        } => check_of(rt, alloc, rules, design, part_of(*number, *count), out),
+            part,
+        } => check_of(rt, alloc, rules, design, scope_of(*part), out),
         Line::Join {
             rules,
             out: library,
@@ -141,6 +136,7 @@ fn run<R: Alloc<A = Global> + Files + Threads + Wait + Sync, W: Write + Drop>(
             design,
             script,
             out: library,
+            part,
             workers,
             limit,
         } => {
@@ -149,18 +145,7 @@ fn run<R: Alloc<A = Global> + Files + Threads + Wait + Sync, W: Write + Drop>(
                 workers: *workers,
                 limit: *limit,
             };
-            fill_of(rt, alloc, &paths, Scope::Whole, crew, out)
-        }
-        Line::FillPart {
-            rules,
-            design,
-            script,
-            out: library,
-            number,
-            count,
-        } => {
-            let paths = Paths::new(rules, design, script, library);
-            fill_of(rt, alloc, &paths, part_of(*number, *count), ALONE, out)
+            fill_of(rt, alloc, &paths, scope_of(*part), crew, out)
         }
     }
 }
@@ -236,9 +221,7 @@ fn path_of<'a>(line: &Line<'a>, refusal: Refusal) -> Option<&'a str>
         Line::Join { parts, .. } => path_in(parts, refusal),
         Line::Rects { .. } => None,
         Line::Check { .. } => None,
-        Line::CheckPart { .. } => None,
         Line::Fill { .. } => None,
-        Line::FillPart { .. } => None,
     }
 }
 

@@ -10,7 +10,7 @@ use Rattle.clap.specs.Words.{HasKind, Row, Text, all_of, fault_of, first_of, is_
 use Rattle.clap.specs.declared.builder.value_parser.ValueParser.TheVariants.{Unsigned}
 use Rattle.clap.specs.declared.error.Error.{Error}
 use Rattle.clap.specs.declared.error.kind.ErrorKind.TheVariants.{OutOfMemory, ValueValidation}
-use Rattle.densfill_args.specs.Grammar.{Said, both, check, check_part, checking, crew, fill, fill_part, filling, found_in, joined, joining, limit_by, lone_part, number_of, numbers_in, part_by, program_words, said_by, said_in, workers_by}
+use Rattle.densfill_args.specs.Grammar.{Said, alone, both, check, checking, crew, fill, filling, found_in, joined, joining, limit_by, number_of, numbers_for, numbers_in, part_by, part_if, program_words, said_by, said_in, workers_by}
 use Rattle.densfill_args.specs.Lines.{IsRefusalOf, text_of}
 use Rattle.densfill_args.specs.declared.Line.{Line}
 use Rattle.densfill_args.specs.declared.LineError.{LineError}
@@ -23,15 +23,12 @@ no_check_rules rows none = rw none refl
 pub no_check_design : (rows : List Row) (a : Text) → first_of (codes "RULES") rows ≡ Some a → first_of (codes "DESIGN") rows ≡ None → None ≡ checking rows
 no_check_design rows a rules none = rw (rules, none) refl
 
-pub checked_whole : (rows : List Row) (a b : Text) → first_of (codes "RULES") rows ≡ Some a → first_of (codes "DESIGN") rows ≡ Some b → first_of (codes "part") rows ≡ None → Some (check a b) ≡ checking rows
-checked_whole rows a b rules design none = rw (rules, design, none) refl
+pub bad_part : (rows : List Row) (a b : Text) → first_of (codes "RULES") rows ≡ Some a → first_of (codes "DESIGN") rows ≡ Some b → None ≡ part_if (first_of (codes "part") rows) → None ≡ checking rows
+bad_part rows a b rules design none = rw (rules, design, ← none) refl
 
-pub bad_part : (rows : List Row) (a b t : Text) → first_of (codes "RULES") rows ≡ Some a → first_of (codes "DESIGN") rows ≡ Some b → first_of (codes "part") rows ≡ Some t → None ≡ part_by t → None ≡ checking rows
-bad_part rows a b t rules design part none = rw (rules, design, part, ← none) refl
-
-pub checked_part : (rows : List Row) (a b t : Text) (k : ℕ × ℕ) → first_of (codes "RULES") rows ≡ Some a → first_of (codes "DESIGN") rows ≡ Some b → first_of (codes "part") rows ≡ Some t → Some k ≡ part_by t
-    → Some (check_part a b k.0 k.1) ≡ checking rows
-checked_part rows a b t k rules design part is = rw (rules, design, part, ← is) refl
+pub checked : (rows : List Row) (a b : Text) (part : Option (ℕ × ℕ)) → first_of (codes "RULES") rows ≡ Some a → first_of (codes "DESIGN") rows ≡ Some b → Some part ≡ part_if (first_of (codes "part") rows)
+    → Some (check a b part) ≡ checking rows
+checked rows a b part rules design is = rw (rules, design, ← is) refl
 
 -- what the rows of `join` say
 pub no_join_rules : (rows : List Row) → first_of (codes "RULES") rows ≡ None → None ≡ joining rows
@@ -111,6 +108,16 @@ limit_read o t n some is = rw (some, is) refl
 pub limit_unread : (o : Option Text) (t : Text) → o ≡ Some t → number_of t ≡ None → None ≡ limit_by o
 limit_unread o t some none = rw (some, none) refl
 
+-- so of the part
+pub no_part_named : (o : Option Text) → o ≡ None → Some None ≡ part_if o
+no_part_named o none = rw none refl
+
+pub part_read : (o : Option Text) (t : Text) (k : ℕ × ℕ) → o ≡ Some t → Some k ≡ part_by t → Some (Some k) ≡ part_if o
+part_read o t k some is = rw (some, ← is) refl
+
+pub part_unread : (o : Option Text) (t : Text) → o ≡ Some t → None ≡ part_by t → None ≡ part_if o
+part_unread o t some none = rw (some, ← none) refl
+
 pub no_workers : (rows : List Row) → first_of (codes "workers") rows ≡ None → Some 1 ≡ workers_by (one_of (codes "workers") rows)
 no_workers rows none = rw (no_number (codes "workers") rows none) refl
 
@@ -144,31 +151,26 @@ no_script rows a b rules design none = rw (rules, design, none) refl
 pub no_out : (rows : List Row) (a b c : Text) → first_of (codes "RULES") rows ≡ Some a → first_of (codes "DESIGN") rows ≡ Some b → first_of (codes "SCRIPT") rows ≡ Some c → first_of (codes "OUT") rows ≡ None → None ≡ filling rows
 no_out rows a b c rules design script none = rw (rules, design, script, none) refl
 
--- the four paths and the part, if there is one
-pub record Named (rows : List Row) (a b c d : Text) (part : Option Text) : Type 0 where
+-- the four paths
+pub record Named (rows : List Row) (a b c d : Text) : Type 0 where
   pub rules : first_of (codes "RULES") rows ≡ Some a
   pub design : first_of (codes "DESIGN") rows ≡ Some b
   pub script : first_of (codes "SCRIPT") rows ≡ Some c
   pub out : first_of (codes "OUT") rows ≡ Some d
-  pub part_is : first_of (codes "part") rows ≡ part
 
-pub bad_numbers : (rows : List Row) (a b c d : Text) → Named rows a b c d None → None ≡ numbers_in rows → None ≡ filling rows
-bad_numbers rows a b c d named none = rw (named.rules, named.design, named.script, named.out, named.part_is, ← none) refl
+pub no_part : (rows : List Row) (a b c d : Text) → Named rows a b c d → None ≡ part_if (first_of (codes "part") rows) → None ≡ filling rows
+no_part rows a b c d named none = rw (named.rules, named.design, named.script, named.out, ← none) refl
 
-pub all_found : (rows : List Row) (a b c d : Text) (numbers : ℕ × Option ℕ) → Named rows a b c d None → Some numbers ≡ numbers_in rows → Some (fill a b c d numbers.0 numbers.1) ≡ filling rows
-all_found rows a b c d numbers named given = rw (named.rules, named.design, named.script, named.out, named.part_is, ← given) refl
+pub bad_numbers : (rows : List Row) (a b c d : Text) (part : Option (ℕ × ℕ)) → Named rows a b c d → Some part ≡ part_if (first_of (codes "part") rows) → None ≡ numbers_for part rows → None ≡ filling rows
+bad_numbers rows a b c d part named is none = rw (named.rules, named.design, named.script, named.out, ← is, ← none) refl
 
--- the part where it is named alone
-pub lone_is : (rows : List Row) (t : Text) (o p : Option Text) → first_of (codes "workers") rows ≡ o → first_of (codes "limit") rows ≡ p → (k : Option (ℕ × ℕ)) → k ≡ lone_part t o p
-    → k ≡ lone_part t (first_of (codes "workers") rows) (first_of (codes "limit") rows)
-lone_is rows t o p workers limit k is = is ∙ sym (ap₂ (lone_part t) workers limit)
+pub all_found : (rows : List Row) (a b c d : Text) (part : Option (ℕ × ℕ)) (numbers : ℕ × Option ℕ) → Named rows a b c d → Some part ≡ part_if (first_of (codes "part") rows) → Some numbers ≡ numbers_for part rows
+    → Some (fill a b c d part numbers.0 numbers.1) ≡ filling rows
+all_found rows a b c d part numbers named is given = rw (named.rules, named.design, named.script, named.out, ← is, ← given) refl
 
-pub bad_lone : (rows : List Row) (a b c d t : Text) → Named rows a b c d (Some t) → None ≡ lone_part t (first_of (codes "workers") rows) (first_of (codes "limit") rows) → None ≡ filling rows
-bad_lone rows a b c d t named none = rw (named.rules, named.design, named.script, named.out, named.part_is, ← none) refl
-
-pub filled_part : (rows : List Row) (a b c d t : Text) (k : ℕ × ℕ) → Named rows a b c d (Some t) → Some k ≡ lone_part t (first_of (codes "workers") rows) (first_of (codes "limit") rows)
-    → Some (fill_part a b c d k.0 k.1) ≡ filling rows
-filled_part rows a b c d t k named is = rw (named.rules, named.design, named.script, named.out, named.part_is, ← is) refl
+-- what is alone, where it is known what was found
+pub alone_is : (o p w l : Option Text) (k : Option (ℕ × Option ℕ)) → w ≡ o → l ≡ p → k ≡ alone o p → k ≡ alone w l
+alone_is o p w l k workers limit is = is ∙ sym (ap₂ alone workers limit)
 
 -- the program's grammar is one of those of which `clap` says which words it refuses
 pub program_is_plain : is_simple_and_free program_words ≡ true

@@ -52,14 +52,13 @@ program_words = with_subcommand (with_subcommand (with_subcommand (with_subcomma
 abbrev pub found_in : List Text → Option (Text × List Row)
 found_in words = subcommand_of program_words words
 
--- a line by its paths, by part `number` of `count`, and by the number of workers and the limit of turns where one is given
+-- a line by its paths, by the part of a chip, its number and how many there are, where one is named, and by the number of workers and the
+-- limit of turns where one is given
 pub data Said : Type 0 where
   rects : (rules script : Text) → Said
-  check : (rules design : Text) → Said
-  check_part : (rules design : Text) (number count : ℕ) → Said
+  check : (rules design : Text) (part : Option (ℕ × ℕ)) → Said
   join : (rules out : Text) (parts : List Text) → Said
-  fill : (rules design script out : Text) (workers : ℕ) (limit : Option ℕ) → Said
-  fill_part : (rules design script out : Text) (number count : ℕ) → Said
+  fill : (rules design script out : Text) (part : Option (ℕ × ℕ)) (workers : ℕ) (limit : Option ℕ) → Said
 
 -- what the rows of two arguments make
 abbrev pub both : (Text → Text → Said) → Text → Text → List Row → Option Said
@@ -93,6 +92,11 @@ part_by text =
     then option_and_then (λ number. option_and_then (part_of number) (plain_number (after_first is_slash text))) (plain_number (before_first is_slash text))
     else None
 
+-- the part, where one is named
+abbrev pub part_if : Option Text → Option (Option (ℕ × ℕ))
+part_if None = Some None
+part_if (Some text) = option_map Some (part_by text)
+
 -- how many workers there may be
 abbrev pub crew : ℕ → Option ℕ
 crew n = if nat_le 1 n && nat_le n 64 then Some n else None
@@ -112,13 +116,20 @@ abbrev pub numbers_in : List Row → Option (ℕ × Option ℕ)
 numbers_in rows =
     option_and_then {U = ℕ × Option ℕ} (λ workers. option_map (λ limit. (workers, limit)) (limit_by (one_of (codes "limit") rows))) (workers_by (one_of (codes "workers") rows))
 
--- what the rows of `check` make: a line of a part, where one is named
-abbrev pub checking_by : Text → Text → Option Text → Option Said
-checking_by rules design None = Some (check rules design)
-checking_by rules design (Some part) = option_map (λ p. check_part rules design p.0 p.1) (part_by part)
+-- of a part, where neither is named: one worker, without a limit
+abbrev pub alone : Option Text → Option Text → Option (ℕ × Option ℕ)
+alone None None = Some (1, None)
+alone None (Some limit) = None
+alone (Some workers) limit = None
 
+abbrev pub numbers_for : Option (ℕ × ℕ) → List Row → Option (ℕ × Option ℕ)
+numbers_for None rows = numbers_in rows
+numbers_for (Some part) rows = alone (first_of (codes "workers") rows) (first_of (codes "limit") rows)
+
+-- what the rows of `check` make
 abbrev pub checking : List Row → Option Said
-checking rows = option_and_then (λ rules. option_and_then (λ design. checking_by rules design (first_of (codes "part") rows)) (first_of (codes "DESIGN") rows)) (first_of (codes "RULES") rows)
+checking rows =
+    option_and_then (λ rules. option_and_then (λ design. option_map (check rules design) (part_if (first_of (codes "part") rows))) (first_of (codes "DESIGN") rows)) (first_of (codes "RULES") rows)
 
 -- what the rows of `join` make
 abbrev pub joined : Text → Text → List Text → Option Said
@@ -127,21 +138,14 @@ joined rules out parts = if nat_le 1 (length parts) && nat_le (length parts) 409
 abbrev pub joining : List Row → Option Said
 joining rows = option_and_then (λ rules. option_and_then (λ out. option_and_then (joined rules out) (all_of (codes "PART") rows)) (first_of (codes "OUT") rows)) (first_of (codes "RULES") rows)
 
--- the part that is filled, where neither workers nor a limit are named
-abbrev pub lone_part : Text → Option Text → Option Text → Option (ℕ × ℕ)
-lone_part part None None = part_by part
-lone_part part None (Some limit) = None
-lone_part part (Some workers) limit = None
-
--- what the rows of `fill` make: a line of a part, where one is named
-abbrev pub filling_by : Text → Text → Text → Text → Option Text → List Row → Option Said
-filling_by rules design script out None rows = option_map (λ numbers. fill rules design script out numbers.0 numbers.1) (numbers_in rows)
-filling_by rules design script out (Some part) rows =
-    option_map (λ p. fill_part rules design script out p.0 p.1) (lone_part part (first_of (codes "workers") rows) (first_of (codes "limit") rows))
+-- what the rows of `fill` make
+abbrev pub filling_by : Text → Text → Text → Text → List Row → Option Said
+filling_by rules design script out rows =
+    option_and_then (λ part. option_map (λ numbers. fill rules design script out part numbers.0 numbers.1) (numbers_for part rows)) (part_if (first_of (codes "part") rows))
 
 abbrev pub filling : List Row → Option Said
 filling rows =
-    option_and_then (λ rules. option_and_then (λ design. option_and_then (λ script. option_and_then (λ out. filling_by rules design script out (first_of (codes "part") rows) rows)
+    option_and_then (λ rules. option_and_then (λ design. option_and_then (λ script. option_and_then (λ out. filling_by rules design script out rows)
     (first_of (codes "OUT") rows)) (first_of (codes "SCRIPT") rows)) (first_of (codes "DESIGN") rows)) (first_of (codes "RULES") rows)
 
 -- what the rows of the subcommand of a name say

@@ -7,9 +7,9 @@
 
 ghost use Rattle.std.specs.Prelude.{◌≡◌, ◌≢◌, ◌⊎◌, ◌<◌, ◌≤◌, ℤ, false, Some, IfErr, IfOk, IfSome, IsSome, OnOk, codes, length, map, option_map};
 ghost use Rattle.clap.specs.Words.{app_of, first_of, found_of, kind_of, one_of, rows_of, rule_of, with_subcommand};
-ghost use Rattle.densfill_args.specs.Grammar.{both, checking, fill_words, filling, join_words, joining, limit_by, path, program_words, said_by, said_in, workers_by, IsFaultless, IsTaken};
+ghost use Rattle.densfill_args.specs.Grammar.{both, checking, fill_words, filling, join_words, joining, limit_by, part_if, path, program_words, said_by, said_in, workers_by, IsFaultless, IsTaken};
 ghost use Rattle.densfill_args.specs.Grammar as said;
-ghost use Rattle.densfill_args.specs.Lines.{text_of, IsBounded, IsRefusalOf};
+ghost use Rattle.densfill_args.specs.Lines.{text_of, IsBounded, IsPart, IsRefusalOf};
 ghost use Rattle.densfill_args.specs.declared.LineError.TheVariants.{Memory};
 
 mod part;
@@ -41,17 +41,8 @@ pub enum Line<'a> {
         rules: &'a str,
         /// The path of the design.
         design: &'a str,
-    },
-    /// To report the density of the metal in the windows of one part of a chip.
-    CheckPart {
-        /// The path of the rule file.
-        rules: &'a str,
-        /// The path of the design.
-        design: &'a str,
-        /// Which part it is: 1 to `count`.
-        number: u32,
-        /// How many parts there are: 1 to 4,096.
-        count: u32,
+        /// The part of the chip whose windows are reported, where one is named: its number, from 1 on, and how many there are, up to 4,096.
+        part: Option<(u32, u32)>,
     },
     /// To join the fill libraries of the parts of a chip.
     Join {
@@ -72,25 +63,12 @@ pub enum Line<'a> {
         script: &'a str,
         /// The path of the fill library.
         out: &'a str,
+        /// The part of the chip that is filled, where one is named: its number, from 1 on, and how many there are, up to 4,096.
+        part: Option<(u32, u32)>,
         /// How many workers compute fill: 1 to 64, and one where it is left out.
         workers: u32,
         /// The most turns that a worker may take in a round; where it is left out, one more than there are tiles.
         limit: Option<u32>,
-    },
-    /// To fill the windows of one part of a chip so.
-    FillPart {
-        /// The path of the rule file.
-        rules: &'a str,
-        /// The path of the design.
-        design: &'a str,
-        /// The path of the script.
-        script: &'a str,
-        /// The path of the part's fill library.
-        out: &'a str,
-        /// Which part it is: 1 to `count`.
-        number: u32,
-        /// How many parts there are: 1 to 4,096.
-        count: u32,
     },
 }
 
@@ -223,6 +201,17 @@ fn rects_in<'a>(found: &ArgMatches<'a>) -> Option<Line<'a>>
     Some(Line::Rects { rules, script })
 }
 
+/// The part, where one was named, by what was found.
+fn part_in(found: &ArgMatches) -> Option<Option<(u32, u32)>>
+    ensures part { result ≡ part_if (first_of (codes "part") (rows_of (found_of found.now))) }
+    ensures bounded { IfSome result (λ part. IfSome part IsPart) }
+{
+    match found.get_str("part") {
+        Some(part) => Some(Some(part_numbers(part)?)),
+        None => Some(None),
+    }
+}
+
 /// The line of `check`, by what was found.
 fn check_in<'a>(found: &ArgMatches<'a>) -> Option<Line<'a>>
     ensures line { option_map text_of result ≡ checking (rows_of (found_of found.now)) }
@@ -230,18 +219,12 @@ fn check_in<'a>(found: &ArgMatches<'a>) -> Option<Line<'a>>
 {
     let rules = found.get_str("RULES")?;
     let design = found.get_str("DESIGN")?;
-    match found.get_str("part") {
-        Some(part) => {
-            let (number, count) = part_numbers(part)?;
-            Some(Line::CheckPart {
-                rules,
-                design,
-                number,
-                count,
-            })
-        }
-        None => Some(Line::Check { rules, design }),
-    }
+    let part = part_in(found)?;
+    Some(Line::Check {
+        rules,
+        design,
+        part,
+    })
 }
 
 /// The paths that a line of `join` names, by what was found: rules, OUT and as many parts as there may be.
@@ -313,17 +296,28 @@ fn numbers_in(found: &ArgMatches) -> Option<(u32, Option<u32>)>
     Some((workers, limit))
 }
 
-/// The numbers of a part, where neither workers nor a limit were found.
-fn lone_part(found: &ArgMatches, part: &str) -> Option<(u32, u32)>
-    ensures numbers { result ≡ said.lone_part part.now (first_of (codes "workers") (rows_of (found_of found.now))) (first_of (codes "limit") (rows_of (found_of found.now))) }
-    ensures bounds { IfSome result (λ p. (1 ≤ p.0) × (p.0 ≤ p.1) × (p.1 ≤ 4096)) }
+/// The number of workers and the limit of turns of a part, where neither was found: one worker, without a limit.
+fn alone(found: &ArgMatches) -> Option<(u32, Option<u32>)>
+    ensures numbers { result ≡ said.alone (first_of (codes "workers") (rows_of (found_of found.now))) (first_of (codes "limit") (rows_of (found_of found.now))) }
+    ensures manned { IfSome result (λ numbers. (0 < numbers.0) × (numbers.0 ≤ 64)) }
 {
     match found.get_str("workers") {
         Some(_) => None,
         None => match found.get_str("limit") {
             Some(_) => None,
-            None => part_numbers(part),
+            None => Some((1, None)),
         },
+    }
+}
+
+/// The number of workers and the limit of turns, by what was found, of all of a chip or of a part.
+fn numbers_for(part: Option<(u32, u32)>, found: &ArgMatches) -> Option<(u32, Option<u32>)>
+    ensures numbers { result ≡ said.numbers_for part (rows_of (found_of found.now)) }
+    ensures manned { IfSome result (λ numbers. (0 < numbers.0) × (numbers.0 ≤ 64)) }
+{
+    match part {
+        Some(_) => alone(found),
+        None => numbers_in(found),
     }
 }
 
@@ -336,30 +330,17 @@ fn fill_in<'a>(found: &ArgMatches<'a>) -> Option<Line<'a>>
     let design = found.get_str("DESIGN")?;
     let script = found.get_str("SCRIPT")?;
     let out = found.get_str("OUT")?;
-    match found.get_str("part") {
-        Some(part) => {
-            let (number, count) = lone_part(found, part)?;
-            Some(Line::FillPart {
-                rules,
-                design,
-                script,
-                out,
-                number,
-                count,
-            })
-        }
-        None => {
-            let (workers, limit) = numbers_in(found)?;
-            Some(Line::Fill {
-                rules,
-                design,
-                script,
-                out,
-                workers,
-                limit,
-            })
-        }
-    }
+    let part = part_in(found)?;
+    let (workers, limit) = numbers_for(part, found)?;
+    Some(Line::Fill {
+        rules,
+        design,
+        script,
+        out,
+        part,
+        workers,
+        limit,
+    })
 }
 
 /// The line of a subcommand that was found.

@@ -3,7 +3,7 @@ use Rattle.std.specs.Prelude.{codes}
 use Rattle.clap.specs.Words.{found_of, rows_of}
 use Rattle.clap.proofs.WalkLemmas.{first_value-rows}
 use Rattle.densfill_args.specs.Lines.{text_of}
-use Rattle.densfill_args.proofs.Saying.{bad_part, checked_part, checked_whole, no_check_design, no_check_rules}
+use Rattle.densfill_args.proofs.Saying.{bad_part, checked, no_check_design, no_check_rules}
 use Rattle.densfill_args.proofs.check_in.Goals as goal
 
 pub returns-in_err-rules-clause-line : goal.returns-in_err-rules-clause-line
@@ -19,26 +19,17 @@ returns-in_err-design-clause-line c =
     (sym (first_value-rows (found_of c.args.found.now) (codes "RULES")) ∙ sym c.in_ok-rules.ensures)
     (sym (first_value-rows (found_of c.args.found.now) (codes "DESIGN")) ∙ sym c.in_err-design.ensures)
 
-pub returns-in_err-number-in-Some-clause-line : goal.returns-in_err-number-in-Some-clause-line
-returns-in_err-number-in-Some-clause-line c =
-    let none : c.from_residual-in_err-number-in-Some.result ≡ None = search rules in
-    ap (option_map text_of) none ∙ bad_part (rows_of (found_of c.args.found.now)) c.in_ok-rules.rules.now c.in_ok-design.design.now c.in-Some.part.now
+pub returns-in_err-part-clause-line : goal.returns-in_err-part-clause-line
+returns-in_err-part-clause-line c =
+    let none : c.from_residual-in_err-part.result ≡ None = search rules in
+    ap (option_map text_of) none ∙ bad_part (rows_of (found_of c.args.found.now)) c.in_ok-rules.rules.now c.in_ok-design.design.now
     (sym (first_value-rows (found_of c.args.found.now) (codes "RULES")) ∙ sym c.in_ok-rules.ensures)
     (sym (first_value-rows (found_of c.args.found.now) (codes "DESIGN")) ∙ sym c.in_ok-design.ensures)
-    (sym (first_value-rows (found_of c.args.found.now) (codes "part")) ∙ sym c.in-Some.ensures)
-    c.in_err-number-in-Some.ensures.numbers
+    c.in_err-part.ensures.part
 
-pub returns-in_ok-number-in-Some-clause-line : goal.returns-in_ok-number-in-Some-clause-line
-returns-in_ok-number-in-Some-clause-line c =
-    checked_part (rows_of (found_of c.args.found.now)) c.in_ok-rules.rules.now c.in_ok-design.design.now c.in-Some.part.now (c.in_ok-number-in-Some.number, c.in_ok-number-in-Some.count)
+pub returns-clause-line : goal.returns-clause-line
+returns-clause-line c =
+    checked (rows_of (found_of c.args.found.now)) c.in_ok-rules.rules.now c.in_ok-design.design.now c.in_ok-part.part
     (sym (first_value-rows (found_of c.args.found.now) (codes "RULES")) ∙ sym c.in_ok-rules.ensures)
     (sym (first_value-rows (found_of c.args.found.now) (codes "DESIGN")) ∙ sym c.in_ok-design.ensures)
-    (sym (first_value-rows (found_of c.args.found.now) (codes "part")) ∙ sym c.in-Some.ensures)
-    c.in_ok-number-in-Some.ensures.numbers
-
-pub returns-in-None-clause-line : goal.returns-in-None-clause-line
-returns-in-None-clause-line c =
-    checked_whole (rows_of (found_of c.args.found.now)) c.in_ok-rules.rules.now c.in_ok-design.design.now
-    (sym (first_value-rows (found_of c.args.found.now) (codes "RULES")) ∙ sym c.in_ok-rules.ensures)
-    (sym (first_value-rows (found_of c.args.found.now) (codes "DESIGN")) ∙ sym c.in_ok-design.ensures)
-    (sym (first_value-rows (found_of c.args.found.now) (codes "part")) ∙ sym c.in-None.ensures)
+    c.in_ok-part.ensures.part
