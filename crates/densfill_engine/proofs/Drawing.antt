@@ -2,7 +2,6 @@
 use Rattle.std.proofs.Common.{◌≡◌, ◌≤◌, ◌^◌, inl, inr, ℕ, ℤ, Bool, length, List, [], ◌∷◌, true, false, map, Option, Some, None, refl, sym, ap, subst, ◌∙◌, ◌||◌}
 use Rattle.std.specs.Prelude.{unwrap_or}
 use Rattle.std.proofs.Math.Path.{fun_ext}
-use Rattle.std.proofs.lemmas.Bool.{eq-eqb}
 use Rattle.fill_base.specs.declared.layer.Layer.{Layer}
 use Rattle.fill_base.specs.declared.rect.Rect.{Rect}
 use Rattle.fill_text.specs.Chips.{with_rows}
@@ -15,23 +14,23 @@ use Rattle.gds_grammar.specs.Values.{Cell, Contents}
 use Rattle.gds_cells.specs.Copies.{Copy, drawn, AllStayInRange}
 use Rattle.gds_cells.specs.Designs.{copies_of}
 use Rattle.gds_cells.specs.declared.error.FlattenError.{FlattenError}
-use Rattle.gds_flatten.specs.Layers.{LayersSuffice, LayersSufficeWithin}
+use Rattle.gds_flatten.specs.Layers.{AreKept, LayersSuffice, LayersSufficeWithin}
 use Rattle.densfill_engine.specs.Designs.{IsCountable, IsCountableNear, IsDesignNear, IsDrawn, IsDrawnNear, IsDrawnOn, IsKeptNear, IsKeptOut, IsMetalNear, IsRanged, IsRead, IsRefusedNear, IsUndrawn, IsUnflattened, IsUnflattenedBehind, size_near, squares_within}
 
 -- ---- what is told of the second library is told of the first one
 
 record TellsNear (frame : Option Rect) (cells others : List Cell) (top : List ℕ) (layer : Layer) : Type 0 where
-  copies : copies_of others top layer ≡ copies_of cells top layer
+  copies : copies_of others top (layer ∷ []) ≡ copies_of cells top (layer ∷ [])
   countable : IsCountableNear frame others top layer → IsCountableNear frame cells top layer
   refused : (e : FlattenError) → IsRefusedNear frame others top layer e → IsRefusedNear frame cells top layer e
 
-tells_near : (frame : Option Rect) (keep : Layer → Bool) (cells : List Cell) (top : List ℕ) (layer : Layer) → LayersSuffice → LayersSufficeWithin → keep layer ≡ true
+tells_near : (frame : Option Rect) (keep : Layer → Bool) (cells : List Cell) (top : List ℕ) (layer : Layer) → LayersSuffice → LayersSufficeWithin → AreKept keep (layer ∷ [])
     → TellsNear frame cells (map (kept_cell keep) cells) top layer
 tells_near None keep cells top layer law near among =
-    let tells = (law keep cells top layer among).0 in
+    let tells = (law keep cells top (layer ∷ []) among).0 in
     record { copies = tells.copies; countable = tells.countable; refused = tells.refused }
 tells_near (Some frame) keep cells top layer law near among =
-    let tells = near keep cells top layer frame among in
+    let tells = near keep cells top (layer ∷ []) frame among in
     record { copies = tells.copies; countable = tells.countable; refused = tells.refused }
 
 count_near : (frame : Option Rect) (cells : List Cell) (top : List ℕ) (layer : Layer) → IsCountableNear frame cells top layer → IsCountable (size_near frame) cells top layer
@@ -57,15 +56,15 @@ module _ (bytes : List ℕ) (values : Values) (design left : Contents) (layers :
   read : IsRead bytes design
   read = record { short = short; spelled = spelled }
 
-  tells : (layer : Layer) → has_layer layers layer ≡ true → TellsNear frame design.cells left.cells values.top layer
+  tells : (layer : Layer) → AreKept (has_layer layers) (layer ∷ []) → TellsNear frame design.cells left.cells values.top layer
   tells layer among =
       subst (λ (x : Contents). TellsNear frame design.cells x.cells values.top layer) (sym left_is)
       (tells_near frame (has_layer layers) design.cells values.top layer law near among)
 
   abbrev all_on : Layer → PointSet
-  all_on layer = drawn (copies_of design.cells values.top layer)
+  all_on layer = drawn (copies_of design.cells values.top (layer ∷ []))
 
-  module _ (layer : Layer) (among : has_layer layers layer ≡ true) (p : PointSet) (on : IsDrawnNear frame left.cells values.top layer p) where
+  module _ (layer : Layer) (among : AreKept (has_layer layers) (layer ∷ [])) (p : PointSet) (on : IsDrawnNear frame left.cells values.top layer p) where
     drawn_on : IsDrawnOn (size_near frame) design.cells values.top layer (all_on layer)
     drawn_on = record {
       countable = count_near frame design.cells values.top layer ((tells layer among).countable on.countable);
@@ -80,7 +79,7 @@ module _ (bytes : List ℕ) (values : Values) (design left : Contents) (layers :
     ranged_on = subst (λ (cs : List Copy). IsRanged frame (drawn cs)) (tells layer among).copies on.ranged
 
   -- on the checked one
-  module _ (layer : Layer) (is : layer ≡ metal_layer values) (among : has_layer layers layer ≡ true) where
+  module _ (layer : Layer) (is : layer ≡ metal_layer values) (among : AreKept (has_layer layers) (layer ∷ [])) where
     pub not_flattened : (e : FlattenError) → IsRefusedNear frame left.cells values.top layer e → IsUnflattened frame bytes values e
     not_flattened e refused = record {
       design = design;
@@ -100,7 +99,7 @@ module _ (bytes : List ℕ) (values : Values) (design left : Contents) (layers :
       metal_near = record { metal = all_on layer; drawn = whole; within = squares_on layer among metal on }
 
       -- and on that of the keep-outs
-      module _ (keep_at : Option Layer) (keep_is : keep_at ≡ keep_layer values) (both : (l : Layer) → keep_at ≡ Some l → has_layer layers l ≡ true) where
+      module _ (keep_at : Option Layer) (keep_is : keep_at ≡ keep_layer values) (both : (l : Layer) → keep_at ≡ Some l → AreKept (has_layer layers) (l ∷ [])) where
         abbrev all_keep : Option Layer → PointSet
         all_keep None = none
         all_keep (Some l) = all_on l
@@ -147,18 +146,22 @@ module _ (bytes : List ℕ) (values : Values) (design left : Contents) (layers :
         }
 
 -- a layer is among itself and others
-pub among_first : (a : Layer) (others : List Layer) → has_layer (a ∷ others) a ≡ true
-among_first a others = rw (eq-eqb a.layer a.layer refl, eq-eqb a.data_type a.data_type refl) refl
+pub among_first : (a : Layer) (others : List Layer) → AreKept (has_layer (a ∷ others)) (a ∷ [])
+among_first a others l = here (same_layer a l) (has_layer others l)
+  where
+    here : (b c : Bool) → (b || false) ≡ true → (b || c) ≡ true
+    here true c h = refl
+    here false c h = absurd (let f : false ≡ true = h in cc)
 
 -- the layer of the keep-outs is the second of two, where there is one
-pub among_both : (a : Layer) (o : Option Layer) (b : Layer) → b ≡ unwrap_or o a → (l : Layer) → o ≡ Some l → has_layer (a ∷ b ∷ []) l ≡ true
-among_both a o b second l is =
+pub among_both : (a : Layer) (o : Option Layer) (b : Layer) → b ≡ unwrap_or o a → (l : Layer) → o ≡ Some l → AreKept (has_layer (a ∷ b ∷ [])) (l ∷ [])
+among_both a o b second l is m h =
     let this : b ≡ l = second ∙ ap (λ (p : Option Layer). unwrap_or p a) is in
-    rw (this, eq-eqb l.layer l.layer refl, eq-eqb l.data_type l.data_type refl) (either (same_layer a l))
+    subst (λ (k : Layer). has_layer (a ∷ k ∷ []) m ≡ true) (sym this) (either (same_layer a m) (has_layer (l ∷ []) m) h)
   where
-    either : (b : Bool) → (b || true) ≡ true
-    either true = refl
-    either false = refl
+    either : (b c : Bool) → c ≡ true → (b || c) ≡ true
+    either true c h = refl
+    either false c h = h
 
 -- ---- the rows of a chip change neither its top nor its layers
 

@@ -82,13 +82,13 @@ one_answer {A = A} {E = E} r x y p q = ap (ok_or x) (sym p ∙ q)
 -- the keep-outs that a top draws, if there is a layer of them
 abbrev all_kept : List Cell → List ℕ → Option Layer → PointSet
 all_kept cells top None x y = false
-all_kept cells top (Some layer) x y = drawn (copies_of cells top layer) x y
+all_kept cells top (Some layer) x y = drawn (copies_of cells top (layer ∷ [])) x y
 
 -- what a design draws, however many copies there are
 record IsSeen (bytes : List ℕ) (values : Values) (layers : Layers) (units dates : List ℕ) : Type 0 where
   design : Contents
   spelled : Spells bytes design
-  metal : layers.metal ≡ drawn (copies_of design.cells values.top (metal_layer values))
+  metal : layers.metal ≡ drawn (copies_of design.cells values.top (metal_layer values ∷ []))
   keep : layers.keep ≡ all_kept design.cells values.top (keep_layer values)
   units_are : units ≡ design.units
   dates_are : dates ≡ design.dates
@@ -148,7 +148,7 @@ said_once r d s a b =
     let seen = subst (λ (v : Values). IsSeen d v b.layers b.units b.dates) (sym values) b.seen in
     let design : a.seen.design ≡ seen.design = spelled_once d a.seen.design seen.design a.seen.spelled seen.spelled in
     let metal : a.layers.metal ≡ b.layers.metal =
-    a.seen.metal ∙ (ap (λ (c : Contents). drawn (copies_of c.cells a.values.top (metal_layer a.values))) design ∙ sym seen.metal) in
+    a.seen.metal ∙ (ap (λ (c : Contents). drawn (copies_of c.cells a.values.top (metal_layer a.values ∷ []))) design ∙ sym seen.metal) in
     let keep : a.layers.keep ≡ b.layers.keep = a.seen.keep ∙ (ap (λ (c : Contents). all_kept c.cells a.values.top (keep_layer a.values)) design ∙ sym seen.keep) in
     record {
       values_are = values;

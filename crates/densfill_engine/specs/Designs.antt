@@ -1,5 +1,5 @@
 -- What the bytes of a design draw on the layers that the rules name.
-use Rattle.std.specs.Prelude.{◌≡◌, ◌⊎◌, ◌&&◌, ◌^◌, ◌<◌, ◌≤◌, ℕ, ℤ, false, true, List, length, Option, Some, None}
+use Rattle.std.specs.Prelude.{◌≡◌, ◌⊎◌, ◌&&◌, ◌^◌, ◌<◌, ◌≤◌, ℕ, ℤ, false, true, List, [], ◌∷◌, length, Option, Some, None}
 use Rattle.densfill_io.specs.declared.input.InputError.TheVariants.{TooLong, Device, Memory}
 use Rattle.fill_base.specs.Coordinates.{IsInRange}
 use Rattle.fill_base.specs.Squares.{squares}
@@ -26,14 +26,14 @@ pub record IsRead (bytes : List ℕ) (design : Contents) : Type 0 where
 
 -- references and shapes are sound, and within the limits of a run there are not too many copies
 abbrev pub IsCountable : Size → List Cell → List ℕ → Layer → Type 0
-IsCountable limited cells top layer = flatten.IsCountable cells top layer
-IsCountable unlimited cells top layer = flatten.IsSound cells top × AllFine cells (index_of cells top) layer
+IsCountable limited cells top layer = flatten.IsCountable cells top (layer ∷ [])
+IsCountable unlimited cells top layer = flatten.IsSound cells top × AllFine cells (index_of cells top) (layer ∷ [])
 
 -- the squares are those that the top draws on the layer, and nothing is refused
 pub record IsDrawnOn (size : Size) (cells : List Cell) (top : List ℕ) (layer : Layer) (p : PointSet) : Type 0 where
   pub countable : IsCountable size cells top layer
-  pub inside : AllStayInRange (copies_of cells top layer)
-  pub squares_are : p ≡ drawn (copies_of cells top layer)
+  pub inside : AllStayInRange (copies_of cells top (layer ∷ []))
+  pub squares_are : p ≡ drawn (copies_of cells top (layer ∷ []))
 
 -- the same where there is a layer, and no square where there is none
 abbrev pub IsKeptOut : Size → List Cell → List ℕ → Option Layer → PointSet → Type 0
@@ -78,19 +78,19 @@ IsRanged (Some frame) p = (x y : ℤ) → p x y ≡ true → IsInRange x y
 
 -- copies count, and are too many, where they meet it
 abbrev pub IsCountableNear : Option Rect → List Cell → List ℕ → Layer → Type 0
-IsCountableNear None cells top layer = flatten.IsCountable cells top layer
-IsCountableNear (Some frame) cells top layer = flatten.IsCountableOn cells top layer frame
+IsCountableNear None cells top layer = flatten.IsCountable cells top (layer ∷ [])
+IsCountableNear (Some frame) cells top layer = flatten.IsCountableOn cells top (layer ∷ []) frame
 
 abbrev pub IsRefusedNear : Option Rect → List Cell → List ℕ → Layer → FlattenError → Type 0
-IsRefusedNear None cells top layer e = flatten.IsRefused cells top layer e
-IsRefusedNear (Some frame) cells top layer e = flatten.IsRefusedOn cells top layer frame e
+IsRefusedNear None cells top layer e = flatten.IsRefused cells top (layer ∷ []) e
+IsRefusedNear (Some frame) cells top layer e = flatten.IsRefusedOn cells top (layer ∷ []) frame e
 
 -- the squares are those within it that the top draws on the layer
 pub record IsDrawnNear (frame : Option Rect) (cells : List Cell) (top : List ℕ) (layer : Layer) (p : PointSet) : Type 0 where
   pub countable : IsCountableNear frame cells top layer
-  pub inside : AllStayInRange (copies_of cells top layer)
-  pub ranged : IsRanged frame (drawn (copies_of cells top layer))
-  pub squares_are : (x y : ℤ) → p x y ≡ squares_within frame (drawn (copies_of cells top layer)) x y
+  pub inside : AllStayInRange (copies_of cells top (layer ∷ []))
+  pub ranged : IsRanged frame (drawn (copies_of cells top (layer ∷ [])))
+  pub squares_are : (x y : ℤ) → p x y ≡ squares_within frame (drawn (copies_of cells top (layer ∷ []))) x y
 
 abbrev pub IsKeptNear : Option Rect → List Cell → List ℕ → Option Layer → PointSet → Type 0
 IsKeptNear frame cells top None keep = (x y : ℤ) → keep x y ≡ false

@@ -98,9 +98,9 @@ fn drawn_on(
 {
     let top = view.rules.top();
     match &view.frame {
-        None => flatten_parts(rt, alloc, library, top, layer),
+        None => flatten_parts(rt, alloc, library, top, &[layer]),
         Some(frame) => {
-            let rects = flatten_within(rt, alloc, library, top, layer, frame)?;
+            let rects = flatten_within(rt, alloc, library, top, &[layer], frame)?;
             let lists = one_list(alloc, rects)?;
             Ok(lists)
         }

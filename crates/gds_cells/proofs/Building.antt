@@ -24,9 +24,9 @@ use Rattle.gds_cells.specs.steps.Built.{own_of, links_from, singles_from, index_
 
 -- ---- elements
 
-module _ (layer : Layer) where
-  pub fine_more : (es : List Element) (k : ℕ) (e : Element) → k < length es → e ≡ get_or es k e → AreFine layer (take k es)
-      → element_fault layer e ≡ None → AreFine layer (take (k + 1) es)
+module _ (layers : List Layer) where
+  pub fine_more : (es : List Element) (k : ℕ) (e : Element) → k < length es → e ≡ get_or es k e → AreFine layers (take k es)
+      → element_fault layers e ≡ None → AreFine layers (take (k + 1) es)
   fine_more es k e within is before fine j d small = cases (cases_order j k) where
     short : j < k + 1
     short = grind (arith, common_steps, small)
@@ -34,21 +34,21 @@ module _ (layer : Layer) where
     there : get_or (take (k + 1) es) j d ≡ get_or es j d
     there = get_or-take (k + 1) es j d short
 
-    cases : ((j ≡ k) ⊎ ((j < k) ⊎ (k < j))) → element_fault layer (get_or (take (k + 1) es) j d) ≡ None
-    cases (inl e_j) = ap (element_fault layer) (there ∙ any_default es j k d e e_j within ∙ sym is) ∙ fine where
+    cases : ((j ≡ k) ⊎ ((j < k) ⊎ (k < j))) → element_fault layers (get_or (take (k + 1) es) j d) ≡ None
+    cases (inl e_j) = ap (element_fault layers) (there ∙ any_default es j k d e e_j within ∙ sym is) ∙ fine where
       any_default : (xs : List Element) (i n : ℕ) (a b : Element) → i ≡ n → n < length xs → get_or xs i a ≡ get_or xs n b
       any_default xs i n a b same inside = grind (arith, common_steps, same, inside)
     cases (inr (inl less)) =
         let inside : j < length (take k es) = grind (arith, common_steps, less, within) in
-        ap (element_fault layer) (there ∙ sym (get_or-take k es j d less)) ∙ before j d inside
+        ap (element_fault layers) (there ∙ sym (get_or-take k es j d less)) ∙ before j d inside
     cases (inr (inr more)) = absurd (omega (arith, short, more))
 
-  pub all_fine : (es : List Element) (k : ℕ) → (k < length es → ⊥) → AreFine layer (take k es) → AreFine layer es
-  all_fine es k ended fine = let whole : take k es ≡ es = grind (arith, common_steps, ended) in subst (λ xs. AreFine layer xs) whole fine
+  pub all_fine : (es : List Element) (k : ℕ) → (k < length es → ⊥) → AreFine layers (take k es) → AreFine layers es
+  all_fine es k ended fine = let whole : take k es ≡ es = grind (arith, common_steps, ended) in subst (λ xs. AreFine layers xs) whole fine
 
   pub faulty_here : (es : List Element) (k : ℕ) (element : Element) (e : FlattenError) → k < length es → element ≡ get_or es k element
-      → AreFine layer (take k es) → ((e ≡ Memory) ⊎ (element_fault layer element ≡ Some e))
-      → (e ≡ Memory) ⊎ IsFaulty layer es e
+      → AreFine layers (take k es) → ((e ≡ Memory) ⊎ (element_fault layers element ≡ Some e))
+      → (e ≡ Memory) ⊎ IsFaulty layers es e
   faulty_here es k element e within is before (inl m) = inl m
   faulty_here es k element e within is before (inr fault) = inr (record {
     index = k;
@@ -59,7 +59,7 @@ module _ (layer : Layer) where
   })
 
   module _ (cells : List Entry) where
-    filter_joins : (xs ys : List Element) → filter (is_shape layer) (xs ++ ys) ≡ filter (is_shape layer) xs ++ filter (is_shape layer) ys
+    filter_joins : (xs ys : List Element) → filter (is_shape layers) (xs ++ ys) ≡ filter (is_shape layers) xs ++ filter (is_shape layers) ys
     filter_joins xs ys = grind (arith, common_steps)
 
     singles_same : (e : Element) (index : ℕ) → ((name : List ℕ) → name_of e ≡ Some name → index ≡ index_of cells name)
@@ -84,7 +84,7 @@ module _ (layer : Layer) where
 
     pub chunk_more : (es : List Element) (k : ℕ) (e : Element) (index : ℕ) (old new : Chunk) → k < length es → e ≡ get_or es k e
         → (es ≡ take k es ++ e ∷ drop (k + 1) es → length old.links.items ≡ length (targets cells (take k es)) → (name : List ℕ) → name_of e ≡ Some name → index ≡ index_of cells name)
-        → IsChunk cells layer (take k es) old → IsAdded e layer index old new → IsChunk cells layer (take (k + 1) es) new
+        → IsChunk cells layers (take k es) old → IsAdded e layers index old new → IsChunk cells layers (take (k + 1) es) new
     chunk_more es k e index old new within is told before added = record { own = own; links = links; singles = singles } where
       split : es ≡ take k es ++ e ∷ drop (k + 1) es
       split = split_at es k e within is where
@@ -103,9 +103,9 @@ module _ (layer : Layer) where
       nil_right : {X : Type 0} (xs : List X) → xs ≡ xs ++ []
       nil_right xs = grind (arith, common_steps)
 
-      own : own_of new.shapes.items ≡ filter (is_shape layer) (take (k + 1) es)
-      own = added.own ∙ ap (λ xs. xs ++ filter (is_shape layer) (e ∷ [])) before.own
-          ∙ sym (ap (filter (is_shape layer)) upto ∙ filter_joins (take k es) (e ∷ []))
+      own : own_of new.shapes.items ≡ filter (is_shape layers) (take (k + 1) es)
+      own = added.own ∙ ap (λ xs. xs ++ filter (is_shape layers) (e ∷ [])) before.own
+          ∙ sym (ap (filter (is_shape layers)) upto ∙ filter_joins (take k es) (e ∷ []))
 
       links : links_from new.links.items ≡ targets cells (take (k + 1) es)
       links = added.links ∙ ap (λ xs. xs ++ index_if index (name_of e)) before.links
@@ -118,8 +118,8 @@ module _ (layer : Layer) where
           ∙ sym (ap (singles_among cells) upto ∙ flat_map-append (λ x. singles_to cells (name_of x) (placements_of x)) (take k es) (e ∷ []))
 
     -- two lists of elements, one after the other
-    pub joins : (es fs : List Element) (ss ts : List Shape) (ks ls : List Link) → AreOf cells layer es ss ks → AreOf cells layer fs ts ls
-        → AreOf cells layer (es ++ fs) (ss ++ ts) (ks ++ ls)
+    pub joins : (es fs : List Element) (ss ts : List Shape) (ks ls : List Link) → AreOf cells layers es ss ks → AreOf cells layers fs ts ls
+        → AreOf cells layers (es ++ fs) (ss ++ ts) (ks ++ ls)
     joins es fs ss ts ks ls first second = record {
       own = map-append (λ (s : Shape). (shape_of s.element.now)) ss ts ∙ rw (first.own, second.own) (sym (filter_joins es fs));
       links = map-append (λ (l : Link). l.cell) ks ls ∙ rw (first.links, second.links) (sym (flat_map-append (λ x. target_if cells (name_of x)) es fs));
@@ -150,8 +150,8 @@ pushed cells new c = cases (cases_order c (length cells)) where
   )
   cases (inr (inr more)) = inr (inr (more, slice_get_past (cells ++ new ∷ []) c (omega (arith, more, long))))
 
-module _ (entries : List Entry) (layer : Layer) (steps : List ℕ) (n : ℕ) (cells : List Cell) (new : Cell)
-    (before : AreBuilt entries layer steps n cells) where
+module _ (entries : List Entry) (layers : List Layer) (steps : List ℕ) (n : ℕ) (cells : List Cell) (new : Cell)
+    (before : AreBuilt entries layers steps n cells) where
   longer : length (cells ++ new ∷ []) ≡ n + 1
   longer = let long = before.long in grind (arith, common_steps, long)
 
@@ -164,62 +164,62 @@ module _ (entries : List Entry) (layer : Layer) (steps : List ℕ) (n : ℕ) (ce
     cases (inr (inl (e, now))) = let here : c ≡ n = e ∙ before.long in ap f now ∙ nothing (subst (λ x. item steps x ≡ 0) here fresh)
     cases (inr (inr (more, now))) = ap f now ∙ none
 
-  still_built : (c : ℕ) → c < n → IsCellAt entries layer cells c → IsCellAt entries layer (cells ++ new ∷ []) c
+  still_built : (c : ℕ) → c < n → IsCellAt entries layers cells c → IsCellAt entries layers (cells ++ new ∷ []) c
   still_built c less old = cases (pushed cells new c) where
     long : length cells ≡ n
     long = before.long
 
-    cases : Pushed cells new c → IsCellAt entries layer (cells ++ new ∷ []) c
+    cases : Pushed cells new c → IsCellAt entries layers (cells ++ new ∷ []) c
     cases (inl (small, same)) = record { cell = old.cell; stands = same ∙ old.stands; is = old.is; fine = old.fine }
     cases (inr (inl (e, now))) = absurd (omega (arith, less, e, long))
     cases (inr (inr (more, now))) = absurd (omega (arith, less, more, long))
 
-  built_here : IsCell entries layer (elements_at entries n) new → AreFine layer (elements_at entries n)
-      → IsCellAt entries layer (cells ++ new ∷ []) n
+  built_here : IsCell entries layers (elements_at entries n) new → AreFine layers (elements_at entries n)
+      → IsCellAt entries layers (cells ++ new ∷ []) n
   built_here is fine = cases (pushed cells new n) where
     long : length cells ≡ n
     long = before.long
 
-    cases : Pushed cells new n → IsCellAt entries layer (cells ++ new ∷ []) n
+    cases : Pushed cells new n → IsCellAt entries layers (cells ++ new ∷ []) n
     cases (inl (small, same)) = absurd (omega (arith, small, long))
     cases (inr (inl (e, now))) = record { cell = new; stands = now; is = is; fine = fine }
     cases (inr (inr (more, now))) = absurd (omega (arith, more, long))
 
   pub built_empty : item steps n ≡ 0 → own_in (Some new) ≡ [] → singles_in (Some new) ≡ []
-      → AreBuilt entries layer steps (n + 1) (cells ++ new ∷ [])
+      → AreBuilt entries layers steps (n + 1) (cells ++ new ∷ [])
   built_empty fresh no_shapes no_links = record {
     long = longer;
     built = built;
     nothing_own = still_nothing own_in refl (λ e. no_shapes) before.nothing_own;
     nothing_below = still_nothing singles_in refl (λ e. no_links) before.nothing_below;
   } where
-    built : (c : ℕ) → c < n + 1 → 0 < item steps c → IsCellAt entries layer (cells ++ new ∷ []) c
+    built : (c : ℕ) → c < n + 1 → 0 < item steps c → IsCellAt entries layers (cells ++ new ∷ []) c
     built c less some = cases (cases_order c n) where
-      cases : ((c ≡ n) ⊎ ((c < n) ⊎ (n < c))) → IsCellAt entries layer (cells ++ new ∷ []) c
+      cases : ((c ≡ n) ⊎ ((c < n) ⊎ (n < c))) → IsCellAt entries layers (cells ++ new ∷ []) c
       cases (inl e) = let none : item steps c ≡ 0 = ap (item steps) e ∙ fresh in absurd (omega (arith, some, none))
       cases (inr (inl small)) = still_built c small (before.built c small some)
       cases (inr (inr more)) = absurd (omega (arith, less, more))
 
-  pub built_more : (item steps n ≡ 0 → ⊥) → IsCell entries layer (elements_at entries n) new
-      → AreFine layer (elements_at entries n) → AreBuilt entries layer steps (n + 1) (cells ++ new ∷ [])
+  pub built_more : (item steps n ≡ 0 → ⊥) → IsCell entries layers (elements_at entries n) new
+      → AreFine layers (elements_at entries n) → AreBuilt entries layers steps (n + 1) (cells ++ new ∷ [])
   built_more marked is fine = record {
     long = longer;
     built = built;
     nothing_own = still_nothing own_in refl (λ e. absurd (marked e)) before.nothing_own;
     nothing_below = still_nothing singles_in refl (λ e. absurd (marked e)) before.nothing_below;
   } where
-    built : (c : ℕ) → c < n + 1 → 0 < item steps c → IsCellAt entries layer (cells ++ new ∷ []) c
+    built : (c : ℕ) → c < n + 1 → 0 < item steps c → IsCellAt entries layers (cells ++ new ∷ []) c
     built c less some = cases (cases_order c n) where
-      cases : ((c ≡ n) ⊎ ((c < n) ⊎ (n < c))) → IsCellAt entries layer (cells ++ new ∷ []) c
-      cases (inl e) = subst (λ x. IsCellAt entries layer (cells ++ new ∷ []) x) (sym e) (built_here is fine)
+      cases : ((c ≡ n) ⊎ ((c < n) ⊎ (n < c))) → IsCellAt entries layers (cells ++ new ∷ []) c
+      cases (inl e) = subst (λ x. IsCellAt entries layers (cells ++ new ∷ []) x) (sym e) (built_here is fine)
       cases (inr (inl small)) = still_built c small (before.built c small some)
       cases (inr (inr more)) = absurd (omega (arith, less, more))
 
-pub fault_among : (entries : List Entry) (layer : Layer) (steps : List ℕ) (n : ℕ) (cells : List Cell)
-    → AreBuilt entries layer steps n cells → (e : FlattenError) → (item steps n ≡ 0 → ⊥)
-    → ((e ≡ Memory) ⊎ IsFaulty layer (elements_at entries n) e) → (e ≡ Memory) ⊎ IsFaultAmong entries layer steps e
-fault_among entries layer steps n cells before e marked (inl m) = inl m
-fault_among entries layer steps n cells before e marked (inr faulty) = inr (record {
+pub fault_among : (entries : List Entry) (layers : List Layer) (steps : List ℕ) (n : ℕ) (cells : List Cell)
+    → AreBuilt entries layers steps n cells → (e : FlattenError) → (item steps n ≡ 0 → ⊥)
+    → ((e ≡ Memory) ⊎ IsFaulty layers (elements_at entries n) e) → (e ≡ Memory) ⊎ IsFaultAmong entries layers steps e
+fault_among entries layers steps n cells before e marked (inl m) = inl m
+fault_among entries layers steps n cells before e marked (inr faulty) = inr (record {
   cell = n;
   marked = omega (arith, marked);
   fault = faulty;

@@ -46,12 +46,12 @@ one_more k size = omega arith
 -- ---- the next chunk
 
 -- what the first chunks came to, `n` elements in all
-pub record AreJoined (entries : List Entry) (layer : Layer) (n : ℕ) (elements : List Element) (shapes : List (Vec Shape)) (links : List Link) : Type 0 where
-  pub are : AreOf entries layer (take n elements) (flat_map vec_items shapes) links
-  pub fine : AreFine layer (take n elements)
+pub record AreJoined (entries : List Entry) (layers : List Layer) (n : ℕ) (elements : List Element) (shapes : List (Vec Shape)) (links : List Link) : Type 0 where
+  pub are : AreOf entries layers (take n elements) (flat_map vec_items shapes) links
+  pub fine : AreFine layers (take n elements)
 
-module _ (entries : List Entry) (layer : Layer) (size : ℕ) (elements : List Element) (chunks : List (Result Chunk FlattenError))
-    (are : AreChunks entries layer size elements chunks) where
+module _ (entries : List Entry) (layers : List Layer) (size : ℕ) (elements : List Element) (chunks : List (Result Chunk FlattenError))
+    (are : AreChunks entries layers size elements chunks) where
   module _ (done rest : List (Result Chunk FlattenError)) (x : Result Chunk FlattenError) (parts : done ++ x ∷ rest ≡ chunks) where
     within : length done < length chunks
     within = let len : length chunks ≡ length done + suc (length rest) = ap length (sym parts) ∙ length-append done (x ∷ rest) in omega (arith, len)
@@ -60,26 +60,26 @@ module _ (entries : List Entry) (layer : Layer) (size : ℕ) (elements : List El
     here = ap (λ xs. get_or xs (length done) x) (sym parts) ∙ get_or-append_seam done x rest x
 
     pub next_joined : (chunk : Chunk) (shapes more : List (Vec Shape)) (links longer : List Link) → x ≡ Ok chunk
-        → AreJoined entries layer (length done * size) elements shapes links → more ≡ shapes ++ chunk.shapes ∷ [] → longer ≡ links ++ chunk.links.items
-        → AreJoined entries layer ((length done + 1) * size) elements more longer
+        → AreJoined entries layers (length done * size) elements shapes links → more ≡ shapes ++ chunk.shapes ∷ [] → longer ≡ links ++ chunk.links.items
+        → AreJoined entries layers ((length done + 1) * size) elements more longer
     next_joined chunk shapes more links longer is before more_is longer_is =
-        let built : IsChunk entries layer (chunk_at size (length done) elements) chunk =
-        subst (λ r. IfOk r (λ v. IsChunk entries layer (chunk_at size (length done) elements) v)) (here ∙ is) (are.built (length done) x within) in
-        let fine : AreFine layer (chunk_at size (length done) elements) =
-        subst (λ r. IfOk r (λ v. AreFine layer (chunk_at size (length done) elements))) (here ∙ is) (are.fine (length done) x within) in
+        let built : IsChunk entries layers (chunk_at size (length done) elements) chunk =
+        subst (λ r. IfOk r (λ v. IsChunk entries layers (chunk_at size (length done) elements) v)) (here ∙ is) (are.built (length done) x within) in
+        let fine : AreFine layers (chunk_at size (length done) elements) =
+        subst (λ r. IfOk r (λ v. AreFine layers (chunk_at size (length done) elements))) (here ∙ is) (are.fine (length done) x within) in
         let taken : take ((length done + 1) * size) elements ≡ take (length done * size) elements ++ chunk_at size (length done) elements =
         ap (λ n. take n elements) (one_more (length done) size) ∙ take_on (length done * size) size elements in
         let drawn : flat_map vec_items (shapes ++ chunk.shapes ∷ []) ≡ flat_map vec_items shapes ++ chunk.shapes.items =
         flat_map-append vec_items shapes (chunk.shapes ∷ []) ∙ ap (λ ss. flat_map vec_items shapes ++ ss) (append-nil chunk.shapes.items) in
         record {
-          are = rw (taken, more_is, drawn, longer_is) (joins layer entries (take (length done * size) elements) (chunk_at size (length done) elements)
+          are = rw (taken, more_is, drawn, longer_is) (joins layers entries (take (length done * size) elements) (chunk_at size (length done) elements)
               (flat_map vec_items shapes) chunk.shapes.items links chunk.links.items before.are built);
-          fine = rw taken (All-append (λ e. element_fault layer e ≡ None) (take (length done * size) elements) (chunk_at size (length done) elements) before.fine fine);
+          fine = rw taken (All-append (λ e. element_fault layers e ≡ None) (take (length done * size) elements) (chunk_at size (length done) elements) before.fine fine);
         }
 
-    pub chunk_refused : (e : FlattenError) → x ≡ Err e → AreFine layer (take (length done * size) elements) → (e ≡ Memory) ⊎ IsFaulty layer elements e
-    chunk_refused e is before = cases (subst (λ r. IfErr r (λ f. (f ≡ Memory) ⊎ IsFaulty layer (chunk_at size (length done) elements) f)) (here ∙ is) (are.refused (length done) x within)) where
-      cases : ((e ≡ Memory) ⊎ IsFaulty layer (chunk_at size (length done) elements) e) → (e ≡ Memory) ⊎ IsFaulty layer elements e
+    pub chunk_refused : (e : FlattenError) → x ≡ Err e → AreFine layers (take (length done * size) elements) → (e ≡ Memory) ⊎ IsFaulty layers elements e
+    chunk_refused e is before = cases (subst (λ r. IfErr r (λ f. (f ≡ Memory) ⊎ IsFaulty layers (chunk_at size (length done) elements) f)) (here ∙ is) (are.refused (length done) x within)) where
+      cases : ((e ≡ Memory) ⊎ IsFaulty layers (chunk_at size (length done) elements) e) → (e ≡ Memory) ⊎ IsFaulty layers elements e
       cases (inl m) = inl m
       cases (inr fault) =
           let m = length done * size in
@@ -92,18 +92,18 @@ module _ (entries : List Entry) (layer : Layer) (size : ℕ) (elements : List El
             element = fault.element;
             stands = sym (get_on m fault.index elements) ∙ sym (get_taken size fault.index left less) ∙ fault.stands;
             faulty = fault.faulty;
-            before = rw (take_on m fault.index elements) (All-append (λ e. element_fault layer e ≡ None) (take m elements) (take fault.index left)
-                before (subst (λ xs. AreFine layer xs) shorter fault.before));
+            before = rw (take_on m fault.index elements) (All-append (λ e. element_fault layers e ≡ None) (take m elements) (take fault.index left)
+                before (subst (λ xs. AreFine layers xs) shorter fault.before));
           })
 
   -- all chunks
   pub all_joined : (done : List (Result Chunk FlattenError)) (shapes : List (Vec Shape)) (links : List Link) → length done ≡ length chunks
-      → AreJoined entries layer (length done * size) elements shapes links
-      → AreOf entries layer elements (flat_map vec_items shapes) links × AreFine layer elements
+      → AreJoined entries layers (length done * size) elements shapes links
+      → AreOf entries layers elements (flat_map vec_items shapes) links × AreFine layers elements
   all_joined done shapes links came joined =
       let enough = are.all in
       let whole : take (length done * size) elements ≡ elements = let long : length elements ≤ length done * size = subst (λ n. length elements ≤ n * size) (sym came) enough in grind (arith, common_steps, long) in
-      (subst (λ xs. AreOf entries layer xs (flat_map vec_items shapes) links) whole joined.are, subst (λ xs. AreFine layer xs) whole joined.fine)
+      (subst (λ xs. AreOf entries layers xs (flat_map vec_items shapes) links) whole joined.are, subst (λ xs. AreFine layers xs) whole joined.fine)
 
 -- ---- the chunks, as chunks of the elements
 
@@ -135,21 +135,21 @@ chunk_said : {X : Type 0} (said : X → Element) (size k : ℕ) (xs : List X) �
 chunk_said said size k xs = sym (ap (take size) (drop-map said (k * size) xs) ∙ take-map said size (drop (k * size) xs))
 
 -- what a slice of elements came to
-abbrev pub IsSliceChunk : {X : Type 0} → (X → Element) → List Entry → Layer → List X → Result Chunk FlattenError → Type 0
-IsSliceChunk said entries layer slice came =
-    IfOk came (λ chunk. IsChunk entries layer (map said slice) chunk)
-    × (IfOk came (λ chunk. AreFine layer (map said slice)) × IfErr came (λ e. (e ≡ Memory) ⊎ IsFaulty layer (map said slice) e))
+abbrev pub IsSliceChunk : {X : Type 0} → (X → Element) → List Entry → List Layer → List X → Result Chunk FlattenError → Type 0
+IsSliceChunk said entries layers slice came =
+    IfOk came (λ chunk. IsChunk entries layers (map said slice) chunk)
+    × (IfOk came (λ chunk. AreFine layers (map said slice)) × IfErr came (λ e. (e ≡ Memory) ⊎ IsFaulty layers (map said slice) e))
 
-pub chunks_are : {X : Type 0} (said : X → Element) (entries : List Entry) (layer : Layer) (size : ℕ) (xs : List X) (chunks : List (Result Chunk FlattenError)) → 0 < size
-    → AllZip (IsSliceChunk said entries layer) (chunks_of (max size 1) xs) chunks → AreChunks entries layer size (map said xs) chunks
-chunks_are said entries layer size xs chunks some all =
+pub chunks_are : {X : Type 0} (said : X → Element) (entries : List Entry) (layers : List Layer) (size : ℕ) (xs : List X) (chunks : List (Result Chunk FlattenError)) → 0 < size
+    → AllZip (IsSliceChunk said entries layers) (chunks_of (max size 1) xs) chunks → AreChunks entries layers size (map said xs) chunks
+chunks_are said entries layers size xs chunks some all =
     let only : max size 1 ≡ size = omega (arith, some) in
-    let cut = slices_at (IsSliceChunk said entries layer) size (length xs) xs chunks some (omega arith) (subst (λ s. AllZip (IsSliceChunk said entries layer) (chunks_of s xs) chunks) only all) in
+    let cut = slices_at (IsSliceChunk said entries layers) size (length xs) xs chunks some (omega arith) (subst (λ s. AllZip (IsSliceChunk said entries layers) (chunks_of s xs) chunks) only all) in
     record {
       all = rw (length-map xs said) cut.0;
-      built = λ k d lt. subst (λ es. IfOk (get_or chunks k d) (λ chunk. IsChunk entries layer es chunk)) (chunk_said said size k xs) (cut.1 k d lt).0;
-      fine = λ k d lt. subst (λ es. IfOk (get_or chunks k d) (λ chunk. AreFine layer es)) (chunk_said said size k xs) (cut.1 k d lt).1.0;
-      refused = λ k d lt. subst (λ es. IfErr (get_or chunks k d) (λ e. (e ≡ Memory) ⊎ IsFaulty layer es e)) (chunk_said said size k xs) (cut.1 k d lt).1.1;
+      built = λ k d lt. subst (λ es. IfOk (get_or chunks k d) (λ chunk. IsChunk entries layers es chunk)) (chunk_said said size k xs) (cut.1 k d lt).0;
+      fine = λ k d lt. subst (λ es. IfOk (get_or chunks k d) (λ chunk. AreFine layers es)) (chunk_said said size k xs) (cut.1 k d lt).1.0;
+      refused = λ k d lt. subst (λ es. IfErr (get_or chunks k d) (λ e. (e ≡ Memory) ⊎ IsFaulty layers es e)) (chunk_said said size k xs) (cut.1 k d lt).1.1;
     }
 
 -- where nothing is left, all have come

@@ -7,6 +7,7 @@ pub mod HeightsInOrder
 pub mod Pointing
 pub mod Within
 pub mod Composing
+pub mod Layered
 pub mod Centres
 pub mod Stepping
 pub mod Turns

@@ -17,7 +17,7 @@ own_copy element = record { placement = still; element = element }
 abbrev pub carry_copy : Placement → Copy → Copy
 carry_copy p c = record { placement = composed p c.placement; element = c.element }
 
--- what cells have: shapes of the layer, and single references, each to a cell by its index
+-- what cells have: shapes of the layers, and single references, each to a cell by its index
 pub record Hierarchy : Type 0 where
   pub own : ℕ → List Element
   pub singles : ℕ → List (ℕ × Placement)

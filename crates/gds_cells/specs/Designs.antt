@@ -45,36 +45,36 @@ singles_to cells None placements = []
 abbrev pub singles_among : List Entry → List Element → List (ℕ × Placement)
 singles_among cells elements = flat_map (λ e. singles_to cells (name_of e) (placements_of e)) elements
 
--- what the cells draw on a layer and refer to
-abbrev pub hierarchy_of : List Entry → Layer → Hierarchy
-hierarchy_of cells layer = record {
-  own = λ c. filter (is_shape layer) (elements_at cells c);
+-- what the cells draw on the layers and refer to
+abbrev pub hierarchy_of : List Entry → List Layer → Hierarchy
+hierarchy_of cells layers = record {
+  own = λ c. filter (is_shape layers) (elements_at cells c);
   singles = λ c. singles_among cells (elements_at cells c);
 }
 
 -- the copies of shapes that the top draws, through chains of at most 256 cells
-abbrev pub copies_of : List Entry → List ℕ → Layer → List Copy
-copies_of cells top layer = copies (hierarchy_of cells layer) 256 (index_of cells top)
+abbrev pub copies_of : List Entry → List ℕ → List Layer → List Copy
+copies_of cells top layers = copies (hierarchy_of cells layers) 256 (index_of cells top)
 
--- why an element is refused: a reference always, a shape where it's of the layer
-abbrev pub element_fault : Layer → Element → Option FlattenError
-element_fault layer e = if is_shape layer e then shape_fault e else reference_fault e
+-- why an element is refused: a reference always, a shape where it's of one of them
+abbrev pub element_fault : List Layer → Element → Option FlattenError
+element_fault layers e = if is_shape layers e then shape_fault e else reference_fault e
 
-abbrev pub AreFine : Layer → List Element → Type 0
-AreFine layer elements = All (λ e. element_fault layer e ≡ None) elements
+abbrev pub AreFine : List Layer → List Element → Type 0
+AreFine layers elements = All (λ e. element_fault layers e ≡ None) elements
 
 -- the first fault of the cells that the top reaches, in the order of the file
-pub record IsFirstFault (cells : List Entry) (top : ℕ) (layer : Layer) (e : FlattenError) : Type 0 where
+pub record IsFirstFault (cells : List Entry) (top : ℕ) (layers : List Layer) (e : FlattenError) : Type 0 where
   pub cell : ℕ
   pub index : ℕ
   pub element : Element
   pub reached : IsReached (graph_of cells) top cell
   pub stands : slice_get (elements_at cells cell) index ≡ Some element
-  pub faulty : element_fault layer element ≡ Some e
-  pub before : AreFine layer (take index (elements_at cells cell))
-  pub earlier : (c : ℕ) → c < cell → IsReached (graph_of cells) top c → AreFine layer (elements_at cells c)
+  pub faulty : element_fault layers element ≡ Some e
+  pub before : AreFine layers (take index (elements_at cells cell))
+  pub earlier : (c : ℕ) → c < cell → IsReached (graph_of cells) top c → AreFine layers (elements_at cells c)
 
 -- no cell that the top reaches has a fault
-abbrev pub AllFine : List Entry → ℕ → Layer → Type 0
-AllFine cells top layer =
-    (c : ℕ) → IsReached (graph_of cells) top c → AreFine layer (elements_at cells c)
+abbrev pub AllFine : List Entry → ℕ → List Layer → Type 0
+AllFine cells top layers =
+    (c : ℕ) → IsReached (graph_of cells) top c → AreFine layers (elements_at cells c)

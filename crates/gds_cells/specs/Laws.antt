@@ -1,10 +1,16 @@
--- The laws of placements and of references.
-use Rattle.std.specs.Prelude.{◌≡◌, ◌↔◌, ℕ, zero, suc, ◌*◌, ◌<◌, ◌≤◌, ℤ, pos, ◌+ℤ◌, ◌-ℤ◌, ◌*ℤ◌, Bool, true, false, List, Some}
+-- The laws of placements, of references and of lists of layers.
+use Rattle.std.specs.Prelude.{◌≡◌, ◌↔◌, ℕ, zero, suc, ◌*◌, ◌<◌, ◌≤◌, ℤ, pos, ◌+ℤ◌, ◌-ℤ◌, ◌*ℤ◌, Bool, true, false, ◌||◌, List, [], ◌∷◌, ◌++◌, Option, Some, None}
+use Rattle.fill_base.specs.declared.layer.Layer.{Layer}
 use Rattle.fill_base.specs.declared.place.Point.{Point}
 use Rattle.gds_record.specs.Reals.{bits_of, HasValue, turns_of}
+use Rattle.gds_grammar.specs.Layers.{has_layer}
+use Rattle.gds_grammar.specs.Values.{boundary, path, reference, array, Shape as Element}
 use Rattle.gds_cells.specs.declared.placement.Placement.{Placement}
+use Rattle.gds_cells.specs.Copies.{drawn}
+use Rattle.gds_cells.specs.Designs.{Entry, copies_of, element_fault}
 use Rattle.gds_cells.specs.Placements.{signed, back_x, back_y, carried, composed, placed}
 use Rattle.gds_cells.specs.References.{turns_of_bits, is_magnified, has_steps, step_of}
+use Rattle.gds_cells.specs.Shapes.{is_shape}
 
 -- ---- the rule in its own words, on the centres of squares, in half units
 
@@ -60,3 +66,26 @@ IsStep p q n d = (q.x ≡ p.x +ℤ (pos n *ℤ d.x)) × (q.y ≡ p.y +ℤ (pos n
 abbrev pub StepsAreWhole : Type 0
 StepsAreWhole = (p q d : Point) (n : ℕ) → 0 < n
     → ((has_steps p q n ≡ true) × (step_of p q n ≡ d)) ↔ IsStep p q n d
+
+-- ---- lists of layers
+
+-- the layer of a boundary or path
+abbrev pub layer_of : Element → Option Layer
+layer_of (boundary l points) = Some l
+layer_of (path l wire) = Some l
+layer_of (reference cell transform origin) = None
+layer_of (array cell transform columns rows points) = None
+
+-- The shapes of a list of one layer are those on that layer.
+abbrev pub ShapesOfOneLayer : Type 0
+ShapesOfOneLayer = (l : Layer) (e : Element) → (is_shape (l ∷ []) e ≡ true) ↔ (layer_of e ≡ Some l)
+
+-- Order and repeats don't matter: of lists that have the same layers the copies are the same, and each element's fault.
+abbrev pub OrderIsFree : Type 0
+OrderIsFree = (a b : List Layer) → ((l : Layer) → has_layer a l ≡ has_layer b l)
+    → ((cells : List Entry) (top : List ℕ) → copies_of cells top a ≡ copies_of cells top b) × ((e : Element) → element_fault a e ≡ element_fault b e)
+
+-- On two lists one after the other the top draws what it draws on the one or the other.
+abbrev pub DrawsTheUnion : Type 0
+DrawsTheUnion = (cells : List Entry) (top : List ℕ) (a b : List Layer) (x y : ℤ)
+    → drawn (copies_of cells top (a ++ b)) x y ≡ (drawn (copies_of cells top a) x y || drawn (copies_of cells top b) x y)

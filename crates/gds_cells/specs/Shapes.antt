@@ -1,8 +1,8 @@
--- The shapes of a layer: what each covers, how far it goes, and why it's refused.
+-- The shapes of layers: what each covers, how far it goes, and why it's refused.
 use Rattle.std.specs.Prelude.{ℤ, Bool, false, List, [], map, cond, Option, Some, None, All}
 use Rattle.std.specs.List.{list_any}
 use Rattle.fill_base.specs.declared.layer.Layer.{Layer}
-use Rattle.gds_grammar.specs.Layers.{same_layer}
+use Rattle.gds_grammar.specs.Layers.{has_layer}
 use Rattle.gds_grammar.specs.Values.{boundary, path, reference, array, Shape as Element}
 use Rattle.gds_shape.specs.declared.bounds.Bounds.{Bounds}
 use Rattle.gds_shape.specs.declared.error.ShapeError.{ShapeError}
@@ -15,12 +15,12 @@ use Rattle.gds_cells.specs.declared.error.FlattenError.TheVariants.{NotManhattan
 use Rattle.gds_cells.specs.declared.placement.Placement.{Placement}
 use Rattle.gds_cells.specs.Placements.{carried_bounds}
 
--- a boundary or path of the layer
-abbrev pub is_shape : Layer → Element → Bool
-is_shape layer (boundary l points) = same_layer l layer
-is_shape layer (path l wire) = same_layer l layer
-is_shape layer (reference cell transform origin) = false
-is_shape layer (array cell transform columns rows points) = false
+-- a boundary or path of one of the layers
+abbrev pub is_shape : List Layer → Element → Bool
+is_shape layers (boundary l points) = has_layer layers l
+is_shape layers (path l wire) = has_layer layers l
+is_shape layers (reference cell transform origin) = false
+is_shape layers (array cell transform columns rows points) = false
 
 -- the squares that it covers
 abbrev pub covers_of : Element → ℤ → ℤ → Bool

@@ -27,13 +27,13 @@ pub fn cells_of<'a, 'b>(
     cells: &'a Cells<'b>,
     graph: &[Vec<usize>],
     steps: &[usize],
-    layer: Layer,
+    layers: &[Layer],
 ) -> Result<Vec<Cell<'a, 'b>>, FlattenError>
     requires graph { rows graph.now ≡ graph_of (map cell_of cells.now.entries) }
-    ensures built { IfOk result (λ v. AreBuilt (map cell_of cells.now.entries) layer steps.now
+    ensures built { IfOk result (λ v. AreBuilt (map cell_of cells.now.entries) layers.now steps.now
         (length (map cell_of cells.now.entries)) v.items) }
     ensures refused { IfErr result (λ e. (e ≡ FlattenError.Memory)
-        ⊎ IsFaultAmong (map cell_of cells.now.entries) layer steps.now e) }
+        ⊎ IsFaultAmong (map cell_of cells.now.entries) layers.now steps.now e) }
 {
     let mut built = Vec::new(alloc);
     'cells: for index in 0..cells.len() {
@@ -45,7 +45,7 @@ pub fn cells_of<'a, 'b>(
             continue 'cells;
         }
         let elements = elements_at(cells, index);
-        let cell = cell_of(rt, alloc, cells, elements, links(graph, index), layer)?;
+        let cell = cell_of(rt, alloc, cells, elements, links(graph, index), layers)?;
         built.push(cell)?;
     }
     Ok(built)

@@ -64,15 +64,15 @@ fn add_element<'a, 'b>(
     chunk: &mut Chunk<'a, 'b>,
     element: &'a Element<'b>,
     index: usize,
-    layer: Layer,
+    layers: &[Layer],
 ) -> Result<(), FlattenError>
     requires { rects.old.items ≡ [] }
     ensures empty { OnOk result (rects.new.items ≡ []) }
-    ensures added { OnOk result (IsAdded (shape_of element.now) layer index chunk.old chunk.new) }
+    ensures added { OnOk result (IsAdded (shape_of element.now) layers.now index chunk.old chunk.new) }
     ensures refused { IfErr result (λ e. (e ≡ FlattenError.Memory)
-        ⊎ (element_fault layer (shape_of element.now) ≡ Some e)) }
+        ⊎ (element_fault layers.now (shape_of element.now) ≡ Some e)) }
 {
-    if let Some(shape) = shape_of(alloc, points, rects, element, layer)? {
+    if let Some(shape) = shape_of(alloc, points, rects, element, layers)? {
         chunk.shapes.push(shape)?;
         return Ok(());
     }
@@ -87,12 +87,12 @@ pub fn chunk_of<'a, 'b>(
     alloc: Global,
     to: Targets<'_, '_>,
     elements: &'a [Element<'b>],
-    layer: Layer,
+    layers: &[Layer],
 ) -> Result<Chunk<'a, 'b>, FlattenError>
-    ensures built { IfOk result (λ chunk. (entries : List Entry) → Leads to.entry entries (map shape_of elements.now) → IsChunk entries layer (map shape_of elements.now) chunk) }
-    ensures fine { IfOk result (λ chunk. AreFine layer (map shape_of elements.now)) }
+    ensures built { IfOk result (λ chunk. (entries : List Entry) → Leads to.entry entries (map shape_of elements.now) → IsChunk entries layers.now (map shape_of elements.now) chunk) }
+    ensures fine { IfOk result (λ chunk. AreFine layers.now (map shape_of elements.now)) }
     ensures refused { IfErr result (λ e. (e ≡ FlattenError.Memory)
-        ⊎ IsFaulty layer (map shape_of elements.now) e) }
+        ⊎ IsFaulty layers.now (map shape_of elements.now) e) }
 {
     let mut chunk = Chunk {
         shapes: Vec::new(alloc),
@@ -109,7 +109,7 @@ pub fn chunk_of<'a, 'b>(
             &mut chunk,
             element,
             index,
-            layer,
+            layers,
         )?;
     }
     Ok(chunk)

@@ -32,18 +32,18 @@ pub fn cell_of<'a, 'b>(
     cells: &Cells<'_>,
     elements: &'a [Element<'b>],
     row: &[usize],
-    layer: Layer,
+    layers: &[Layer],
 ) -> Result<Cell<'a, 'b>, FlattenError>
     requires row { row.now ≡ targets (map cell_of cells.now.entries) (map shape_of elements.now) }
-    ensures built { IfOk result (λ cell. IsCell (map cell_of cells.now.entries) layer (map shape_of elements.now) cell) }
-    ensures fine { IfOk result (λ cell. AreFine layer (map shape_of elements.now)) }
+    ensures built { IfOk result (λ cell. IsCell (map cell_of cells.now.entries) layers.now (map shape_of elements.now) cell) }
+    ensures fine { IfOk result (λ cell. AreFine layers.now (map shape_of elements.now)) }
     ensures refused { IfErr result (λ e. (e ≡ FlattenError.Memory)
-        ⊎ IsFaulty layer (map shape_of elements.now) e) }
+        ⊎ IsFaulty layers.now (map shape_of elements.now) e) }
 {
     if elements.len() <= row.len().saturating_mul(2).max(LEAST_CHUNK) {
-        return whole_cell(alloc, elements, row, layer);
+        return whole_cell(alloc, elements, row, layers);
     }
-    cell_by_chunks(rt, alloc, cells, elements, layer)
+    cell_by_chunks(rt, alloc, cells, elements, layers)
 }
 
 /// The cell of these elements, which refer to the cells of the row in turn. One chunk is made of them.
@@ -51,14 +51,14 @@ fn whole_cell<'a, 'b>(
     alloc: Global,
     elements: &'a [Element<'b>],
     row: &[usize],
-    layer: Layer,
+    layers: &[Layer],
 ) -> Result<Cell<'a, 'b>, FlattenError>
-    ensures built { IfOk result (λ cell. (entries : List Entry) → row.now ≡ targets entries (map shape_of elements.now) → IsCell entries layer (map shape_of elements.now) cell) }
-    ensures fine { IfOk result (λ cell. AreFine layer (map shape_of elements.now)) }
+    ensures built { IfOk result (λ cell. (entries : List Entry) → row.now ≡ targets entries (map shape_of elements.now) → IsCell entries layers.now (map shape_of elements.now) cell) }
+    ensures fine { IfOk result (λ cell. AreFine layers.now (map shape_of elements.now)) }
     ensures refused { IfErr result (λ e. (e ≡ FlattenError.Memory)
-        ⊎ IsFaulty layer (map shape_of elements.now) e) }
+        ⊎ IsFaulty layers.now (map shape_of elements.now) e) }
 {
-    let chunk = chunk_of(alloc, Targets::Row(row), elements, layer)?;
+    let chunk = chunk_of(alloc, Targets::Row(row), elements, layers)?;
     let mut shapes = Vec::new(alloc);
     shapes.push(chunk.shapes)?;
     Ok(Cell {
@@ -73,23 +73,23 @@ fn cell_by_chunks<'a, 'b>(
     alloc: Global,
     cells: &Cells<'_>,
     elements: &'a [Element<'b>],
-    layer: Layer,
+    layers: &[Layer],
 ) -> Result<Cell<'a, 'b>, FlattenError>
-    ensures built { IfOk result (λ cell. IsCell (map cell_of cells.now.entries) layer (map shape_of elements.now) cell) }
-    ensures fine { IfOk result (λ cell. AreFine layer (map shape_of elements.now)) }
+    ensures built { IfOk result (λ cell. IsCell (map cell_of cells.now.entries) layers.now (map shape_of elements.now) cell) }
+    ensures fine { IfOk result (λ cell. AreFine layers.now (map shape_of elements.now)) }
     ensures refused { IfErr result (λ e. (e ≡ FlattenError.Memory)
-        ⊎ IsFaulty layer (map shape_of elements.now) e) }
+        ⊎ IsFaulty layers.now (map shape_of elements.now) e) }
 {
     let size = elements.len().div_ceil(MOST_CHUNKS).max(LEAST_CHUNK);
     let chunks = elements
         .par_chunks(size)
         .map(
             move |chunk: &[Element]| -> Result<Chunk, FlattenError>
-                ensures built { IfOk result (λ built. IsChunk (map cell_of cells.entry.now.entries) layer (map shape_of chunk.entry.now) built) }
-                ensures fine { IfOk result (λ built. AreFine layer (map shape_of chunk.entry.now)) }
+                ensures built { IfOk result (λ built. IsChunk (map cell_of cells.entry.now.entries) layers.entry.now (map shape_of chunk.entry.now) built) }
+                ensures fine { IfOk result (λ built. AreFine layers.entry.now (map shape_of chunk.entry.now)) }
                 ensures refused { IfErr result (λ e. (e ≡ FlattenError.Memory)
-                    ⊎ IsFaulty layer (map shape_of chunk.entry.now) e) }
-            { chunk_of(alloc, Targets::Names(cells), chunk, layer) },
+                    ⊎ IsFaulty layers.entry.now (map shape_of chunk.entry.now) e) }
+            { chunk_of(alloc, Targets::Names(cells), chunk, layers) },
         )
         .collect::<Vec<Result<Chunk, FlattenError>>>(rt, alloc)?;
     joined(alloc, chunks)
@@ -100,12 +100,12 @@ fn joined<'a, 'b>(
     alloc: Global,
     chunks: Vec<Result<Chunk<'a, 'b>, FlattenError>>,
 ) -> Result<Cell<'a, 'b>, FlattenError>
-    ensures built { IfOk result (λ cell. (entries : List Entry) (layer : Layer) (size : ℕ) (elements : List Shape) →
-        AreChunks entries layer size elements chunks.entry.items → IsCell entries layer elements cell) }
-    ensures fine { IfOk result (λ cell. (entries : List Entry) (layer : Layer) (size : ℕ) (elements : List Shape) →
-        AreChunks entries layer size elements chunks.entry.items → AreFine layer elements) }
-    ensures refused { IfErr result (λ e. (entries : List Entry) (layer : Layer) (size : ℕ) (elements : List Shape) →
-        AreChunks entries layer size elements chunks.entry.items → (e ≡ FlattenError.Memory) ⊎ IsFaulty layer elements e) }
+    ensures built { IfOk result (λ cell. (entries : List Entry) (layers : List Layer) (size : ℕ) (elements : List Shape) →
+        AreChunks entries layers size elements chunks.entry.items → IsCell entries layers elements cell) }
+    ensures fine { IfOk result (λ cell. (entries : List Entry) (layers : List Layer) (size : ℕ) (elements : List Shape) →
+        AreChunks entries layers size elements chunks.entry.items → AreFine layers elements) }
+    ensures refused { IfErr result (λ e. (entries : List Entry) (layers : List Layer) (size : ℕ) (elements : List Shape) →
+        AreChunks entries layers size elements chunks.entry.items → (e ≡ FlattenError.Memory) ⊎ IsFaulty layers elements e) }
 {
     let mut shapes = Vec::with_capacity(alloc, chunks.len())?;
     let mut links = Vec::new(alloc);

@@ -1,6 +1,6 @@
-//! The laws of placements and references: they do what the manual's words say, one after the other.
+//! The laws of placements and references: they do what the manual's words say, one after the other. The laws of lists of layers.
 
-ghost use Rattle.gds_cells.specs.Laws.{ActsOnCentres, ActsInTurn, GroupsFreely, TurnsAreDegrees, UnitIsOne, StepsAreWhole};
+ghost use Rattle.gds_cells.specs.Laws.{ActsOnCentres, ActsInTurn, GroupsFreely, TurnsAreDegrees, UnitIsOne, StepsAreWhole, ShapesOfOneLayer, OrderIsFree, DrawsTheUnion};
 
 /// A placement of a reflection, turns and a move does these three, in this order, to the centre of
 /// each square (Calma GDSII Stream Format Manual, release 6.0, STRANS and ANGLE).
@@ -33,4 +33,20 @@ pub fn unit_is_one()
 /// those (Calma GDSII Stream Format Manual, release 6.0, COLROW; this project's profile).
 pub fn steps_are_whole()
     ensures { StepsAreWhole }
+{}
+
+/// The shapes of a list of one layer are those on that layer.
+pub fn shapes_of_one_layer()
+    ensures { ShapesOfOneLayer }
+{}
+
+/// Order and repeats don't matter: of lists that have the same layers the copies are the same, and each
+/// element's fault.
+pub fn order_is_free()
+    ensures { OrderIsFree }
+{}
+
+/// On two lists one after the other the top draws what it draws on the one or the other.
+pub fn draws_the_union()
+    ensures { DrawsTheUnion }
 {}

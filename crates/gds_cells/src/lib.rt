@@ -1,4 +1,4 @@
-//! The cells of a GDSII library: which each refers to and how, in what order, how deep and how often, and what each draws on a layer
+//! The cells of a GDSII library: which each refers to and how, in what order, how deep and how often, and what each draws on some layers
 //! by itself. The layer above may rely on this: links are the references of the design, numbers and orders are those of its graph,
 //! and a prepared shape holds the squares that its element covers.
 #![tactic(auto)]

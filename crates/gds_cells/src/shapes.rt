@@ -1,4 +1,4 @@
-//! The shapes of a layer: each is filled once, and then carried to each of its copies.
+//! The shapes of some layers: each is filled once, and then carried to each of its copies.
 
 ghost use Rattle.std.specs.Prelude.{◌≡◌, ◌⊎◌, ◌||◌, ◌↔◌, true, false, ℤ, [], None, Some, All, IfOk, IfErr, IfSome, IfNone, OnOk};
 ghost use Rattle.fill_base.specs.Squares.{squares};
@@ -41,13 +41,13 @@ impl From<ShapeError> for FlattenError {
     }
 }
 
-/// Whether the element is a boundary or path of the layer.
-fn is_shape(element: &Element<'_>, layer: Layer) -> bool
-    ensures { result ≡ is_shape layer (shape_of element.now) }
+/// Whether the element is a boundary or path of one of the layers.
+fn is_shape(element: &Element<'_>, layers: &[Layer]) -> bool
+    ensures { result ≡ is_shape layers.now (shape_of element.now) }
 {
     match element {
-        Element::Boundary(boundary) => boundary.layer == layer,
-        Element::Path(path) => path.layer == layer,
+        Element::Boundary(boundary) => layers.contains(&boundary.layer),
+        Element::Path(path) => layers.contains(&path.layer),
         Element::Ref(_) | Element::Array(_) => false,
     }
 }
@@ -110,7 +110,7 @@ fn path_shape<'a, 'b>(
     Ok(Shape { element, filled })
 }
 
-/// The element, filled, if it's a boundary or path of the layer; `None` for every other
+/// The element, filled, if it's a boundary or path of one of the layers; `None` for every other
 /// one, which isn't looked at. The lists are room for its points, and one to fill it in, empty before and
 /// afterwards.
 ///
@@ -122,17 +122,17 @@ pub fn shape_of<'a, 'b>(
     points: &mut Vec<Point>,
     rects: &mut Vec<Rect>,
     element: &'a Element<'b>,
-    layer: Layer,
+    layers: &[Layer],
 ) -> Result<Option<Shape<'a, 'b>>, FlattenError>
     requires { rects.old.items ≡ [] }
     ensures empty { IfOk result (λ o. rects.new.items ≡ []) }
-    ensures none { IfOk result (λ o. IfNone o (is_shape layer (shape_of element.now) ≡ false)) }
-    ensures some { IfOk result (λ o. IfSome o (λ s. (is_shape layer (shape_of element.now) ≡ true)
+    ensures none { IfOk result (λ o. IfNone o (is_shape layers.now (shape_of element.now) ≡ false)) }
+    ensures some { IfOk result (λ o. IfSome o (λ s. (is_shape layers.now (shape_of element.now) ≡ true)
         × (shape_fault (shape_of element.now) ≡ None) × (s.element.now ≡ element.now))) }
     ensures refused { IfErr result (λ e. (e ≡ FlattenError.Memory)
-        ⊎ ((is_shape layer (shape_of element.now) ≡ true) × (shape_fault (shape_of element.now) ≡ Some e))) }
+        ⊎ ((is_shape layers.now (shape_of element.now) ≡ true) × (shape_fault (shape_of element.now) ≡ Some e))) }
 {
-    if !is_shape(element, layer) {
+    if !is_shape(element, layers) {
         return Ok(None);
     }
     match element {

@@ -81,8 +81,8 @@ same_flat P f g same (s ∷ ss) (p, each) = rw (same s.0 p, same_flat P f g same
 
 -- ---- copies
 
-module _ (entries : List Entry) (layer : Layer) (t : ℕ) (s : State) (surveyed : IsSurveyed (graph_of entries) t s) (cells : List Cell)
-    (built : AreBuilt entries layer s.steps (length entries) cells) where
+module _ (entries : List Entry) (layers : List Layer) (t : ℕ) (s : State) (surveyed : IsSurveyed (graph_of entries) t s) (cells : List Cell)
+    (built : AreBuilt entries layers s.steps (length entries) cells) where
   entries_long : length (graph_of entries) ≡ length entries
   entries_long = grind (arith, common_steps)
 
@@ -93,21 +93,21 @@ module _ (entries : List Entry) (layer : Layer) (t : ℕ) (s : State) (surveyed 
       let small = surveyed.within q within in
       subst (λ x. x < length entries) is (subst (λ n. item s.order q < n) entries_long small)
 
-  cell_at : (c : ℕ) → IsReached (graph_of entries) t c → IsCellAt entries layer cells c
+  cell_at : (c : ℕ) → IsReached (graph_of entries) t c → IsCellAt entries layers cells c
   cell_at c reached = built.built c (inside c reached) (surveyed.found c reached)
 
-  pub agree : (n c : ℕ) → IsReached (graph_of entries) t c → copies (hierarchy cells) n c ≡ copies (hierarchy_of entries layer) n c
+  pub agree : (n c : ℕ) → IsReached (graph_of entries) t c → copies (hierarchy cells) n c ≡ copies (hierarchy_of entries layers) n c
   unfolding copies
   agree zero c reached = refl
   agree (suc n) c reached =
       let cell = cell_at c reached in
-      let own : own_in (slice_get cells c) ≡ (hierarchy_of entries layer).own c = ap own_in cell.stands ∙ cell.is.own in
-      let singles : singles_in (slice_get cells c) ≡ (hierarchy_of entries layer).singles c = ap singles_in cell.stands ∙ cell.is.singles in
+      let own : own_in (slice_get cells c) ≡ (hierarchy_of entries layers).own c = ap own_in cell.stands ∙ cell.is.own in
+      let singles : singles_in (slice_get cells c) ≡ (hierarchy_of entries layers).singles c = ap singles_in cell.stands ∙ cell.is.singles in
       let each = each_target entries (IsReached (graph_of entries) t) (elements_at entries c) (λ k within.
       subst (λ xs. IsReached (graph_of entries) t (item xs k)) (next_is entries entries c)
       (reached_next (graph_of entries) t c k reached (subst (λ xs. k < length xs) (sym (next_is entries entries c)) within))) in
-      rw (own, singles) (ap (λ cs. map own_copy ((hierarchy_of entries layer).own c) ++ cs)
-      (same_flat (IsReached (graph_of entries) t) (copies (hierarchy cells) n) (copies (hierarchy_of entries layer) n) (agree n)
+      rw (own, singles) (ap (λ cs. map own_copy ((hierarchy_of entries layers).own c) ++ cs)
+      (same_flat (IsReached (graph_of entries) t) (copies (hierarchy cells) n) (copies (hierarchy_of entries layers) n) (agree n)
       (singles_among entries (elements_at entries c)) each))
 
   pub tied : (q : ℕ) → q < length s.order → IsTied (graph_of entries) cells (item s.order q)

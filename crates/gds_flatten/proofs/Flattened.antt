@@ -87,20 +87,20 @@ own_ref (path l p) = tt
 own_ref (reference cell transform origin) = own_single (is_bad_transform transform)
 own_ref (array cell transform columns rows points) = own_reference (is_bad_transform transform) (is_bad_array columns rows points)
 
-own_fault : (layer : Layer) (e : Element) → IsOwn (element_fault layer e)
-own_fault layer e = cases (is_shape layer e) where
+own_fault : (layers : List Layer) (e : Element) → IsOwn (element_fault layers e)
+own_fault layers e = cases (is_shape layers e) where
   cases : (b : Bool) → IsOwn (if b then shape_fault e else reference_fault e)
   cases true = own_shape e
   cases false = own_ref e
 
-is_the_own : (layer : Layer) (e : Element) (f : FlattenError) → element_fault layer e ≡ Some f → is_own f ≡ true
-is_the_own layer e f is = subst (λ o. IsOwn o) is (own_fault layer e)
+is_the_own : (layers : List Layer) (e : Element) (f : FlattenError) → element_fault layers e ≡ Some f → is_own f ≡ true
+is_the_own layers e f is = subst (λ o. IsOwn o) is (own_fault layers e)
 
 -- ---- refusals
 
-module _ (entries : List Entry) (top : List ℕ) (layer : Layer) where
-  refused_own : (e : FlattenError) → is_own e ≡ true → IsSound entries top → IsFirstFault entries (index_of entries top) layer e
-      → IsRefused entries top layer e
+module _ (entries : List Entry) (top : List ℕ) (layers : List Layer) where
+  refused_own : (e : FlattenError) → is_own e ≡ true → IsSound entries top → IsFirstFault entries (index_of entries top) layers e
+      → IsRefused entries top layers e
   unfolding is_own
   refused_own BadTransform own sound fault = (sound, fault)
   refused_own BadArray own sound fault = (sound, fault)
@@ -131,7 +131,7 @@ module _ (entries : List Entry) (top : List ℕ) (layer : Layer) where
   lacked reached = subst (λ n. IsReached (graph_of entries) (index_of entries top) n) (sym long) reached
 
   pub unsound_refused : HasTop entries top → (e : FlattenError) → IsUnsound (graph_of entries) (index_of entries top) e
-      → IsRefused entries top layer e
+      → IsRefused entries top layers e
   unsound_refused has Memory h = tt
   unsound_refused has MissingCell h = (has, lacks h)
   unsound_refused has Cycle h = (has, (λ l. h.0 (lacked l)), h.1)
@@ -156,10 +156,10 @@ module _ (entries : List Entry) (top : List ℕ) (layer : Layer) where
       shallow = surveyed.shallow;
     }
 
-    pub fault_refused : (e : FlattenError) → ((e ≡ Memory) ⊎ IsFaultAmong entries layer s.steps e) → IsRefused entries top layer e
-    fault_refused e (inl m) = subst (λ x. IsRefused entries top layer x) (sym m) tt
+    pub fault_refused : (e : FlattenError) → ((e ≡ Memory) ⊎ IsFaultAmong entries layers s.steps e) → IsRefused entries top layers e
+    fault_refused e (inl m) = subst (λ x. IsRefused entries top layers x) (sym m) tt
     fault_refused e (inr among) =
-        refused_own e (is_the_own layer among.fault.element e among.fault.faulty) sound (record {
+        refused_own e (is_the_own layers among.fault.element e among.fault.faulty) sound (record {
           cell = among.cell;
           index = among.fault.index;
           element = among.fault.element;
@@ -170,54 +170,54 @@ module _ (entries : List Entry) (top : List ℕ) (layer : Layer) where
           earlier = λ c less reached. among.earlier c less (surveyed.found c reached);
         })
 
-    pub fault_early : (e : FlattenError) → ((e ≡ Memory) ⊎ IsFaultAmong entries layer s.steps e) → (e ≡ TooManyShapes → ⊥) × (e ≡ OutOfRange → ⊥)
+    pub fault_early : (e : FlattenError) → ((e ≡ Memory) ⊎ IsFaultAmong entries layers s.steps e) → (e ≡ TooManyShapes → ⊥) × (e ≡ OutOfRange → ⊥)
     unfolding is_own
     fault_early e (inl m) = ((λ is. let both : Memory ≡ TooManyShapes = sym m ∙ is in cc), (λ is. let both : Memory ≡ OutOfRange = sym m ∙ is in cc))
     fault_early e (inr among) =
-        let own = is_the_own layer among.fault.element e among.fault.faulty in (
+        let own = is_the_own layers among.fault.element e among.fault.faulty in (
           (λ is. not_own TooManyShapes e refl own is),
           (λ is. not_own OutOfRange e refl own is),
         )
 
-pub unsound_told : (entries : List Entry) (top : List ℕ) (layer : Layer) (t : ℕ) (g : Graph) → HasTop entries top → t ≡ index_of entries top
-    → g ≡ graph_of entries → (e : FlattenError) → IsUnsound g t e → IsRefused entries top layer e
-unsound_told entries top layer t g has at is e h =
-    unsound_refused entries top layer has e (subst (λ i. IsUnsound (graph_of entries) i e) at (subst (λ x. IsUnsound x t e) is h))
+pub unsound_told : (entries : List Entry) (top : List ℕ) (layers : List Layer) (t : ℕ) (g : Graph) → HasTop entries top → t ≡ index_of entries top
+    → g ≡ graph_of entries → (e : FlattenError) → IsUnsound g t e → IsRefused entries top layers e
+unsound_told entries top layers t g has at is e h =
+    unsound_refused entries top layers has e (subst (λ i. IsUnsound (graph_of entries) i e) at (subst (λ x. IsUnsound x t e) is h))
 
 pub told_surveyed : (entries : List Entry) (top : List ℕ) (t : ℕ) (g : Graph) (s : State) → t ≡ index_of entries top → g ≡ graph_of entries
     → IsSurveyed g t s → IsSurveyed (graph_of entries) (index_of entries top) s
 told_surveyed entries top t g s at is h = subst (λ i. IsSurveyed (graph_of entries) i s) at (subst (λ x. IsSurveyed x t s) is h)
 
 -- what was surveyed and built
-pub reached_told : (entries : List Entry) (top : List ℕ) (layer : Layer) (t : ℕ) (s : State) (cells : List Cell) → HasTop entries top → t ≡ index_of entries top → IsSurveyed (graph_of entries) (index_of entries top) s
-    → AreBuilt entries layer s.steps (length entries) cells → AreReached entries top layer cells t
-reached_told entries top layer t s cells has at surveyed built = subst (AreReached entries top layer cells) (sym at) (record {
-  sound = sound entries top layer has s surveyed;
+pub reached_told : (entries : List Entry) (top : List ℕ) (layers : List Layer) (t : ℕ) (s : State) (cells : List Cell) → HasTop entries top → t ≡ index_of entries top → IsSurveyed (graph_of entries) (index_of entries top) s
+    → AreBuilt entries layers s.steps (length entries) cells → AreReached entries top layers cells t
+reached_told entries top layers t s cells has at surveyed built = subst (AreReached entries top layers cells) (sym at) (record {
+  sound = sound entries top layers has s surveyed;
   fine = λ c reached.
       let (q, within, is) = surveyed.all c reached in
-      let small : c < length entries = subst (λ n. c < n) (long entries top layer) (subst (λ x. x < length (graph_of entries)) is (surveyed.within q within)) in
+      let small : c < length entries = subst (λ n. c < n) (long entries top layers) (subst (λ x. x < length (graph_of entries)) is (surveyed.within q within)) in
       (built.built c small (surveyed.found c reached)).fine;
-  same = agree entries layer (index_of entries top) s surveyed cells built 256 (index_of entries top) (0, refl);
+  same = agree entries layers (index_of entries top) s surveyed cells built 256 (index_of entries top) (0, refl);
 })
 
-pub arranged_told : (entries : List Entry) (top : List ℕ) (layer : Layer) (t : ℕ) (s : State) (cells : List Cell) → t ≡ index_of entries top → IsSurveyed (graph_of entries) (index_of entries top) s
-    → AreBuilt entries layer s.steps (length entries) cells → IsArranged cells s.order t
-arranged_told entries top layer t s cells at surveyed built = record {
+pub arranged_told : (entries : List Entry) (top : List ℕ) (layers : List Layer) (t : ℕ) (s : State) (cells : List Cell) → t ≡ index_of entries top → IsSurveyed (graph_of entries) (index_of entries top) s
+    → AreBuilt entries layers s.steps (length entries) cells → IsArranged cells s.order t
+arranged_told entries top layers t s cells at surveyed built = record {
   graph = graph_of entries;
   ordered = surveyed.ordered;
-  tied = tied entries layer (index_of entries top) s surveyed cells built;
-  shallow = λ q within. shallow entries layer (index_of entries top) s surveyed cells built (item s.order q) (surveyed.order q within);
+  tied = tied entries layers (index_of entries top) s surveyed cells built;
+  shallow = λ q within. shallow entries layers (index_of entries top) s surveyed cells built (item s.order q) (surveyed.order q within);
   here = subst (IsIn s.order) (sym at) (surveyed.all (index_of entries top) (0, refl));
 }
 
-pub countable_told : (entries : List Entry) (top : List ℕ) (layer : Layer) (t : ℕ) (cells : List Cell) (cs : List Copy) (n : ℕ) → AreReached entries top layer cells t → n ≡ length cs → cs ≡ copies_of entries top layer → n ≤ 4000000
-    → IsCountable entries top layer
-countable_told entries top layer t cells cs n reached all same few = record { sound = reached.sound; fine = reached.fine; few = subst (λ k. k ≤ 4000000) (all ∙ ap length same) few }
+pub countable_told : (entries : List Entry) (top : List ℕ) (layers : List Layer) (t : ℕ) (cells : List Cell) (cs : List Copy) (n : ℕ) → AreReached entries top layers cells t → n ≡ length cs → cs ≡ copies_of entries top layers → n ≤ 4000000
+    → IsCountable entries top layers
+countable_told entries top layers t cells cs n reached all same few = record { sound = reached.sound; fine = reached.fine; few = subst (λ k. k ≤ 4000000) (all ∙ ap length same) few }
 
-pub many_told : (entries : List Entry) (top : List ℕ) (layer : Layer) (t : ℕ) (cells : List Cell) (cs : List Copy) → AreReached entries top layer cells t → cs ≡ copies_of entries top layer
-    → (e : FlattenError) → ((e ≡ Memory) ⊎ ((e ≡ TooManyShapes) × (4000000 < length cs))) → IsRefused entries top layer e
-many_told entries top layer t cells cs reached same e (inl m) = subst (IsRefused entries top layer) (sym m) tt
-many_told entries top layer t cells cs reached same e (inr (is, many)) = subst (IsRefused entries top layer) (sym is) (reached.sound, reached.fine, subst (λ ds. 4000000 < length ds) same many)
+pub many_told : (entries : List Entry) (top : List ℕ) (layers : List Layer) (t : ℕ) (cells : List Cell) (cs : List Copy) → AreReached entries top layers cells t → cs ≡ copies_of entries top layers
+    → (e : FlattenError) → ((e ≡ Memory) ⊎ ((e ≡ TooManyShapes) × (4000000 < length cs))) → IsRefused entries top layers e
+many_told entries top layers t cells cs reached same e (inl m) = subst (IsRefused entries top layers) (sym m) tt
+many_told entries top layers t cells cs reached same e (inr (is, many)) = subst (IsRefused entries top layers) (sym is) (reached.sound, reached.fine, subst (λ ds. 4000000 < length ds) same many)
 
 -- ---- counts of the top
 
@@ -235,15 +235,15 @@ few_copies n count number capped is few = cases capped.exact where
 
 -- ---- what is carried
 
-module _ (entries : List Entry) (top : List ℕ) (layer : Layer) (cs : List Copy) (same : cs ≡ copies_of entries top layer) where
-  pub all_inside : (rects : List Rect) → IsDrawn cs [] rects → AllStayInRange (copies_of entries top layer)
+module _ (entries : List Entry) (top : List ℕ) (layers : List Layer) (cs : List Copy) (same : cs ≡ copies_of entries top layers) where
+  pub all_inside : (rects : List Rect) → IsDrawn cs [] rects → AllStayInRange (copies_of entries top layers)
   all_inside rects h = subst AllStayInRange same h.inside
 
-  pub all_drawn : (rects : List Rect) → IsDrawn cs [] rects → (x y : ℤ) → covered rects x y ≡ drawn (copies_of entries top layer) x y
+  pub all_drawn : (rects : List Rect) → IsDrawn cs [] rects → (x y : ℤ) → covered rects x y ≡ drawn (copies_of entries top layers) x y
   all_drawn rects h x y = h.added x y ∙ ap (λ ds. drawn ds x y) same
 
-  pub range_refused : IsCountable entries top layer → (e : FlattenError) → ((e ≡ Memory) ⊎ ((e ≡ OutOfRange) × (AllStayInRange cs → ⊥)))
-      → IsRefused entries top layer e
-  range_refused countable e (inl m) = subst (λ x. IsRefused entries top layer x) (sym m) tt
-  range_refused countable e (inr (is, leaves)) = subst (λ x. IsRefused entries top layer x) (sym is)
+  pub range_refused : IsCountable entries top layers → (e : FlattenError) → ((e ≡ Memory) ⊎ ((e ≡ OutOfRange) × (AllStayInRange cs → ⊥)))
+      → IsRefused entries top layers e
+  range_refused countable e (inl m) = subst (λ x. IsRefused entries top layers x) (sym m) tt
+  range_refused countable e (inr (is, leaves)) = subst (λ x. IsRefused entries top layers x) (sym is)
       (countable, (λ stay. leaves (subst AllStayInRange (sym same) stay)))

@@ -30,52 +30,52 @@ use Rattle.gds_flatten.proofs.Seen.{held_here}
 use Rattle.gds_flatten.proofs.Sparse.{full_drawn, full_met, full_stay}
 
 -- what refuses a design before a copy is looked at, refuses a part of it
-pub told_on : (entries : List Entry) (top : List ℕ) (layer : Layer) (e : FlattenError) (frame : Rect) → (e ≡ TooManyShapes → ⊥) → (e ≡ OutOfRange → ⊥)
-    → IsRefused entries top layer e → IsRefusedOn entries top layer frame e
-told_on entries top layer TooManyShapes frame many far h = absurd (many refl)
-told_on entries top layer OutOfRange frame many far h = absurd (far refl)
-told_on entries top layer Memory frame many far h = h
-told_on entries top layer NoTop frame many far h = h
-told_on entries top layer MissingCell frame many far h = h
-told_on entries top layer Cycle frame many far h = h
-told_on entries top layer TooDeep frame many far h = h
-told_on entries top layer BadTransform frame many far h = h
-told_on entries top layer BadArray frame many far h = h
-told_on entries top layer NotManhattan frame many far h = h
-told_on entries top layer RoundEnd frame many far h = h
-told_on entries top layer OddWidth frame many far h = h
-told_on entries top layer DoublesBack frame many far h = h
-told_on entries top layer BadExtension frame many far h = h
+pub told_on : (entries : List Entry) (top : List ℕ) (layers : List Layer) (e : FlattenError) (frame : Rect) → (e ≡ TooManyShapes → ⊥) → (e ≡ OutOfRange → ⊥)
+    → IsRefused entries top layers e → IsRefusedOn entries top layers frame e
+told_on entries top layers TooManyShapes frame many far h = absurd (many refl)
+told_on entries top layers OutOfRange frame many far h = absurd (far refl)
+told_on entries top layers Memory frame many far h = h
+told_on entries top layers NoTop frame many far h = h
+told_on entries top layers MissingCell frame many far h = h
+told_on entries top layers Cycle frame many far h = h
+told_on entries top layers TooDeep frame many far h = h
+told_on entries top layers BadTransform frame many far h = h
+told_on entries top layers BadArray frame many far h = h
+told_on entries top layers NotManhattan frame many far h = h
+told_on entries top layers RoundEnd frame many far h = h
+told_on entries top layers OddWidth frame many far h = h
+told_on entries top layers DoublesBack frame many far h = h
+told_on entries top layers BadExtension frame many far h = h
 
 -- what a walk within a frame has found from nothing on
-pub record IsPartOf (entries : List Entry) (top : List ℕ) (layer : Layer) (r : Rect) (cells : List Cell) (counts : List ℕ) (found : Found) : Type 0 where
-  pub countable : IsCountableOn entries top layer r
+pub record IsPartOf (entries : List Entry) (top : List ℕ) (layers : List Layer) (r : Rect) (cells : List Cell) (counts : List ℕ) (found : Found) : Type 0 where
+  pub countable : IsCountableOn entries top layers r
   pub rooted : AreRooted cells counts found.roots.items
   pub number : found.inside ≡ length (roots_copies cells found.roots.items)
-  pub stay : AllStayInRange (copies_of entries top layer) → AllStayInRange (roots_copies cells found.roots.items)
-  pub met : AllStayInRange (copies_of entries top layer) → (x y : ℤ)
-      → ((covered found.rects.items x y || drawn (roots_copies cells found.roots.items) x y) && squares r x y) ≡ (drawn (copies_of entries top layer) x y && squares r x y)
+  pub stay : AllStayInRange (copies_of entries top layers) → AllStayInRange (roots_copies cells found.roots.items)
+  pub met : AllStayInRange (copies_of entries top layers) → (x y : ℤ)
+      → ((covered found.rects.items x y || drawn (roots_copies cells found.roots.items) x y) && squares r x y) ≡ (drawn (copies_of entries top layers) x y && squares r x y)
 
-module _ (entries : List Entry) (top : List ℕ) (layer : Layer) (cells : List Cell) (t : ℕ) (reached : AreReached entries top layer cells t)
+module _ (entries : List Entry) (top : List ℕ) (layers : List Layer) (cells : List Cell) (t : ℕ) (reached : AreReached entries top layers cells t)
     (ds : List Cell) (u : ℕ) (fewer : top_copies ds u ≡ filter is_full (top_copies cells t)) where
-  pub right_told : (extents : List (Option Bounds)) (o : Option Bounds) → o ≡ extent_at extents u → AreHeld ds extents 256 u → IsRight (filter is_full (copies_of entries top layer)) o
+  pub right_told : (extents : List (Option Bounds)) (o : Option Bounds) → o ≡ extent_at extents u → AreHeld ds extents 256 u → IsRight (filter is_full (copies_of entries top layers)) o
   right_told extents o is held =
       subst (λ cs. IsRight cs o) (fewer ∙ ap (filter is_full) reached.same) (subst (IsRight (top_copies ds u)) (sym is) (held_here ds extents 256 u held))
 
   module _ (w : Framed) (cells_are : w.cells.now ≡ ds) (cs : List Copy) (cs_are : cs ≡ top_copies w.cells.now u) where
-    all_same : cs ≡ filter is_full (copies_of entries top layer)
+    all_same : cs ≡ filter is_full (copies_of entries top layers)
     all_same = cs_are ∙ ap (λ xs. top_copies xs u) cells_are ∙ fewer ∙ ap (filter is_full) reached.same
 
-    met_same : met w.frame.now cs ≡ met w.frame.now (copies_of entries top layer)
-    met_same = ap (met w.frame.now) all_same ∙ full_met w.frame.now (copies_of entries top layer)
+    met_same : met w.frame.now cs ≡ met w.frame.now (copies_of entries top layers)
+    met_same = ap (met w.frame.now) all_same ∙ full_met w.frame.now (copies_of entries top layers)
 
-    stay_here : AllStayInRange (copies_of entries top layer) → AllStayInRange cs
-    stay_here stay = subst AllStayInRange (sym all_same) (full_stay (copies_of entries top layer) stay)
+    stay_here : AllStayInRange (copies_of entries top layers) → AllStayInRange cs
+    stay_here stay = subst AllStayInRange (sym all_same) (full_stay (copies_of entries top layers) stay)
 
-    pub walk_told : (e : FlattenError) (old : Found) → old.copies ≡ 0 → IsRefusalOn w.frame.now cs old e → IsRefusedOn entries top layer w.frame.now e
-    walk_told e old none (inl m) = subst (IsRefusedOn entries top layer w.frame.now) (sym m) tt
+    pub walk_told : (e : FlattenError) (old : Found) → old.copies ≡ 0 → IsRefusalOn w.frame.now cs old e → IsRefusedOn entries top layers w.frame.now e
+    walk_told e old none (inl m) = subst (IsRefusedOn entries top layers w.frame.now) (sym m) tt
     walk_told e old none (inr (is, many)) =
-        let all = met_same in subst (IsRefusedOn entries top layer w.frame.now) (sym is) (reached.sound, reached.fine, omega (arith, none, many, all))
+        let all = met_same in subst (IsRefusedOn entries top layers w.frame.now) (sym is) (reached.sound, reached.fine, omega (arith, none, many, all))
 
     module _ (counts : List ℕ) (counts_are : w.counts.now ≡ counts) (old new : Found) (none : old.copies ≡ 0) (no_rects : old.rects.items ≡ []) (no_roots : old.roots.items ≡ []) (nothing : old.inside ≡ 0)
         (found : IsFound w cs old new) where
@@ -83,13 +83,13 @@ module _ (entries : List Entry) (top : List ℕ) (layer : Layer) (cells : List C
       rootless = ap (roots_copies w.cells.now) no_roots
 
       -- what was found, met with the frame, is all that is drawn, met with it
-      frame_met : AllStayInRange (copies_of entries top layer) → (x y : ℤ) → (seen w new x y && squares w.frame.now x y) ≡ (drawn (copies_of entries top layer) x y && squares w.frame.now x y)
+      frame_met : AllStayInRange (copies_of entries top layers) → (x y : ℤ) → (seen w new x y && squares w.frame.now x y) ≡ (drawn (copies_of entries top layers) x y && squares w.frame.now x y)
       frame_met stay x y = cases (squares w.frame.now x y) refl where
-        cases : (b : Bool) → squares w.frame.now x y ≡ b → (seen w new x y && b) ≡ (drawn (copies_of entries top layer) x y && b)
+        cases : (b : Bool) → squares w.frame.now x y ≡ b → (seen w new x y && b) ≡ (drawn (copies_of entries top layers) x y && b)
         cases true on = ap (λ c. c && true) (found.drawn (stay_here stay) x y on
             ∙ ap (λ rs. (covered rs x y || drawn (inner w old) x y) || drawn cs x y) no_rects ∙ ap (λ ds. drawn ds x y || drawn cs x y) rootless
-            ∙ ap (λ ds. drawn ds x y) all_same ∙ full_drawn (copies_of entries top layer) x y)
-        cases false on = off (seen w new x y) ∙ sym (off (drawn (copies_of entries top layer) x y)) where
+            ∙ ap (λ ds. drawn ds x y) all_same ∙ full_drawn (copies_of entries top layers) x y)
+        cases false on = off (seen w new x y) ∙ sym (off (drawn (copies_of entries top layers) x y)) where
           off : (b : Bool) → (b && false) ≡ false
           off true = refl
           off false = refl
@@ -100,9 +100,9 @@ module _ (entries : List Entry) (top : List ℕ) (layer : Layer) (cells : List C
         number = nothing ∙ sym (ap length rootless);
       })
 
-      pub found_told : IsPartOf entries top layer w.frame.now ds counts new
+      pub found_told : IsPartOf entries top layers w.frame.now ds counts new
       found_told =
-          subst (λ ns. IsPartOf entries top layer w.frame.now ds ns new) counts_are (subst (λ xs. IsPartOf entries top layer w.frame.now xs w.counts.now new) cells_are (record {
+          subst (λ ns. IsPartOf entries top layers w.frame.now ds ns new) counts_are (subst (λ xs. IsPartOf entries top layers w.frame.now xs w.counts.now new) cells_are (record {
             countable = record {
               sound = reached.sound;
               fine = reached.fine;
@@ -115,9 +115,9 @@ module _ (entries : List Entry) (top : List ℕ) (layer : Layer) (cells : List C
           }))
 
 -- what stays in range can't leave it
-pub memory_told : (entries : List Entry) (top : List ℕ) (layer : Layer) (frame : Rect) (cs : List Copy) → AllStayInRange cs → (e : FlattenError) → IsRefusal cs e → IsRefusedOn entries top layer frame e
-memory_told entries top layer frame cs stay e (inl m) = subst (IsRefusedOn entries top layer frame) (sym m) tt
-memory_told entries top layer frame cs stay e (inr (is, leaves)) = absurd (leaves stay)
+pub memory_told : (entries : List Entry) (top : List ℕ) (layers : List Layer) (frame : Rect) (cs : List Copy) → AllStayInRange cs → (e : FlattenError) → IsRefusal cs e → IsRefusedOn entries top layers frame e
+memory_told entries top layers frame cs stay e (inl m) = subst (IsRefusedOn entries top layers frame) (sym m) tt
+memory_told entries top layers frame cs stay e (inr (is, leaves)) = absurd (leaves stay)
 
 -- the rectangles of the roots, and those found beside them
 pub parts_seen : (parts : List (Vec Rect)) (rects : Vec Rect) (cs : List Copy) → IsDrawn cs [] (flat_map vec_items parts) → (x y : ℤ)

@@ -1,13 +1,12 @@
 -- A library without the shapes of other layers than those that a test keeps.
 use Rattle.std.proofs.Common.{◌≡◌, ℕ, zero, suc, ◌+◌, ◌<◌, ◌≤◌, Bool, true, false, cond, List, [], ◌∷◌, length, map, take, refl, sym, ap, subst, arith, ◌∙◌}
-use Rattle.std.specs.Prelude.{slice_get, filter, not, ◌==◌, Some, None}
+use Rattle.std.specs.Prelude.{slice_get, filter, not, Some, None}
 use Rattle.std.specs.Str.{bytes_eq}
-use Rattle.std.proofs.lemmas.Bool.{and_parts, eqb-true}
 use Rattle.std.proofs.lemmas.List.{length-map}
 use Rattle.fill_base.specs.declared.layer.Layer.{Layer}
 use Rattle.fill_base.specs.declared.rect.Rect.{Rect}
 use Rattle.gds_grammar.specs.Values.{boundary, path, reference, array, Shape as Element}
-use Rattle.gds_grammar.specs.Layers.{is_kept, kept_shapes, kept_cell, same_layer}
+use Rattle.gds_grammar.specs.Layers.{is_kept, kept_shapes, kept_cell, has_layer}
 use Rattle.gds_cells.specs.declared.error.FlattenError.{FlattenError}
 use Rattle.gds_cells.specs.declared.error.FlattenError.TheVariants as errors
 use Rattle.gds_cells.specs.Graphs.{Graph, IsReached, IsCyclic, IsTooDeep}
@@ -16,15 +15,15 @@ use Rattle.gds_cells.specs.Copies.{Hierarchy, copies, AllStayInRange}
 use Rattle.gds_cells.specs.Designs.{Entry, index_of, elements_at, targets, graph_of, singles_among, hierarchy_of, element_fault, AreFine, AllFine, IsFirstFault, copies_of}
 use Rattle.gds_flatten.specs.Flattening.{IsSound, IsCountable, IsCountableOn, IsRefused, IsRefusedOn}
 use Rattle.gds_flatten.specs.Frames.{met}
-use Rattle.gds_flatten.specs.Layers.{TellsOf, TellsOfWithin, LayersSuffice, LayersSufficeWithin}
+use Rattle.gds_flatten.specs.Layers.{AreKept, TellsOf, TellsOfWithin, LayersSuffice, LayersSufficeWithin}
 
 -- the first fault of a cell, by its place
-pub record IsAtIn (layer : Layer) (es : List Element) (e : FlattenError) : Type 0 where
+pub record IsAtIn (layers : List Layer) (es : List Element) (e : FlattenError) : Type 0 where
   pub index : ℕ
   pub element : Element
   pub stands : slice_get es index ≡ Some element
-  pub faulty : element_fault layer element ≡ Some e
-  pub before : AreFine layer (take index es)
+  pub faulty : element_fault layers element ≡ Some e
+  pub before : AreFine layers (take index es)
 
 module _ (keep : Layer → Bool) where
   abbrev left : List Entry → List Entry
@@ -80,92 +79,84 @@ module _ (keep : Layer → Bool) where
   graph_left : (cells : List Entry) → graph_of (left cells) ≡ graph_of cells
   graph_left cells = rows_left cells cells
 
-  -- ---- shapes of the layer stay
+  -- ---- shapes of the layers stay
 
-  module _ (layer : Layer) (wanted : keep layer ≡ true) where
-    on_layer : (l : Layer) → same_layer l layer ≡ true → keep l ≡ true
-    on_layer l h =
-        let p = and_parts (l.layer == layer.layer) (l.data_type == layer.data_type) h in
-        let first = eqb-true l.layer layer.layer p.0 in
-        let second = eqb-true l.data_type layer.data_type p.1 in
-        let same : l ≡ layer = λ i. record { layer = first i; data_type = second i } in
-        subst (λ k. keep k ≡ true) (sym same) wanted
-
-    own_left : (es : List Element) → filter (is_shape layer) (kept_shapes keep es) ≡ filter (is_shape layer) es
+  module _ (layers : List Layer) (wanted : AreKept keep layers) where
+    own_left : (es : List Element) → filter (is_shape layers) (kept_shapes keep es) ≡ filter (is_shape layers) es
     own_left [] = refl
-    own_left (boundary l points ∷ es) = cases (own_left es) (keep l) refl (same_layer l layer) refl where
-      cases : filter (is_shape layer) (kept_shapes keep es) ≡ filter (is_shape layer) es → (b : Bool) → keep l ≡ b → (s : Bool) → same_layer l layer ≡ s
-          → filter (is_shape layer) (cond b (boundary l points ∷ kept_shapes keep es) (kept_shapes keep es)) ≡ cond s (boundary l points ∷ filter (is_shape layer) es) (filter (is_shape layer) es)
+    own_left (boundary l points ∷ es) = cases (own_left es) (keep l) refl (has_layer layers l) refl where
+      cases : filter (is_shape layers) (kept_shapes keep es) ≡ filter (is_shape layers) es → (b : Bool) → keep l ≡ b → (s : Bool) → has_layer layers l ≡ s
+          → filter (is_shape layers) (cond b (boundary l points ∷ kept_shapes keep es) (kept_shapes keep es)) ≡ cond s (boundary l points ∷ filter (is_shape layers) es) (filter (is_shape layers) es)
       cases rest true is s same = rw (same, rest) refl
       cases rest false is false same = rest
-      cases rest false is true same = let h = sym is ∙ on_layer l same in absurd cc
-    own_left (path l wire ∷ es) = cases (own_left es) (keep l) refl (same_layer l layer) refl where
-      cases : filter (is_shape layer) (kept_shapes keep es) ≡ filter (is_shape layer) es → (b : Bool) → keep l ≡ b → (s : Bool) → same_layer l layer ≡ s
-          → filter (is_shape layer) (cond b (path l wire ∷ kept_shapes keep es) (kept_shapes keep es)) ≡ cond s (path l wire ∷ filter (is_shape layer) es) (filter (is_shape layer) es)
+      cases rest false is true same = let h = sym is ∙ wanted l same in absurd cc
+    own_left (path l wire ∷ es) = cases (own_left es) (keep l) refl (has_layer layers l) refl where
+      cases : filter (is_shape layers) (kept_shapes keep es) ≡ filter (is_shape layers) es → (b : Bool) → keep l ≡ b → (s : Bool) → has_layer layers l ≡ s
+          → filter (is_shape layers) (cond b (path l wire ∷ kept_shapes keep es) (kept_shapes keep es)) ≡ cond s (path l wire ∷ filter (is_shape layers) es) (filter (is_shape layers) es)
       cases rest true is s same = rw (same, rest) refl
       cases rest false is false same = rest
-      cases rest false is true same = let h = sym is ∙ on_layer l same in absurd cc
+      cases rest false is true same = let h = sym is ∙ wanted l same in absurd cc
     own_left (reference name transform origin ∷ es) = own_left es
     own_left (array name transform columns rows points ∷ es) = own_left es
 
-    hierarchy_left : (cells : List Entry) → hierarchy_of (left cells) layer ≡ hierarchy_of cells layer
+    hierarchy_left : (cells : List Entry) → hierarchy_of (left cells) layers ≡ hierarchy_of cells layers
     hierarchy_left cells =
-        let own : (c : ℕ) → filter (is_shape layer) (elements_at (left cells) c) ≡ filter (is_shape layer) (elements_at cells c) =
-        λ c. ap (filter (is_shape layer)) (elements_left cells c) ∙ own_left (elements_at cells c) in
+        let own : (c : ℕ) → filter (is_shape layers) (elements_at (left cells) c) ≡ filter (is_shape layers) (elements_at cells c) =
+        λ c. ap (filter (is_shape layers)) (elements_left cells c) ∙ own_left (elements_at cells c) in
         let singles : (c : ℕ) → singles_among (left cells) (elements_at (left cells) c) ≡ singles_among cells (elements_at cells c) =
         λ c. ap (singles_among (left cells)) (elements_left cells c) ∙ singles_left cells (elements_at cells c) in
         λ k. record { own = λ c. own c k; singles = λ c. singles c k }
 
-    copies_left : (cells : List Entry) (top : List ℕ) → copies_of (left cells) top layer ≡ copies_of cells top layer
+    copies_left : (cells : List Entry) (top : List ℕ) → copies_of (left cells) top layers ≡ copies_of cells top layers
     copies_left cells top =
         ap (λ (h : Hierarchy). copies h 256 (index_of (left cells) top)) (hierarchy_left cells)
-        ∙ ap (copies (hierarchy_of cells layer) 256) (index_left cells top)
+        ∙ ap (copies (hierarchy_of cells layers) 256) (index_left cells top)
 
     -- ---- faults stay: what is left out has none
 
     abbrev fine : Element → Type 0
-    fine e = element_fault layer e ≡ None
+    fine e = element_fault layers e ≡ None
 
     out_is_fine : (e : Element) → is_kept keep e ≡ false → fine e
-    out_is_fine (boundary l points) out = cases (same_layer l layer) refl where
-      cases : (s : Bool) → same_layer l layer ≡ s → fine (boundary l points)
+    out_is_fine (boundary l points) out = cases (has_layer layers l) refl where
+      cases : (s : Bool) → has_layer layers l ≡ s → fine (boundary l points)
       cases false same = rw same refl
-      cases true same = let h = sym out ∙ on_layer l same in absurd cc
-    out_is_fine (path l wire) out = cases (same_layer l layer) refl where
-      cases : (s : Bool) → same_layer l layer ≡ s → fine (path l wire)
+      cases true same = let h = sym out ∙ wanted l same in absurd cc
+    out_is_fine (path l wire) out = cases (has_layer layers l) refl where
+      cases : (s : Bool) → has_layer layers l ≡ s → fine (path l wire)
       cases false same = rw same refl
-      cases true same = let h = sym out ∙ on_layer l same in absurd cc
+      cases true same = let h = sym out ∙ wanted l same in absurd cc
     out_is_fine (reference name transform origin) out = absurd cc
     out_is_fine (array name transform columns rows points) out = absurd cc
 
-    none_fine : AreFine layer []
+    none_fine : AreFine layers []
     none_fine k d lt = absurd (omega (arith, lt))
 
-    more_fine : (e : Element) (es : List Element) → fine e → AreFine layer es → AreFine layer (e ∷ es)
+    more_fine : (e : Element) (es : List Element) → fine e → AreFine layers es → AreFine layers (e ∷ es)
     more_fine e es h rest zero d lt = h
     more_fine e es h rest (suc k) d lt = rest k d (omega (arith, lt))
 
-    first_fine : (e : Element) (es : List Element) → AreFine layer (e ∷ es) → fine e
+    first_fine : (e : Element) (es : List Element) → AreFine layers (e ∷ es) → fine e
     first_fine e es h = h zero e (omega arith)
 
-    rest_fine : (e : Element) (es : List Element) → AreFine layer (e ∷ es) → AreFine layer es
+    rest_fine : (e : Element) (es : List Element) → AreFine layers (e ∷ es) → AreFine layers es
     rest_fine e es h k d lt = h (suc k) d (omega (arith, lt))
 
-    fine_left : (es : List Element) → AreFine layer es → AreFine layer (kept_shapes keep es)
+    fine_left : (es : List Element) → AreFine layers es → AreFine layers (kept_shapes keep es)
     fine_left [] h = h
     fine_left (e ∷ es) h = cases (is_kept keep e) (fine_left es (rest_fine e es h)) where
-      cases : (b : Bool) → AreFine layer (kept_shapes keep es) → AreFine layer (cond b (e ∷ kept_shapes keep es) (kept_shapes keep es))
+      cases : (b : Bool) → AreFine layers (kept_shapes keep es) → AreFine layers (cond b (e ∷ kept_shapes keep es) (kept_shapes keep es))
       cases true rest = more_fine e (kept_shapes keep es) (first_fine e es h) rest
       cases false rest = rest
 
-    left_fine : (es : List Element) → AreFine layer (kept_shapes keep es) → AreFine layer es
+    left_fine : (es : List Element) → AreFine layers (kept_shapes keep es) → AreFine layers es
     left_fine [] h = h
     left_fine (e ∷ es) h = cases (left_fine es) (is_kept keep e) refl h where
-      cases : (AreFine layer (kept_shapes keep es) → AreFine layer es) → (b : Bool) → is_kept keep e ≡ b → AreFine layer (cond b (e ∷ kept_shapes keep es) (kept_shapes keep es)) → AreFine layer (e ∷ es)
+      cases : (AreFine layers (kept_shapes keep es) → AreFine layers es) → (b : Bool) → is_kept keep e ≡ b → AreFine layers (cond b (e ∷ kept_shapes keep es) (kept_shapes keep es)) → AreFine layers (e ∷ es)
       cases rest true is h = more_fine e es (first_fine e (kept_shapes keep es) h) (rest (rest_fine e (kept_shapes keep es) h))
       cases rest false is h = more_fine e es (out_is_fine e is) (rest h)
 
-    next_at : (x : Element) (es : List Element) (e : FlattenError) → fine x → IsAtIn layer es e → IsAtIn layer (x ∷ es) e
+    next_at : (x : Element) (es : List Element) (e : FlattenError) → fine x → IsAtIn layers es e → IsAtIn layers (x ∷ es) e
     next_at x es e h at = record {
       index = suc at.index;
       element = at.element;
@@ -174,27 +165,27 @@ module _ (keep : Layer → Bool) where
       before = more_fine x (take at.index es) h at.before;
     }
 
-    at_left : (es : List Element) (e : FlattenError) (k : ℕ) (y : Element) → slice_get es k ≡ Some y → element_fault layer y ≡ Some e → AreFine layer (take k es)
-        → IsAtIn layer (kept_shapes keep es) e
+    at_left : (es : List Element) (e : FlattenError) (k : ℕ) (y : Element) → slice_get es k ≡ Some y → element_fault layers y ≡ Some e → AreFine layers (take k es)
+        → IsAtIn layers (kept_shapes keep es) e
     at_left [] e k y stands faulty before = absurd cc
     at_left (x ∷ es) e zero y stands faulty before = cases (is_kept keep x) refl where
       same : x ≡ y
       same = cc
 
-      cases : (b : Bool) → is_kept keep x ≡ b → IsAtIn layer (cond b (x ∷ kept_shapes keep es) (kept_shapes keep es)) e
+      cases : (b : Bool) → is_kept keep x ≡ b → IsAtIn layers (cond b (x ∷ kept_shapes keep es) (kept_shapes keep es)) e
       cases true is = record { index = zero; element = y; stands = stands; faulty = faulty; before = none_fine }
-      cases false is = let h = sym (out_is_fine x is) ∙ ap (element_fault layer) same ∙ faulty in absurd cc
+      cases false is = let h = sym (out_is_fine x is) ∙ ap (element_fault layers) same ∙ faulty in absurd cc
     at_left (x ∷ es) e (suc k) y stands faulty before = cases (is_kept keep x) (at_left es e k y stands faulty (rest_fine x (take k es) before)) where
-      cases : (b : Bool) → IsAtIn layer (kept_shapes keep es) e → IsAtIn layer (cond b (x ∷ kept_shapes keep es) (kept_shapes keep es)) e
+      cases : (b : Bool) → IsAtIn layers (kept_shapes keep es) e → IsAtIn layers (cond b (x ∷ kept_shapes keep es) (kept_shapes keep es)) e
       cases true later = next_at x (kept_shapes keep es) e (first_fine x (take k es) before) later
       cases false later = later
 
-    left_at : (es : List Element) (e : FlattenError) (k : ℕ) (y : Element) → slice_get (kept_shapes keep es) k ≡ Some y → element_fault layer y ≡ Some e
-        → AreFine layer (take k (kept_shapes keep es)) → IsAtIn layer es e
+    left_at : (es : List Element) (e : FlattenError) (k : ℕ) (y : Element) → slice_get (kept_shapes keep es) k ≡ Some y → element_fault layers y ≡ Some e
+        → AreFine layers (take k (kept_shapes keep es)) → IsAtIn layers es e
     left_at [] e k y stands faulty before = absurd cc
     left_at (x ∷ es) e k y stands faulty before = cases (λ j at fine_before. left_at es e j y at faulty fine_before) (is_kept keep x) refl k stands before where
-      cases : ((j : ℕ) → slice_get (kept_shapes keep es) j ≡ Some y → AreFine layer (take j (kept_shapes keep es)) → IsAtIn layer es e) → (b : Bool) → is_kept keep x ≡ b → (k : ℕ) → slice_get (cond b (x ∷ kept_shapes keep es) (kept_shapes keep es)) k ≡ Some y
-          → AreFine layer (take k (cond b (x ∷ kept_shapes keep es) (kept_shapes keep es))) → IsAtIn layer (x ∷ es) e
+      cases : ((j : ℕ) → slice_get (kept_shapes keep es) j ≡ Some y → AreFine layers (take j (kept_shapes keep es)) → IsAtIn layers es e) → (b : Bool) → is_kept keep x ≡ b → (k : ℕ) → slice_get (cond b (x ∷ kept_shapes keep es) (kept_shapes keep es)) k ≡ Some y
+          → AreFine layers (take k (cond b (x ∷ kept_shapes keep es) (kept_shapes keep es))) → IsAtIn layers (x ∷ es) e
       cases rest true is zero stands before = record { index = zero; element = y; stands = stands; faulty = faulty; before = none_fine }
       cases rest true is (suc k) stands before =
           next_at x es e (first_fine x (take k (kept_shapes keep es)) before) (rest k stands (rest_fine x (take k (kept_shapes keep es)) before))
@@ -202,15 +193,15 @@ module _ (keep : Layer → Bool) where
 
 -- ---- what is told of one library is told of another that has the same references, copies and faults
 
-module _ (layer : Layer) (cells others : List Entry) (top : List ℕ) where
+module _ (layers : List Layer) (cells others : List Entry) (top : List ℕ) where
   pub record IsSame : Type 0 where
     pub index : index_of others top ≡ index_of cells top
     pub many : length others ≡ length cells
     pub graph : graph_of others ≡ graph_of cells
-    pub copies : copies_of others top layer ≡ copies_of cells top layer
-    pub fine : (c : ℕ) → AreFine layer (elements_at others c) → AreFine layer (elements_at cells c)
-    pub fault : (c k : ℕ) (y : Element) (e : FlattenError) → slice_get (elements_at others c) k ≡ Some y → element_fault layer y ≡ Some e
-        → AreFine layer (take k (elements_at others c)) → IsAtIn layer (elements_at cells c) e
+    pub copies : copies_of others top layers ≡ copies_of cells top layers
+    pub fine : (c : ℕ) → AreFine layers (elements_at others c) → AreFine layers (elements_at cells c)
+    pub fault : (c k : ℕ) (y : Element) (e : FlattenError) → slice_get (elements_at others c) k ≡ Some y → element_fault layers y ≡ Some e
+        → AreFine layers (take k (elements_at others c)) → IsAtIn layers (elements_at cells c) e
 
   module _ (same : IsSame) where
     told : (P : Graph → ℕ → ℕ → Type 0) → P (graph_of others) (index_of others top) (length others) → P (graph_of cells) (index_of cells top) (length cells)
@@ -227,10 +218,10 @@ module _ (layer : Layer) (cells others : List Entry) (top : List ℕ) where
       shallow = told (λ g t n. IsTooDeep g t → ⊥) s.shallow;
     }
 
-    all_fine : AllFine others (index_of others top) layer → AllFine cells (index_of cells top) layer
-    all_fine h = told (λ g t n. (c : ℕ) → IsReached g t c → AreFine layer (elements_at cells c)) (λ c reached. same.fine c (h c reached))
+    all_fine : AllFine others (index_of others top) layers → AllFine cells (index_of cells top) layers
+    all_fine h = told (λ g t n. (c : ℕ) → IsReached g t c → AreFine layers (elements_at cells c)) (λ c reached. same.fine c (h c reached))
 
-    first : (e : FlattenError) → IsFirstFault others (index_of others top) layer e → IsFirstFault cells (index_of cells top) layer e
+    first : (e : FlattenError) → IsFirstFault others (index_of others top) layers e → IsFirstFault cells (index_of cells top) layers e
     first e f =
         let at = same.fault f.cell f.index f.element e f.stands f.faulty f.before in
         record {
@@ -241,13 +232,13 @@ module _ (layer : Layer) (cells others : List Entry) (top : List ℕ) where
           stands = at.stands;
           faulty = at.faulty;
           before = at.before;
-          earlier = told (λ g t n. (c : ℕ) → c < f.cell → IsReached g t c → AreFine layer (elements_at cells c)) (λ c lt reached. same.fine c (f.earlier c lt reached));
+          earlier = told (λ g t n. (c : ℕ) → c < f.cell → IsReached g t c → AreFine layers (elements_at cells c)) (λ c lt reached. same.fine c (f.earlier c lt reached));
         }
 
-    countable : IsCountable others top layer → IsCountable cells top layer
+    countable : IsCountable others top layers → IsCountable cells top layers
     countable h = record { sound = sound h.sound; fine = all_fine h.fine; few = subst (λ cs. length cs ≤ 4000000) same.copies h.few }
 
-    refused : (e : FlattenError) → IsRefused others top layer e → IsRefused cells top layer e
+    refused : (e : FlattenError) → IsRefused others top layers e → IsRefused cells top layers e
     refused errors.Memory h = tt
     refused errors.NoTop h = told (λ g t n. t < n → ⊥) h
     refused errors.MissingCell h = (told (λ g t n. t < n) h.0, told (λ g t n. IsReached g t n) h.1)
@@ -263,14 +254,14 @@ module _ (layer : Layer) (cells others : List Entry) (top : List ℕ) where
     refused errors.TooManyShapes h = (sound h.0, all_fine h.1, subst (λ cs. 4000000 < length cs) same.copies h.2)
     refused errors.OutOfRange h = (countable h.0, subst (λ cs. AllStayInRange cs → ⊥) same.copies h.1)
 
-    pub tells : TellsOf cells others top layer
+    pub tells : TellsOf cells others top layers
     tells = record { copies = same.copies; countable = countable; refused = refused }
 
     module _ (frame : Rect) where
-      countable_on : IsCountableOn others top layer frame → IsCountableOn cells top layer frame
+      countable_on : IsCountableOn others top layers frame → IsCountableOn cells top layers frame
       countable_on h = record { sound = sound h.sound; fine = all_fine h.fine; few = subst (λ cs. met frame cs ≤ 4000000) same.copies h.few }
 
-      refused_on : (e : FlattenError) → IsRefusedOn others top layer frame e → IsRefusedOn cells top layer frame e
+      refused_on : (e : FlattenError) → IsRefusedOn others top layers frame e → IsRefusedOn cells top layers frame e
       refused_on errors.Memory h = refused errors.Memory h
       refused_on errors.NoTop h = refused errors.NoTop h
       refused_on errors.MissingCell h = refused errors.MissingCell h
@@ -286,40 +277,40 @@ module _ (layer : Layer) (cells others : List Entry) (top : List ℕ) where
       refused_on errors.TooManyShapes h = (sound h.0, all_fine h.1, subst (λ cs. 4000000 < met frame cs) same.copies h.2)
       refused_on errors.OutOfRange h = (countable_on h.0, subst (λ cs. AllStayInRange cs → ⊥) same.copies h.1)
 
-      pub tells_within : TellsOfWithin cells others top layer frame
+      pub tells_within : TellsOfWithin cells others top layers frame
       tells_within = record { copies = same.copies; countable = countable_on; refused = refused_on }
 
 -- ---- so do the library and what is left of it
 
-module _ (keep : Layer → Bool) (cells : List Entry) (top : List ℕ) (layer : Layer) (wanted : keep layer ≡ true) where
-  left_is_same : IsSame layer cells (left keep cells) top
+module _ (keep : Layer → Bool) (cells : List Entry) (top : List ℕ) (layers : List Layer) (wanted : AreKept keep layers) where
+  left_is_same : IsSame layers cells (left keep cells) top
   left_is_same = record {
     index = index_left keep cells top;
     many = many_left keep cells;
     graph = graph_left keep cells;
-    copies = copies_left keep layer wanted cells top;
-    fine = λ c h. left_fine keep layer wanted (elements_at cells c) (subst (AreFine layer) (elements_left keep cells c) h);
+    copies = copies_left keep layers wanted cells top;
+    fine = λ c h. left_fine keep layers wanted (elements_at cells c) (subst (AreFine layers) (elements_left keep cells c) h);
     fault = λ c k y e stands faulty before.
         let es = elements_left keep cells c in
-        left_at keep layer wanted (elements_at cells c) e k y (subst (λ xs. slice_get xs k ≡ Some y) es stands) faulty (subst (λ xs. AreFine layer (take k xs)) es before);
+        left_at keep layers wanted (elements_at cells c) e k y (subst (λ xs. slice_get xs k ≡ Some y) es stands) faulty (subst (λ xs. AreFine layers (take k xs)) es before);
   }
 
-  whole_is_same : IsSame layer (left keep cells) cells top
+  whole_is_same : IsSame layers (left keep cells) cells top
   whole_is_same = record {
     index = sym (index_left keep cells top);
     many = sym (many_left keep cells);
     graph = sym (graph_left keep cells);
-    copies = sym (copies_left keep layer wanted cells top);
-    fine = λ c h. subst (AreFine layer) (sym (elements_left keep cells c)) (fine_left keep layer wanted (elements_at cells c) h);
+    copies = sym (copies_left keep layers wanted cells top);
+    fine = λ c h. subst (AreFine layers) (sym (elements_left keep cells c)) (fine_left keep layers wanted (elements_at cells c) h);
     fault = λ c k y e stands faulty before.
-        subst (λ xs. IsAtIn layer xs e) (sym (elements_left keep cells c)) (at_left keep layer wanted (elements_at cells c) e k y stands faulty before);
+        subst (λ xs. IsAtIn layers xs e) (sym (elements_left keep cells c)) (at_left keep layers wanted (elements_at cells c) e k y stands faulty before);
   }
 
 pub layers_suffice : LayersSuffice
-layers_suffice keep cells top layer wanted = (
-  tells layer cells (left keep cells) top (left_is_same keep cells top layer wanted),
-  tells layer (left keep cells) cells top (whole_is_same keep cells top layer wanted),
+layers_suffice keep cells top layers wanted = (
+  tells layers cells (left keep cells) top (left_is_same keep cells top layers wanted),
+  tells layers (left keep cells) cells top (whole_is_same keep cells top layers wanted),
 )
 
 pub layers_suffice_within : LayersSufficeWithin
-layers_suffice_within keep cells top layer frame wanted = tells_within layer cells (left keep cells) top (left_is_same keep cells top layer wanted) frame
+layers_suffice_within keep cells top layers frame wanted = tells_within layers cells (left keep cells) top (left_is_same keep cells top layers wanted) frame

@@ -24,41 +24,41 @@ pub record IsSound (cells : List Entry) (top : List ℕ) : Type 0 where
   pub shallow : IsTooDeep (graph_of cells) (index_of cells top) → ⊥
 
 -- references and shapes are sound, and there are not too many copies
-pub record IsCountable (cells : List Entry) (top : List ℕ) (layer : Layer) : Type 0 where
+pub record IsCountable (cells : List Entry) (top : List ℕ) (layers : List Layer) : Type 0 where
   pub sound : IsSound cells top
-  pub fine : AllFine cells (index_of cells top) layer
-  pub few : length (copies_of cells top layer) ≤ 4000000
+  pub fine : AllFine cells (index_of cells top) layers
+  pub few : length (copies_of cells top layers) ≤ 4000000
 
 -- why a design is refused: each cause is the first in this order
-abbrev pub IsRefused : List Entry → List ℕ → Layer → FlattenError → Type 0
-IsRefused cells top layer Memory = Unit {0}
-IsRefused cells top layer NoTop = HasTop cells top → ⊥
-IsRefused cells top layer MissingCell = HasTop cells top × LacksCell cells top
-IsRefused cells top layer Cycle =
+abbrev pub IsRefused : List Entry → List ℕ → List Layer → FlattenError → Type 0
+IsRefused cells top layers Memory = Unit {0}
+IsRefused cells top layers NoTop = HasTop cells top → ⊥
+IsRefused cells top layers MissingCell = HasTop cells top × LacksCell cells top
+IsRefused cells top layers Cycle =
     HasTop cells top × (LacksCell cells top → ⊥) × IsCyclic (graph_of cells) (index_of cells top)
-IsRefused cells top layer TooDeep =
+IsRefused cells top layers TooDeep =
     HasTop cells top × (LacksCell cells top → ⊥) × (IsCyclic (graph_of cells) (index_of cells top) → ⊥)
     × IsTooDeep (graph_of cells) (index_of cells top)
-IsRefused cells top layer TooManyShapes =
-    IsSound cells top × AllFine cells (index_of cells top) layer
-    × (4000000 < length (copies_of cells top layer))
-IsRefused cells top layer OutOfRange =
-    IsCountable cells top layer × (AllStayInRange (copies_of cells top layer) → ⊥)
-IsRefused cells top layer e =
-    IsSound cells top × IsFirstFault cells (index_of cells top) layer e
+IsRefused cells top layers TooManyShapes =
+    IsSound cells top × AllFine cells (index_of cells top) layers
+    × (4000000 < length (copies_of cells top layers))
+IsRefused cells top layers OutOfRange =
+    IsCountable cells top layers × (AllStayInRange (copies_of cells top layers) → ⊥)
+IsRefused cells top layers e =
+    IsSound cells top × IsFirstFault cells (index_of cells top) layers e
 
 -- so too of a part of a design, but that only the copies count whose extents meet the frame
-pub record IsCountableOn (cells : List Entry) (top : List ℕ) (layer : Layer) (frame : Rect) : Type 0 where
+pub record IsCountableOn (cells : List Entry) (top : List ℕ) (layers : List Layer) (frame : Rect) : Type 0 where
   pub sound : IsSound cells top
-  pub fine : AllFine cells (index_of cells top) layer
-  pub few : met frame (copies_of cells top layer) ≤ 4000000
+  pub fine : AllFine cells (index_of cells top) layers
+  pub few : met frame (copies_of cells top layers) ≤ 4000000
 
 -- why a design is refused of which a part is asked for: for the same causes, but that of the copies only those
 -- are too many that meet the frame; one that passes the range is a cause wherever it lies
-abbrev pub IsRefusedOn : List Entry → List ℕ → Layer → Rect → FlattenError → Type 0
-IsRefusedOn cells top layer frame TooManyShapes =
-    IsSound cells top × AllFine cells (index_of cells top) layer
-    × (4000000 < met frame (copies_of cells top layer))
-IsRefusedOn cells top layer frame OutOfRange =
-    IsCountableOn cells top layer frame × (AllStayInRange (copies_of cells top layer) → ⊥)
-IsRefusedOn cells top layer frame e = IsRefused cells top layer e
+abbrev pub IsRefusedOn : List Entry → List ℕ → List Layer → Rect → FlattenError → Type 0
+IsRefusedOn cells top layers frame TooManyShapes =
+    IsSound cells top × AllFine cells (index_of cells top) layers
+    × (4000000 < met frame (copies_of cells top layers))
+IsRefusedOn cells top layers frame OutOfRange =
+    IsCountableOn cells top layers frame × (AllStayInRange (copies_of cells top layers) → ⊥)
+IsRefusedOn cells top layers frame e = IsRefused cells top layers e

@@ -1,4 +1,4 @@
-//! Flattening: what the top draws on a layer.
+//! Flattening: what the top draws on some layers.
 
 ghost use Rattle.std.specs.Prelude.{◌≡◌, ◌⊎◌, ◌&&◌, ◌<◌, ◌≤◌, ℤ, true, false, ℤ, List, length, IfOk, IfErr};
 ghost use Rattle.std.specs.List.{flat_map};
@@ -66,7 +66,7 @@ fn is_inside(extent: Option<Bounds>) -> bool
     }
 }
 
-/// What the top draws on the layer within a frame, as rectangles that the frame holds. Copies of cells whose
+/// What the top draws on the layers within a frame, as rectangles that the frame holds. Copies of cells whose
 /// extent doesn't meet the frame are not entered, so a part of a chip costs its part of the copies.
 ///
 /// # Errors
@@ -77,17 +77,17 @@ pub fn flatten_within(
     alloc: Global,
     library: &Library<'_>,
     top: &[u8],
-    layer: Layer,
+    layers: &[Layer],
     frame: &Rect,
 ) -> Result<Vec<Rect>, FlattenError>
-    ensures fine { IfOk result (λ v. IsCountableOn (contents_of library.now).cells top.now layer frame.now) }
-    ensures inside { IfOk result (λ v. AllStayInRange (copies_of (contents_of library.now).cells top.now layer)) }
+    ensures fine { IfOk result (λ v. IsCountableOn (contents_of library.now).cells top.now layers.now frame.now) }
+    ensures inside { IfOk result (λ v. AllStayInRange (copies_of (contents_of library.now).cells top.now layers.now)) }
     ensures squares { IfOk result (λ v. (x y : ℤ) → covered v.items x y
-        ≡ (drawn (copies_of (contents_of library.now).cells top.now layer) x y && squares frame.now x y)) }
-    ensures range { IfOk result (λ v. (x y : ℤ) → drawn (copies_of (contents_of library.now).cells top.now layer) x y ≡ true → IsInRange x y) }
-    ensures refused { IfErr result (λ e. IsRefusedOn (contents_of library.now).cells top.now layer frame.now e) }
+        ≡ (drawn (copies_of (contents_of library.now).cells top.now layers.now) x y && squares frame.now x y)) }
+    ensures range { IfOk result (λ v. (x y : ℤ) → drawn (copies_of (contents_of library.now).cells top.now layers.now) x y ≡ true → IsInRange x y) }
+    ensures refused { IfErr result (λ e. IsRefusedOn (contents_of library.now).cells top.now layers.now frame.now e) }
 {
-    let built = reached_by(rt, alloc, library, top, layer)?;
+    let built = reached_by(rt, alloc, library, top, layers)?;
     let reached = built.without_bare();
     let extents = reached.extents(alloc)?;
     let counted = reached.counted(alloc)?;
@@ -115,35 +115,35 @@ pub fn flatten_within(
     Ok(kept)
 }
 
-/// The rectangles that the top draws on the layer, in parts, as several threads carry them: those of
+/// The rectangles that the top draws on the layers, in parts, as several threads carry them: those of
 /// all parts together are what is drawn. All lengths are database units (Calma GDSII Stream Format
 /// Manual, release 6.0, with this project's profile).
 ///
 /// # Errors
 /// Of the cells that the top reaches alone, the first of these: `NoTop`; `MissingCell`; `Cycle`;
-/// `TooDeep`; the first fault of a reference, or of a shape of the layer, in the order
-/// of the file; `TooManyShapes` above 4,000,000 copies of shapes; `OutOfRange` where a copy passes the
-/// coordinates from -2^30 to 2^30. Or `Memory` where memory is refused.
+/// `TooDeep`; the first fault of a reference, or of a shape of one of the layers, in the order
+/// of the file; `TooManyShapes` above 4,000,000 copies of shapes of all layers together; `OutOfRange`
+/// where a copy passes the coordinates from -2^30 to 2^30. Or `Memory` where memory is refused.
 pub fn flatten_parts(
     rt: &(impl Threads + Sync),
     alloc: Global,
     library: &Library<'_>,
     top: &[u8],
-    layer: Layer,
+    layers: &[Layer],
 ) -> Result<Vec<Vec<Rect>>, FlattenError>
-    ensures fine { IfOk result (λ v. IsCountable (contents_of library.now).cells top.now layer) }
-    ensures inside { IfOk result (λ v. AllStayInRange (copies_of (contents_of library.now).cells top.now layer)) }
+    ensures fine { IfOk result (λ v. IsCountable (contents_of library.now).cells top.now layers.now) }
+    ensures inside { IfOk result (λ v. AllStayInRange (copies_of (contents_of library.now).cells top.now layers.now)) }
     ensures squares { IfOk result (λ v. (x y : ℤ) → covered (flat_map vec_items v.items) x y
-        ≡ drawn (copies_of (contents_of library.now).cells top.now layer) x y) }
-    ensures refused { IfErr result (λ e. IsRefused (contents_of library.now).cells top.now layer e) }
+        ≡ drawn (copies_of (contents_of library.now).cells top.now layers.now) x y) }
+    ensures refused { IfErr result (λ e. IsRefused (contents_of library.now).cells top.now layers.now e) }
 {
-    let reached = reached_by(rt, alloc, library, top, layer)?;
+    let reached = reached_by(rt, alloc, library, top, layers)?;
     let counted = reached.counted(alloc)?;
     let design = counted.whole(alloc)?;
     design.parts(rt, alloc)
 }
 
-/// The squares that the top draws on the layer, as a region.
+/// The squares that the top draws on the layers, as a region.
 ///
 /// # Errors
 /// Those of `flatten_parts`.
@@ -152,16 +152,16 @@ pub fn flatten(
     alloc: Global,
     library: &Library<'_>,
     top: &[u8],
-    layer: Layer,
+    layers: &[Layer],
 ) -> Result<Region, FlattenError>
     ensures region { IfOk result AreRuns }
-    ensures fine { IfOk result (λ r. IsCountable (contents_of library.now).cells top.now layer) }
-    ensures inside { IfOk result (λ r. AllStayInRange (copies_of (contents_of library.now).cells top.now layer)) }
+    ensures fine { IfOk result (λ r. IsCountable (contents_of library.now).cells top.now layers.now) }
+    ensures inside { IfOk result (λ r. AllStayInRange (copies_of (contents_of library.now).cells top.now layers.now)) }
     ensures squares { IfOk result (λ r. (x y : ℤ) → holds r x y
-        ≡ drawn (copies_of (contents_of library.now).cells top.now layer) x y) }
-    ensures refused { IfErr result (λ e. IsRefused (contents_of library.now).cells top.now layer e) }
+        ≡ drawn (copies_of (contents_of library.now).cells top.now layers.now) x y) }
+    ensures refused { IfErr result (λ e. IsRefused (contents_of library.now).cells top.now layers.now e) }
 {
-    let parts = flatten_parts(rt, alloc, library, top, layer)?;
+    let parts = flatten_parts(rt, alloc, library, top, layers)?;
     let rects = parts.concat(alloc)?;
     let region = Region::from_rects(alloc, &rects)?;
     Ok(region)

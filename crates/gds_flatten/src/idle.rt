@@ -1,4 +1,4 @@
-//! What cells have that draws nothing on the layer. It is dropped before the walk, which would pass it over in each copy of its cell.
+//! What cells have that draws nothing on the layers. It is dropped before the walk, which would pass it over in each copy of its cell.
 
 ghost use Rattle.std.specs.Prelude.{◌≡◌, filter};
 ghost use Rattle.std.specs.List.{AllZip};

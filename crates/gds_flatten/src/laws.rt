@@ -3,7 +3,7 @@
 ghost use Rattle.gds_flatten.specs.Frames.{SideBySide};
 ghost use Rattle.gds_flatten.specs.Layers.{LayersSuffice, LayersSufficeWithin};
 
-/// A library of which only some layers were read draws on each of these what the whole library draws, and
+/// A library of which only some layers were read draws on any of these what the whole library draws, and
 /// is refused for the same causes.
 pub fn layers_suffice()
     ensures { LayersSuffice }

@@ -1,4 +1,4 @@
-//! What a cell of a GDSII library draws on a layer, with all that it refers to. The layer above may
+//! What a cell of a GDSII library draws on some layers, with all that it refers to. The layer above may
 //! rely on this: the region is the squares that some copy of a shape covers, each carried as its
 //! references say, and each refusal comes exactly where its cause is the first.
 #![tactic(auto)]

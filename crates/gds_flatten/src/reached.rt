@@ -56,23 +56,23 @@ fn top_of(cells: &Cells<'_>, top: &[u8]) -> Result<usize, FlattenError>
     }
 }
 
-/// The cells that the top reaches, built on the layer.
+/// The cells that the top reaches, built on the layers.
 pub fn reached_by<'a, 'b>(
     rt: &(impl Threads + Sync),
     alloc: Global,
     library: &'a Library<'b>,
     top: &[u8],
-    layer: Layer,
+    layers: &[Layer],
 ) -> Result<Reached<'a, 'b>, FlattenError>
     ensures arranged { IfOk result (λ d. IsArranged d.cells.items d.order.items d.top) }
-    ensures reached { IfOk result (λ d. AreReached (contents_of library.now).cells top.now layer d.cells.items d.top) }
-    ensures refused { IfErr result (IsEarly (contents_of library.now).cells top.now layer) }
+    ensures reached { IfOk result (λ d. AreReached (contents_of library.now).cells top.now layers.now d.cells.items d.top) }
+    ensures refused { IfErr result (IsEarly (contents_of library.now).cells top.now layers.now) }
 {
     let cells = &library.cells;
     let top = top_of(cells, top)?;
     let graph = graph_of(alloc, cells)?;
     let found = survey(alloc, &graph, top)?;
-    let built = cells_of(rt, alloc, cells, &graph, &found.steps, layer)?;
+    let built = cells_of(rt, alloc, cells, &graph, &found.steps, layers)?;
     Ok(Reached {
         cells: built,
         order: found.order,

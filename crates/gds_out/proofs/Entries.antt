@@ -38,19 +38,19 @@ IsLink (path l wire) = ⊥
 IsLink (reference name t o) = Unit {0}
 IsLink (array name t m n ps) = Unit {0}
 
-not_drawn : (l : Layer) (e : Shape) → IsLink e → is_shape l e ≡ false
-not_drawn l (boundary a ps) is = absurd is
-not_drawn l (path a wire) is = absurd is
-not_drawn l (reference name t o) is = refl
-not_drawn l (array name t m n ps) is = refl
+not_drawn : (ls : List Layer) (e : Shape) → IsLink e → is_shape ls e ≡ false
+not_drawn ls (boundary a ps) is = absurd is
+not_drawn ls (path a wire) is = absurd is
+not_drawn ls (reference name t o) is = refl
+not_drawn ls (array name t m n ps) is = refl
 
-pub links_draw_nothing : (l : Layer) (es : List Shape) → AllByRecursion IsLink es → filter (is_shape l) es ≡ []
-links_draw_nothing l [] all = refl
-links_draw_nothing l (e ∷ es) all = rw (not_drawn l e all.0) (links_draw_nothing l es all.1)
+pub links_draw_nothing : (ls : List Layer) (es : List Shape) → AllByRecursion IsLink es → filter (is_shape ls) es ≡ []
+links_draw_nothing ls [] all = refl
+links_draw_nothing ls (e ∷ es) all = rw (not_drawn ls e all.0) (links_draw_nothing ls es all.1)
 
 -- a boundary of a layer
 pub record IsBoundary (l : Layer) (ps : List Point) (e : Shape) : Type 0 where
-  pub drawn : is_shape l e ≡ true
+  pub drawn : is_shape (l ∷ []) e ≡ true
   pub squares : covers_of e ≡ covers ps
   pub nowhere : (cells : List Entry) → singles_to cells (name_of e) (placements_of e) ≡ []
 
@@ -60,7 +60,7 @@ is_boundary l ps e is = rw is (record { drawn = rw (eq-eqb l.layer l.layer refl,
 -- the one element of a cell of one boundary
 pub record OneBoundary (l : Layer) (ps : List Point) (es : List Shape) : Type 0 where
   pub element : Shape
-  pub own : filter (is_shape l) es ≡ element ∷ []
+  pub own : filter (is_shape (l ∷ [])) es ≡ element ∷ []
   pub squares : covers_of element ≡ covers ps
   pub singles : (cells : List Entry) → singles_among cells es ≡ []
 

@@ -102,7 +102,7 @@ module _ (rules : Rules) (filled : PlaceSet) (first second : Entry) (first_is : 
   top_index : index_of (first ∷ second ∷ []) (values_of rules).fill_top ≡ 1
   top_index = rw (names_first, names_second, rules.apart, same (values_of rules).fill_top) refl
 
-  pub boxes_of_two : map copy_covers (copies_of (first ∷ second ∷ []) (values_of rules).fill_top (fill_layer (values_of rules)))
+  pub boxes_of_two : map copy_covers (copies_of (first ∷ second ∷ []) (values_of rules).fill_top (fill_layer (values_of rules) ∷ []))
       ≡ map (λ p. box_squares (raster_of (values_of rules).numbers) p.0 p.1) (flat_map stack_places (stacks filled (raster_of (values_of rules).numbers)))
   boxes_of_two =
       let v = values_of rules in
@@ -114,9 +114,9 @@ module _ (rules : Rules) (filled : PlaceSet) (first second : Entry) (first_is : 
       let singles = singles_by_shape cells second.shapes ∙ (ap (flat_map (singles_of cells)) rows ∙ all_singles rules filled cells box_index) in
       let each = λ (q : ℤ × ℤ). ap (λ p. carried p (covers_of box.element)) (composed_still (placed_at r q))
       ∙ (ap (λ s. carried (placed_at r q) s) box.squares ∙ (λ i. λ x y. box_moved r (across_is rules).length_is.least (up_is rules).length_is.least q.0 q.1 x y i)) in
-      let all = carried_copies (hierarchy_of cells (fill_layer v)) 254 box.element (placed_at r) (flat_map stack_places (stacks filled r)) box.own (box.singles cells)
-      (links_draw_nothing (fill_layer v) second.shapes links) singles in
-      ap (λ k. map copy_covers (copies (hierarchy_of cells (fill_layer v)) 256 k)) top_index
+      let all = carried_copies (hierarchy_of cells (fill_layer v ∷ [])) 254 box.element (placed_at r) (flat_map stack_places (stacks filled r)) box.own (box.singles cells)
+      (links_draw_nothing (fill_layer v ∷ []) second.shapes links) singles in
+      ap (λ k. map copy_covers (copies (hierarchy_of cells (fill_layer v ∷ [])) 256 k)) top_index
       ∙ (ap (map copy_covers) all
       ∙ (map-map copy_covers (λ q. carry_copy (placed_at r q) (own_copy box.element)) (flat_map stack_places (stacks filled r)) ∙ (λ i. map (λ q. each q i) (flat_map stack_places (stacks filled r)))))
 
@@ -125,6 +125,6 @@ boxes_are_places rules units dates filled library size len spelled =
     let v = values_of rules in
     let r = raster_of v.numbers in
     let cells = ap (λ (x : Contents). x.cells) (one_contents (fill_records units dates v filled) _ _ (is_a_library rules units dates filled size len) spelled) in
-    let boxes = ap (λ es. map copy_covers (copies_of es v.fill_top (fill_layer v))) (sym cells) ∙ boxes_of_two rules filled (box_cell v) (top_cell v filled) refl refl in
+    let boxes = ap (λ es. map copy_covers (copies_of es v.fill_top (fill_layer v ∷ []))) (sym cells) ∙ boxes_of_two rules filled (box_cell v) (top_cell v filled) refl refl in
     subst (λ bs. IsPermutation bs (map (λ p. box_squares r p.0 p.1) (filled_places filled r))) (sym boxes)
     (IsPermutation-map (λ (p : ℤ × ℤ). box_squares r p.0 p.1) (flat_map stack_places (stacks filled r)) (filled_places filled r) (hold_each_once filled r))

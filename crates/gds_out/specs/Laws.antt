@@ -65,7 +65,7 @@ TextIsALibrary = (rules : Rules) (units dates : List ℕ) (filled : PlaceSet) �
 
 -- the squares of each shape copy of a library from fill_top on, on the fill layer, in the order of flattening
 abbrev pub boxes_of : Values → Contents → List (ℤ → ℤ → Bool)
-boxes_of v library = map copy_covers (copies_of library.cells v.fill_top (fill_layer v))
+boxes_of v library = map copy_covers (copies_of library.cells v.fill_top (fill_layer v ∷ []))
 
 -- of any library that the text spells these are the boxes of the filled places, each once, in another order, and no other
 abbrev pub BoxesAreThePlaces : Type 0

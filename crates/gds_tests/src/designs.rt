@@ -4,6 +4,7 @@
 use crate::records::{
     CHECKED, METAL, begin_cell, finished, head, name_of, put, put_points, put_shape,
 };
+use fill_base::{Layer, Rect};
 use fill_region::Region;
 use gds_flatten::{FlattenError, flatten, flatten_parts};
 use gds_grammar::read_library;
@@ -139,12 +140,42 @@ fn rectangles_of_each_copy(rt: HostRuntime) -> Result<(), Fail> {
     let top: &[Draft<'static>] = &[Draft::Ref(1, HERE), Draft::Ref(1, (2, 0))];
     let bytes = design(rt.alloc(), &[(0, top), (1, SHAPE)])?;
     let library = read_library(rt.alloc(), &bytes)?;
-    let parts = flatten_parts(&rt, rt.alloc(), &library, &name_of(0), CHECKED)?;
+    let parts = flatten_parts(&rt, rt.alloc(), &library, &name_of(0), &[CHECKED])?;
     let rects = parts.concat(rt.alloc())?;
     assert_eq!(rt; rects.len(), 2);
-    let region = flatten(&rt, rt.alloc(), &library, &name_of(0), CHECKED)?;
+    let region = flatten(&rt, rt.alloc(), &library, &name_of(0), &[CHECKED])?;
     let covered = Region::from_rects(rt.alloc(), &rects)?;
     assert!(rt; region == covered);
+    Ok(())
+}
+
+/// A layer with the data type 0.
+fn plain(layer: u16) -> Layer {
+    Layer {
+        layer,
+        data_type: 0,
+    }
+}
+
+/// Of three layers the shapes of two count, each once, whichever of the two stands twice in the list.
+#[test]
+fn shapes_of_two_layers(rt: HostRuntime) -> Result<(), Fail> {
+    let alloc = rt.alloc();
+    let top: &[Draft<'static>] = &[
+        Draft::Boundary(8, SQUARE),
+        Draft::Boundary(9, OBLONG),
+        Draft::Ref(1, (10, 0)),
+    ];
+    let below: &[Draft<'static>] = &[Draft::Boundary(METAL, SQUARE), Draft::Boundary(8, OBLONG)];
+    let bytes = design(alloc, &[(0, top), (1, below)])?;
+    let library = read_library(alloc, &bytes)?;
+    let want = Region::from_rects(alloc, &[Rect::new(0, 0, 4, 2)?, Rect::new(10, 0, 11, 1)?])?;
+    for layers in [[CHECKED, plain(9), CHECKED], [plain(9), plain(9), CHECKED]] {
+        let parts = flatten_parts(&rt, alloc, &library, &name_of(0), &layers)?;
+        let rects = parts.concat(alloc)?;
+        assert_eq!(rt; rects.len(), 2);
+        assert!(rt; Region::from_rects(alloc, &rects)? == want);
+    }
     Ok(())
 }
 
@@ -153,9 +184,9 @@ fn rectangles_of_each_copy(rt: HostRuntime) -> Result<(), Fail> {
 fn no_top(rt: HostRuntime) -> Result<(), Fail> {
     let bytes = design(rt.alloc(), &[(0, SHAPE)])?;
     let library = read_library(rt.alloc(), &bytes)?;
-    let refused = flatten(&rt, rt.alloc(), &library, b"AA\0", CHECKED).err();
+    let refused = flatten(&rt, rt.alloc(), &library, b"AA\0", &[CHECKED]).err();
     assert_eq!(rt; refused, Some(FlattenError::NoTop));
-    let in_parts = flatten_parts(&rt, rt.alloc(), &library, b"AA\0", CHECKED).err();
+    let in_parts = flatten_parts(&rt, rt.alloc(), &library, b"AA\0", &[CHECKED]).err();
     assert_eq!(rt; in_parts, Some(FlattenError::NoTop));
     Ok(())
 }

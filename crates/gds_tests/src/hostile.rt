@@ -12,7 +12,7 @@ use std::thread::Threads;
 /// Whether the bytes are a library whose top draws something that is taken.
 fn is_drawn(rt: &(impl Threads + Sync), alloc: Global, bytes: &[u8], top: &[u8]) -> bool {
     match read_library(alloc, bytes) {
-        Ok(library) => flatten(rt, alloc, &library, top, CHECKED).is_ok(),
+        Ok(library) => flatten(rt, alloc, &library, top, &[CHECKED]).is_ok(),
         Err(_) => false,
     }
 }

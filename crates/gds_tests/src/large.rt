@@ -34,7 +34,7 @@ fn parts_of_a_large_design(rt: HostRuntime) -> Result<(), Fail> {
     let square = [Draft::Boundary(METAL, SQUARE)];
     let bytes = design(alloc, &[(0, &top), (1, &middle), (2, &square)])?;
     let library = read_library(alloc, &bytes)?;
-    let parts = flatten_parts(&rt, alloc, &library, &name_of(0), CHECKED)?;
+    let parts = flatten_parts(&rt, alloc, &library, &name_of(0), &[CHECKED])?;
     let mut lengths = Vec::new(alloc);
     for part in &parts {
         lengths.push(part.len())?;

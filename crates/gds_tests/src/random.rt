@@ -109,11 +109,11 @@ fn wrong_frames(
 ) -> Result<u32, Fail> {
     let bytes = random_design(alloc, dice)?;
     let library = read_library(alloc, &bytes)?;
-    let whole = flatten(rt, alloc, &library, &name_of(0), CHECKED)?;
+    let whole = flatten(rt, alloc, &library, &name_of(0), &[CHECKED])?;
     let mut wrong = 0u32;
     for _ in 0..frames {
         let frame = frame_of(dice)?;
-        let part = flatten_within(rt, alloc, &library, &name_of(0), CHECKED, &frame)?;
+        let part = flatten_within(rt, alloc, &library, &name_of(0), &[CHECKED], &frame)?;
         if Region::from_rects(alloc, &part)? != whole.clip(alloc, &frame)? {
             wrong = wrong.wrapping_add(1);
         }

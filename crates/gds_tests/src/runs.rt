@@ -55,7 +55,7 @@ fn cell_of_many_elements(rt: HostRuntime) -> Result<(), Fail> {
     let high = [Draft::Boundary(METAL, HIGHER)];
     let bytes = design(alloc, &[(0, &top), (1, &low), (2, &high)])?;
     let library = read_library(alloc, &bytes)?;
-    let parts = flatten_parts(&rt, alloc, &library, &name_of(0), CHECKED)?;
+    let parts = flatten_parts(&rt, alloc, &library, &name_of(0), &[CHECKED])?;
     let rects = parts.concat(alloc)?;
     assert_eq!(rt; rects.len(), 30_000);
     assert_eq!(rt; out_of_place(&rects), 0);

@@ -1,4 +1,4 @@
--- Shapes without parts, and links to cells that draw nothing on the layer.
+-- Shapes without parts, and links to cells that draw nothing on the layers.
 use Rattle.std.specs.Prelude.{◌≡◌, ℕ, Bool, true, false, List, [], ◌∷◌, filter, slice_get, nat_lt, is_some, All}
 use Rattle.gds_grammar.specs.Values.{Shape as Element}
 use Rattle.gds_shape.specs.declared.bounds.Bounds.{Bounds}

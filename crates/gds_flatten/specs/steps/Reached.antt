@@ -20,11 +20,11 @@ pub record IsArranged (cells : List Cell) (order : List ℕ) (top : ℕ) : Type 
   pub here : IsIn order top
 
 -- the design has no fault, and the cells draw what it does
-pub record AreReached (entries : List Entry) (top : List ℕ) (layer : Layer) (cells : List Cell) (t : ℕ) : Type 0 where
+pub record AreReached (entries : List Entry) (top : List ℕ) (layers : List Layer) (cells : List Cell) (t : ℕ) : Type 0 where
   pub sound : IsSound entries top
-  pub fine : AllFine entries (index_of entries top) layer
-  pub same : top_copies cells t ≡ copies_of entries top layer
+  pub fine : AllFine entries (index_of entries top) layers
+  pub same : top_copies cells t ≡ copies_of entries top layers
 
 -- why the whole design is refused, and each part of it, before any copy is looked at
-abbrev pub IsEarly : List Entry → List ℕ → Layer → FlattenError → Type 0
-IsEarly entries top layer e = IsRefused entries top layer e × ((frame : Rect) → IsRefusedOn entries top layer frame e)
+abbrev pub IsEarly : List Entry → List ℕ → List Layer → FlattenError → Type 0
+IsEarly entries top layers e = IsRefused entries top layers e × ((frame : Rect) → IsRefusedOn entries top layers frame e)

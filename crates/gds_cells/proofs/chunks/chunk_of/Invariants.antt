@@ -7,6 +7,6 @@ use Rattle.gds_cells.proofs.chunks.chunk_of.Given as goal
 abbrev pub invariant-elements : goal.invariant-elements
 invariant-elements l = record {
   empty : l.rects.items ≡ [];
-  fine : AreFine l.layer (take l.element-index (map shape_of l.elements));
-  built : (entries : List Entry) → Leads l.to entries (map shape_of l.elements) → IsChunk entries l.layer (take l.element-index (map shape_of l.elements)) l.chunk;
+  fine : AreFine l.layers (take l.element-index (map shape_of l.elements));
+  built : (entries : List Entry) → Leads l.to entries (map shape_of l.elements) → IsChunk entries l.layers (take l.element-index (map shape_of l.elements)) l.chunk;
 }

@@ -11,6 +11,6 @@ abbrev pub invariant-loop-chunk : goal.invariant-loop-chunk
 invariant-loop-chunk l = record {
   parts : l.yielded ++ into_iter_items l.chunk-iterator ≡ l.fn.chunks.items;
   left : into_iter_len l.chunk-iterator ≡ length (into_iter_items l.chunk-iterator);
-  joined : (entries : List Entry) (layer : Layer) (size : ℕ) (elements : List Element) → AreChunks entries layer size elements l.fn.chunks.items
-      → AreJoined entries layer (length l.yielded * size) elements l.shapes.items l.links.items;
+  joined : (entries : List Entry) (layers : List Layer) (size : ℕ) (elements : List Element) → AreChunks entries layers size elements l.fn.chunks.items
+      → AreJoined entries layers (length l.yielded * size) elements l.shapes.items l.links.items;
 }

@@ -35,7 +35,7 @@ returns-in_err-find_turns-clause-refused g c =
     let built = c.in_ok-built.built in
     let d = c.in_ok-counted.counted in
     let w : Framed = record { cells = c.deref.result; counts = c.deref-2.result; extents = c.deref-3.result; frame = c.args.frame } in
-    rw (p.1, p.2) (walk_told entries c.args.top.now c.args.layer built.cells.items built.top c.in_ok-built.ensures.reached d.cells.items d.top (c.in_ok-counted.ensures.same ∙ c.without_bare-reached.ensures.same)
+    rw (p.1, p.2) (walk_told entries c.args.top.now c.args.layers.now built.cells.items built.top c.in_ok-built.ensures.reached d.cells.items d.top (c.in_ok-counted.ensures.same ∙ c.without_bare-reached.ensures.same)
     w c.deref.ensures.value (turns_copies w.cells.now c.top_turns.result) (c.top_turns.ensures.copies w.cells.now) c.in_err-find_turns.field-0.0 c.new-found.result c.new-found.ensures.none c.in_err-find_turns.ensures.refused)
 
 pub returns-then-not-is_inside-clause-refused : goal.returns-then-not-is_inside-clause-refused
@@ -45,12 +45,12 @@ returns-then-not-is_inside-clause-refused g c =
     let d = c.in_ok-counted.counted in
     let w : Framed = record { cells = c.deref.result; counts = c.deref-2.result; extents = c.deref-3.result; frame = c.args.frame } in
     let none = c.new-found.ensures in
-    let told = found_told entries c.args.top.now c.args.layer built.cells.items built.top c.in_ok-built.ensures.reached d.cells.items d.top (c.in_ok-counted.ensures.same ∙ c.without_bare-reached.ensures.same)
+    let told = found_told entries c.args.top.now c.args.layers.now built.cells.items built.top c.in_ok-built.ensures.reached d.cells.items d.top (c.in_ok-counted.ensures.same ∙ c.without_bare-reached.ensures.same)
     w c.deref.ensures.value (turns_copies w.cells.now c.top_turns.result) (c.top_turns.ensures.copies w.cells.now) d.counts.items c.deref-2.ensures.value c.new-found.result c.find_turns.new.found none.none none.empty none.rootless none.nothing c.in_ok-find_turns.ensures.found in
     let extents = c.in_ok-extents.extents.items in
-    let right = right_told entries c.args.top.now c.args.layer built.cells.items built.top c.in_ok-built.ensures.reached d.cells.items d.top (c.in_ok-counted.ensures.same ∙ c.without_bare-reached.ensures.same)
+    let right = right_told entries c.args.top.now c.args.layers.now built.cells.items built.top c.in_ok-built.ensures.reached d.cells.items d.top (c.in_ok-counted.ensures.same ∙ c.without_bare-reached.ensures.same)
     extents c.extent_at.result (c.extent_at.ensures ∙ ap (λ es. extent_at es d.top) c.deref-4.ensures.value) (c.in_ok-counted.ensures.held extents c.in_ok-extents.ensures.held) in
-    (told.countable, (λ stay. c.is_inside.ensures.no c.if-not-is_inside.true _ right.tight (full_stay (copies_of entries c.args.top.now c.args.layer) stay)))
+    (told.countable, (λ stay. c.is_inside.ensures.no c.if-not-is_inside.true _ right.tight (full_stay (copies_of entries c.args.top.now c.args.layers.now) stay)))
 
 pub invariant_of-design : goal.invariant_of-design
 invariant_of-design g c =
@@ -59,7 +59,7 @@ invariant_of-design g c =
     let d = c.in_ok-counted.counted in
     let w : Framed = record { cells = c.deref.result; counts = c.deref-2.result; extents = c.deref-3.result; frame = c.args.frame } in
     let none = c.new-found.ensures in
-    let told = found_told entries c.args.top.now c.args.layer built.cells.items built.top c.in_ok-built.ensures.reached d.cells.items d.top (c.in_ok-counted.ensures.same ∙ c.without_bare-reached.ensures.same)
+    let told = found_told entries c.args.top.now c.args.layers.now built.cells.items built.top c.in_ok-built.ensures.reached d.cells.items d.top (c.in_ok-counted.ensures.same ∙ c.without_bare-reached.ensures.same)
     w c.deref.ensures.value (turns_copies w.cells.now c.top_turns.result) (c.top_turns.ensures.copies w.cells.now) d.counts.items c.deref-2.ensures.value c.new-found.result c.find_turns.new.found none.none none.empty none.rootless none.nothing c.in_ok-find_turns.ensures.found in
     let fewer = c.find_turns.new.found.fewer in
     let few = c.find_turns.new.found.few in
@@ -72,7 +72,7 @@ parts-requires-clause-counted g c =
     let d = c.in_ok-counted.counted in
     let w : Framed = record { cells = c.deref.result; counts = c.deref-2.result; extents = c.deref-3.result; frame = c.args.frame } in
     let none = c.new-found.ensures in
-    let told = found_told entries c.args.top.now c.args.layer built.cells.items built.top c.in_ok-built.ensures.reached d.cells.items d.top (c.in_ok-counted.ensures.same ∙ c.without_bare-reached.ensures.same)
+    let told = found_told entries c.args.top.now c.args.layers.now built.cells.items built.top c.in_ok-built.ensures.reached d.cells.items d.top (c.in_ok-counted.ensures.same ∙ c.without_bare-reached.ensures.same)
     w c.deref.ensures.value (turns_copies w.cells.now c.top_turns.result) (c.top_turns.ensures.copies w.cells.now) d.counts.items c.deref-2.ensures.value c.new-found.result c.find_turns.new.found none.none none.empty none.rootless none.nothing c.in_ok-find_turns.ensures.found in
     λ κs within. told.rooted
 
@@ -84,13 +84,13 @@ returns-in_err-rects-clause-refused g c =
     let d = c.in_ok-counted.counted in
     let w : Framed = record { cells = c.deref.result; counts = c.deref-2.result; extents = c.deref-3.result; frame = c.args.frame } in
     let none = c.new-found.ensures in
-    let told = found_told entries c.args.top.now c.args.layer built.cells.items built.top c.in_ok-built.ensures.reached d.cells.items d.top (c.in_ok-counted.ensures.same ∙ c.without_bare-reached.ensures.same)
+    let told = found_told entries c.args.top.now c.args.layers.now built.cells.items built.top c.in_ok-built.ensures.reached d.cells.items d.top (c.in_ok-counted.ensures.same ∙ c.without_bare-reached.ensures.same)
     w c.deref.ensures.value (turns_copies w.cells.now c.top_turns.result) (c.top_turns.ensures.copies w.cells.now) d.counts.items c.deref-2.ensures.value c.new-found.result c.find_turns.new.found none.none none.empty none.rootless none.nothing c.in_ok-find_turns.ensures.found in
     let extents = c.in_ok-extents.extents.items in
-    let right = right_told entries c.args.top.now c.args.layer built.cells.items built.top c.in_ok-built.ensures.reached d.cells.items d.top (c.in_ok-counted.ensures.same ∙ c.without_bare-reached.ensures.same)
+    let right = right_told entries c.args.top.now c.args.layers.now built.cells.items built.top c.in_ok-built.ensures.reached d.cells.items d.top (c.in_ok-counted.ensures.same ∙ c.without_bare-reached.ensures.same)
     extents c.extent_at.result (c.extent_at.ensures ∙ ap (λ es. extent_at es d.top) c.deref-4.ensures.value) (c.in_ok-counted.ensures.held extents c.in_ok-extents.ensures.held) in
-    let stay = stay_full (copies_of entries c.args.top.now c.args.layer) (c.is_inside.ensures.yes c.if-not-is_inside.false _ right.tight) in
-    rw (p.1, p.2) (memory_told entries c.args.top.now c.args.layer c.args.frame.now (roots_copies d.cells.items c.find_turns.new.found.roots.items) (told.stay stay) c.in_err-rects.field-0.0 c.in_err-rects.ensures.refused)
+    let stay = stay_full (copies_of entries c.args.top.now c.args.layers.now) (c.is_inside.ensures.yes c.if-not-is_inside.false _ right.tight) in
+    rw (p.1, p.2) (memory_told entries c.args.top.now c.args.layers.now c.args.frame.now (roots_copies d.cells.items c.find_turns.new.found.roots.items) (told.stay stay) c.in_err-rects.field-0.0 c.in_err-rects.ensures.refused)
 
 pub returns-clause-fine : goal.returns-clause-fine
 returns-clause-fine g c =
@@ -99,7 +99,7 @@ returns-clause-fine g c =
     let d = c.in_ok-counted.counted in
     let w : Framed = record { cells = c.deref.result; counts = c.deref-2.result; extents = c.deref-3.result; frame = c.args.frame } in
     let none = c.new-found.ensures in
-    let told = found_told entries c.args.top.now c.args.layer built.cells.items built.top c.in_ok-built.ensures.reached d.cells.items d.top (c.in_ok-counted.ensures.same ∙ c.without_bare-reached.ensures.same)
+    let told = found_told entries c.args.top.now c.args.layers.now built.cells.items built.top c.in_ok-built.ensures.reached d.cells.items d.top (c.in_ok-counted.ensures.same ∙ c.without_bare-reached.ensures.same)
     w c.deref.ensures.value (turns_copies w.cells.now c.top_turns.result) (c.top_turns.ensures.copies w.cells.now) d.counts.items c.deref-2.ensures.value c.new-found.result c.find_turns.new.found none.none none.empty none.rootless none.nothing c.in_ok-find_turns.ensures.found in
     told.countable
 
@@ -109,9 +109,9 @@ returns-clause-inside g c =
     let built = c.in_ok-built.built in
     let d = c.in_ok-counted.counted in
     let extents = c.in_ok-extents.extents.items in
-    let right = right_told entries c.args.top.now c.args.layer built.cells.items built.top c.in_ok-built.ensures.reached d.cells.items d.top (c.in_ok-counted.ensures.same ∙ c.without_bare-reached.ensures.same)
+    let right = right_told entries c.args.top.now c.args.layers.now built.cells.items built.top c.in_ok-built.ensures.reached d.cells.items d.top (c.in_ok-counted.ensures.same ∙ c.without_bare-reached.ensures.same)
     extents c.extent_at.result (c.extent_at.ensures ∙ ap (λ es. extent_at es d.top) c.deref-4.ensures.value) (c.in_ok-counted.ensures.held extents c.in_ok-extents.ensures.held) in
-    let stay = stay_full (copies_of entries c.args.top.now c.args.layer) (c.is_inside.ensures.yes c.if-not-is_inside.false _ right.tight) in
+    let stay = stay_full (copies_of entries c.args.top.now c.args.layers.now) (c.is_inside.ensures.yes c.if-not-is_inside.false _ right.tight) in
     stay
 
 pub returns-clause-squares : goal.returns-clause-squares
@@ -121,12 +121,12 @@ returns-clause-squares g c =
     let d = c.in_ok-counted.counted in
     let w : Framed = record { cells = c.deref.result; counts = c.deref-2.result; extents = c.deref-3.result; frame = c.args.frame } in
     let none = c.new-found.ensures in
-    let told = found_told entries c.args.top.now c.args.layer built.cells.items built.top c.in_ok-built.ensures.reached d.cells.items d.top (c.in_ok-counted.ensures.same ∙ c.without_bare-reached.ensures.same)
+    let told = found_told entries c.args.top.now c.args.layers.now built.cells.items built.top c.in_ok-built.ensures.reached d.cells.items d.top (c.in_ok-counted.ensures.same ∙ c.without_bare-reached.ensures.same)
     w c.deref.ensures.value (turns_copies w.cells.now c.top_turns.result) (c.top_turns.ensures.copies w.cells.now) d.counts.items c.deref-2.ensures.value c.new-found.result c.find_turns.new.found none.none none.empty none.rootless none.nothing c.in_ok-find_turns.ensures.found in
     let extents = c.in_ok-extents.extents.items in
-    let right = right_told entries c.args.top.now c.args.layer built.cells.items built.top c.in_ok-built.ensures.reached d.cells.items d.top (c.in_ok-counted.ensures.same ∙ c.without_bare-reached.ensures.same)
+    let right = right_told entries c.args.top.now c.args.layers.now built.cells.items built.top c.in_ok-built.ensures.reached d.cells.items d.top (c.in_ok-counted.ensures.same ∙ c.without_bare-reached.ensures.same)
     extents c.extent_at.result (c.extent_at.ensures ∙ ap (λ es. extent_at es d.top) c.deref-4.ensures.value) (c.in_ok-counted.ensures.held extents c.in_ok-extents.ensures.held) in
-    let stay = stay_full (copies_of entries c.args.top.now c.args.layer) (c.is_inside.ensures.yes c.if-not-is_inside.false _ right.tight) in
+    let stay = stay_full (copies_of entries c.args.top.now c.args.layers.now) (c.is_inside.ensures.yes c.if-not-is_inside.false _ right.tight) in
     let found = c.find_turns.new.found in
     λ x y.
     c.in_ok-kept.ensures x y ∙ ap (λ rs. covered (flat_map vec_items rs) x y && squares c.args.frame.now x y) (c.deref-5.ensures.value ∙ c.in_ok-push.ensures.items)
@@ -138,6 +138,6 @@ returns-clause-range g c =
     let built = c.in_ok-built.built in
     let d = c.in_ok-counted.counted in
     let extents = c.in_ok-extents.extents.items in
-    let right = right_told entries c.args.top.now c.args.layer built.cells.items built.top c.in_ok-built.ensures.reached d.cells.items d.top (c.in_ok-counted.ensures.same ∙ c.without_bare-reached.ensures.same)
+    let right = right_told entries c.args.top.now c.args.layers.now built.cells.items built.top c.in_ok-built.ensures.reached d.cells.items d.top (c.in_ok-counted.ensures.same ∙ c.without_bare-reached.ensures.same)
     extents c.extent_at.result (c.extent_at.ensures ∙ ap (λ es. extent_at es d.top) c.deref-4.ensures.value) (c.in_ok-counted.ensures.held extents c.in_ok-extents.ensures.held) in
-    λ x y. all_in_range (copies_of entries c.args.top.now c.args.layer) c.extent_at.result right.held (c.is_inside.ensures.range c.if-not-is_inside.false) x y
+    λ x y. all_in_range (copies_of entries c.args.top.now c.args.layers.now) c.extent_at.result right.held (c.is_inside.ensures.range c.if-not-is_inside.false) x y
