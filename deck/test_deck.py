@@ -31,6 +31,7 @@ from densfill_deck.costs import Load, load_of  # noqa: E402
 from densfill_deck.deck import read_deck  # noqa: E402
 from densfill_deck.gds import boxes, database_unit, real  # noqa: E402
 from densfill_deck.lengths import Unfit, in_millionths, in_units, metres  # noqa: E402
+from densfill_deck.merge import NotMerged, merge  # noqa: E402
 from densfill_deck.page import Section, page as whole_page  # noqa: E402
 from densfill_deck.pictures import density_map  # noqa: E402
 from densfill_deck.reports import Limits, Window, figures, histogram, worst  # noqa: E402
@@ -538,6 +539,48 @@ def window(column: int, row: int, share: int, state: str) -> Window:
     return Window(column, row, 0, 0, 100, 100, share // 100, 0, share // 100, share, state)
 
 
+class Merging(Folder):
+    """A design with fill libraries below its top."""
+
+    # A structure before the top and one behind it, and zeros behind ENDLIB, as tapes have them.
+    SUB = structure("SUB", boundary(31, 0, 0, 9, 9), wire(31, 2, 0, 0, 9, 0))
+    BEHIND = structure("BEHIND", boundary(32, 0, 0, 5, 5))
+    BOX = structure("M1_BOX", boundary(131, 0, 0, 4, 4))
+    # A reference to FILL_TOP and one to ODD, whose name is filled up by a zero, both at the origin.
+    BELOW = (bytes.fromhex("00040a00 000c1206") + b"FILL_TOP" + bytes.fromhex("000c1003 00000000 00000000 00041100 00040a00 00081206") + b"ODD\0"
+             + bytes.fromhex("000c1003 00000000 00000000 00041100"))
+
+    def file(self, name: str, data: bytes) -> Path:
+        path = self.folder / name
+        path.write_bytes(data)
+        return path
+
+    def merged(self, design: bytes, top: str = "TOP", **fills: bytes) -> bytes:
+        libraries = {name: self.file(f"{name}.gds", data) for name, data in fills.items()}
+        merge(self.file("design.gds", design), top, libraries, self.folder / "out.gds")
+        return (self.folder / "out.gds").read_bytes()
+
+    def test_records_are_copied(self) -> None:
+        shapes = [boundary(31, x, 0, x + 5, 9) for x in range(0, 90, 10)] + [reference("SUB", 3, 4, 1, True)]
+        fill, odd = structure("FILL_TOP", reference("M1_BOX", 7, 8)), structure("ODD", array("M2_BOX", 2, 3, (0, 0, 8, 0, 0, 12)))
+        box = structure("M2_BOX", boundary(132, 0, 0, 4, 4))
+        out = self.merged(library("D", self.SUB, structure("TOP", *shapes), self.BEHIND) + bytes(2048),
+                          FILL_TOP=library("M1_FILL", self.BOX, fill), ODD=library("M2_FILL", box, odd))
+        self.assertEqual(out, library("D", self.SUB, structure("TOP", *shapes, self.BELOW), self.BEHIND, self.BOX, fill, box, odd))
+
+    def test_what_is_not_merged(self) -> None:
+        design, fill = library("D", self.SUB, structure("TOP")), library("F", self.BOX, structure("FILL_TOP"))
+        for given, top, other, want in (
+                (design, "NONE", fill, "design.gds has no structure NONE"), (design, "TOP", library("F", self.BOX), "FILL_TOP.gds has no structure FILL_TOP"),
+                (design, "TOP", library("F", self.SUB, structure("FILL_TOP")), "FILL_TOP.gds has a structure SUB, as "),
+                (design[:-9], "TOP", fill, "design.gds: the stream ends before ENDLIB"), (b"text", "TOP", fill, "design.gds: is a text"),
+                (design, "TOP", fill.replace(bytes.fromhex("3944b82fa09b5a54"), bytes.fromhex("3a44b82fa09b5a54")), "has another database unit than")):
+            with self.subTest(want=want):
+                with self.assertRaisesRegex(NotMerged, want):
+                    self.merged(given, top, FILL_TOP=other)
+                self.assertFalse((self.folder / "out.gds").exists() or (self.folder / "out.gds.part").exists())
+
+
 class Reports(unittest.TestCase):
     """Windows and their numbers, by hand."""
 
@@ -819,7 +862,7 @@ class Runs(Folder):
 
     def merge(self, *words: str) -> tuple[int, str]:
         line = [sys.executable, str(DECK / "densfill-deck"), "merge", str(self.path), str(self.design), *words]
-        done = subprocess.run(line, capture_output=True, text=True, check=False, env=os.environ | {"QT_QPA_PLATFORM": "offscreen"})
+        done = subprocess.run(line, capture_output=True, text=True, check=False)
         return done.returncode, done.stderr
 
     def test_stale_fill_is_not_merged(self) -> None:
@@ -849,7 +892,6 @@ class Runs(Folder):
         self.assertIn("is one of the files that are merged", self.merge(str(self.design))[1])
         self.assertEqual(self.design.read_bytes(), before)
 
-    @unittest.skipUnless(shutil.which("klayout"), "KLayout isn't installed")
     def test_stale_fill_is_merged_where_it_is_asked_for(self) -> None:
         self.path.write_text(GOOD + layer(1))
         self.run_deck()
@@ -893,12 +935,11 @@ class Runs(Folder):
         missed = sum(row[10] != "OK" for k in LAYERS for row in self.numbers(f"M{k}"))
         self.assertIn(f"items {missed}", done.stdout)
 
-    @unittest.skipUnless(shutil.which("klayout"), "KLayout isn't installed")
     def test_merge(self) -> None:
         self.run_deck("--quiet")
         out = self.folder / "merged.gds"
         line = [sys.executable, str(DECK / "densfill-deck"), "merge", str(self.path), str(self.design), str(out)]
-        done = subprocess.run(line, capture_output=True, text=True, check=False, env=os.environ | {"QT_QPA_PLATFORM": "offscreen"})
+        done = subprocess.run(line, capture_output=True, text=True, check=False)
         filled = ", ".join(f"M{k}" for k in LAYERS if k != 8)
         self.assertEqual((done.returncode, done.stdout, done.stderr), (0, f"{out}: {self.design} with the fill of {filled} below TOP\n", ""))
         rules = (self.out / "M1.rules.csv").read_text().replace("datatype,0\n", "datatype,1\n", 1)

@@ -272,7 +272,10 @@ class Klayout(FolderCase):
         results, merged = self.folder / "results", self.folder / "merged.gds"
         given = [EXAMPLES / "block.toml", EXAMPLES / "block.gds"]
         subprocess.run([self.deck, "run", *given, "--out", results, "--quiet"], check=True, stdout=subprocess.DEVNULL)
-        subprocess.run([self.deck, "merge", *given, merged, "--results", results], check=True, env=self.env)
+        subprocess.run([self.deck, "merge", *given, merged, "--results", results], check=True)
+        seen = self.klayout(ROOT / "tools/klayout_merge.py", design=given[1], top="BLOCK", merged=merged,
+                            fills=f"BLOCK_FILL_TOP {results / 'M1.fill.gds'}")
+        self.assertRegex(seen, r"cells the same: True layers: [1-9]\d* different: 0\n")
         rules = (results / "M1.rules.csv").read_text()
         (self.folder / "boxes.csv").write_text(rules.replace("datatype,0\n", "datatype,1\n", 1))
         rows = [line.split(",") for line in (results / "M1.report.csv").read_text().splitlines()]

@@ -77,7 +77,7 @@ def parser() -> Parser:
     look.add_argument("--layer", type=on, nargs="+", default=[], help="layers and data types that are to be checked, as 31/0")
     look.add_argument("--top", help="the top structure (by default each of the design's)")
     look.add_argument("--out", type=Path, help="a marker file for KLayout (by default DESIGN.where.lyrdb, where shapes are found)")
-    joined = commands.add_parser("merge", help="the design and its fill in one file, by KLayout")
+    joined = commands.add_parser("merge", help="the design and its fill in one file")
     joined.add_argument("deck", type=Path)
     joined.add_argument("design", type=Path)
     joined.add_argument("out", type=Path)

@@ -1,15 +1,12 @@
-"""A design with its fill libraries in one file, by KLayout."""
+"""A design with its fill libraries in one file."""
 import json
-import shutil
-import subprocess
 from pathlib import Path
 
+from .gds import NoStream
+from .library import Clash, Layout, layout_of, write_joined
 from .runs import Files, Inputs, digest, fingerprint
 from .tables import Deck
 
-SCRIPT = Path(__file__).resolve().parent.parent / "klayout" / "merge_fill.py"
-NO_KLAYOUT = ("klayout is not on the path: install it (https://www.klayout.de, or your distribution's package), or merge in the layout tool "
-              "of your flow: the structure top_cell (fill_top of the rules) of each fill library goes below the design's top, at 0, 0 with no rotation")
 OTHER_FORMATS = (".oas", ".oasis", ".gz", ".zip", ".bz2", ".xz", ".cif", ".dxf", ".lef", ".def")
 
 
@@ -50,14 +47,20 @@ def changes(inputs: Inputs, deck: Deck) -> list[str]:
 
 def merge(design: Path, top: str, libraries: dict[str, Path], out: Path) -> None:
     """Writes the design with the top of each library, by which it is named here, below its own, at the origin."""
-    klayout = shutil.which("klayout")
-    if klayout is None:
-        raise NotMerged(NO_KLAYOUT)
-    part = out.with_name(out.name + ".part.gds")
-    words = [klayout, "-b", "-r", str(SCRIPT), "-rd", f"design={design}", "-rd", f"top={top}", "-rd",
-             "fills=" + "\n".join(f"{name} {path}" for name, path in libraries.items()), "-rd", f"out={part}"]
-    done = subprocess.run(words, capture_output=True, text=True, check=False)
-    if done.returncode != 0 or not part.exists():
+    part = out.with_name(out.name + ".part")
+    try:
+        layouts = [layout(path) for path in (design, *libraries.values())]
+        with open(part, "wb") as file:
+            write_joined(file, layouts[0], top, layouts[1:], list(libraries))
+        part.replace(out)
+    except Clash as clash:
+        raise NotMerged(str(clash)) from clash
+    finally:
         part.unlink(missing_ok=True)
-        raise NotMerged((done.stderr or done.stdout).strip() or f"klayout ended with status {done.returncode}")
-    part.replace(out)
+
+
+def layout(path: Path) -> Layout:
+    try:
+        return layout_of(path)
+    except NoStream as error:
+        raise NotMerged(f"{path}: {error}") from error
