@@ -32,9 +32,10 @@ from densfill_deck.deck import read_deck  # noqa: E402
 from densfill_deck.gds import boxes, database_unit, real  # noqa: E402
 from densfill_deck.lengths import Unfit, in_millionths, in_units, metres  # noqa: E402
 from densfill_deck.merge import NotMerged, merge  # noqa: E402
+from densfill_deck.markers import Missed, database  # noqa: E402
 from densfill_deck.page import Section, page as whole_page  # noqa: E402
 from densfill_deck.pictures import density_map  # noqa: E402
-from densfill_deck.reports import Limits, Window, figures, histogram, worst  # noqa: E402
+from densfill_deck.reports import Limits, Step, Window, figures, histogram, steps_over, worst  # noqa: E402
 from densfill_deck.progress import Progress  # noqa: E402
 from densfill_deck.runs import jobs_for  # noqa: E402
 from densfill_deck.tables import Refused  # noqa: E402
@@ -120,6 +121,7 @@ class Faults(Folder):
         for more, want in (('spaceing = 1\n', ':20: layer M1, spaceing: is no key of a deck: write "spacing"'),
                            ('box = "0.3 nm"\n', ':20: layer M1, box: 0.3 nm is 0.3 database units of 1 nm: write a whole number of them'),
                            ('min = "300 %"\n', ":20: layer M1, min: 300 % is no share: write 0 % to 100 %, with up to four decimals"),
+                           ('gradient = "-1 %"\n', ':20: layer M1, gradient: -1 % is no share: write 0 % to 100 %, with up to four decimals'),
                            ('frame = [1, 2, 3]\n', ":20: layer M1, frame: 3 values: write 4, or one for all"),
                            ('padding = "none"\n', """:20: layer M1, padding: 'none': write "zero" or "ignore\""""),
                            ('cell = "a b"\n', ":20: layer M1, cell: 'a b' is no name: write 1 to 32 letters, digits, _, ? or $"),
@@ -604,6 +606,29 @@ class Reports(unittest.TestCase):
         beside = Window(3, 0, 300, 0, 400, 100, 0, 0, 0, 0, "OK")
         self.assertEqual(limits.without_boxes(beside).state, "OK")
 
+    def test_steps_between_windows_side_by_side(self) -> None:
+        """Three columns and two rows of 100 by 100, of which the last column counts by its left half alone."""
+        areas = (1000, 3000, 2501, 0, 3001, 0)
+        limits = Limits(0, 10**6, (0, 0, 250, 200))
+        windows = [Window(k % 3, k // 3, k % 3 * 100, k // 3 * 100, k % 3 * 100 + 100, k // 3 * 100 + 100, area, 0, area, 0, "OK") for k, area in enumerate(areas)]
+        found = [((s.first.column, s.first.row), (s.second.column, s.second.row), s.difference) for s in steps_over(windows, limits, 200_200)]
+        self.assertEqual(found, [((2, 0), (2, 1), 500_200), ((0, 1), (1, 1), 300_100), ((1, 1), (2, 1), 300_100)])
+        self.assertEqual(len(steps_over(windows, limits, 200_000)), 4)
+        self.assertEqual(len(steps_over(windows, limits, 199_999)), 5)
+        self.assertEqual(steps_over(windows, limits, 200_200)[1].box, (0, 100, 200, 200))
+        self.assertEqual(steps_over([], limits, 0), [])
+        out_of_the_frame = Limits(0, 10**6, (0, 0, 200, 200))
+        self.assertTrue(all(s.second.column < 2 for s in steps_over(windows, out_of_the_frame, 0)))
+
+    def test_steps_are_shown_and_marked(self) -> None:
+        step = Step(window(0, 0, 100_000, "OK"), window(1, 0, 500_000, "OK")._replace(left=100, right=200), 400_000)
+        root = ET.fromstring(whole_page("t", [], [Section("M1", "note", Limits(0, 10**6), None, [step.first, step.second], [step])], NM).split(">", 1)[1])
+        cells = [cell.text for cell in root.findall(".//section/table")[-1][1]]
+        self.assertEqual(cells, ["40.00", "0", "0", "10.00", "1", "0", "50.00", "0, 0", "0.2, 0.1"])
+        markers = ET.fromstring(database("t", "TOP", {"M1": Missed([step.first, step.second], [step]), "M2": Missed([step.first], [])}, NM))
+        self.assertEqual([name.text for name in markers.iter("name") if name.text != "TOP"], ["M1", "GRADIENT", "M2"])
+        self.assertEqual([value.text for value in markers.iter("value")], ["box: (0,0;0.2,0.1)", "float: 0.4"])
+
     def test_map_has_a_pixel_for_each_window(self) -> None:
         width, height, picture = density_map(self.WINDOWS, Limits(200_000, 800_000))
         self.assertEqual((width, height), (2, 2))
@@ -650,7 +675,7 @@ class Lines(Folder):
                 ("check deck.toml .", 2, ".: the design: Is a directory"),
                 ("run deck.toml design.gds --only M7", 2, "no layer M7 in the deck: it has M1 (1/0)"),
                 ("run deck.toml design.gds --jobs 0", 1, "--jobs: 1 or more"),
-                ("run deck.toml design.gds --fail-on LOW", 1, "--fail-on: invalid choice: 'LOW' (choose from 'low', 'high', 'any')"),
+                ("run deck.toml design.gds --fail-on LOW", 1, "--fail-on: invalid choice: 'LOW' (choose from 'low', 'high', 'gradient', 'any')"),
                 ("run deck.toml design.gds --out deck.toml", 2, "deck.toml: is a file: --out names a folder"),
                 ("run deck.toml design.gds --out there --program none", 2, "--program none: no program that can be run is there"),
                 ("run deck.toml design.gds --program deck.toml", 2, "--program deck.toml: no program that can be run is there"),
@@ -743,6 +768,19 @@ class Runs(Folder):
         missed = sum(row[10] != "OK" for name in ("M1", "M8") for row in self.numbers(name))
         self.assertEqual(len(items), missed)
         self.assertGreater(missed, 0)
+
+    def test_windows_side_by_side_that_differ_too_much(self) -> None:
+        """Without fill: strips of 375 of each 5,000 on the left half alone, so 7.5 % there, half of it in the middle, and none at the right."""
+        shapes = [boundary(1, x, 0, x + 375, 40_000) for x in range(0, 20_000, 5_000)]
+        self.design.write_bytes(library("D", structure("TOP", *shapes)))
+        for limit, told, status in (("4 %", (0, None), 0), ("3.7 %", (6, 0.0375), 3)):
+            self.path.write_text(GOOD + layer(1, f'fill = false\ngradient = "{limit}"\n'))
+            ended = self.run_deck("--fail-on", "gradient")
+            self.assertEqual((ended.returncode, self.run_deck("--fail-on", "high").returncode), (status, 0))
+            of = json.loads((self.out / "summary.json").read_text())["layers"][0]["gradient"]
+            self.assertEqual((of["after"], of["greatest"] and of["greatest"]["difference"]), told)
+            self.assertIn(f"M1: {told[0]} > {told[0]} pairs of windows side by side differ by more than {limit}", ended.stdout)
+            self.assertEqual((self.out / "markers.lyrdb").read_text().count("M1.GRADIENT"), told[0])
 
     def test_a_layer_that_fails_ends_no_other(self) -> None:
         self.path.write_text(GOOD + layer(1) + layer(2) + layer(3))

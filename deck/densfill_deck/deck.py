@@ -19,7 +19,7 @@ LAYER = re.compile(r"\s*(\d{1,5})\s*/\s*(\d{1,5})\s*\Z")
 FILL_NAME = re.compile(r"[A-Za-z0-9_?$]{1,32}\Z")
 DECK_KEYS = ("unit", "top", "design")
 LAYER_KEYS = ("name", "layer", "fill", "frame", "window", "step", "first", "windows", "min", "max", "padding", "box", "pitch", "origin",
-              "spacing", "fill_spacing", "tile", "fill_layer", "keep_layer", "script", "library", "cell", "top_cell", "empty")
+              "spacing", "fill_spacing", "tile", "fill_layer", "keep_layer", "script", "library", "cell", "top_cell", "empty", "gradient")
 REQUIRED = ("name", "layer", "frame", "window", "min")
 REQUIRED_OF_FILL = ("box", "pitch", "spacing", "fill_spacing", "fill_layer")
 # What a text that is no TOML mostly lacks, by how the reason begins.
@@ -109,6 +109,16 @@ def put_counts(table: Table) -> None:
             n[count] = max(1, -((n[first] + n[size] - n[end]) // n[step]) + 1)
 
 
+def gradient_of(table: Table) -> int | None:
+    """The greatest difference between windows side by side, in parts of a million."""
+    try:
+        value = table.get("gradient")
+        return None if value is None else in_millionths(value)
+    except Unfit as unfit:
+        table.fault("gradient", str(unfit))
+        return None
+
+
 def put_without_fill(table: Table) -> None:
     """A layer that is only checked has a raster without a place: one box as large as the frame allows none of."""
     for name, value in (("box_w", 1), ("box_h", 1), ("step_x", 1 << 20), ("step_y", 1 << 20), ("spacing", 0), ("fill_spacing", 0)):
@@ -160,13 +170,14 @@ def read_layer(table: Table, top: object, contents: Contents | None, is_design_f
     if fills is False:
         put_without_fill(table)
     texts = texts_of(table, str(name), top)
+    gradient = gradient_of(table)
     judge_table(table)
     path = table.text.path.parent / script if isinstance(script, str) else None
     if path is not None:
         judge_script(table, path)
     elif script is not None:
         table.fault("script", f"{script!r} is no path")
-    return Layer(str(name), bool(fills), table.numbers, texts, path) if len(table.text.faults) == before else None
+    return Layer(str(name), bool(fills), table.numbers, texts, path, gradient) if len(table.text.faults) == before else None
 
 
 def unit_of(table: Table, design: Path | None) -> Fraction:

@@ -47,7 +47,7 @@ def judge_frame_and_limits(table: Table) -> None:
             table.fault("frame", f"its {words} one: write [left, lower, right, upper]")
     if table.has("min", "max") and n["max"] < n["min"]:
         table.fault("max", f"{n['max'] / 10**4:g} % is below min, {n['min'] / 10**4:g} %")
-    for key in ("min", "max"):
+    for key in ("min", "max", "gradient"):
         value = table.get(key)
         share = share_of(value)
         if share is not None and 0 < share < 1 and not (isinstance(value, str) and "%" in value):

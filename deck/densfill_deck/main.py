@@ -15,7 +15,7 @@ from .gds import NoStream
 from .lengths import Unfit, metres, told
 from .listing import list_faults, list_layers
 from .look import SecondLook
-from .markers import database
+from .markers import Missed, database
 from .merge import NotMerged, assert_fit, changes, merge
 from .page import Section, page
 from .progress import Progress
@@ -60,7 +60,7 @@ def parser() -> Parser:
     run.add_argument("--only", nargs="+", metavar="LAYER", help="these layers alone, by their names or as 31/0")
     run.add_argument("--no-fill", action="store_true", help="check all layers, and fill none")
     run.add_argument("--resume", action="store_true", help="keep what an earlier run left of the same inputs")
-    run.add_argument("--fail-on", choices=("low", "high", "any"), help="status 3 where a window stays so")
+    run.add_argument("--fail-on", choices=("low", "high", "gradient", "any"), help="status 3 where a window stays so, or two side by side")
     run.add_argument("--quiet", action="store_true", help="no progress on the terminal")
     run.add_argument("--program", type=Path, help="the program densfill (by default beside this one, else on the path)")
     check = commands.add_parser("check", help="tell all faults of a deck at once")
@@ -124,7 +124,8 @@ def section_of(outcome: Outcome) -> Section:
         return Section(layer.name, note, outcome.limits, None, [])
     note = (f"layer {layer.numbers['layer']}/{layer.numbers['datatype']}, {len(outcome.after)} windows, "
             + (f"{outcome.boxes} boxes, " if layer.fills else "checked alone, ") + f"{ran.seconds:.2f} s, {ran.memory / 2**20:.0f} MB")
-    return Section(layer.name, note, outcome.limits, outcome.before if layer.fills else None, outcome.after)
+    steps = outcome.steps[1] if layer.gradient is not None else None
+    return Section(layer.name, note, outcome.limits, outcome.before if layer.fills else None, outcome.after, steps)
 
 
 def write_results(inputs: Inputs, deck: Deck, outcomes: list[Outcome]) -> str:
@@ -137,7 +138,7 @@ def write_results(inputs: Inputs, deck: Deck, outcomes: list[Outcome]) -> str:
              ("windows low at the end", str(sum(o.figures[1].low for o in outcomes))),
              ("windows high at the end", str(sum(o.figures[1].high for o in outcomes)))]
     write_lines(folder / "report.html", page(f"Density of {inputs.design.name}", facts, [section_of(o) for o in outcomes], deck.unit))
-    missed = {outcome.layer.name: outcome.after for outcome in outcomes if outcome.is_whole}
+    missed = {outcome.layer.name: Missed(outcome.after, outcome.steps[1]) for outcome in outcomes if outcome.is_whole}
     write_lines(folder / "markers.lyrdb", database(inputs.design.name, deck.top, missed, deck.unit))
     return words
 

@@ -1,11 +1,14 @@
-"""A marker database for KLayout: a category for each layer and state, a window as a box, its density as a value."""
+"""A marker database for KLayout: a category for each layer and state, a window as a box, its density as a value; and so two windows side by
+side, with their difference."""
 from collections.abc import Iterator
 from fractions import Fraction
 from functools import cache
+from itertools import chain
+from typing import NamedTuple
 from xml.sax.saxutils import escape
 
 from .look import Found
-from .reports import Window
+from .reports import Step, Window
 
 HEAD = """<?xml version="1.0" encoding="utf-8"?>
 <report-database>
@@ -16,13 +19,20 @@ HEAD = """<?xml version="1.0" encoding="utf-8"?>
 """
 
 
-def categories(layers: dict[str, list[Window]]) -> str:
-    """The categories that hold a window: LAYER and below it LOW and HIGH."""
+class Missed(NamedTuple):
+    """The windows of a layer, and those side by side that differ by more than they may."""
+    windows: list[Window]
+    steps: list[Step]
+
+
+def categories(layers: dict[str, Missed]) -> str:
+    """The categories that hold a marker: LAYER and below it LOW, HIGH and GRADIENT."""
     parts = [" <categories>\n"]
-    for name, windows in layers.items():
-        states = [state for state in ("LOW", "HIGH") if any(window.state == state for window in windows)]
-        below = "".join(f"    <category><name>{state}</name><description>{state.lower()} windows of {escape(name)}</description></category>\n"
-                        for state in states)
+    for name, missed in layers.items():
+        held = {state: f"{state.lower()} windows of {name}" for state in ("LOW", "HIGH") if any(window.state == state for window in missed.windows)}
+        if missed.steps:
+            held["GRADIENT"] = f"windows of {name} side by side that differ too much"
+        below = "".join(f"    <category><name>{state}</name><description>{escape(told)}</description></category>\n" for state, told in held.items())
         inner = f"   <categories>\n{below}   </categories>\n" if below else ""
         parts.append(f"  <category>\n   <name>{escape(quoted(name))}</name>\n   <description>{escape(name)}</description>\n{inner}  </category>\n")
     return "".join(parts) + " </categories>\n"
@@ -38,22 +48,23 @@ def number(units: int, scale: Fraction) -> str:
     return f"{units * scale.numerator / scale.denominator:.9g}"
 
 
-def items(name: str, top: str, windows: list[Window], scale: Fraction) -> Iterator[str]:
-    """The items of a layer's windows that miss their limits."""
+def items(name: str, top: str, missed: Missed, scale: Fraction) -> Iterator[str]:
+    """The items of a layer's windows that miss their limits, and of those side by side that do."""
     edge = cache(lambda units: number(units, scale))
     head = f"  <item>\n   <tags/>\n   <category>{escape(quoted(name))}."
     below = (f"</category>\n   <cell>{escape(quoted(top))}</cell>\n   <visited>false</visited>\n   <multiplicity>1</multiplicity>\n"
              "   <comment/>\n   <image/>\n   <values>\n    <value>box: (")
-    for window in windows:
-        if window.state != "OK":
-            yield (f"{head}{window.state}{below}{edge(window.left)},{edge(window.bottom)};{edge(window.right)},{edge(window.top)})</value>\n"
-                   f"    <value>float: {window.share / 10**6:.6g}</value>\n   </values>\n  </item>\n")
+    of_windows = ((window.state, window[2:6], window.share) for window in missed.windows if window.state != "OK")
+    of_steps = (("GRADIENT", step.box, step.difference) for step in missed.steps)
+    for state, (left, bottom, right, top_edge), share in chain(of_windows, of_steps):
+        yield (f"{head}{state}{below}{edge(left)},{edge(bottom)};{edge(right)},{edge(top_edge)})</value>\n"
+               f"    <value>float: {share / 10**6:.6g}</value>\n   </values>\n  </item>\n")
 
 
-def database(title: str, top: str, layers: dict[str, list[Window]], unit: Fraction) -> str:
-    """The database of all windows that miss their limits."""
+def database(title: str, top: str, layers: dict[str, Missed], unit: Fraction) -> str:
+    """The database of all windows that miss their limits, and of those side by side that do."""
     cells = f" <cells>\n  <cell>\n   <name>{escape(quoted(top))}</name>\n   <variant/>\n   <references/>\n  </cell>\n </cells>\n"
-    missed = "".join("".join(items(name, top, windows, unit * 10**6)) for name, windows in layers.items())
+    missed = "".join("".join(items(name, top, each, unit * 10**6)) for name, each in layers.items())
     return HEAD.format(title=escape(title), top=escape(quoted(top))) + categories(layers) + cells + f" <items>\n{missed} </items>\n</report-database>\n"
 
 

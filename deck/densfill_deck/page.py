@@ -7,7 +7,7 @@ from fractions import Fraction
 from html import escape
 
 from .pictures import bars, density_map, in_page, legend
-from .reports import Limits, Window, figures, worst
+from .reports import WORST, Limits, Step, Window, figures, worst
 
 STYLE = """body{font:14px/1.4 sans-serif;margin:24px;color:#222}table{border-collapse:collapse;margin:8px 0}td,th{padding:2px 10px;
 text-align:right;border-bottom:1px solid #ddd}td:first-child,th:first-child{text-align:left}.maps{display:flex;gap:32px;flex-wrap:wrap}
@@ -45,6 +45,8 @@ class Section:
     limits: Limits
     before: list[Window] | None
     after: list[Window]
+    # The windows side by side that differ by more than they may after fill; none where there is no limit.
+    steps: list[Step] | None = None
 
 
 def row(cells: list[object], tag: str = "td") -> str:
@@ -125,13 +127,28 @@ def table(windows: list[Window], unit: Fraction) -> str:
     return f"<table>{''.join(rows)}</table>" if len(rows) > 1 else "<p>Each window is within its limits.</p>"
 
 
+def steps_table(steps: list[Step], unit: Fraction) -> str:
+    """The windows side by side that differ most."""
+    if not steps:
+        return "<p>No two windows side by side differ by more than they may.</p>"
+    rows = [row(["difference %", "column", "row", "density %", "column", "row", "density %", "from x, y (um)", "to x, y (um)"], "th")]
+    for step in steps[:WORST]:
+        low, high = (", ".join(f"{float(edge * unit * 10**6):g}" for edge in pair) for pair in (step.box[:2], step.box[2:]))
+        cells: list[object] = [f"{step.difference / 10**4:.2f}"]
+        for window in step[:2]:
+            cells += [window.column, window.row, f"{window.share / 10**4:.2f}"]
+        rows.append(row([*cells, low, high]))
+    return f"<table>{''.join(rows)}</table>"
+
+
 def section(of: Section, unit: Fraction) -> str:
     head = f"<h2>{escape(of.name)}</h2><p>{escape(of.note)}</p>"
     if not of.after:
         return f'<section class="failed">{head}</section>'
     maps = "".join(picture(title, windows, of.limits, unit) for title, windows in (("before fill", of.before), ("after fill", of.after))
                    if windows is not None)
-    return f'<section>{head}{legend(of.limits)}<div class="maps">{maps}</div>{table(of.after, unit)}</section>'
+    steps = steps_table(of.steps, unit) if of.steps is not None else ""
+    return f'<section>{head}{legend(of.limits)}<div class="maps">{maps}</div>{table(of.after, unit)}{steps}</section>'
 
 
 def page(title: str, facts: list[tuple[str, str]], sections: list[Section], unit: Fraction) -> str:

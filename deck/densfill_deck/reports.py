@@ -1,5 +1,5 @@
 """The lines of a density report, and what they come to."""
-from collections.abc import Iterable
+from collections.abc import Iterable, Iterator
 from dataclasses import dataclass
 from heapq import nsmallest
 from pathlib import Path
@@ -69,6 +69,39 @@ class Limits:
         counted = self.counted(window)
         share = window.metal * 10**6 // counted if counted else 0
         return Window(*window[:7], 0, window.metal, share, self.state(window.metal, counted))
+
+
+class Step(NamedTuple):
+    """Two windows side by side, the first left of the second or below it, and the difference of their densities in parts of a million."""
+    first: Window
+    second: Window
+    difference: int
+
+    @property
+    def box(self) -> tuple[int, int, int, int]:
+        """The edges round both."""
+        return self.first.left, self.first.bottom, self.second.right, self.second.top
+
+
+def beside(windows: list[Window]) -> Iterator[tuple[Window, Window]]:
+    """Each window with the one to its right and with the one above it, as far as a report has them row by row."""
+    columns = windows[-1].column + 1 if windows else 0
+    for first, second in zip(windows, windows[1:]):
+        if first.row == second.row:
+            yield first, second
+    yield from zip(windows, windows[columns:])
+
+
+def steps_over(windows: list[Window], limits: Limits, most: int) -> list[Step]:
+    """The windows side by side whose densities differ by more than so many parts of a million, the greatest difference first: exactly, by
+    their areas. A window of which nothing counts has no density."""
+    found = []
+    for first, second in beside(windows):
+        size, other = limits.counted(first), limits.counted(second)
+        difference = abs(first.total * other - second.total * size) * 10**6
+        if size and other and difference > most * size * other:
+            found.append(Step(first, second, difference // (size * other)))
+    return sorted(found, key=lambda step: (-step.difference, step.first.row, step.first.column))
 
 
 @dataclass(frozen=True)

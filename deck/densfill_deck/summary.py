@@ -7,7 +7,7 @@ from pathlib import Path
 
 from .gds import boxes
 from .lengths import told
-from .reports import Figures, Limits, Window, figures, read_report
+from .reports import Figures, Limits, Step, Window, figures, read_report, steps_over
 from .runs import Files, Inputs, Ran, digest, fingerprint, input_digest
 from .tables import Deck, Layer
 
@@ -35,10 +35,17 @@ class Outcome:
     def is_whole(self) -> bool:
         return self.ran.status == 0
 
+    @cached_property
+    def steps(self) -> tuple[list[Step], list[Step]]:
+        """The windows side by side that differ by more than the layer's gradient, before and after fill; none where it has no such limit."""
+        if self.layer.gradient is None:
+            return [], []
+        return steps_over(self.before, self.limits, self.layer.gradient), steps_over(self.after, self.limits, self.layer.gradient)
+
     def misses(self, kind: str) -> bool:
-        """Whether a window is below or above its limits at the end."""
-        states = {"low": ("LOW",), "high": ("HIGH",), "any": ("LOW", "HIGH")}[kind]
-        return any(window.state in states for window in self.after)
+        """Whether a window is below or above its limits at the end, or two side by side differ by more than they may."""
+        states = {"low": ("LOW",), "high": ("HIGH",), "gradient": (), "any": ("LOW", "HIGH")}[kind]
+        return any(window.state in states for window in self.after) or (kind in ("gradient", "any") and bool(self.steps[1]))
 
 
 def limits_of(layer: Layer) -> Limits:
@@ -65,6 +72,18 @@ def place(window: Window | None, unit: Fraction) -> dict[str, object] | None:
             "density": window.share / 10**6}
 
 
+def told_step(step: Step, unit: Fraction) -> dict[str, object]:
+    """Two windows side by side for programs."""
+    return {"first": place(step.first, unit), "second": place(step.second, unit), "difference": step.difference / 10**6}
+
+
+def told_gradient(outcome: Outcome, unit: Fraction) -> dict[str, object]:
+    """The limit of a layer's gradient, and what misses it before and after fill."""
+    before, after = outcome.steps
+    return {"limit": (outcome.layer.gradient or 0) / 10**6, "before": len(before), "after": len(after),
+            "greatest": told_step(after[0], unit) if after else None}
+
+
 def told_figures(of: Figures, unit: Fraction) -> dict[str, object]:
     return {"low": of.low, "high": of.high, "least": place(of.least, unit), "greatest": place(of.greatest, unit), "mean": of.mean / 10**6}
 
@@ -85,6 +104,8 @@ def told_layer(inputs: Inputs, outcome: Outcome, unit: Fraction) -> dict[str, ob
                  "max": layer.numbers["max"] / 10**6, "before": told_figures(outcome.figures[0], unit),
                  "after": told_figures(outcome.figures[1], unit),
                  "files": {path.name: digest(path) for path in outcome.files.left(layer.fills)}}
+        if layer.gradient is not None:
+            told["gradient"] = told_gradient(outcome, unit)
     return told
 
 
@@ -100,6 +121,24 @@ def percent(window: Window | None) -> str:
     return "-" if window is None else f"{window.share / 10**4:.2f}"
 
 
+def gradients(outcomes: list[Outcome]) -> list[str]:
+    """A line for each layer with a limit of its gradient."""
+    lines = []
+    for outcome in outcomes:
+        if outcome.is_whole and outcome.layer.gradient is not None:
+            before, after = outcome.steps
+            most = f", {step_told(after[0])} most" if after else ""
+            lines.append(f"{outcome.layer.name}: {len(before)} > {len(after)} pairs of windows side by side differ by more than "
+                         f"{outcome.layer.gradient / 10**4:g} %{most}")
+    return lines
+
+
+def step_told(step: Step) -> str:
+    """Two windows side by side, for people."""
+    first, second = step.first, step.second
+    return f"column {first.column}, row {first.row} and column {second.column}, row {second.row} by {step.difference / 10**4:.2f} %"
+
+
 def text(deck: Deck, outcomes: list[Outcome]) -> str:
     """The summary for people: a line for each layer, and one for what failed."""
     lines = [f"{deck.path.name}: {len(outcomes)} layer{'s' * (len(outcomes) != 1)}, database unit {told(deck.unit)}", "",
@@ -113,7 +152,7 @@ def text(deck: Deck, outcomes: list[Outcome]) -> str:
         lines.append(f"{outcome.layer.name:<16}{after.windows:>9}{f'{before.low} > {after.low}':>14}{f'{before.high} > {after.high}':>14}"
                      f"{f'{percent(before.least)} > {percent(after.least)}':>16}{f'{percent(before.greatest)} > {percent(after.greatest)}':>16}"
                      f"{outcome.boxes:>11}{ran.seconds:>9.2f}{ran.memory / 2**20:>7.0f}" + (" (kept)" if ran.taken else ""))
-    return "\n".join(lines + ["", "a > b: before and after fill"]) + "\n"
+    return "\n".join(lines + ["", *gradients(outcomes), "a > b: before and after fill"]) + "\n"
 
 
 def write_lines(path: Path, content: str) -> None:

@@ -38,6 +38,8 @@ class Layer:
     numbers: dict[str, int]
     texts: dict[str, str]
     script: Path | None
+    # The greatest difference of density between windows side by side, in parts of a million, where one is asked for.
+    gradient: int | None = None
 
     @property
     def metal(self) -> str:
