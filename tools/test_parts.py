@@ -54,6 +54,10 @@ CHIPS = (
     Chip("one tile", RULES | {"tile_nx": 99, "tile_ny": 99}, BLOCKS, SCRIPT, (1, 2, 5, 4096)),
     Chip("a place a tile", RULES | {"tile_nx": 1, "tile_ny": 1}, BLOCKS, SCRIPT, (1, 2, 7, 31, 60)),
     Chip("no place", RULES | {"box_w": 200, "step_x": 300}, WIRE, SCRIPT, (1, 2, 9)),
+    Chip("one place", RULES | {"step_x": 95, "step_y": 295}, WIRE, SCRIPT, (1, 2, 5)),
+    Chip("gaps between windows", RULES | {"win_h": 12, "win_step_y": 30, "win_ny": 10}, BLOCKS, SCRIPT, (1, 2, 3, 5, 8)),
+    Chip("windows taller than the chip", RULES | {"win_h": 400, "win_y": -60, "win_ny": 4}, BLOCKS, SCRIPT, (1, 2, 3, 5, 8)),
+    Chip("a raster that begins far below", RULES | {"origin_x": -1237, "origin_y": -5678}, BLOCKS, SCRIPT, (1, 2, 3, 5, 8)),
 )
 
 
