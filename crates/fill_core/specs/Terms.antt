@@ -18,4 +18,4 @@ layers_at t = layers_in t.opening t.keep
 
 -- no rules, no metal and no event
 abbrev pub no_terms : Terms
-no_terms = record { rules = record { numbers = []; top = []; fill_lib = []; fill_cell = []; fill_top = []; keep = None; ignores = false }; opening = []; keep = []; most = 0 }
+no_terms = record { rules = record { numbers = []; top = []; fill_lib = []; fill_cell = []; fill_top = []; keep = None; also_metal = []; also_keep = []; ignores = false }; opening = []; keep = []; most = 0 }

@@ -3,8 +3,8 @@ use fill_area::Windows;
 use fill_base::{Layer, Point, Rect};
 use fill_raster::Raster;
 use fill_text::{
-    ChipRows, Edit, Key, NumberKey, OptionalKey, RuleError, ScriptError, TextKey, read_chip_rules,
-    read_rules, read_script,
+    AlsoKey, ChipRows, Edit, Key, NumberKey, OptionalKey, RuleError, ScriptError, TextKey,
+    read_chip_rules, read_rules, read_script,
 };
 use std::alloc::Global;
 use std::test::Fail;
@@ -157,6 +157,8 @@ fn a_key_prints_as_its_name(rt: HostRuntime) -> Result<(), Fail> {
         (Key::Text(TextKey::FillTop), "fill_top"),
         (Key::Optional(OptionalKey::KeepLayer), "keep_layer"),
         (Key::Optional(OptionalKey::KeepDatatype), "keep_datatype"),
+        (Key::Also(AlsoKey::Metal), "also_metal"),
+        (Key::Also(AlsoKey::Keep), "also_keep"),
         (Key::Padding, "padding"),
     ] {
         let text = format!(in alloc; "{key}")?;
@@ -261,6 +263,27 @@ fn optional_rules_have_their_values(rt: HostRuntime) -> Result<(), Fail> {
     let ignored = read_rules(alloc, &rules_and(alloc, "padding,ignore\n")?)?;
     assert!(rt; ignored != plain && ignored == ignored.copy(alloc)?);
     assert!(rt; ignored.ignores_padding());
+    Ok(())
+}
+
+fn layer(layer: u16, data_type: u16) -> Layer {
+    Layer { layer, data_type }
+}
+
+#[test]
+fn layers_stand_in_the_order_of_the_file(rt: HostRuntime) -> Result<(), Fail> {
+    let alloc = rt.alloc();
+    let plain = read_rules(alloc, &rules_and(alloc, "")?)?;
+    assert!(rt; plain.metal_layers(alloc)?.as_slice() == [layer(7, 0)].as_slice());
+    assert!(rt; plain.keep_layers(alloc)?.is_empty());
+    let more = "also_keep,31/1\nalso_metal,31/2\nkeep_layer,31\n\
+        also_metal,000000000000000007/0\nkeep_datatype,2\nalso_metal,31/2\n";
+    let rules = read_rules(alloc, &rules_and(alloc, more)?)?;
+    let metal = [layer(7, 0), layer(31, 2), layer(7, 0), layer(31, 2)];
+    let keep = [layer(31, 2), layer(31, 1)];
+    assert!(rt; rules.metal_layers(alloc)?.as_slice() == metal.as_slice());
+    assert!(rt; rules.keep_layers(alloc)?.as_slice() == keep.as_slice());
+    assert!(rt; rules != plain && rules == rules.copy(alloc)?);
     Ok(())
 }
 

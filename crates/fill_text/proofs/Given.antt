@@ -1,6 +1,7 @@
 -- Once every record is taken: the entries give the value of each key, and the first fault of the file is known.
 use Rattle.std.proofs.Common.{◌≡◌, ◌∙◌, ◌&&◌, ℕ, ℤ, Bool, true, false, List, [], ◌∷◌, ◌++◌, length, get_or, map, Option, Some, None, option_map, Result, Ok, Err, ap, sym, refl}
-use Rattle.std.specs.Prelude.{⊤, bytes_eq, int_lt, is_some, ok_or, option_and_then, pos, unwrap_or, if◌then◌else◌}
+use Rattle.std.specs.Prelude.{⊤, bytes_eq, int_lt, nat_lt, is_some, ok_or, option_and_then, pos, unwrap_or, if◌then◌else◌}
+use Rattle.std.proofs.lemmas.List.{length-map}
 use Rattle.std.proofs.lemmas.List.FromFn.{fill_by_all}
 use Rattle.fill_base.specs.Sequence.{◌>>=◌}
 use Rattle.fill_text.specs.Chips.{chip_faults, chip_of, judged}
@@ -10,9 +11,12 @@ use Rattle.fill_text.specs.Rasters.{has_few_places, keeps_pitch, raster_with}
 use Rattle.fill_text.specs.Keys.{all_number_keys, all_text_keys}
 use Rattle.fill_text.specs.Numbers.{number_of}
 use Rattle.fill_text.specs.Refusals.{each_fault, fault_if, fault_unless, first_some, refused_or}
-use Rattle.fill_text.specs.Rules.{Values, entry_faults, frame_of, joint_faults, key_faults, missing, number_for, padding_of, pair, pair_faults, raster_of, record_fault, rules_of, value_of, values_for, whole_windows, word_for}
+use Rattle.fill_text.specs.Rules.{Values, entry_faults, frame_of, joint_faults, keep_faults, key_faults, layer_by, missing, number_for, padding_of, pair, pair_faults, raster_of, record_fault, rules_of, value_of, values_for, whole_windows, word_for, words_for}
+use Rattle.fill_text.specs.ValuesOfRules.{also_found}
 use Rattle.fill_text.specs.Rows.{rows_of}
-use Rattle.fill_text.specs.declared.keys.Key.TheVariants.{Number, Text, Optional, Padding}
+use Rattle.fill_base.specs.declared.layer.Layer.{Layer}
+use Rattle.fill_text.specs.declared.keys.AlsoKey.TheVariants as also
+use Rattle.fill_text.specs.declared.keys.Key.TheVariants.{Number, Text, Optional, Also, Padding}
 use Rattle.fill_text.specs.declared.keys.NumberKey.{NumberKey}
 use Rattle.fill_text.specs.declared.keys.NumberKey.TheVariants as number
 use Rattle.fill_text.specs.declared.keys.OptionalKey.TheVariants.{KeepLayer, KeepDatatype}
@@ -50,34 +54,38 @@ numbers_given rows found (key ∷ keys) held = by (word_for (Number key) rows) (
         rw (written word n this, later) (front n (first_some (map (missing rows) (map Number keys))) (map (number_for rows) keys))
 
 -- the keep-outs' two numbers, or the one that is missing
-pair_given : (a b : Option (List ℕ)) (m n : Option ℤ) → option_map number_of a ≡ option_map Some m → option_map number_of b ≡ option_map Some n
-    → pair_found m n ≡ refused_or (first_some (pair_faults (is_some a) (is_some b))) (pair (option_and_then number_of a) (option_and_then number_of b))
-pair_given None None None None e f = refl
-pair_given (Some a) (Some b) (Some m) (Some n) e f =
+pair_given : (a b : Option (List ℕ)) (m n : Option ℤ) (further : Bool) → option_map number_of a ≡ option_map Some m → option_map number_of b ≡ option_map Some n
+    → pair_found m n further ≡ refused_or (first_some (pair_faults (is_some a) (is_some b) further)) (pair (option_and_then number_of a) (option_and_then number_of b))
+pair_given None None None None true e f = refl
+pair_given None None None None false e f = refl
+pair_given (Some a) (Some b) (Some m) (Some n) further e f =
     let g : number_of a ≡ Some m = cc e in
     let h : number_of b ≡ Some n = cc f in
     rw (g, h) refl
-pair_given (Some a) None (Some m) None e f = refl
-pair_given None (Some b) None (Some n) e f = refl
-pair_given None b (Some m) n e f = cc e
-pair_given (Some a) b None n e f = cc e
-pair_given a None m (Some n) e f = cc f
-pair_given a (Some b) m None e f = cc f
+pair_given (Some a) None (Some m) None further e f = refl
+pair_given None (Some b) None (Some n) further e f = refl
+pair_given None b (Some m) n further e f = cc e
+pair_given (Some a) b None n further e f = cc e
+pair_given a None m (Some n) further e f = cc f
+pair_given a (Some b) m None further e f = cc f
 
 -- the four texts, or the first that is missing
-texts_given : (numbers : List ℤ) (a b c d : Option (List ℕ)) (ignores : Bool) (keep : Result (Option (ℤ × ℤ)) RuleError) (faults : List (Option RuleError)) (two : Option (ℤ × ℤ)) → keep ≡ refused_or (first_some faults) two
+abbrev made_of : List ℤ → List Layer → List Layer → Bool → List ℕ → List ℕ → List ℕ → List ℕ → Option (ℤ × ℤ) → Values
+made_of numbers metal kept ignores top fill_lib fill_cell fill_top keep = record { numbers = numbers; top = top; fill_lib = fill_lib; fill_cell = fill_cell; fill_top = fill_top; keep = keep; also_metal = metal; also_keep = kept; ignores = ignores }
+
+texts_given : (numbers : List ℤ) (a b c d : Option (List ℕ)) (metal kept : List Layer) (ignores : Bool) (keep : Result (Option (ℤ × ℤ)) RuleError) (faults : List (Option RuleError)) (two : Option (ℤ × ℤ)) → keep ≡ refused_or (first_some faults) two
     → (ok_or a (BadRule (Text text.Top)) >>= λ top. ok_or b (BadRule (Text text.FillLib)) >>= λ fill_lib. ok_or c (BadRule (Text text.FillCell)) >>= λ fill_cell. ok_or d (BadRule (Text text.FillTop)) >>= λ fill_top. keep >>= λ keep.
-    let values : Result Values RuleError = Ok (record { numbers = numbers; top = top; fill_lib = fill_lib; fill_cell = fill_cell; fill_top = fill_top; keep = keep; ignores = ignores }) in values)
+    let values : Result Values RuleError = Ok (made_of numbers metal kept ignores top fill_lib fill_cell fill_top keep) in values)
     ≡ refused_or (first_some (fault_unless (is_some a) (BadRule (Text text.Top)) ∷ fault_unless (is_some b) (BadRule (Text text.FillLib)) ∷ fault_unless (is_some c) (BadRule (Text text.FillCell)) ∷ fault_unless (is_some d) (BadRule (Text text.FillTop)) ∷ faults))
-    (record { numbers = numbers; top = unwrap_or a []; fill_lib = unwrap_or b []; fill_cell = unwrap_or c []; fill_top = unwrap_or d []; keep = two; ignores = ignores })
-texts_given numbers None b c d ignores keep faults two e = refl
-texts_given numbers (Some w) None c d ignores keep faults two e = refl
-texts_given numbers (Some w) (Some x) None d ignores keep faults two e = refl
-texts_given numbers (Some w) (Some x) (Some y) None ignores keep faults two e = refl
-texts_given numbers (Some w) (Some x) (Some y) (Some z) ignores keep faults two e = rw e (by (first_some faults))
+    (made_of numbers metal kept ignores (unwrap_or a []) (unwrap_or b []) (unwrap_or c []) (unwrap_or d []) two)
+texts_given numbers None b c d metal kept ignores keep faults two e = refl
+texts_given numbers (Some w) None c d metal kept ignores keep faults two e = refl
+texts_given numbers (Some w) (Some x) None d metal kept ignores keep faults two e = refl
+texts_given numbers (Some w) (Some x) (Some y) None metal kept ignores keep faults two e = refl
+texts_given numbers (Some w) (Some x) (Some y) (Some z) metal kept ignores keep faults two e = rw e (by (first_some faults))
   where
-    by : (o : Option RuleError) → (refused_or o two >>= λ (keep : Option (ℤ × ℤ)). let values : Result Values RuleError = Ok (record { numbers = numbers; top = w; fill_lib = x; fill_cell = y; fill_top = z; keep = keep; ignores = ignores }) in values)
-        ≡ refused_or o (record { numbers = numbers; top = w; fill_lib = x; fill_cell = y; fill_top = z; keep = two; ignores = ignores })
+    by : (o : Option RuleError) → (refused_or o two >>= λ (keep : Option (ℤ × ℤ)). let values : Result Values RuleError = Ok (made_of numbers metal kept ignores w x y z keep) in values)
+        ≡ refused_or o (made_of numbers metal kept ignores w x y z two)
     by None = refl
     by (Some f) = refl
 
@@ -109,15 +117,18 @@ values_given rows found held = by (first_some (map (missing rows) (map Number al
     padding = same_padding (word_for Padding rows) found.padding held.padding
 
     behind : List (Option RuleError)
-    behind = map (missing rows) (map Text all_text_keys) ++ pair_faults (is_some (word_for (Optional KeepLayer) rows)) (is_some (word_for (Optional KeepDatatype) rows))
+    behind = map (missing rows) (map Text all_text_keys) ++ keep_faults rows
+
+    further : length (also_found found.also also.Keep) ≡ length (words_for (Also also.Keep) rows)
+    further = sym (ap length (held.also also.Keep)) ∙ length-map (words_for (Also also.Keep) rows) layer_by
 
     by : (o : Option RuleError) → first_some (map (missing rows) (map Number all_number_keys)) ≡ o
         → all_values found ≡ refused_or (first_some (key_faults rows)) (values_for rows)
     by (Some e) first = rw (numbers, first, first_stays (map (missing rows) (map Number all_number_keys)) behind e first) refl
     by None first =
-        rw (numbers, first, later_first (map (missing rows) (map Number all_number_keys)) behind first, ← same_word _ _ (held.texts text.Top), ← same_word _ _ (held.texts text.FillLib), ← same_word _ _ (held.texts text.FillCell), ← same_word _ _ (held.texts text.FillTop), padding)
-        (texts_given (map (number_for rows) all_number_keys) (word_for (Text text.Top) rows) (word_for (Text text.FillLib) rows) (word_for (Text text.FillCell) rows) (word_for (Text text.FillTop) rows) _ _ _ _
-        (pair_given (word_for (Optional KeepLayer) rows) (word_for (Optional KeepDatatype) rows) (optional_found found.optionals KeepLayer) (optional_found found.optionals KeepDatatype) (held.optionals KeepLayer) (held.optionals KeepDatatype)))
+        rw (numbers, first, later_first (map (missing rows) (map Number all_number_keys)) behind first, ← same_word _ _ (held.texts text.Top), ← same_word _ _ (held.texts text.FillLib), ← same_word _ _ (held.texts text.FillCell), ← same_word _ _ (held.texts text.FillTop), further, ← held.also also.Metal, ← held.also also.Keep, padding)
+        (texts_given (map (number_for rows) all_number_keys) (word_for (Text text.Top) rows) (word_for (Text text.FillLib) rows) (word_for (Text text.FillCell) rows) (word_for (Text text.FillTop) rows) _ _ _ _ _ _
+        (pair_given (word_for (Optional KeepLayer) rows) (word_for (Optional KeepDatatype) rows) (optional_found found.optionals KeepLayer) (optional_found found.optionals KeepDatatype) (nat_lt 0 (length (words_for (Also also.Keep) rows))) (held.optionals KeepLayer) (held.optionals KeepDatatype)))
 
 pub checked_given : (values : Values) → checked values ≡ judged values
 unfolding checked densities_and_cells rect_with grid_with raster_with

@@ -1,17 +1,22 @@
 -- The entries hold what the records that were read give each key, and a record adds its own.
-use Rattle.std.proofs.Common.{◌≡◌, ◌⊎◌, inl, inr, ◌∙◌, ◌<◌, ◌+◌, ◌==◌, ℕ, ℤ, Bool, true, false, List, [], ◌∷◌, ◌++◌, length, get_or, set, cond, Option, Some, None, option_map, Result, Ok, Err, ap, sym, subst, refl, lit<}
-use Rattle.std.specs.Prelude.{IfSome, bytes_eq, find, is_some, ok_or, if◌then◌else◌}
+use Rattle.std.proofs.Common.{◌≡◌, ◌⊎◌, inl, inr, ◌∙◌, ◌<◌, ◌+◌, ◌==◌, ℕ, ℤ, Bool, true, false, List, [], ◌∷◌, ◌++◌, length, get_or, map, set, cond, Option, Some, None, option_map, Result, Ok, Err, ap, sym, subst, refl, lit<}
+use Rattle.std.specs.Prelude.{IfSome, bytes_eq, filter, find, nat_le, is_some, ok_or, if◌then◌else◌}
 use Rattle.std.specs.Option.{option_or}
 use Rattle.std.proofs.lemmas.Bool.{cases_eq}
-use Rattle.std.proofs.lemmas.List.{get_or-set_same, get_or-set_other, length-set}
+use Rattle.std.proofs.lemmas.List.{append-nil, get_or-set_same, get_or-set_other, length-map, length-set, map-append}
+use Rattle.std.proofs.lemmas.List.Elements.{filter-append}
 use Rattle.std.proofs.lemmas.List.Folds.{find-append}
 use Rattle.fill_base.specs.Sequence.{◌>>=◌}
-use Rattle.fill_text.specs.Keys.{all_text_keys, key_name, key_named, number_rule, optional_index}
-use Rattle.fill_text.specs.Numbers.{number_of}
+use Rattle.fill_base.specs.declared.layer.Layer.{Layer}
+use Rattle.fill_text.specs.Keys.{all_also_keys, all_text_keys, also_index, also_name, key_name, key_named, number_rule, optional_index}
+use Rattle.fill_text.specs.Numbers.{layer_numbers_of, number_of}
 use Rattle.fill_text.specs.Refusals.{fault_unless}
-use Rattle.fill_text.specs.Rules.{is_in_range, is_layer, is_text, keyed_fault, number_fault, optional_fault, padding_of, record_fault, value_fault, word_for}
+use Rattle.fill_text.specs.Rules.{also_fault, is_full, is_in_range, is_layer, is_layer_pair, is_text, keyed_fault, layer_by, layers_for, number_fault, optional_fault, padding_of, record_fault, value_fault, word_for, words_for}
+use Rattle.fill_text.specs.ValuesOfRules.{also_found}
+use Rattle.fill_text.specs.declared.keys.AlsoKey.{AlsoKey}
+use Rattle.fill_text.specs.declared.keys.AlsoKey.TheVariants as also
 use Rattle.fill_text.specs.declared.keys.Key.{Key}
-use Rattle.fill_text.specs.declared.keys.Key.TheVariants.{Number, Text, Optional, Padding}
+use Rattle.fill_text.specs.declared.keys.Key.TheVariants.{Number, Text, Optional, Also, Padding}
 use Rattle.fill_text.specs.declared.keys.NumberKey.{NumberKey}
 use Rattle.fill_text.specs.declared.keys.OptionalKey.{OptionalKey}
 use Rattle.fill_text.specs.declared.keys.OptionalKey.TheVariants.{KeepLayer, KeepDatatype}
@@ -19,7 +24,7 @@ use Rattle.fill_text.specs.declared.keys.TextKey.{TextKey}
 use Rattle.fill_text.specs.declared.keys.TextKey.TheVariants as text
 use Rattle.fill_text.specs.declared.rule_error.RuleError.{RuleError}
 use Rattle.fill_text.specs.declared.rule_error.RuleError.TheVariants.{BadNumber, BadRow, BadRule}
-use Rattle.fill_text.specs.steps.Entries.{AreAllowed, AreOptional, AreRanged, Found, is_found, layer_number, new_key, nothing_found, number_found, optional_found, ranged_number, take_number, take_optional, take_padding, take_row, take_text, take_value, text_found, text_index}
+use Rattle.fill_text.specs.steps.Entries.{AreAllowed, AreOptional, AreRanged, Found, is_found, layer_number, new_key, nothing_found, number_found, optional_found, ranged_layer, ranged_number, take_also, take_number, take_optional, take_padding, take_row, take_text, take_value, text_found, text_index}
 use Rattle.fill_text.proofs.Names.{another_name, its_name, same_key}
 use Rattle.fill_text.proofs.KeyNames.{index_below, same_index}
 use Rattle.fill_text.proofs.Ranges.{in_range_facts, nothing_here, set_ranged}
@@ -32,9 +37,11 @@ pub record Holds (found : Found) (before : List (List (List ℕ))) : Type 0 wher
   pub many : length found.numbers ≡ 28
   pub four : length found.texts ≡ 4
   pub two : length found.optionals ≡ 2
+  pub both : length found.also ≡ 2
   pub numbers : Hold Number (λ key. (number_rule key).index) number_of found.numbers before
   pub texts : Hold Text text_index Some found.texts before
   pub optionals : Hold Optional optional_index number_of found.optionals before
+  pub also : (key : AlsoKey) → layers_for before key ≡ also_found found.also key
   pub padding : option_map padding_of (word_for Padding before) ≡ option_map Some found.padding
   pub ranged : AreRanged found.numbers
   pub allowed : AreAllowed found.texts
@@ -48,6 +55,8 @@ nothing_held = record {
   numbers = λ key. let none = nothing_here key in rw none refl;
   texts = λ key. nothing key;
   optionals = λ key. no_optional key;
+  both = refl;
+  also = λ key. no_layer key;
   padding = refl;
   ranged = λ key. let none = nothing_here key in rw none tt;
   allowed = λ key. none_allowed key;
@@ -74,8 +83,12 @@ nothing_held = record {
     no_optional KeepLayer = refl
     no_optional KeepDatatype = refl
 
--- a key has stood in a record where its slot is filled
-stood : (found : Found) (before : List (List (List ℕ))) → Holds found before → (key : Key) → is_some (word_for key before) ≡ is_found found key
+    no_layer : (key : AlsoKey) → layers_for [] key ≡ also_found nothing_found.also key
+    no_layer also.Metal = refl
+    no_layer also.Keep = refl
+
+-- a key may stand no more where its slot is filled
+stood : (found : Found) (before : List (List (List ℕ))) → Holds found before → (key : Key) → is_full key before ≡ is_found found key
 stood found before held key = by key
   where
     both : {V : Type 0} (read : List ℕ → Option V) (word : Option (List ℕ)) (slot : Option V) → option_map read word ≡ option_map Some slot → is_some word ≡ is_some slot
@@ -84,10 +97,11 @@ stood found before held key = by key
     both read None (Some v) e = cc e
     both read (Some w) None e = cc e
 
-    by : (key : Key) → is_some (word_for key before) ≡ is_found found key
+    by : (key : Key) → is_full key before ≡ is_found found key
     by (Number key) = both number_of (word_for (Number key) before) (number_found found.numbers key) (held.numbers key)
     by (Text key) = both Some (word_for (Text key) before) (text_found found.texts key) (held.texts key)
     by (Optional key) = both number_of (word_for (Optional key) before) (optional_found found.optionals key) (held.optionals key)
+    by (Also key) = ap (nat_le 63) (sym (length-map (words_for (Also key) before) layer_by) ∙ ap length (held.also key))
     by Padding = both padding_of (word_for Padding before) found.padding held.padding
 
 -- the word for a key, with one record more
@@ -114,6 +128,29 @@ word_kept before fields key test = word_after before fields key ∙ rw test (by 
 pub word_added : (before : List (List (List ℕ))) (fields : List (List ℕ)) (key : Key) → bytes_eq (get_or fields 0 []) (key_name key) ≡ true → word_for key before ≡ None
     → word_for key (before ++ fields ∷ []) ≡ Some (get_or fields 1 [])
 word_added before fields key test fresh = word_after before fields key ∙ rw (test, fresh) refl
+
+-- the layers for a key, with one record more
+layers_after : (before : List (List (List ℕ))) (fields : List (List ℕ)) (key : AlsoKey)
+    → layers_for (before ++ fields ∷ []) key ≡ layers_for before key ++ layers_for (fields ∷ []) key
+layers_after before fields key =
+    ap (map layer_by)
+    (ap (map (λ r. get_or r 1 [])) (filter-append (λ r. bytes_eq (get_or r 0 []) (also_name key)) before (fields ∷ []))
+    ∙ map-append (λ r. get_or r 1 []) (filter (λ r. bytes_eq (get_or r 0 []) (also_name key)) before) (filter (λ r. bytes_eq (get_or r 0 []) (also_name key)) (fields ∷ [])))
+    ∙ map-append layer_by (words_for (Also key) before) (words_for (Also key) (fields ∷ []))
+
+pub layers_kept : (before : List (List (List ℕ))) (fields : List (List ℕ)) (key : AlsoKey) → bytes_eq (get_or fields 0 []) (also_name key) ≡ false
+    → layers_for (before ++ fields ∷ []) key ≡ layers_for before key
+layers_kept before fields key test = layers_after before fields key ∙ rw test (append-nil (layers_for before key))
+
+pub layers_added : (before : List (List (List ℕ))) (fields : List (List ℕ)) (key : AlsoKey) → bytes_eq (get_or fields 0 []) (also_name key) ≡ true
+    → layers_for (before ++ fields ∷ []) key ≡ layers_for before key ++ layer_by (get_or fields 1 []) ∷ []
+layers_added before fields key test = layers_after before fields key ∙ rw test refl
+
+-- a record of another kind of key changes no list
+still_also : (lists : List (List Layer)) (before : List (List (List ℕ))) (fields : List (List ℕ)) (key : Key)
+    → ((k : AlsoKey) → layers_for before k ≡ also_found lists k) → key_named (get_or fields 0 []) ≡ Some key → ((k : AlsoKey) → Also k ≡ key → ⊥)
+    → (k : AlsoKey) → layers_for (before ++ fields ∷ []) k ≡ also_found lists k
+still_also lists before fields key held named differs k = layers_kept before fields k (another_name (get_or fields 0 []) key (Also k) named (differs k)) ∙ held k
 
 -- a record of another kind of key changes none of these slots
 still_hold : {K V : Type 0} (key_of : K → Key) (index : K → ℕ) (read : List ℕ → Option V) (slots : List (Option V)) (before : List (List (List ℕ))) (fields : List (List ℕ)) (key : Key)
@@ -147,6 +184,8 @@ number_held found before fields key n held named fresh written within = record {
   numbers = one_more_held Number (λ key. (number_rule key).index) number_of found.numbers before fields key n held.numbers named fresh written
       (subst (λ count. (number_rule key).index < count) (sym held.many) (index_below key)) (λ a b e. cc e) same_index;
   two = held.two;
+  both = held.both;
+  also = still_also found.also before fields (Number key) held.also named (λ k e. cc e);
   texts = still_hold Text text_index Some found.texts before fields (Number key) held.texts named (λ k e. cc e);
   optionals = still_hold Optional optional_index number_of found.optionals before fields (Number key) held.optionals named (λ k e. cc e);
   padding = ap (option_map padding_of) (word_kept before fields Padding (another_name (get_or fields 0 []) (Number key) Padding named (λ e. cc e))) ∙ held.padding;
@@ -166,6 +205,8 @@ text_held found before fields key held named fresh this = record {
   many = held.many;
   four = length-set found.texts (text_index key) (Some (get_or fields 1 [])) ∙ held.four;
   two = held.two;
+  both = held.both;
+  also = still_also found.also before fields (Text key) held.also named (λ k e. cc e);
   numbers = still_hold Number (λ key. (number_rule key).index) number_of found.numbers before fields (Text key) held.numbers named (λ k e. cc e);
   optionals = still_hold Optional optional_index number_of found.optionals before fields (Text key) held.optionals named (λ k e. cc e);
   padding = ap (option_map padding_of) (word_kept before fields Padding (another_name (get_or fields 0 []) (Text key) Padding named (λ e. cc e))) ∙ held.padding;
@@ -203,6 +244,8 @@ optional_held found before fields key n held named fresh written within = record
   many = held.many;
   four = held.four;
   two = length-set found.optionals (optional_index key) (Some n) ∙ held.two;
+  both = held.both;
+  also = still_also found.also before fields (Optional key) held.also named (λ k e. cc e);
   numbers = still_hold Number (λ key. (number_rule key).index) number_of found.numbers before fields (Optional key) held.numbers named (λ k e. cc e);
   texts = still_hold Text text_index Some found.texts before fields (Optional key) held.texts named (λ k e. cc e);
   optionals = one_more_held Optional optional_index number_of found.optionals before fields key n held.optionals named fresh written
@@ -228,6 +271,43 @@ optional_held found before fields key n held named fresh written within = record
     layer other (inl e) = rw (same_optional other key e, get_or-set_same found.optionals (optional_index key) (Some n) None (subst (λ count. optional_index key < count) (sym held.two) (below key))) within
     layer other (inr differ) = rw (get_or-set_other found.optionals (optional_index key) (optional_index other) (Some n) None differ) (held.optional other)
 
+also_held : (found : Found) (before : List (List (List ℕ))) (fields : List (List ℕ)) (key : AlsoKey) (layer : Layer)
+    → Holds found before → key_named (get_or fields 0 []) ≡ Some (Also key) → layer_by (get_or fields 1 []) ≡ layer
+    → Holds (record found { also = set found.also (also_index key) (also_found found.also key ++ layer ∷ []) }) (before ++ fields ∷ [])
+also_held found before fields key layer held named written = record {
+  many = held.many;
+  four = held.four;
+  two = held.two;
+  both = length-set found.also (also_index key) (also_found found.also key ++ layer ∷ []) ∙ held.both;
+  numbers = still_hold Number (λ key. (number_rule key).index) number_of found.numbers before fields (Also key) held.numbers named (λ k e. cc e);
+  texts = still_hold Text text_index Some found.texts before fields (Also key) held.texts named (λ k e. cc e);
+  optionals = still_hold Optional optional_index number_of found.optionals before fields (Also key) held.optionals named (λ k e. cc e);
+  also = λ other. by other (cases_eq (also_index other) (also_index key));
+  padding = ap (option_map padding_of) (word_kept before fields Padding (another_name (get_or fields 0 []) (Also key) Padding named (λ e. cc e))) ∙ held.padding;
+  ranged = held.ranged;
+  allowed = held.allowed;
+  optional = held.optional;
+}
+  where
+    below : (key : AlsoKey) → also_index key < 2
+    below also.Metal = lit< tt
+    below also.Keep = lit< tt
+
+    same_also : (a b : AlsoKey) → also_index a ≡ also_index b → a ≡ b
+    same_also a b e = sym (at a) ∙ ap (λ i. get_or all_also_keys i also.Metal) e ∙ at b
+      where
+        at : (key : AlsoKey) → get_or all_also_keys (also_index key) also.Metal ≡ key
+        at also.Metal = refl
+        at also.Keep = refl
+
+    by : (other : AlsoKey) → (also_index other ≡ also_index key) ⊎ (also_index other ≡ also_index key → ⊥)
+        → layers_for (before ++ fields ∷ []) other ≡ also_found (set found.also (also_index key) (also_found found.also key ++ layer ∷ [])) other
+    by other (inl e) =
+        rw (same_also other key e, get_or-set_same found.also (also_index key) (also_found found.also key ++ layer ∷ []) [] (subst (λ count. also_index key < count) (sym held.both) (below key)), layers_added before fields key (its_name (get_or fields 0 []) (Also key) named), held.also key, written) refl
+    by other (inr differ) =
+        layers_kept before fields other (another_name (get_or fields 0 []) (Also key) (Also other) named (λ e. let same : other ≡ key = cc e in differ (ap also_index same)))
+        ∙ held.also other ∙ sym (get_or-set_other found.also (also_index key) (also_index other) (also_found found.also key ++ layer ∷ []) [] differ)
+
 padding_held : (found : Found) (before : List (List (List ℕ))) (fields : List (List ℕ)) (ignores : Bool)
     → Holds found before → key_named (get_or fields 0 []) ≡ Some Padding → word_for Padding before ≡ None → padding_of (get_or fields 1 []) ≡ Some ignores
     → Holds (record found { padding = Some ignores }) (before ++ fields ∷ [])
@@ -235,6 +315,8 @@ padding_held found before fields ignores held named fresh written = record {
   many = held.many;
   four = held.four;
   two = held.two;
+  both = held.both;
+  also = still_also found.also before fields Padding held.also named (λ k e. cc e);
   numbers = still_hold Number (λ key. (number_rule key).index) number_of found.numbers before fields Padding held.numbers named (λ k e. cc e);
   texts = still_hold Text text_index Some found.texts before fields Padding held.texts named (λ k e. cc e);
   optionals = still_hold Optional optional_index number_of found.optionals before fields Padding held.optionals named (λ k e. cc e);
@@ -254,15 +336,15 @@ none_there None e = refl
 none_there (Some x) e = cc e
 
 value_taken : (found : Found) (before : List (List (List ℕ))) (fields : List (List ℕ)) (line : ℕ) (key : Key) → Holds found before
-    → key_named (get_or fields 0 []) ≡ Some key → word_for key before ≡ None
+    → key_named (get_or fields 0 []) ≡ Some key → is_full key before ≡ false
     → Takes (value_fault line key (get_or fields 1 [])) (take_value line key (get_or fields 1 []) found) (before ++ fields ∷ [])
-unfolding take_number take_optional take_padding take_text ranged_number layer_number
-value_taken found before fields line (Number key) held named fresh = by (number_of (get_or fields 1 [])) refl
+unfolding take_also take_number take_optional take_padding take_text ranged_layer ranged_number layer_number
+value_taken found before fields line (Number key) held named stands = by (number_of (get_or fields 1 [])) refl
   where
     ranged : (n : ℤ) → number_of (get_or fields 1 []) ≡ Some n → (b : Bool) → is_in_range key n ≡ b
         → Takes (fault_unless b (BadRule (Number key)))
         ((if b then Ok n else Err (BadRule (Number key))) >>= λ n. Ok (record found { numbers = set found.numbers (number_rule key).index (Some n) })) (before ++ fields ∷ [])
-    ranged n written true within = (record found { numbers = set found.numbers (number_rule key).index (Some n) }, refl, number_held found before fields key n held named fresh written within)
+    ranged n written true within = (record found { numbers = set found.numbers (number_rule key).index (Some n) }, refl, number_held found before fields key n held named (none_there (word_for (Number key) before) stands) written within)
     ranged n written false within = refl
 
     by : (o : Option ℤ) → number_of (get_or fields 1 []) ≡ o
@@ -270,18 +352,18 @@ value_taken found before fields line (Number key) held named fresh = by (number_
         ((ok_or o (BadNumber line) >>= λ n. if is_in_range key n then Ok n else Err (BadRule (Number key))) >>= λ n. Ok (record found { numbers = set found.numbers (number_rule key).index (Some n) })) (before ++ fields ∷ [])
     by None written = refl
     by (Some n) written = ranged n written (is_in_range key n) refl
-value_taken found before fields line (Text key) held named fresh = by (is_text key (get_or fields 1 [])) refl
+value_taken found before fields line (Text key) held named stands = by (is_text key (get_or fields 1 [])) refl
   where
     by : (b : Bool) → is_text key (get_or fields 1 []) ≡ b
         → Takes (fault_unless b (BadRule (Text key))) (if b then Ok (record found { texts = set found.texts (text_index key) (Some (get_or fields 1 [])) }) else Err (BadRule (Text key))) (before ++ fields ∷ [])
-    by true allowed = (record found { texts = set found.texts (text_index key) (Some (get_or fields 1 [])) }, refl, text_held found before fields key held named fresh allowed)
+    by true allowed = (record found { texts = set found.texts (text_index key) (Some (get_or fields 1 [])) }, refl, text_held found before fields key held named (none_there (word_for (Text key) before) stands) allowed)
     by false allowed = refl
-value_taken found before fields line (Optional key) held named fresh = by (number_of (get_or fields 1 [])) refl
+value_taken found before fields line (Optional key) held named stands = by (number_of (get_or fields 1 [])) refl
   where
     layer : (n : ℤ) → number_of (get_or fields 1 []) ≡ Some n → (b : Bool) → is_layer n ≡ b
         → Takes (fault_unless b (BadRule (Optional key)))
         ((if b then Ok n else Err (BadRule (Optional key))) >>= λ n. Ok (record found { optionals = set found.optionals (optional_index key) (Some n) })) (before ++ fields ∷ [])
-    layer n written true within = (record found { optionals = set found.optionals (optional_index key) (Some n) }, refl, optional_held found before fields key n held named fresh written within)
+    layer n written true within = (record found { optionals = set found.optionals (optional_index key) (Some n) }, refl, optional_held found before fields key n held named (none_there (word_for (Optional key) before) stands) written within)
     layer n written false within = refl
 
     by : (o : Option ℤ) → number_of (get_or fields 1 []) ≡ o
@@ -289,12 +371,25 @@ value_taken found before fields line (Optional key) held named fresh = by (numbe
         ((ok_or o (BadNumber line) >>= λ n. if is_layer n then Ok n else Err (BadRule (Optional key))) >>= λ n. Ok (record found { optionals = set found.optionals (optional_index key) (Some n) })) (before ++ fields ∷ [])
     by None written = refl
     by (Some n) written = layer n written (is_layer n) refl
-value_taken found before fields line Padding held named fresh = by (padding_of (get_or fields 1 [])) refl
+value_taken found before fields line (Also key) held named stands = by (layer_numbers_of (get_or fields 1 [])) refl
+  where
+    added : (p : ℕ × ℕ) → layer_numbers_of (get_or fields 1 []) ≡ Some p → (b : Bool)
+        → Takes (fault_unless b (BadRule (Also key)))
+        ((if b then Ok (record { layer = p.0; data_type = p.1 }) else Err (BadRule (Also key))) >>= λ layer. Ok (record found { also = set found.also (also_index key) (also_found found.also key ++ layer ∷ []) })) (before ++ fields ∷ [])
+    added p written true = (record found { also = set found.also (also_index key) (also_found found.also key ++ record { layer = p.0; data_type = p.1 } ∷ []) }, refl, also_held found before fields key _ held named (rw written refl))
+    added p written false = refl
+
+    by : (o : Option (ℕ × ℕ)) → layer_numbers_of (get_or fields 1 []) ≡ o
+        → Takes (also_fault line key o)
+        ((ok_or o (BadNumber line) >>= λ (p : ℕ × ℕ). if is_layer_pair p then Ok (record { layer = p.0; data_type = p.1 }) else Err (BadRule (Also key))) >>= λ layer. Ok (record found { also = set found.also (also_index key) (also_found found.also key ++ layer ∷ []) })) (before ++ fields ∷ [])
+    by None written = refl
+    by (Some p) written = added p written (is_layer_pair p)
+value_taken found before fields line Padding held named stands = by (padding_of (get_or fields 1 [])) refl
   where
     by : (o : Option Bool) → padding_of (get_or fields 1 []) ≡ o
         → Takes (fault_unless (is_some o) (BadRule Padding)) (ok_or o (BadRule Padding) >>= λ ignores. Ok (record found { padding = Some ignores })) (before ++ fields ∷ [])
     by None written = refl
-    by (Some ignores) written = (record found { padding = Some ignores }, refl, padding_held found before fields ignores held named fresh written)
+    by (Some ignores) written = (record found { padding = Some ignores }, refl, padding_held found before fields ignores held named (none_there (word_for Padding before) stands) written)
 
 -- what taking a record does: it is refused with its fault, or adds its word
 row_taken : (found : Found) (before : List (List (List ℕ))) (fields : List (List ℕ)) → Holds found before
@@ -302,17 +397,17 @@ row_taken : (found : Found) (before : List (List (List ℕ))) (fields : List (Li
 unfolding take_row new_key
 row_taken found before fields held = by (length fields == 2)
   where
-    fresh : (key : Key) → key_named (get_or fields 0 []) ≡ Some key → (b : Bool) → is_some (word_for key before) ≡ b
+    fresh : (key : Key) → key_named (get_or fields 0 []) ≡ Some key → (b : Bool) → is_full key before ≡ b
         → Takes (if b then Some (BadRow (length before + 1)) else value_fault (length before + 1) key (get_or fields 1 []))
         ((if b then Err (BadRow (length before + 1)) else Ok key) >>= λ key. take_value (length before + 1) key (get_or fields 1 []) found) (before ++ fields ∷ [])
     fresh key named true stands = refl
-    fresh key named false stands = value_taken found before fields (length before + 1) key held named (none_there (word_for key before) stands)
+    fresh key named false stands = value_taken found before fields (length before + 1) key held named stands
 
     named : (o : Option Key) → key_named (get_or fields 0 []) ≡ o
         → Takes (keyed_fault (length before + 1) before o (get_or fields 1 []))
         ((ok_or o (BadRow (length before + 1)) >>= λ key. if is_found found key then Err (BadRow (length before + 1)) else Ok key) >>= λ key. take_value (length before + 1) key (get_or fields 1 []) found) (before ++ fields ∷ [])
     named None e = refl
-    named (Some key) e = rw (← stood found before held key) (fresh key e (is_some (word_for key before)) refl)
+    named (Some key) e = rw (← stood found before held key) (fresh key e (is_full key before) refl)
 
     by : (b : Bool)
         → Takes (if b then keyed_fault (length before + 1) before (key_named (get_or fields 0 [])) (get_or fields 1 []) else Some (BadRow (length before + 1)))

@@ -2,7 +2,8 @@
 use Rattle.std.proofs.Common.{◌≡◌, ◌∙◌, ◌<◌, Some, get_or, ap, lit<, refl, sym}
 use Rattle.fill_text.specs.Keys.{all_number_keys, key_named, number_rule}
 use Rattle.fill_text.specs.Laws.{EachNameIsOfOneKey}
-use Rattle.fill_text.specs.declared.keys.Key.TheVariants.{Number, Text, Optional, Padding}
+use Rattle.fill_text.specs.declared.keys.AlsoKey.TheVariants as also
+use Rattle.fill_text.specs.declared.keys.Key.TheVariants.{Number, Text, Optional, Also, Padding}
 use Rattle.fill_text.specs.declared.keys.NumberKey.{NumberKey}
 use Rattle.fill_text.specs.declared.keys.NumberKey.TheVariants.{FrameX1, FrameY1, FrameX2, FrameY2, BoxW, BoxH, StepX, StepY, OriginX, OriginY, Spacing, FillSpacing, WinW, WinH, WinStepX, WinStepY, WinX, WinY, WinNx, WinNy, Min, Max, TileNx, TileNy, Layer, Datatype, FillLayer, FillDatatype}
 use Rattle.fill_text.specs.declared.keys.OptionalKey.TheVariants.{KeepLayer, KeepDatatype}
@@ -58,4 +59,6 @@ each_named (Text text.FillCell) = refl
 each_named (Text text.FillTop) = refl
 each_named (Optional KeepLayer) = refl
 each_named (Optional KeepDatatype) = refl
+each_named (Also also.Metal) = refl
+each_named (Also also.Keep) = refl
 each_named Padding = refl

@@ -17,4 +17,5 @@ pub mod Accepted
 pub mod Chips
 pub mod Written
 pub mod Once
+pub mod Listed
 pub mod WrittenEdits

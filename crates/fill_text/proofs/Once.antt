@@ -1,5 +1,5 @@
--- The records of an accepted rule file begin with the names of the keys, each once.
-use Rattle.std.proofs.Common.{◌≡◌, ◌∙◌, ◌<◌, ℕ, zero, suc, Bool, true, false, List, [], ◌∷◌, ◌++◌, length, get_or, map, Option, Some, None, option_map, ap, sym, subst, refl, arith}
+-- The records of an accepted rule file begin with the names of the keys, each once but those that may stand several times.
+use Rattle.std.proofs.Common.{◌≡◌, ◌∙◌, ◌<◌, ◌+◌, ℕ, zero, suc, Bool, true, false, ◌&&◌, cond, List, [], ◌∷◌, ◌++◌, length, get_or, map, Option, Some, None, option_map, ap, sym, subst, refl, arith}
 use Rattle.std.specs.Prelude.{bytes_eq, filter, find, is_some, if◌then◌else◌}
 use Rattle.std.specs.Option.{is_none, option_or}
 use Rattle.std.specs.List.Sorted.{IsPermutation}
@@ -8,21 +8,23 @@ use Rattle.std.proofs.lemmas.List.Elements.{filter-append}
 use Rattle.std.proofs.lemmas.List.Folds.{find-append}
 use Rattle.std.proofs.lemmas.List.Sorted.{IsPermutation-append_right, IsPermutation-middle, IsPermutation-refl, IsPermutation-sym, IsPermutation-trans, length_permutation}
 use Rattle.std.proofs.lemmas.Slice.Eq.{bytes_eq-Decides}
-use Rattle.fill_text.specs.Keys.{all_keys, all_number_keys, optional_keys, all_text_keys, key_name, key_named, number_rule, required_keys}
-use Rattle.fill_text.specs.Laws.{ARecordForEachKey, EachKeyStandsOnce, first_fields, optional_standing}
+use Rattle.fill_text.specs.Keys.{all_number_keys, also_name, optional_keys, all_text_keys, key_name, key_named, number_rule, required_keys, single_keys}
+use Rattle.fill_text.specs.Laws.{ARecordForEachKey, EachKeyStandsOnce, first_fields, is_single, optional_standing, single_records}
 use Rattle.fill_text.specs.Refusals.{each_fault, first_some}
 use Rattle.fill_text.specs.Rows.{rows_of}
-use Rattle.fill_text.specs.Rules.{record_fault, word_for}
+use Rattle.fill_text.specs.Rules.{Values, is_full, layer_by, layers_of, record_fault, word_for, words_for}
+use Rattle.fill_text.specs.declared.keys.AlsoKey.{AlsoKey}
+use Rattle.fill_text.specs.declared.keys.AlsoKey.TheVariants as also
 use Rattle.fill_text.specs.declared.keys.Key.{Key}
-use Rattle.fill_text.specs.declared.keys.Key.TheVariants.{Number, Text, Optional, Padding}
+use Rattle.fill_text.specs.declared.keys.Key.TheVariants.{Number, Text, Optional, Also, Padding}
 use Rattle.fill_text.specs.declared.keys.NumberKey.TheVariants.{FrameX1}
 use Rattle.fill_text.specs.declared.keys.OptionalKey.TheVariants.{KeepLayer, KeepDatatype}
 use Rattle.fill_text.specs.declared.keys.TextKey.TheVariants as text
 use Rattle.fill_text.proofs.FirstFaults.{first_none}
-use Rattle.fill_text.proofs.Holding.{word_added, word_kept}
-use Rattle.fill_text.proofs.Names.{its_name, named_by, same_key}
+use Rattle.fill_text.proofs.Holding.{none_there, word_added, word_kept}
+use Rattle.fill_text.proofs.Names.{another_name, its_name, named_by, same_key}
 use Rattle.fill_text.proofs.KeyNames.{index_below, key_at}
-use Rattle.fill_text.proofs.Standing.{accepted, sound_record}
+use Rattle.fill_text.proofs.Standing.{accepted, layers_listed, sound_record}
 
 -- one more in a part behind is one more in the whole
 behind : (front : List (List ℕ)) (x : List ℕ) (part new : List (List ℕ)) → IsPermutation (x ∷ part) new → IsPermutation (x ∷ (front ++ part)) (front ++ new)
@@ -104,22 +106,31 @@ others_stay name other (k ∷ keys) differs = by (bytes_eq name (key_name k)) (b
 -- what the keys that are left are, behind the records before
 record Left (before : List (List (List ℕ))) (left : List Key) : Type 0 where
   apart : differ left ≡ true
-  fresh : (key : Key) → has (key_name key) left ≡ is_none (word_for key before)
+  fresh : (key : Key) → has (key_name key) left ≡ is_single (Some key) && is_none (word_for key before)
 
-left_after : (before : List (List (List ℕ))) (fields : List (List ℕ)) (key : Key) (left : List Key) → key_named (get_or fields 0 []) ≡ Some key → word_for key before ≡ None
+left_after : (before : List (List (List ℕ))) (fields : List (List ℕ)) (key : Key) (left : List Key) → key_named (get_or fields 0 []) ≡ Some key → is_single (Some key) ≡ true → word_for key before ≡ None
     → Left before left → Left (before ++ fields ∷ []) (without (key_name key) left)
-left_after before fields key left named new is = record {
+left_after before fields key left named single new is = record {
   apart = still_differ (key_name key) left is.apart;
   fresh = λ other. by other (bytes_eq (get_or fields 0 []) (key_name other)) refl;
 }
   where
-    by : (other : Key) (b : Bool) → bytes_eq (get_or fields 0 []) (key_name other) ≡ b → has (key_name other) (without (key_name key) left) ≡ is_none (word_for other (before ++ fields ∷ []))
+    by : (other : Key) (b : Bool) → bytes_eq (get_or fields 0 []) (key_name other) ≡ b → has (key_name other) (without (key_name key) left) ≡ is_single (Some other) && is_none (word_for other (before ++ fields ∷ []))
     by other true t =
         let same = same_key (get_or fields 0 []) key other named t in
-        rw (same, word_added before fields key (its_name (get_or fields 0 []) key named) new) (gone (key_name key) left is.apart)
+        rw (same, single, word_added before fields key (its_name (get_or fields 0 []) key named) new) (gone (key_name key) left is.apart)
     by other false t =
         let differs : key_name other ≡ key_name key → ⊥ = λ e. let h : false ≡ true = sym t ∙ ap (bytes_eq (get_or fields 0 [])) e ∙ its_name (get_or fields 0 []) key named in cc h in
         rw (word_kept before fields other t) (others_stay (key_name key) (key_name other) left differs ∙ is.fresh other)
+
+-- a record of a key that may stand several times takes none of them
+left_still : (before : List (List (List ℕ))) (fields : List (List ℕ)) (key : Key) (left : List Key) → key_named (get_or fields 0 []) ≡ Some key → is_single (Some key) ≡ false
+    → Left before left → Left (before ++ fields ∷ []) left
+left_still before fields key left named several is = record { apart = is.apart; fresh = λ other. by other (bytes_eq (get_or fields 0 []) (key_name other)) refl }
+  where
+    by : (other : Key) (b : Bool) → bytes_eq (get_or fields 0 []) (key_name other) ≡ b → has (key_name other) left ≡ is_single (Some other) && is_none (word_for other (before ++ fields ∷ []))
+    by other true t = let same = same_key (get_or fields 0 []) key other named t in rw (same, several) (rw several at (is.fresh key))
+    by other false t = rw (word_kept before fields other t) (is.fresh other)
 
 -- the key stands in the records
 abbrev in_records : List (List (List ℕ)) → Key → Bool
@@ -145,28 +156,47 @@ still_stands rows more key word e =
     by None e = cc e
     by (Some r) e = refl
 
+not_before : (rows : List (List (List ℕ))) (key : Key) → is_single (Some key) ≡ true → is_full key rows ≡ false → word_for key rows ≡ None
+not_before rows (Number key) single stands = none_there (word_for (Number key) rows) stands
+not_before rows (Text key) single stands = none_there (word_for (Text key) rows) stands
+not_before rows (Optional key) single stands = none_there (word_for (Optional key) rows) stands
+not_before rows (Also key) single stands = cc single
+not_before rows Padding single stands = none_there (word_for Padding rows) stands
+
 -- the later records begin with the names of the keys that are left and stand
 once : (before rest : List (List (List ℕ))) (left : List Key) → first_some (each_fault record_fault before rest) ≡ None → Left before left
-    → IsPermutation (first_fields rest) (map key_name (filter (in_records (before ++ rest)) left))
+    → IsPermutation (first_fields (single_records rest)) (map key_name (filter (in_records (before ++ rest)) left))
 once before [] left sound is =
-    let none : filter (in_records (before ++ [])) left ≡ [] = none_stand (in_records (before ++ [])) left (λ key inside. rw (append-nil before) (not_there (word_for key before) (sym (is.fresh key) ∙ inside))) in
+    let none : filter (in_records (before ++ [])) left ≡ [] = none_stand (in_records (before ++ [])) left (λ key inside. rw (append-nil before) (not_there (is_single (Some key)) (word_for key before) (sym (is.fresh key) ∙ inside))) in
     rw none (IsPermutation-refl [])
   where
-    not_there : (o : Option (List ℕ)) → is_none o ≡ true → is_some o ≡ false
-    not_there None e = refl
-    not_there (Some w) e = cc e
+    not_there : (b : Bool) (o : Option (List ℕ)) → b && is_none o ≡ true → is_some o ≡ false
+    not_there b None e = refl
+    not_there true (Some w) e = cc e
+    not_there false (Some w) e = cc e
 once before (fields ∷ rest) left sound is =
     let (this, later) = first_none (record_fault before fields) (each_fault record_fault (before ++ fields ∷ []) rest) sound in
-    let (key, named, two, new, fits) = sound_record before fields this in
-    let name : get_or fields 0 [] ≡ key_name key = named_by (get_or fields 0 []) key named in
-    let inside : has (key_name key) left ≡ true = rw new at (is.fresh key) in
-    let whole : before ++ fields ∷ [] ++ rest ≡ before ++ fields ∷ rest = append_assoc before (fields ∷ []) rest in
-    let added = word_added before fields key (its_name (get_or fields 0 []) key named) new in
-    let stands : in_records (before ++ fields ∷ rest) key ≡ true = rw whole at (still_stands (before ++ fields ∷ []) rest key (get_or fields 1 []) added) in
-    let behind_it = rw whole at (once (before ++ fields ∷ []) rest (without (key_name key) left) later (left_after before fields key left named new is)) in
-    let front = IsPermutation-append_right (key_name key ∷ []) (first_fields rest) (map key_name (filter (in_records (before ++ fields ∷ rest)) (without (key_name key) left))) behind_it in
-    rw name (IsPermutation-trans (key_name key ∷ first_fields rest) (key_name key ∷ map key_name (filter (in_records (before ++ fields ∷ rest)) (without (key_name key) left))) (map key_name (filter (in_records (before ++ fields ∷ rest)) left)) front
-    (taken_out (in_records (before ++ fields ∷ rest)) (key_name key) left inside (λ k test. rw (same_key (get_or fields 0 []) key k named (rw name test)) stands)))
+    let (key, named, two, stands, fits) = sound_record before fields this in
+    subst (λ (o : Option Key). IsPermutation (first_fields (cond (is_single o) (fields ∷ single_records rest) (single_records rest))) (map key_name (filter (in_records (before ++ fields ∷ rest)) left))) (sym named)
+    (by key named stands (is_single (Some key)) refl (λ keys left_are. once (before ++ fields ∷ []) rest keys later left_are))
+  where
+    whole : before ++ fields ∷ [] ++ rest ≡ before ++ fields ∷ rest
+    whole = append_assoc before (fields ∷ []) rest
+
+    by : (key : Key) → key_named (get_or fields 0 []) ≡ Some key → is_full key before ≡ false → (b : Bool) → is_single (Some key) ≡ b
+        → ((keys : List Key) → Left (before ++ fields ∷ []) keys → IsPermutation (first_fields (single_records rest)) (map key_name (filter (in_records (before ++ fields ∷ [] ++ rest)) keys)))
+        → IsPermutation (first_fields (cond b (fields ∷ single_records rest) (single_records rest))) (map key_name (filter (in_records (before ++ fields ∷ rest)) left))
+    by key named stands true single later =
+        let new = not_before before key single stands in
+        let name : get_or fields 0 [] ≡ key_name key = named_by (get_or fields 0 []) key named in
+        let inside : has (key_name key) left ≡ true = rw (single, new) at (is.fresh key) in
+        let added = word_added before fields key (its_name (get_or fields 0 []) key named) new in
+        let there : in_records (before ++ fields ∷ rest) key ≡ true = rw whole at (still_stands (before ++ fields ∷ []) rest key (get_or fields 1 []) added) in
+        let behind_it = rw whole at (later (without (key_name key) left) (left_after before fields key left named single new is)) in
+        let front = IsPermutation-append_right (key_name key ∷ []) (first_fields (single_records rest)) (map key_name (filter (in_records (before ++ fields ∷ rest)) (without (key_name key) left))) behind_it in
+        rw name (IsPermutation-trans (key_name key ∷ first_fields (single_records rest)) (key_name key ∷ map key_name (filter (in_records (before ++ fields ∷ rest)) (without (key_name key) left))) (map key_name (filter (in_records (before ++ fields ∷ rest)) left)) front
+        (taken_out (in_records (before ++ fields ∷ rest)) (key_name key) left inside (λ k test. rw (same_key (get_or fields 0 []) key k named (rw name test)) there)))
+    by key named stands false several later = rw whole at (later left (left_still before fields key left named several is))
 
 has_at : (keys : List Key) (i : ℕ) (d : Key) → i < length keys → has (key_name (get_or keys i d)) keys ≡ true
 has_at [] i d below = absurd (omega arith)
@@ -193,7 +223,7 @@ has_behind name (k ∷ front) keys e = by (bytes_eq name (key_name k)) (has_behi
     by true later = refl
     by false later = later
 
-has_all : (key : Key) → has (key_name key) all_keys ≡ true
+has_all : (key : Key) → has (key_name key) single_keys ≡ is_single (Some key) && true
 has_all (Number key) =
     let there : get_or (map Number all_number_keys) (number_rule key).index (Number FrameX1) ≡ Number key = get_or-map Number all_number_keys (number_rule key).index FrameX1 (Number FrameX1) (index_below key) ∙ ap Number (key_at key) in
     has_front (key_name (Number key)) (map Number all_number_keys) (map Text all_text_keys ++ optional_keys)
@@ -204,6 +234,8 @@ has_all (Text text.FillCell) = refl
 has_all (Text text.FillTop) = refl
 has_all (Optional KeepLayer) = refl
 has_all (Optional KeepDatatype) = refl
+has_all (Also also.Metal) = refl
+has_all (Also also.Keep) = refl
 has_all Padding = refl
 
 all_pass : {K : Type 0} (s : Key → Bool) (f : K → Key) (keys : List K) → ((k : K) → s (f k) ≡ true) → filter s (map f keys) ≡ map f keys
@@ -220,11 +252,64 @@ each_once file values e =
     let numbers = all_pass s Number all_number_keys (λ k. is.all (Number k) tt) in
     let texts = all_pass s Text all_text_keys (λ k. is.all (Text k) tt) in
     let required : filter s required_keys ≡ required_keys = filter-append s (map Number all_number_keys) (map Text all_text_keys) ∙ both _ _ _ _ numbers texts in
-    let all : filter s all_keys ≡ required_keys ++ optional_standing (rows_of file) = filter-append s required_keys optional_keys ∙ ap (λ ks. ks ++ optional_standing (rows_of file)) required in
-    subst (λ (ks : List Key). IsPermutation (first_fields (rows_of file)) (map key_name ks)) all (once [] (rows_of file) all_keys is.sound (record { apart = refl; fresh = has_all }))
+    let all : filter s single_keys ≡ required_keys ++ optional_standing (rows_of file) = filter-append s required_keys optional_keys ∙ ap (λ ks. ks ++ optional_standing (rows_of file)) required in
+    subst (λ (ks : List Key). IsPermutation (first_fields (single_records (rows_of file))) (map key_name ks)) all (once [] (rows_of file) single_keys is.sound (record { apart = refl; fresh = has_all }))
+
+abbrev many : AlsoKey → List (List (List ℕ)) → ℕ
+many key rows = length (words_for (Also key) rows)
+
+-- each record is of a key that stands once, or adds a layer
+counted : (before rest : List (List (List ℕ))) → first_some (each_fault record_fault before rest) ≡ None
+    → length rest ≡ length (single_records rest) + (many also.Metal rest + many also.Keep rest)
+counted before [] sound = refl
+counted before (fields ∷ rest) sound =
+    let (this, later) = first_none (record_fault before fields) (each_fault record_fault (before ++ fields ∷ []) rest) sound in
+    let (key, named, two, stands, fits) = sound_record before fields this in
+    by key named (is_single (Some key)) refl (counted (before ++ fields ∷ []) rest later)
+  where
+    second : List (List ℕ) → List ℕ
+    second r = get_or r 1 []
+
+    named_as : AlsoKey → List (List (List ℕ))
+    named_as key = filter (λ r. bytes_eq (get_or r 0 []) (also_name key)) rest
+
+    other : (key : Key) (k : AlsoKey) → key_named (get_or fields 0 []) ≡ Some key → (Also k ≡ key → ⊥) → bytes_eq (get_or fields 0 []) (also_name k) ≡ false
+    other key k = another_name (get_or fields 0 []) key (Also k)
+
+    this_one : (k : AlsoKey) → key_named (get_or fields 0 []) ≡ Some (Also k) → bytes_eq (get_or fields 0 []) (also_name k) ≡ true
+    this_one k = its_name (get_or fields 0 []) (Also k)
+
+    IsCount : Bool → Bool → Bool → Type 0
+    IsCount s a b = suc (length rest) ≡ length (cond s (fields ∷ single_records rest) (single_records rest))
+        + (length (map second (cond a (fields ∷ named_as also.Metal) (named_as also.Metal))) + length (map second (cond b (fields ∷ named_as also.Keep) (named_as also.Keep))))
+
+    as_tested : (s a b : Bool) → is_single (key_named (get_or fields 0 [])) ≡ s → bytes_eq (get_or fields 0 []) (also_name also.Metal) ≡ a
+        → bytes_eq (get_or fields 0 []) (also_name also.Keep) ≡ b → IsCount s a b
+        → IsCount (is_single (key_named (get_or fields 0 []))) (bytes_eq (get_or fields 0 []) (also_name also.Metal)) (bytes_eq (get_or fields 0 []) (also_name also.Keep))
+    as_tested s a b e f g is = rw (e, f, g) is
+
+    by : (key : Key) → key_named (get_or fields 0 []) ≡ Some key → (s : Bool) → is_single (Some key) ≡ s
+        → length rest ≡ length (single_records rest) + (length (map second (named_as also.Metal)) + length (map second (named_as also.Keep)))
+        → IsCount (is_single (key_named (get_or fields 0 []))) (bytes_eq (get_or fields 0 []) (also_name also.Metal)) (bytes_eq (get_or fields 0 []) (also_name also.Keep))
+    by key named true single e =
+        let none : (k : AlsoKey) → bytes_eq (get_or fields 0 []) (also_name k) ≡ false = λ k. other key k named (λ q. let h : false ≡ true = ap (λ (x : Key). is_single (Some x)) q ∙ single in cc h) in
+        as_tested true false false (ap is_single named ∙ single) (none also.Metal) (none also.Keep) (omega (arith, e))
+    by (Also also.Metal) named false several e = as_tested false true false (ap is_single named) (this_one also.Metal named) (other _ also.Keep named (λ q. cc q)) (omega (arith, e))
+    by (Also also.Keep) named false several e = as_tested false false true (ap is_single named) (other _ also.Metal named (λ q. cc q)) (this_one also.Keep named) (omega (arith, e))
+    by (Number key) named false several e = cc several
+    by (Text key) named false several e = cc several
+    by (Optional key) named false several e = cc several
+    by Padding named false several e = cc several
 
 pub as_many : ARecordForEachKey
 as_many file values e =
-    sym (length-map (rows_of file) (λ fields. get_or fields 0 []))
-    ∙ (sym (length_permutation (first_fields (rows_of file)) (map key_name (required_keys ++ optional_standing (rows_of file))) (each_once file values e))
-    ∙ (length-map (required_keys ++ optional_standing (rows_of file)) key_name ∙ length-append required_keys (optional_standing (rows_of file))))
+    let is = accepted file values e in
+    let rows = rows_of file in
+    let standing = required_keys ++ optional_standing rows in
+    let singles : length (single_records rows) ≡ 32 + length (optional_standing rows) =
+    sym (length-map (single_records rows) (λ fields. get_or fields 0 []))
+    ∙ (sym (length_permutation (first_fields (single_records rows)) (map key_name standing) (each_once file values e))
+    ∙ (length-map standing key_name ∙ length-append required_keys (optional_standing rows))) in
+    let layers : (k : AlsoKey) → many k rows ≡ length (layers_of values k) =
+    λ k. sym (length-map (words_for (Also k) rows) layer_by) ∙ ap length (sym (layers_listed rows k) ∙ ap (λ (v : Values). layers_of v k) is.same) in
+    counted [] rows is.sound ∙ rw (singles, layers also.Metal, layers also.Keep) refl

@@ -1,13 +1,15 @@
 -- Each value of an accepted rule file stands in a record of its key.
-use Rattle.std.proofs.Common.{◌≡◌, ◌∙◌, ℕ, suc, ℤ, pos, Bool, true, false, List, [], ◌∷◌, get_or, Option, Some, None, option_map, ap, sym, refl, arith}
-use Rattle.std.specs.Prelude.{Any, find, is_some, unwrap_or, if◌then◌else◌}
+use Rattle.std.proofs.Common.{◌≡◌, ◌∙◌, ℕ, suc, ℤ, pos, Bool, true, false, List, [], ◌∷◌, get_or, length, Option, Some, None, option_map, ap, sym, refl, arith}
+use Rattle.std.specs.Prelude.{Any, find, is_some, nat_lt, unwrap_or, if◌then◌else◌}
+use Rattle.std.proofs.lemmas.Bool.Decides.{nat_tests}
 use Rattle.fill_text.specs.Keys.{key_name}
 use Rattle.fill_text.specs.Laws.{AreWrittenOrLeftOut, EachNumberIsWritten, EachTextIsWritten, KeepIsWritten, WritesNumber, WritesOptional, WritesText}
 use Rattle.fill_text.specs.Numbers.{number_of}
 use Rattle.fill_text.specs.Refusals.{each_fault, first_some}
 use Rattle.fill_text.specs.Rows.{rows_of}
-use Rattle.fill_text.specs.Rules.{Values, number_fault, number_for, optional_fault, optional_for, pair, pair_faults, record_fault, text_for, text_of, value_of, values_for, word_for}
-use Rattle.fill_text.specs.declared.keys.Key.TheVariants.{Number, Text, Optional}
+use Rattle.fill_text.specs.Rules.{Values, number_fault, number_for, optional_fault, optional_for, pair, pair_faults, record_fault, text_for, text_of, value_of, values_for, word_for, words_for}
+use Rattle.fill_text.specs.declared.keys.AlsoKey.TheVariants as also
+use Rattle.fill_text.specs.declared.keys.Key.TheVariants.{Number, Text, Optional, Also}
 use Rattle.fill_text.specs.declared.keys.OptionalKey.{OptionalKey}
 use Rattle.fill_text.specs.declared.keys.OptionalKey.TheVariants.{KeepLayer, KeepDatatype}
 use Rattle.fill_text.specs.declared.keys.TextKey.{TextKey}
@@ -63,22 +65,30 @@ optional_written rows key sound there =
     by line None fits = cc fits
     by line (Some n) fits = (n, refl)
 
+no_words : (words : List (List ℕ)) → nat_lt 0 (length words) ≡ false → words ≡ []
+no_words [] e = refl
+no_words (w ∷ words) e = absurd (some (length words) e)
+  where
+    some : (n : ℕ) → nat_lt 0 (suc n) ≡ false → ⊥
+    some n e = grind (arith, nat_tests)
+
 pub keep_written : KeepIsWritten
 keep_written file values e =
     let is = accepted file values e in
-    rw (← ap (λ (v : Values). v.keep) is.same) (by (is_some (word_for (Optional KeepLayer) (rows_of file))) refl (is_some (word_for (Optional KeepDatatype) (rows_of file))) refl is.paired is.sound)
+    rw (← ap (λ (v : Values). v.keep) is.same) (by (is_some (word_for (Optional KeepLayer) (rows_of file))) refl (is_some (word_for (Optional KeepDatatype) (rows_of file))) refl (nat_lt 0 (length (words_for (Also also.Keep) (rows_of file)))) refl is.paired is.sound)
   where
     by : (a : Bool) → is_some (word_for (Optional KeepLayer) (rows_of file)) ≡ a → (b : Bool) → is_some (word_for (Optional KeepDatatype) (rows_of file)) ≡ b
-        → first_some (pair_faults a b) ≡ None → first_some (each_fault record_fault [] (rows_of file)) ≡ None
+        → (c : Bool) → nat_lt 0 (length (words_for (Also also.Keep) (rows_of file))) ≡ c → first_some (pair_faults a b c) ≡ None → first_some (each_fault record_fault [] (rows_of file)) ≡ None
         → AreWrittenOrLeftOut (pair (optional_for (rows_of file) KeepLayer) (optional_for (rows_of file) KeepDatatype)) (rows_of file)
-    by true ea true eb paired sound =
+    by true ea true eb c ec paired sound =
         let (m, reads_m, any_m) = optional_written (rows_of file) KeepLayer sound ea in
         let (n, reads_n, any_n) = optional_written (rows_of file) KeepDatatype sound eb in
         rw (reads_m, reads_n) (any_m, any_n)
-    by true ea false eb paired sound = cc paired
-    by false ea true eb paired sound = cc paired
-    by false ea false eb paired sound =
+    by true ea false eb c ec paired sound = cc paired
+    by false ea true eb c ec paired sound = cc paired
+    by false ea false eb true ec paired sound = cc paired
+    by false ea false eb false ec paired sound =
         let none_a = none_there (word_for (Optional KeepLayer) (rows_of file)) ea in
         let none_b = none_there (word_for (Optional KeepDatatype) (rows_of file)) eb in
         let left_out : optional_for (rows_of file) KeepLayer ≡ None = rw none_a refl in
-        rw left_out (none_a, none_b)
+        rw left_out (none_a, none_b, no_words (words_for (Also also.Keep) (rows_of file)) ec)

@@ -1,9 +1,11 @@
 -- The table of rules: for each key its index, its name and what its value may be. The numbers stand before the texts, and the
--- keys that may be left out behind them.
+-- keys that may be left out behind them, last those that may stand several times.
 use Rattle.std.specs.Prelude.{Bool, true, false, ℕ, ℤ, pos, ◌≤ℤ◌, List, [], ◌∷◌, ◌++◌, map, Option, Some, None, find, bytes_eq, codes}
 use Rattle.fill_base.specs.Coordinates.{lowest, highest}
+use Rattle.fill_text.specs.declared.keys.AlsoKey.{AlsoKey}
+use Rattle.fill_text.specs.declared.keys.AlsoKey.TheVariants as also
 use Rattle.fill_text.specs.declared.keys.Key.{Key}
-use Rattle.fill_text.specs.declared.keys.Key.TheVariants.{Number, Text, Optional, Padding}
+use Rattle.fill_text.specs.declared.keys.Key.TheVariants.{Number, Text, Optional, Also, Padding}
 use Rattle.fill_text.specs.declared.keys.NumberKey.{NumberKey}
 use Rattle.fill_text.specs.declared.keys.NumberKey.TheVariants.{FrameX1, FrameY1, FrameX2, FrameY2, BoxW, BoxH, StepX, StepY, OriginX, OriginY, Spacing, FillSpacing, WinW, WinH, WinStepX, WinStepY, WinX, WinY, WinNx, WinNy, Min, Max, TileNx, TileNy, Layer, Datatype, FillLayer, FillDatatype}
 use Rattle.fill_text.specs.declared.keys.OptionalKey.{OptionalKey}
@@ -104,33 +106,47 @@ optional_index KeepDatatype = 1
 abbrev pub all_optional_keys : List OptionalKey
 all_optional_keys = KeepLayer ∷ KeepDatatype ∷ []
 
+abbrev pub also_name : AlsoKey → List ℕ
+also_name also.Metal = codes "also_metal"
+also_name also.Keep = codes "also_keep"
+
+abbrev pub also_index : AlsoKey → ℕ
+also_index also.Metal = 0
+also_index also.Keep = 1
+
+-- those that may stand several times, with a layer in each record
+abbrev pub all_also_keys : List AlsoKey
+all_also_keys = also.Metal ∷ also.Keep ∷ []
+
 -- the keys that each rule file has, in table order
 abbrev pub required_keys : List Key
 required_keys = map Number all_number_keys ++ map Text all_text_keys
 
--- the keys that a rule file may leave out, in table order
+-- the keys that a rule file may leave out, but has in no second record, in table order
 abbrev pub optional_keys : List Key
 optional_keys = map Optional all_optional_keys ++ Padding ∷ []
 
--- all keys in table order
-abbrev pub all_keys : List Key
-all_keys = required_keys ++ optional_keys
+-- the keys that stand in no second record, in table order
+abbrev pub single_keys : List Key
+single_keys = required_keys ++ optional_keys
 
 abbrev pub key_name : Key → List ℕ
 key_name (Number key) = (number_rule key).name
 key_name (Text key) = text_name key
 key_name (Optional key) = optional_name key
+key_name (Also key) = also_name key
 key_name Padding = codes "padding"
 
 -- a number's key, or else a text's, or else an optional one
-abbrev pub either_key : Option NumberKey → Option TextKey → Option OptionalKey → Bool → Option Key
-either_key (Some key) text optional padding = Some (Number key)
-either_key None (Some key) optional padding = Some (Text key)
-either_key None None (Some key) padding = Some (Optional key)
-either_key None None None true = Some Padding
-either_key None None None false = None
+abbrev pub either_key : Option NumberKey → Option TextKey → Option OptionalKey → Option AlsoKey → Bool → Option Key
+either_key (Some key) text optional also padding = Some (Number key)
+either_key None (Some key) optional also padding = Some (Text key)
+either_key None None (Some key) also padding = Some (Optional key)
+either_key None None None (Some key) padding = Some (Also key)
+either_key None None None None true = Some Padding
+either_key None None None None false = None
 
 -- the key of a name
 abbrev pub key_named : List ℕ → Option Key
 key_named word = either_key (find (λ k. bytes_eq word (number_rule k).name) all_number_keys) (find (λ k. bytes_eq word (text_name k)) all_text_keys)
-    (find (λ k. bytes_eq word (optional_name k)) all_optional_keys) (bytes_eq word (codes "padding"))
+    (find (λ k. bytes_eq word (optional_name k)) all_optional_keys) (find (λ k. bytes_eq word (also_name k)) all_also_keys) (bytes_eq word (codes "padding"))

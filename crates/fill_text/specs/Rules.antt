@@ -1,5 +1,5 @@
 -- What a rule file says: the value of each key, or the first rule that it breaks.
-use Rattle.std.specs.Prelude.{codes, true, false, unsigned_abs, ℕ, ℤ, pos, ◌+◌, ◌==◌, ◌&&◌, ◌||◌, not, ◌++◌, Bool, List, [], ◌∷◌, length, get_or, map, find, Option, Some, None, option_map, option_and_then, unwrap_or, is_some, Result, bytes_eq, int_le, int_lt, nat_lt, nat_le, if◌then◌else◌}
+use Rattle.std.specs.Prelude.{codes, true, false, unsigned_abs, ℕ, ℤ, pos, ◌+◌, ◌==◌, ◌&&◌, ◌||◌, not, ◌++◌, Bool, List, [], ◌∷◌, length, get_or, map, find, Option, Some, None, filter, option_map, option_and_then, unwrap_or, is_some, Result, bytes_eq, int_le, int_lt, nat_lt, nat_le, if◌then◌else◌}
 use Rattle.std.specs.List.{list_all}
 use Rattle.fill_area.specs.Grid.{Grid, all_coordinates, clipped_to}
 use Rattle.fill_raster.specs.Lattice.{Lattice}
@@ -8,12 +8,14 @@ use Rattle.fill_base.specs.declared.layer.Layer.{Layer}
 use Rattle.fill_text.specs.RectTests.{is_rect}
 use Rattle.fill_text.specs.Grids.{is_grid}
 use Rattle.fill_text.specs.Keys.{all_number_keys, key_name, key_named, number_rule, required_keys}
-use Rattle.fill_text.specs.Numbers.{number_of}
+use Rattle.fill_text.specs.Numbers.{layer_numbers_of, number_of}
 use Rattle.fill_text.specs.Rasters.{has_few_places, keeps_pitch}
 use Rattle.fill_text.specs.Refusals.{each_fault, fault_if, fault_unless, first_some, refused_or}
 use Rattle.fill_text.specs.Rows.{rows_of}
+use Rattle.fill_text.specs.declared.keys.AlsoKey.{AlsoKey}
+use Rattle.fill_text.specs.declared.keys.AlsoKey.TheVariants as also
 use Rattle.fill_text.specs.declared.keys.Key.{Key}
-use Rattle.fill_text.specs.declared.keys.Key.TheVariants.{Number, Text, Optional, Padding}
+use Rattle.fill_text.specs.declared.keys.Key.TheVariants.{Number, Text, Optional, Also, Padding}
 use Rattle.fill_text.specs.declared.keys.NumberKey.{NumberKey}
 use Rattle.fill_text.specs.declared.keys.NumberKey.TheVariants as number
 use Rattle.fill_text.specs.declared.keys.OptionalKey.{OptionalKey}
@@ -33,6 +35,10 @@ pub record Values : Type 0 where
   pub fill_top : List ℕ
   -- the layer and the data type of the keep-outs
   pub keep : Option (ℤ × ℤ)
+  -- the further layers of the metal, the layers of fill that the design brings, and the further ones of the keep-outs, each list in
+  -- the order of the file
+  pub also_metal : List Layer
+  pub also_keep : List Layer
   -- what is out of the frame counts nothing
   pub ignores : Bool
 
@@ -57,6 +63,18 @@ metal_layer values = layer_of (value_of values number.Layer) (value_of values nu
 -- the layer of the keep-outs, if there are any
 abbrev pub keep_layer : Values → Option Layer
 keep_layer values = option_map (λ k. layer_of k.0 k.1) values.keep
+
+-- the layers of the metal: the checked one, and then the others
+abbrev pub metal_layers : Values → List Layer
+metal_layers values = metal_layer values ∷ values.also_metal
+
+abbrev pub behind : Option Layer → List Layer → List Layer
+behind None more = more
+behind (Some first) more = first ∷ more
+
+-- the layers of the keep-outs: the first, if there are any, and then the others
+abbrev pub keep_layers : Values → List Layer
+keep_layers values = behind (keep_layer values) values.also_keep
 
 -- the layer of the fill boxes
 abbrev pub fill_layer : Values → Layer
@@ -110,6 +128,15 @@ raster_of numbers = record {
 abbrev pub word_for : Key → List (List (List ℕ)) → Option (List ℕ)
 word_for key rows = option_map (λ fields. get_or fields 1 []) (find (λ fields. bytes_eq (get_or fields 0 []) (key_name key)) rows)
 
+-- the layers of a key
+abbrev pub layers_of : Values → AlsoKey → List Layer
+layers_of values also.Metal = values.also_metal
+layers_of values also.Keep = values.also_keep
+
+-- the words that the records give a key: the second field of each that begins with its name
+abbrev pub words_for : Key → List (List (List ℕ)) → List (List ℕ)
+words_for key rows = map (λ fields. get_or fields 1 []) (filter (λ fields. bytes_eq (get_or fields 0 []) (key_name key)) rows)
+
 -- a letter, a digit, `_`, `?` or `$`
 abbrev pub is_name_byte : ℕ → Bool
 is_name_byte c = (nat_le 48 c && nat_le c 57) || (nat_le 65 c && nat_le c 90) || (nat_le 97 c && nat_le c 122) || (c == 95) || (c == 63) || (c == 36)
@@ -150,20 +177,34 @@ abbrev pub optional_fault : ℕ → OptionalKey → Option ℤ → Option RuleEr
 optional_fault line key None = Some (BadNumber line)
 optional_fault line key (Some n) = fault_unless (is_layer n) (BadRule (Optional key))
 
+-- a layer and a data type
+abbrev pub is_layer_pair : ℕ × ℕ → Bool
+is_layer_pair p = nat_le p.0 65535 && nat_le p.1 65535
+
+abbrev pub also_fault : ℕ → AlsoKey → Option (ℕ × ℕ) → Option RuleError
+also_fault line key None = Some (BadNumber line)
+also_fault line key (Some p) = fault_unless (is_layer_pair p) (BadRule (Also key))
+
 -- what is wrong with a word as the value of a key
 abbrev pub value_fault : ℕ → Key → List ℕ → Option RuleError
 value_fault line (Number key) word = number_fault line key (number_of word)
 value_fault line (Text key) word = fault_unless (is_text key word) (BadRule (Text key))
 value_fault line (Optional key) word = optional_fault line key (number_of word)
+value_fault line (Also key) word = also_fault line key (layer_numbers_of word)
 value_fault line Padding word = fault_unless (is_some (padding_of word)) (BadRule Padding)
+
+-- no record more may begin with the key's name: one does, or 63 do where it may stand several times
+abbrev pub is_full : Key → List (List (List ℕ)) → Bool
+is_full (Also key) rows = nat_le 63 (length (words_for (Also key) rows))
+is_full key rows = is_some (word_for key rows)
 
 -- what is wrong with a record of this key, if its name is that of one, and this word, behind the records before
 abbrev pub keyed_fault : ℕ → List (List (List ℕ)) → Option Key → List ℕ → Option RuleError
 keyed_fault line before None word = Some (BadRow line)
-keyed_fault line before (Some key) word = if is_some (word_for key before) then Some (BadRow line) else value_fault line key word
+keyed_fault line before (Some key) word = if is_full key before then Some (BadRow line) else value_fault line key word
 
 -- the first rule that a record breaks, behind the records before: it has two fields, its key is known, no record before has
--- that key, and its word is a value of the key
+-- that key, or at most 62 where it may stand several times, and its word is a value of the key
 abbrev pub record_fault : List (List (List ℕ)) → List (List ℕ) → Option RuleError
 record_fault before fields =
     let line = length before + 1 in
@@ -173,12 +214,16 @@ record_fault before fields =
 abbrev pub missing : List (List (List ℕ)) → Key → Option RuleError
 missing rows key = fault_unless (is_some (word_for key rows)) (BadRule key)
 
--- the keep-outs' layer and data type stand both or neither
-abbrev pub pair_faults : Bool → Bool → List (Option RuleError)
-pair_faults layer datatype = fault_unless (layer || not datatype) (BadRule (Optional KeepLayer)) ∷ fault_unless (datatype || not layer) (BadRule (Optional KeepDatatype)) ∷ []
+-- the keep-outs' layer and data type stand both or neither, and both where a further layer of the keep-outs does
+abbrev pub pair_faults : Bool → Bool → Bool → List (Option RuleError)
+pair_faults layer datatype further =
+    fault_unless (layer || not (datatype || further)) (BadRule (Optional KeepLayer)) ∷ fault_unless (datatype || not (layer || further)) (BadRule (Optional KeepDatatype)) ∷ []
+
+abbrev pub keep_faults : List (List (List ℕ)) → List (Option RuleError)
+keep_faults rows = pair_faults (is_some (word_for (Optional KeepLayer) rows)) (is_some (word_for (Optional KeepDatatype) rows)) (nat_lt 0 (length (words_for (Also also.Keep) rows)))
 
 abbrev pub key_faults : List (List (List ℕ)) → List (Option RuleError)
-key_faults rows = map (missing rows) required_keys ++ pair_faults (is_some (word_for (Optional KeepLayer) rows)) (is_some (word_for (Optional KeepDatatype) rows))
+key_faults rows = map (missing rows) required_keys ++ keep_faults rows
 
 -- the number and the text that the records give
 abbrev pub number_for : List (List (List ℕ)) → NumberKey → ℤ
@@ -189,6 +234,14 @@ text_for rows key = unwrap_or (word_for (Text key) rows) []
 
 abbrev pub optional_for : List (List (List ℕ)) → OptionalKey → Option ℤ
 optional_for rows key = option_and_then number_of (word_for (Optional key) rows)
+
+-- the layer that a word writes
+abbrev pub layer_by : List ℕ → Layer
+layer_by word = let p = unwrap_or (layer_numbers_of word) (0, 0) in record { layer = p.0; data_type = p.1 }
+
+-- the layers that the records give a key
+abbrev pub layers_for : List (List (List ℕ)) → AlsoKey → List Layer
+layers_for rows key = map layer_by (words_for (Also key) rows)
 
 abbrev pub pair : Option ℤ → Option ℤ → Option (ℤ × ℤ)
 pair (Some a) (Some b) = Some (a, b)
@@ -203,6 +256,8 @@ values_for rows = record {
   fill_cell = text_for rows text.FillCell;
   fill_top = text_for rows text.FillTop;
   keep = pair (optional_for rows KeepLayer) (optional_for rows KeepDatatype);
+  also_metal = layers_for rows also.Metal;
+  also_keep = layers_for rows also.Keep;
   ignores = unwrap_or (option_and_then padding_of (word_for Padding rows)) false;
 }
 

@@ -5,4 +5,4 @@ use Rattle.fill_text.specs.declared.chip.ChipRules.{ChipRules}
 
 -- the value of each key
 abbrev pub chip_values : ChipRules → Values
-chip_values c = values_from c.numbers c.texts c.keep c.ignores
+chip_values c = values_from c.numbers c.texts c.also c.keep c.ignores

@@ -1,5 +1,5 @@
 //! The value of each rule. Lengths, gaps and coordinates are in database units.
-ghost use Rattle.std.specs.Prelude.{◌≡◌, true, IfSome, option_map};
+ghost use Rattle.std.specs.Prelude.{◌≡◌, true, IfOk, IfSome, option_map};
 ghost use Rattle.fill_base.specs.Sides.{sides_of};
 ghost use Rattle.fill_raster.specs.Lattice.{KeepsPitch};
 ghost use Rattle.fill_text.specs.Keys.{IsWithin};
@@ -8,12 +8,25 @@ ghost use Rattle.fill_text.specs.Rules as spec;
 ghost use Rattle.fill_text.specs.Rules.{value_of};
 ghost use Rattle.fill_text.specs.ValuesOfRules.{values_of};
 
-use crate::keys::NumberKey;
+use crate::keys::{AlsoKey, NumberKey};
 use crate::limits::Limits;
 use crate::rules::Rules;
 use fill_area::Windows;
 use fill_base::{Layer, Rect};
 use fill_raster::Raster;
+use std::alloc::{AllocError, Global};
+
+/// The first layer, if there is one, and then the others.
+fn listed(alloc: Global, first: Option<Layer>, others: &[Layer]) -> Result<Vec<Layer>, AllocError>
+    ensures { IfOk result (λ layers. layers.items ≡ spec.behind first others.now) }
+{
+    let mut layers = Vec::new(alloc);
+    if let Some(first) = first {
+        layers.push(first)?;
+    }
+    layers.extend_from_slice(others)?;
+    Ok(layers)
+}
 
 impl Rules {
     /// The frame, in which every fill box lies.
@@ -300,6 +313,30 @@ impl Rules {
             layer: layer as u16,
             data_type: data_type as u16,
         })
+    }
+
+    /// The layers of the metal: the checked one, and then those of `also_metal`, in the order of the rule file.
+    ///
+    /// # Errors
+    /// `AllocError` where memory is refused.
+    pub fn metal_layers(&self, alloc: Global) -> Result<Vec<Layer>, AllocError>
+        ensures { IfOk result (λ layers. layers.items ≡ spec.metal_layers (values_of self.now)) }
+    {
+        listed(
+            alloc,
+            Some(self.metal_layer()),
+            self.also.of(AlsoKey::Metal),
+        )
+    }
+
+    /// The layers of the keep-outs: the first, if there are any, and then those of `also_keep`, in the order of the rule file.
+    ///
+    /// # Errors
+    /// `AllocError` where memory is refused.
+    pub fn keep_layers(&self, alloc: Global) -> Result<Vec<Layer>, AllocError>
+        ensures { IfOk result (λ layers. layers.items ≡ spec.keep_layers (values_of self.now)) }
+    {
+        listed(alloc, self.keep_layer(), self.also.of(AlsoKey::Keep))
     }
 
     /// The layer of the fill boxes.

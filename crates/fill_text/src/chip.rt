@@ -8,7 +8,7 @@ ghost use Rattle.fill_text.specs.ValuesOfRules.{values_from};
 use crate::keys::NumberKey;
 use crate::rule_error::RuleError;
 use crate::rule_file::checked;
-use crate::rules::{KeyValues, Numbers, Rules, Texts};
+use crate::rules::{AlsoLayers, KeyValues, Numbers, Rules, Texts};
 use std::alloc::Global;
 
 /// The rows of tiles and of windows that are left of a chip: the frame's edges below and above them, in database units,
@@ -30,9 +30,10 @@ pub struct ChipRows {
 pub struct ChipRules {
     pub(crate) numbers: Numbers,
     pub(crate) texts: Texts,
+    pub(crate) also: AlsoLayers,
     pub(crate) keep: Option<(i64, i64)>,
     pub(crate) ignores: bool,
-    pub ghost faultless: { first_some (chip_faults (values_from numbers texts keep ignores)) ≡ None },
+    pub ghost faultless: { first_some (chip_faults (values_from numbers texts also keep ignores)) ≡ None },
     pub ghost layered: { are_layers keep ≡ true },
 }
 
@@ -95,6 +96,7 @@ impl ChipRules {
         checked(KeyValues {
             numbers: self.numbers_with(rows),
             texts: self.texts.copy(alloc)?,
+            also: self.also.copy(alloc)?,
             keep: self.keep,
             ignores: self.ignores,
         })

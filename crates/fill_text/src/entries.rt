@@ -1,4 +1,4 @@
-//! The entries of a rule file that have been read: at most one for each key.
+//! The entries of a rule file that have been read.
 ghost use Rattle.std.specs.Prelude.{◌≡◌};
 ghost use Rattle.std.specs.List.{list_all};
 ghost use Rattle.csv.specs.Records.{fields_of};
@@ -8,14 +8,19 @@ ghost use Rattle.fill_text.specs.Rules as spec;
 ghost use Rattle.fill_text.specs.steps.Entries as step;
 ghost use Rattle.fill_text.specs.steps.Entries.{found_in};
 
-use crate::keys::{Key, NUMBER_COUNT, NUMBER_KEYS, NumberKey, OptionalKey, TextKey};
-use crate::numbers::number;
+use crate::keys::{AlsoKey, Key, NUMBER_COUNT, NUMBER_KEYS, NumberKey, OptionalKey, TextKey};
+use crate::numbers::{layer_numbers, number};
 use crate::rows::field;
 use crate::rule_error::RuleError;
+use crate::rules::AlsoLayers;
 use csv::ByteRecord;
+use fill_base::Layer;
 use std::alloc::Global;
 
-/// A number or a text for each key that has stood in a record.
+/// How often a key may stand that may stand several times.
+const MOST_LAYERS: usize = 63;
+
+/// A number or a text for each key that has stood in a record, and the layers that the records give the others.
 #[derive(Drop)]
 pub struct Entries {
     pub numbers: [Option<i64>; NUMBER_COUNT],
@@ -24,12 +29,13 @@ pub struct Entries {
     pub fill_cell: Option<Vec<u8>>,
     pub fill_top: Option<Vec<u8>>,
     pub optionals: [Option<i64>; 2],
+    pub also: AlsoLayers,
     pub padding: Option<bool>,
 }
 
 impl Entries {
     /// No key has stood in a record yet.
-    pub fn new() -> Entries
+    pub fn new(alloc: Global) -> Entries
         ensures { found_in result ≡ step.nothing_found }
     {
         Entries {
@@ -39,11 +45,12 @@ impl Entries {
             fill_cell: None,
             fill_top: None,
             optionals: [None; 2],
+            also: AlsoLayers::new(alloc),
             padding: None,
         }
     }
 
-    /// Whether the key has stood in a record.
+    /// Whether the key has stood in a record, or in 63 where it may stand several times.
     fn has(&self, key: Key) -> bool
         ensures { result ≡ step.is_found (found_in self.now) key }
     {
@@ -54,11 +61,12 @@ impl Entries {
             Key::Text(TextKey::FillCell) => self.fill_cell.is_some(),
             Key::Text(TextKey::FillTop) => self.fill_top.is_some(),
             Key::Optional(key) => self.optionals[key.index()].is_some(),
+            Key::Also(key) => self.also.of(key).len() >= MOST_LAYERS,
             Key::Padding => self.padding.is_some(),
         }
     }
 
-    /// The key that a record's first field names, which has not stood before.
+    /// The key that a record's first field names, which may stand once more.
     #[tactic(auto, unfolding(crate::specs::steps::Entries::new_key))]
     fn new_key(&self, line: u64, word: &[u8]) -> Result<Key, RuleError>
         ensures { result ≡ step.new_key line word.now (found_in self.now) }
@@ -105,6 +113,18 @@ impl Entries {
         Ok(())
     }
 
+    #[tactic(auto, unfolding(crate::specs::steps::Entries::take_also))]
+    fn take_also(&mut self, line: u64, key: AlsoKey, word: &[u8]) -> Result<(), RuleError>
+        ensures { Gives RuleError.Memory (λ _. found_in self.new) result (step.take_also line key word.now (found_in self.old)) }
+    {
+        let layer = listed_layer(line, key, word)?;
+        match key {
+            AlsoKey::Metal => self.also.metal.push(layer)?,
+            AlsoKey::Keep => self.also.keep.push(layer)?,
+        }
+        Ok(())
+    }
+
     #[tactic(auto, unfolding(crate::specs::steps::Entries::take_padding))]
     fn take_padding(&mut self, word: &[u8]) -> Result<(), RuleError>
         ensures { seen (λ _. found_in self.new) result ≡ step.take_padding word.now (found_in self.old) }
@@ -116,8 +136,8 @@ impl Entries {
     /// Takes what one record adds.
     ///
     /// # Errors
-    /// `BadRow` for other than two fields and for a key that is unknown or has stood before, then `BadNumber` for a
-    /// value that writes no number, then `BadRule` for one that its key doesn't allow. `Memory` where memory is refused.
+    /// `BadRow` for other than two fields and for a key that is unknown or may not stand once more, then `BadNumber` for a
+    /// value that writes no number or no layer, then `BadRule` for one that its key doesn't allow. `Memory` where memory is refused.
     #[tactic(auto, unfolding(crate::specs::steps::Entries::take_row))]
     pub fn take_row(&mut self, alloc: Global, line: u64, row: &ByteRecord) -> Result<(), RuleError>
         ensures { Gives RuleError.Memory (λ _. found_in self.new) result (step.take_row line (fields_of row.now) (found_in self.old)) }
@@ -130,6 +150,7 @@ impl Entries {
             Key::Number(key) => self.take_number(line, key, word),
             Key::Text(key) => self.take_text(alloc, key, word),
             Key::Optional(key) => self.take_optional(line, key, word),
+            Key::Also(key) => self.take_also(line, key, word),
             Key::Padding => self.take_padding(word),
         }
     }
@@ -194,6 +215,24 @@ fn layer_for(line: u64, key: OptionalKey, word: &[u8]) -> Result<i64, RuleError>
     } else {
         Err(RuleError::BadRule {
             key: Key::Optional(key),
+        })
+    }
+}
+
+/// The layer that a record's second field gives a key.
+#[tactic(auto, unfolding(crate::specs::steps::Entries::ranged_layer))]
+fn listed_layer(line: u64, key: AlsoKey, word: &[u8]) -> Result<Layer, RuleError>
+    ensures { result ≡ step.ranged_layer line key word.now }
+{
+    let (layer, data_type) = layer_numbers(word).ok_or(RuleError::BadNumber { line })?;
+    if layer <= 65535 && data_type <= 65535 {
+        Ok(Layer {
+            layer: layer as u16,
+            data_type: data_type as u16,
+        })
+    } else {
+        Err(RuleError::BadRule {
+            key: Key::Also(key),
         })
     }
 }

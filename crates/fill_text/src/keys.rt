@@ -1,6 +1,6 @@
 //! The table of rules: their keys, names and ranges.
 ghost use Rattle.std.specs.Prelude.{◌≡◌, ◌<◌, find, bytes_eq};
-ghost use Rattle.fill_text.specs.Keys.{all_number_keys, all_optional_keys, all_text_keys, key_name, key_named, number_rule, optional_index, optional_name, text_name};
+ghost use Rattle.fill_text.specs.Keys.{all_also_keys, all_number_keys, all_optional_keys, all_text_keys, also_name, key_name, key_named, number_rule, optional_index, optional_name, text_name};
 
 use fill_base::{HIGHEST, LOWEST};
 
@@ -93,6 +93,15 @@ pub enum OptionalKey {
     KeepDatatype,
 }
 
+/// A rule that a rule file may leave out, or have in up to 63 records: each adds a layer, `LAYER/DATATYPE`, both 0 to 65,535.
+#[derive(Clone, Copy, Debug, PartialEq, Eq)]
+pub enum AlsoKey {
+    /// A further layer of the metal.
+    Metal,
+    /// A further layer of the keep-outs, which asks for the keep-outs' first layer and its data type.
+    Keep,
+}
+
 /// The key of a rule. In the table of rules the numbers stand before the texts, and the optional ones behind them.
 #[derive(Clone, Copy, Debug, PartialEq, Eq)]
 pub enum Key {
@@ -102,6 +111,8 @@ pub enum Key {
     Text(TextKey),
     /// A rule that may be left out.
     Optional(OptionalKey),
+    /// A rule that may stand several times.
+    Also(AlsoKey),
     /// What counts of a window that is partly out of the frame: `zero` or `ignore`. It may be left out, and is `zero` then.
     Padding,
 }
@@ -151,6 +162,9 @@ pub const TEXT_KEYS: [TextKey; 4] = [
 
 /// The optional keys, in table order.
 pub const OPTIONAL_KEYS: [OptionalKey; 2] = [OptionalKey::KeepLayer, OptionalKey::KeepDatatype];
+
+/// The keys that may stand several times, in table order.
+pub const ALSO_KEYS: [AlsoKey; 2] = [AlsoKey::Metal, AlsoKey::Keep];
 
 /// What the table says of a number: its name in the rule file, and the least and the greatest value that it may have.
 #[derive(Clone, Copy)]
@@ -289,6 +303,28 @@ impl OptionalKey {
     }
 }
 
+impl AlsoKey {
+    /// The key's name in a rule file.
+    pub fn name(self) -> &'static str
+        ensures { result.now ≡ also_name self }
+    {
+        match self {
+            AlsoKey::Metal => "also_metal",
+            AlsoKey::Keep => "also_keep",
+        }
+    }
+
+    /// The key of a name.
+    pub fn named(word: &[u8]) -> Option<AlsoKey>
+        ensures { result ≡ find (λ k. bytes_eq word.now (also_name k)) all_also_keys }
+    {
+        ALSO_KEYS
+            .iter()
+            .copied()
+            .find(|key| word == key.name().as_bytes())
+    }
+}
+
 impl Key {
     /// The key's name in a rule file.
     pub fn name(self) -> &'static str
@@ -298,6 +334,7 @@ impl Key {
             Key::Number(key) => key.name(),
             Key::Text(key) => key.name(),
             Key::Optional(key) => key.name(),
+            Key::Also(key) => key.name(),
             Key::Padding => "padding",
         }
     }
@@ -314,6 +351,9 @@ impl Key {
         }
         if let Some(key) = OptionalKey::named(word) {
             return Some(Key::Optional(key));
+        }
+        if let Some(key) = AlsoKey::named(word) {
+            return Some(Key::Also(key));
         }
         if word == "padding".as_bytes() {
             Some(Key::Padding)

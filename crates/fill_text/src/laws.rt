@@ -1,5 +1,5 @@
 //! What holds of rule files and scripts whatever the code does. Each function's contract is the law.
-ghost use Rattle.fill_text.specs.Laws.{ARecordForEachKey, EachKeyStandsOnce, EachNameIsOfOneKey, EachNumberIsWritten, EachRecordIsAChange, EachTextIsWritten, KeepIsWritten};
+ghost use Rattle.fill_text.specs.Laws.{ARecordForEachKey, EachKeyStandsOnce, EachLayerIsWritten, EachNameIsOfOneKey, EachNumberIsWritten, EachRecordIsAChange, EachTextIsWritten, KeepIsWritten};
 
 /// Where a rule file is accepted, each number is what some record writes: a record of two fields, the key's name and
 /// the number in decimal.
@@ -14,19 +14,27 @@ pub fn each_text_is_written()
 {}
 
 /// Where a rule file is accepted, its records begin with the names of the keys, each name once, in any order: no key is
-/// missing, none stands twice, and no record has another name.
+/// missing, none stands twice, and no record has another name, but that of a key that may stand several times.
 pub fn each_key_stands_once()
     ensures { EachKeyStandsOnce }
 {}
 
-/// Where a rule file is accepted, it has 32 records and one more for each optional key that stands.
+/// Where a rule file is accepted, it has 32 records, one more for each optional key that stands, and one for each layer of a key that
+/// may stand several times.
 pub fn a_record_for_each_key()
     ensures { ARecordForEachKey }
 {}
 
-/// Where a rule file is accepted, the keep-outs' layer and data type are what two records write, or no record has either key.
+/// Where a rule file is accepted, the keep-outs' layer and data type are what two records write, or no record has either key or
+/// `also_keep`.
 pub fn keep_is_written()
     ensures { KeepIsWritten }
+{}
+
+/// Where a rule file is accepted, the layers of each key that may stand several times are what its records write, one each and in
+/// their order, and they are at most 63.
+pub fn each_layer_is_written()
+    ensures { EachLayerIsWritten }
 {}
 
 /// The name of each key names that key, so no two keys have one name.

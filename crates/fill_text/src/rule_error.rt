@@ -3,17 +3,17 @@ ghost use Rattle.std.specs.Prelude.{◌≡◌};
 ghost use Rattle.fill_text.specs.declared.rule_error.RuleError.TheVariants.{Memory};
 
 use crate::keys::Key;
-use std::alloc::AllocError;
+use std::alloc::{AllocError, AllocFailed};
 use std::fmt;
 use thiserror::Error;
 
 /// Why a rule file was refused. A line is the number of a record, counted from 1.
 #[derive(Clone, Copy, Debug, PartialEq, Eq, Error)]
 pub enum RuleError {
-    /// Not two fields, or a key that is unknown or has stood before.
+    /// Not two fields, or a key that is unknown or may not stand once more.
     #[error("record {line} is no rule")]
     BadRow { line: u64 },
-    /// The value should be a number and isn't one.
+    /// The value should be a number, or a layer, and isn't one.
     #[error("record {line} has a bad number")]
     BadNumber { line: u64 },
     /// The value is not what the key asks for, or the key is missing.
@@ -40,6 +40,14 @@ impl From<AllocError> for RuleError {
     ghost from_gives = { λ _ e. e ≡ Memory };
 
     fn from(_error: AllocError) -> RuleError {
+        RuleError::Memory
+    }
+}
+
+impl<T: Drop> From<AllocFailed<T>> for RuleError {
+    ghost from_gives = { λ _ e. e ≡ Memory };
+
+    fn from(_error: AllocFailed<T>) -> RuleError {
         RuleError::Memory
     }
 }

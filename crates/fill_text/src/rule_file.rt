@@ -124,6 +124,7 @@ pub(crate) fn checked(values: KeyValues) -> Result<Rules, RuleError>
     let KeyValues {
         numbers,
         texts,
+        also,
         keep,
         ignores,
     } = values;
@@ -133,6 +134,7 @@ pub(crate) fn checked(values: KeyValues) -> Result<Rules, RuleError>
     Ok(Rules {
         numbers,
         texts,
+        also,
         keep,
         ignores,
         frame,
@@ -150,6 +152,7 @@ fn checked_chip(values: KeyValues) -> Result<ChipRules, RuleError>
     let KeyValues {
         numbers,
         texts,
+        also,
         keep,
         ignores,
     } = values;
@@ -163,6 +166,7 @@ fn checked_chip(values: KeyValues) -> Result<ChipRules, RuleError>
     Ok(ChipRules {
         numbers,
         texts,
+        also,
         keep,
         ignores,
     })
@@ -184,13 +188,14 @@ fn all_values(entries: Entries) -> Result<KeyValues, RuleError>
         fill_cell,
         fill_top,
         optionals,
+        also,
         padding,
     } = entries;
     let top = top.ok_or(missing(TextKey::Top))?;
     let fill_lib = fill_lib.ok_or(missing(TextKey::FillLib))?;
     let fill_cell = fill_cell.ok_or(missing(TextKey::FillCell))?;
     let fill_top = fill_top.ok_or(missing(TextKey::FillTop))?;
-    let keep = keep_found(optionals)?;
+    let keep = keep_found(optionals, !also.keep.is_empty())?;
     Ok(KeyValues {
         numbers,
         texts: Texts {
@@ -199,15 +204,16 @@ fn all_values(entries: Entries) -> Result<KeyValues, RuleError>
             fill_cell,
             fill_top,
         },
+        also,
         keep,
         ignores: padding.unwrap_or(false),
     })
 }
 
-/// The layer and the data type of the keep-outs, both or neither of which were found.
-fn keep_found(optionals: [Option<i64>; 2]) -> Result<Option<(i64, i64)>, RuleError>
+/// The layer and the data type of the keep-outs, both or neither of which were found, and both where `further` layers were.
+fn keep_found(optionals: [Option<i64>; 2], further: bool) -> Result<Option<(i64, i64)>, RuleError>
     requires { step.AreOptional optionals }
-    ensures pair { result ≡ step.pair_found (get_or optionals 0 None) (get_or optionals 1 None) }
+    ensures pair { result ≡ step.pair_found (get_or optionals 0 None) (get_or optionals 1 None) further }
     ensures layers { IfOk result (λ keep. are_layers keep ≡ true) }
 {
     match (optionals[0], optionals[1]) {
@@ -215,10 +221,10 @@ fn keep_found(optionals: [Option<i64>; 2]) -> Result<Option<(i64, i64)>, RuleErr
         (Some(_), None) => Err(RuleError::BadRule {
             key: Key::Optional(OptionalKey::KeepDatatype),
         }),
-        (None, Some(_)) => Err(RuleError::BadRule {
+        (None, None) if !further => Ok(None),
+        (None, _) => Err(RuleError::BadRule {
             key: Key::Optional(OptionalKey::KeepLayer),
         }),
-        (None, None) => Ok(None),
     }
 }
 
@@ -234,7 +240,7 @@ fn missing(key: TextKey) -> RuleError
 fn values_in(alloc: Global, text: &[u8]) -> Result<KeyValues, RuleError>
     ensures { Gives RuleError.Memory key_values result (step.values_in text.now) }
 {
-    let mut entries = Entries::new();
+    let mut entries = Entries::new(alloc);
     let mut line = 0u64;
     for row in rows(alloc, text) {
         let row = row?;
@@ -244,16 +250,17 @@ fn values_in(alloc: Global, text: &[u8]) -> Result<KeyValues, RuleError>
     all_values(entries)
 }
 
-/// The rules of a rule file: records `key,value` of comma-separated fields with no header, each key exactly once and
-/// in any order (this project's profile).
+/// The rules of a rule file: records `key,value` of comma-separated fields with no header, in any order. Each key stands exactly
+/// once, but those that may be left out, and those that may stand up to 63 times (this project's profile).
 ///
 /// # Errors
-/// The first refusal. Record by record: `BadRow` for other than two fields and for a key that is unknown or has stood
-/// before, then `BadNumber` for a value that writes no number, then `BadRule` for one that its key doesn't allow. Then
-/// `BadRule` for the first key in table order that is missing, for `max` below `min` and for `fill_top` equal to
-/// `fill_cell`; then `BadRect` for a frame that holds no square, `BadWindows` for more than 2^20 windows or one that leaves
-/// the coordinates, `BadPitch` for a step below the box's side and the fill spacing, and `TooManyPlaces` for more than 2^24
-/// places for a box in the frame. `Memory` where memory runs out.
+/// The first refusal. Record by record: `BadRow` for other than two fields and for a key that is unknown or may not stand once
+/// more, then `BadNumber` for a value that writes no number or no layer, then `BadRule` for one that its key doesn't allow. Then
+/// `BadRule` for the first key in table order that is missing, for the first of `keep_layer` and `keep_datatype` that is missing
+/// where the other or `also_keep` stands, for `max` below `min` and for `fill_top` equal to `fill_cell`; then `BadRect` for a
+/// frame that holds no square, `BadWindows` for more than 2^20 windows or one that leaves the coordinates, `BadPitch` for a
+/// step below the box's side and the fill spacing, and `TooManyPlaces` for more than 2^24 places for a box in the frame.
+/// `Memory` where memory runs out.
 pub fn read_rules(alloc: Global, text: &[u8]) -> Result<Rules, RuleError>
     ensures { Gives RuleError.Memory values_of result (spec.rules_of text.now) }
 {

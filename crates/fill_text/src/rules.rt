@@ -1,5 +1,5 @@
 //! The rules that a rule file gives: a number or a text for each key.
-ghost use Rattle.std.specs.Prelude.{◌≡◌, ◌≤ℤ◌, ◌↔◌, ◌&&◌, true, false, bytes_eq, slice_set, IfOk, IsTrue, unsigned_abs};
+ghost use Rattle.std.specs.Prelude.{◌≡◌, ◌≤ℤ◌, ◌↔◌, ◌&&◌, true, false, [], bytes_eq, slice_set, IfOk, IsTrue, unsigned_abs};
 ghost use Rattle.fill_base.specs.Sides.{sides_of};
 ghost use Rattle.fill_raster.specs.Lattice.{KeepsPitch};
 ghost use Rattle.fill_text.specs.Grids.{is_axis};
@@ -9,9 +9,9 @@ ghost use Rattle.fill_text.specs.Rules as spec;
 ghost use Rattle.fill_text.specs.declared.keys.NumberKey.{NumberKey};
 ghost use Rattle.fill_text.specs.declared.keys.TextKey.TheVariants as TextKey;
 
-use crate::keys::{NUMBER_COUNT, NumberKey};
+use crate::keys::{AlsoKey, NUMBER_COUNT, NumberKey};
 use fill_area::Windows;
-use fill_base::Rect;
+use fill_base::{Layer, Rect};
 use fill_raster::Raster;
 use std::alloc::{AllocError, Global};
 
@@ -151,11 +151,21 @@ pub struct Texts {
     pub ghost fill_top_allowed: { spec.is_text TextKey.FillTop fill_top.items ≡ true },
 }
 
+/// The further layers of the metal and those of the keep-outs: each list in the order of the rule file.
+#[derive(Debug, Drop, PartialEq, Eq)]
+pub struct AlsoLayers {
+    /// Those of the metal.
+    pub metal: Vec<Layer>,
+    /// Those of the keep-outs.
+    pub keep: Vec<Layer>,
+}
+
 /// The value of each key of a rule file, before anything is asked of them together.
 #[derive(Drop)]
 pub(crate) struct KeyValues {
     pub(crate) numbers: Numbers,
     pub(crate) texts: Texts,
+    pub(crate) also: AlsoLayers,
     pub(crate) keep: Option<(i64, i64)>,
     pub(crate) ignores: bool,
     pub ghost layered: { spec.are_layers keep ≡ true },
@@ -168,6 +178,7 @@ pub(crate) struct KeyValues {
 pub struct Rules {
     pub(crate) numbers: Numbers,
     pub(crate) texts: Texts,
+    pub(crate) also: AlsoLayers,
     pub(crate) keep: Option<(i64, i64)>,
     pub(crate) ignores: bool,
     // These follow from the numbers, so a comparison leaves them out.
@@ -201,6 +212,41 @@ impl Texts {
     }
 }
 
+impl AlsoLayers {
+    ghost use Rattle.fill_text.specs.ValuesOfRules.{SameLayers, also_of};
+
+    /// No layer yet.
+    pub(crate) fn new(alloc: Global) -> AlsoLayers
+        ensures metal { result.metal.items ≡ [] }
+        ensures keep { result.keep.items ≡ [] }
+    {
+        AlsoLayers {
+            metal: Vec::new(alloc),
+            keep: Vec::new(alloc),
+        }
+    }
+
+    /// The layers of a key.
+    pub(crate) fn of(&self, key: AlsoKey) -> &[Layer]
+        ensures { result.now ≡ also_of self.now key }
+    {
+        match key {
+            AlsoKey::Metal => &self.metal,
+            AlsoKey::Keep => &self.keep,
+        }
+    }
+
+    /// The same layers once more.
+    pub(crate) fn copy(&self, alloc: Global) -> Result<AlsoLayers, AllocError>
+        ensures { IfOk result (λ a. SameLayers a self.now) }
+    {
+        Ok(AlsoLayers {
+            metal: self.metal.to_vec(alloc)?,
+            keep: self.keep.to_vec(alloc)?,
+        })
+    }
+}
+
 impl Rules {
     ghost use Rattle.fill_text.specs.ValuesOfRules.{values_of};
 
@@ -223,6 +269,7 @@ impl Rules {
         Ok(Rules {
             numbers: self.numbers,
             texts: self.texts.copy(alloc)?,
+            also: self.also.copy(alloc)?,
             keep: self.keep,
             ignores: self.ignores,
             frame: self.frame,
