@@ -131,6 +131,8 @@ class Faults(Folder):
     def test_values_of_another_form(self) -> None:
         for more, want in (('layer = 31\n', 'layer: 31 is no layer: write "31/0", each from 0 to 65535'),
                            ('layer = "31"\n', """layer: '31' is no layer: write "31/0", each from 0 to 65535"""),
+                           ('layer = ["31/0", "M1"]\n', """layer: 'M1' is no layer"""), ('layer = ["1/0", "2/0", "1/0"]\n', "layer: 1/0 stands twice"),
+                           ('layer = []\n', "layer: 0 layers: write 1 to 64"), ('fill_layer = ["131/0"]\n', "fill_layer: ['131/0'] is no layer"),
                            ('layer = "31:0"\n', """layer: '31:0' is no layer"""), ('layer = 31.0\n', "layer: 31.0 is no layer"),
                            ('layer = "M1"\n', """layer: 'M1' is no layer"""), ('layer = "70000/0"\n', """layer: '70000/0' is no layer"""),
                            ('min = "30 percent"\n', 'min: "30 percent" is no share: write "25 %" or a number of percent'),
@@ -210,10 +212,17 @@ class Faults(Folder):
         self.assertEqual(self.warnings(GOOD + layer(1), structure("TOP", boundary(1, 0, 0, 5, 5))),
                          [":6: [defaults], frame: warning: is more than ten times as wide or high as all that the top TOP draws, [0, 0, 0.005, 0.005] in micrometres"])
 
-    def test_several_datatypes_are_refused_with_the_reason(self) -> None:
-        found = self.faults(GOOD + '\n[[layer]]\nname = "M1"\nfill_layer = "1/1"\nlayer = ["1/0", "1/5"]\n')
-        self.assertEqual(len(found), 1)
-        self.assertIn("one layer and data type is checked exactly", found[0])
+    def test_metal_and_keep_outs_of_several_layers(self) -> None:
+        of = '\n[[layer]]\nname = "M1"\nfill_layer = "1/1"\nlayer = ["1/0", "1/5", "2/0"]\nkeep_layer = ["40/0", "41/3"]\n'
+        records = read_deck(self.deck(GOOD + of)).layers[0].rules().splitlines()
+        self.assertEqual([line for line in records if line.startswith(("layer", "datatype", "also", "keep"))],
+                         ["layer,1", "datatype,0", "keep_layer,40", "keep_datatype,0", "also_metal,1/5", "also_metal,2/0", "also_keep,41/3"])
+        design = self.design(structure("TOP", boundary(1, 0, 0, 5, 5), boundary(40, 0, 0, 5, 5)))
+        found = "\n".join(self.faults(GOOD + of, design))
+        for on, drawn in (("1/5", "1/0, 40/0"), ("2/0", "1/0, 40/0")):
+            self.assertIn(f"layer M1, layer: the top TOP draws nothing on {on}: it draws {drawn}; write empty = true", found)
+        self.assertIn("fill_layer: 1/5 is the layer of the metal", self.faults(GOOD + of.replace('fill_layer = "1/1"', 'fill_layer = "1/5"'))[0])
+        self.assertIn("layer: M1 fills 2/0 too", self.faults(GOOD + of + layer(2))[0])
 
     def test_all_faults_at_once(self) -> None:
         text = GOOD.replace('box = "1 um"\n', "").replace('top = "TOP"', "tops = 3") + layer(1) + layer(2, "spacing = \"x\"\n") + layer(2)

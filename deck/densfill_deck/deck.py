@@ -12,7 +12,7 @@ from .costs import Load, load_of
 from .gds import NoStream, database_unit
 from .judge import judge_boxes, judge_metal, judge_script, judge_table, judge_together, judge_top
 from .lengths import Unfit, in_millionths, metres, told
-from .tables import Deck, Fault, Layer, Refused, Table, Text
+from .tables import Deck, Fault, Layer, Refused, Table, Text, on_told
 
 NAME = re.compile(r"[A-Za-z0-9_.+-]{1,64}\Z")
 LAYER = re.compile(r"\s*(\d{1,5})\s*/\s*(\d{1,5})\s*\Z")
@@ -25,8 +25,9 @@ REQUIRED_OF_FILL = ("box", "pitch", "spacing", "fill_spacing", "fill_layer")
 # What a text that is no TOML mostly lacks, by how the reason begins.
 HINTS = {"Invalid value": 'a text stands in quotes, as "uart", and a number is as 0.5', "Cannot overwrite a value": "the key stands twice in this table",
          "Cannot declare": "the table stands twice: write [[layer]] above each layer", "Expected '='": "a deck is TOML, with lines as key = value"}
-ONE_LAYER = ("one layer and data type is checked exactly: metal that is drawn on two of them, or drawn and dummy metal, is to be merged "
-             "onto one before")
+# The keys that take several layers and data types: the numbers of the first, the key that a rule file has for the others, and how many it has.
+SEVERAL = {"layer": ("also_metal", "layer", "datatype"), "keep_layer": ("also_keep", "keep_layer", "keep_datatype")}
+MOST_LAYERS = 64
 
 
 def shown(value: object) -> str:
@@ -43,12 +44,21 @@ def whole(value: object) -> int:
 
 def layer_of(value: object) -> tuple[int, int]:
     """A layer and its data type: "31/0"."""
-    if isinstance(value, list):
-        raise Unfit(ONE_LAYER)
     found = LAYER.match(value) if isinstance(value, str) else None
     if not found or max(map(int, found.groups())) > 65535:
         raise Unfit(f'{shown(value)} is no layer: write "31/0", each from 0 to 65535')
     return int(found.group(1)), int(found.group(2))
+
+
+def layers_of(value: object) -> list[tuple[int, int]]:
+    """One layer with its data type, or several: ["31/0", "31/2"]."""
+    values = value if isinstance(value, list) else [value]
+    if not 1 <= len(values) <= MOST_LAYERS:
+        raise Unfit(f"{len(values)} layers: write 1 to {MOST_LAYERS}")
+    found = [layer_of(one) for one in values]
+    if doubled := next((on for k, on in enumerate(found) if on in found[:k]), None):
+        raise Unfit(f"{on_told(doubled)} stands twice")
+    return found
 
 
 def unknown_keys(table: Table, keys: tuple[str, ...]) -> None:
@@ -66,17 +76,28 @@ def missing_keys(table: Table) -> None:
 
 
 def put_layers(table: Table) -> None:
-    for key, names in (("layer", ("layer", "datatype")), ("fill_layer", ("fill_layer", "fill_datatype")),
-                       ("keep_layer", ("keep_layer", "keep_datatype"))):
+    for key in ("layer", "fill_layer", "keep_layer"):
         value = table.get(key)
         if value is None:
             continue
         try:
-            table.numbers |= dict(zip(names, layer_of(value)))
+            put_layers_of(table, key, value)
         except Unfit as unfit:
             table.fault(key, str(unfit))
     if table.get("fill") is False and table.get("fill_layer") is None and "layer" in table.numbers:
         table.numbers |= {"fill_layer": table.numbers["layer"], "fill_datatype": table.numbers["datatype"]}
+
+
+def put_layers_of(table: Table, key: str, value: object) -> None:
+    """The layers of a key: the boxes have one."""
+    if key not in SEVERAL:
+        table.numbers |= dict(zip(("fill_layer", "fill_datatype"), layer_of(value)))
+        return
+    also, *names = SEVERAL[key]
+    first, *others = layers_of(value)
+    table.numbers |= dict(zip(names, first))
+    if others:
+        table.also[also] = others
 
 
 def put_lengths(table: Table) -> None:
@@ -177,7 +198,7 @@ def read_layer(table: Table, top: object, contents: Contents | None, is_design_f
         judge_script(table, path)
     elif script is not None:
         table.fault("script", f"{script!r} is no path")
-    return Layer(str(name), bool(fills), table.numbers, texts, path, gradient) if len(table.text.faults) == before else None
+    return Layer(str(name), bool(fills), table.numbers, texts, path, gradient, table.also) if len(table.text.faults) == before else None
 
 
 def unit_of(table: Table, design: Path | None) -> Fraction:
@@ -255,8 +276,7 @@ def loads_of(layers: list[Layer], contents: Contents, top: str, size: int) -> di
     references = sum(structure.kinds["reference"] + structure.kinds["array"] for structure in reached)
     loads: dict[str, Load] = {}
     for layer in layers:
-        n = layer.numbers
-        of = [(n["layer"], n["datatype"])] + ([(n["keep_layer"], n["keep_datatype"])] if layer.fills and "keep_layer" in n else [])
+        n, of = layer.numbers, layer.metals + (layer.keeps if layer.fills else [])
         shapes = sum(structure.shapes[on].count for structure in reached for on in of if on in structure.shapes)
         loads[layer.name] = load_of(n, layer.does, size, shapes + references, sum(drawn[on].count for on in of if on in drawn))
     return loads

@@ -1,11 +1,12 @@
 """What is wrong with values of a deck that are each fit by themselves: with one another, with scripts, and with the design."""
 import difflib
 from collections.abc import Callable, Iterable, Iterator, Mapping
+from itertools import combinations
 from pathlib import Path
 
 from .contents import Box, Contents, On
 from .lengths import METRES, share_of
-from .tables import Fault, Layer, Table
+from .tables import Fault, Layer, Table, on_told
 
 FAR, LONG, MOST_WINDOWS, MOST_PLACES, MOST_CHANGES = 1 << 30, 1 << 20, 1 << 20, 1 << 24, 100_000
 SHOWN = 12
@@ -27,8 +28,9 @@ def judge_table(table: Table) -> None:
         judge_raster(table)
         judge_reach(table)
         n = table.numbers
-        if table.has("layer", "datatype", "fill_layer", "fill_datatype") and n["layer"] == n["fill_layer"] and n["datatype"] == n["fill_datatype"]:
-            table.fault("fill_layer", f"{n['layer']}/{n['datatype']} is the layer of the metal: write one of the boxes' own")
+        boxes = (n.get("fill_layer"), n.get("fill_datatype"))
+        if table.has("layer", "fill_layer") and boxes in [(n["layer"], n["datatype"]), *table.also.get("also_metal", [])]:
+            table.fault("fill_layer", f"{boxes[0]}/{boxes[1]} is the layer of the metal: write one of the boxes' own")
 
 
 def judge_ranges(table: Table) -> None:
@@ -148,11 +150,13 @@ def judge_together(read: list[tuple[Table, Layer]]) -> None:
     for first, (table, layer) in of_one(filled, lambda layer: f"{layer.numbers['fill_layer']}/{layer.numbers['fill_datatype']}"):
         table.fault("fill_layer", f"the boxes of {first.name} have the layer {layer.numbers['fill_layer']}/{layer.numbers['fill_datatype']} too: "
                                   "write one for each metal")
-    for first, (table, layer) in of_one(filled, lambda layer: layer.metal):
-        table.fault("layer", f"{first.name} fills {layer.metal} too, and boxes of both would lie over one another: write fill = false in one of them")
+    for (_, first), (table, layer) in combinations(filled, 2):
+        if both := [on for on in layer.metals if on in first.metals]:
+            table.fault("layer", f"{first.name} fills {on_told(both[0])} too, and boxes of both would lie over one another: write fill = false in one of them")
     for first, (table, layer) in ((metal, one) for one in filled for _, metal in read):
-        if first is not layer and first.metal == f"{layer.numbers['fill_layer']}/{layer.numbers['fill_datatype']}":
-            table.fault("fill_layer", f"{first.metal} is the metal of {first.name}: write one of the boxes' own")
+        boxes = (layer.numbers["fill_layer"], layer.numbers["fill_datatype"])
+        if first is not layer and boxes in first.metals:
+            table.fault("fill_layer", f"{on_told(boxes)} is the metal of {first.name}: write one of the boxes' own")
     for first, (table, layer) in of_one(filled, lambda layer: layer.texts["fill_top"]):
         table.fault("top_cell", f"the library of {first.name} has the top {layer.texts['fill_top']} too: write one for each layer")
     for table, layer in filled:
@@ -211,13 +215,13 @@ def judge_metal(read: Iterable[tuple[Table, Layer]], top: str, contents: Content
     """Layers of which the top draws nothing: mostly a wrong number, of which a fill would cover the whole frame."""
     drawn = contents.layers(top)
     for table, layer in read:
-        on = (layer.numbers["layer"], layer.numbers["datatype"])
-        if on not in drawn and table.get("empty") is not True:
-            words = f"the top {top} draws nothing on {layer.metal}: it draws {layers_told(drawn, on)}; write empty = true where that is meant"
-            table.fault("layer", words)
-        keep = (layer.numbers.get("keep_layer", -1), layer.numbers.get("keep_datatype", -1))
-        if keep[0] >= 0 and keep not in drawn:
-            table.warn("keep_layer", f"the top {top} draws nothing on {keep[0]}/{keep[1]}, so nothing is kept free of boxes")
+        for on in layer.metals:
+            if on not in drawn and table.get("empty") is not True:
+                words = f"the top {top} draws nothing on {on_told(on)}: it draws {layers_told(drawn, on)}; write empty = true where that is meant"
+                table.fault("layer", words)
+        for keep in layer.keeps:
+            if keep not in drawn:
+                table.warn("keep_layer", f"the top {top} draws nothing on {on_told(keep)}, so nothing is kept free of boxes")
 
 
 def layers_told(drawn: set[On], near: On) -> str:

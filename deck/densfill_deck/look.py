@@ -190,8 +190,7 @@ class SecondLook:
             return [f"{self.design}: {error}"]
 
     def in_the_design(self, name: str, layer: Layer) -> list[str]:
-        n = layer.numbers
-        on = {(n["layer"], n["datatype"]), (n.get("keep_layer", n["layer"]), n.get("keep_datatype", n["datatype"]))}
+        on = {*layer.metals, *layer.keeps}
         lines = [line for line in (*names(self.contents, self.top), *far(self.contents, self.top, on)) if line.startswith(name)]
         alike = (str(found) for found in elements(self.design, self.contents, self.top, on) if found.reason == name)
         lines = (lines or list(islice(alike, self.FEW)))[:self.FEW]
