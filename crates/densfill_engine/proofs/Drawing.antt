@@ -1,11 +1,11 @@
 -- What the bytes of a design draw near a rectangle, where there is one, once some of its layers are read.
-use Rattle.std.proofs.Common.{◌≡◌, ◌≤◌, ◌^◌, inl, inr, ℕ, ℤ, Bool, length, List, [], ◌∷◌, true, false, map, Option, Some, None, refl, sym, ap, subst, ◌∙◌, ◌||◌}
-use Rattle.std.specs.Prelude.{unwrap_or}
+use Rattle.std.proofs.Common.{◌≡◌, ◌≤◌, ◌^◌, inl, inr, ℕ, ℤ, Bool, length, List, [], ◌∷◌, ◌++◌, true, false, map, Option, Some, None, refl, sym, ap, subst, ◌∙◌, ◌||◌}
 use Rattle.std.proofs.Math.Path.{fun_ext}
+use Rattle.std.proofs.lemmas.List.Folds.{list_any-append}
 use Rattle.fill_base.specs.declared.layer.Layer.{Layer}
 use Rattle.fill_base.specs.declared.rect.Rect.{Rect}
 use Rattle.fill_text.specs.Chips.{with_rows}
-use Rattle.fill_text.specs.Rules.{Values, keep_layer, metal_layer}
+use Rattle.fill_text.specs.Rules.{Values, keep_layers, metal_layers}
 use Rattle.fill_text.specs.declared.chip.ChipRows.{ChipRows}
 use Rattle.fill_job.specs.Plans.{Layers, PointSet}
 use Rattle.gds_grammar.specs.Layers.{has_layer, kept_cell, of_layers, same_layer}
@@ -19,23 +19,23 @@ use Rattle.densfill_engine.specs.Designs.{IsCountable, IsCountableNear, IsDesign
 
 -- ---- what is told of the second library is told of the first one
 
-record TellsNear (frame : Option Rect) (cells others : List Cell) (top : List ℕ) (layer : Layer) : Type 0 where
-  copies : copies_of others top (layer ∷ []) ≡ copies_of cells top (layer ∷ [])
-  countable : IsCountableNear frame others top layer → IsCountableNear frame cells top layer
-  refused : (e : FlattenError) → IsRefusedNear frame others top layer e → IsRefusedNear frame cells top layer e
+record TellsNear (frame : Option Rect) (cells others : List Cell) (top : List ℕ) (layers : List Layer) : Type 0 where
+  copies : copies_of others top layers ≡ copies_of cells top layers
+  countable : IsCountableNear frame others top layers → IsCountableNear frame cells top layers
+  refused : (e : FlattenError) → IsRefusedNear frame others top layers e → IsRefusedNear frame cells top layers e
 
-tells_near : (frame : Option Rect) (keep : Layer → Bool) (cells : List Cell) (top : List ℕ) (layer : Layer) → LayersSuffice → LayersSufficeWithin → AreKept keep (layer ∷ [])
-    → TellsNear frame cells (map (kept_cell keep) cells) top layer
-tells_near None keep cells top layer law near among =
-    let tells = (law keep cells top (layer ∷ []) among).0 in
+tells_near : (frame : Option Rect) (keep : Layer → Bool) (cells : List Cell) (top : List ℕ) (layers : List Layer) → LayersSuffice → LayersSufficeWithin → AreKept keep layers
+    → TellsNear frame cells (map (kept_cell keep) cells) top layers
+tells_near None keep cells top layers law near among =
+    let tells = (law keep cells top layers among).0 in
     record { copies = tells.copies; countable = tells.countable; refused = tells.refused }
-tells_near (Some frame) keep cells top layer law near among =
-    let tells = near keep cells top (layer ∷ []) frame among in
+tells_near (Some frame) keep cells top layers law near among =
+    let tells = near keep cells top layers frame among in
     record { copies = tells.copies; countable = tells.countable; refused = tells.refused }
 
-count_near : (frame : Option Rect) (cells : List Cell) (top : List ℕ) (layer : Layer) → IsCountableNear frame cells top layer → IsCountable (size_near frame) cells top layer
-count_near None cells top layer countable = countable
-count_near (Some frame) cells top layer countable = (countable.sound, countable.fine)
+count_near : (frame : Option Rect) (cells : List Cell) (top : List ℕ) (layers : List Layer) → IsCountableNear frame cells top layers → IsCountable (size_near frame) cells top layers
+count_near None cells top layers countable = countable
+count_near (Some frame) cells top layers countable = (countable.sound, countable.fine)
 
 -- no square is ranged, and within anything
 abbrev none : PointSet
@@ -51,117 +51,112 @@ none_within (Some frame) x y = refl
 
 -- ---- the bytes spell a library, of which some layers were read, and of these some were drawn
 
-module _ (bytes : List ℕ) (values : Values) (design left : Contents) (layers : List Layer) (frame : Option Rect) (law : LayersSuffice) (near : LayersSufficeWithin)
-    (short : length bytes ≤ 2 ^ 31) (spelled : Spells bytes design) (left_is : left ≡ of_layers layers design) where
+module _ (bytes : List ℕ) (values : Values) (design left : Contents) (read_of : List Layer) (frame : Option Rect) (law : LayersSuffice) (near : LayersSufficeWithin)
+    (short : length bytes ≤ 2 ^ 31) (spelled : Spells bytes design) (left_is : left ≡ of_layers read_of design) where
   read : IsRead bytes design
   read = record { short = short; spelled = spelled }
 
-  tells : (layer : Layer) → AreKept (has_layer layers) (layer ∷ []) → TellsNear frame design.cells left.cells values.top layer
-  tells layer among =
-      subst (λ (x : Contents). TellsNear frame design.cells x.cells values.top layer) (sym left_is)
-      (tells_near frame (has_layer layers) design.cells values.top layer law near among)
+  tells : (layers : List Layer) → AreKept (has_layer read_of) layers → TellsNear frame design.cells left.cells values.top layers
+  tells layers among =
+      subst (λ (x : Contents). TellsNear frame design.cells x.cells values.top layers) (sym left_is)
+      (tells_near frame (has_layer read_of) design.cells values.top layers law near among)
 
-  abbrev all_on : Layer → PointSet
-  all_on layer = drawn (copies_of design.cells values.top (layer ∷ []))
+  abbrev all_on : List Layer → PointSet
+  all_on layers = drawn (copies_of design.cells values.top layers)
 
-  module _ (layer : Layer) (among : AreKept (has_layer layers) (layer ∷ [])) (p : PointSet) (on : IsDrawnNear frame left.cells values.top layer p) where
-    drawn_on : IsDrawnOn (size_near frame) design.cells values.top layer (all_on layer)
+  module _ (layers : List Layer) (among : AreKept (has_layer read_of) layers) (p : PointSet) (on : IsDrawnNear frame left.cells values.top layers p) where
+    drawn_on : IsDrawnOn (size_near frame) design.cells values.top layers (all_on layers)
     drawn_on = record {
-      countable = count_near frame design.cells values.top layer ((tells layer among).countable on.countable);
-      inside = subst AllStayInRange (tells layer among).copies on.inside;
+      countable = count_near frame design.cells values.top layers ((tells layers among).countable on.countable);
+      inside = subst AllStayInRange (tells layers among).copies on.inside;
       squares_are = refl;
     }
 
-    squares_on : p ≡ squares_within frame (all_on layer)
-    squares_on = fun_ext (λ x. fun_ext (λ y. on.squares_are x y ∙ ap (λ cs. squares_within frame (drawn cs) x y) (tells layer among).copies))
+    squares_on : p ≡ squares_within frame (all_on layers)
+    squares_on = fun_ext (λ x. fun_ext (λ y. on.squares_are x y ∙ ap (λ cs. squares_within frame (drawn cs) x y) (tells layers among).copies))
 
-    ranged_on : IsRanged frame (all_on layer)
-    ranged_on = subst (λ (cs : List Copy). IsRanged frame (drawn cs)) (tells layer among).copies on.ranged
+    ranged_on : IsRanged frame (all_on layers)
+    ranged_on = subst (λ (cs : List Copy). IsRanged frame (drawn cs)) (tells layers among).copies on.ranged
 
-  -- on the checked one
-  module _ (layer : Layer) (is : layer ≡ metal_layer values) (among : AreKept (has_layer layers) (layer ∷ [])) where
-    pub not_flattened : (e : FlattenError) → IsRefusedNear frame left.cells values.top layer e → IsUnflattened frame bytes values e
+  -- the metal
+  module _ (layers : List Layer) (is : layers ≡ metal_layers values) (among : AreKept (has_layer read_of) layers) where
+    pub not_flattened : (e : FlattenError) → IsRefusedNear frame left.cells values.top layers e → IsUnflattened frame bytes values e
     not_flattened e refused = record {
       design = design;
       read = read;
-      refused = subst (λ (l : Layer). IsRefusedNear frame design.cells values.top l e) is ((tells layer among).refused e refused);
+      refused = subst (λ (ls : List Layer). IsRefusedNear frame design.cells values.top ls e) is ((tells layers among).refused e refused);
     }
 
-    module _ (metal : PointSet) (on : IsDrawnNear frame left.cells values.top layer metal) where
-      unfoldable whole : IsDrawn (size_near frame) bytes values (all_on layer)
+    module _ (metal : PointSet) (on : IsDrawnNear frame left.cells values.top layers metal) where
+      unfoldable whole : IsDrawn (size_near frame) bytes values (all_on layers)
       whole = record {
         design = design;
         read = read;
-        drawn = subst (λ (l : Layer). IsDrawnOn (size_near frame) design.cells values.top l (all_on layer)) is (drawn_on layer among metal on);
+        drawn = subst (λ (ls : List Layer). IsDrawnOn (size_near frame) design.cells values.top ls (all_on layers)) is (drawn_on layers among metal on);
       }
 
       pub metal_near : IsMetalNear frame bytes values metal
-      metal_near = record { metal = all_on layer; drawn = whole; within = squares_on layer among metal on }
+      metal_near = record { metal = all_on layers; drawn = whole; within = squares_on layers among metal on }
 
-      -- and on that of the keep-outs
-      module _ (keep_at : Option Layer) (keep_is : keep_at ≡ keep_layer values) (both : (l : Layer) → keep_at ≡ Some l → AreKept (has_layer layers) (l ∷ [])) where
-        abbrev all_keep : Option Layer → PointSet
-        all_keep None = none
-        all_keep (Some l) = all_on l
+      -- and the keep-outs
+      module _ (kept_on : List Layer) (keep_is : kept_on ≡ keep_layers values) (both : AreKept (has_layer read_of) kept_on) where
+        abbrev all_keep : List Layer → PointSet
+        all_keep [] = none
+        all_keep (l ∷ more) = all_on (l ∷ more)
 
-        keep_whole : (o : Option Layer) (keep : PointSet) → keep_at ≡ o → IsKeptNear frame left.cells values.top o keep → IsKeptOut (size_near frame) design.cells values.top o (all_keep o)
-        keep_whole None keep e kept = λ x y. refl
-        keep_whole (Some l) keep e kept = drawn_on l (both l e) keep kept
+        keep_whole : (ls : List Layer) (keep : PointSet) → AreKept (has_layer read_of) ls → IsKeptNear frame left.cells values.top ls keep → IsKeptOut (size_near frame) design.cells values.top ls (all_keep ls)
+        keep_whole [] keep among_all kept = λ x y. refl
+        keep_whole (l ∷ more) keep among_all kept = drawn_on (l ∷ more) among_all keep kept
 
-        keep_in : (o : Option Layer) (keep : PointSet) → keep_at ≡ o → IsKeptNear frame left.cells values.top o keep → IsRanged frame (all_keep o)
-        keep_in None keep e kept = none_ranged frame
-        keep_in (Some l) keep e kept = ranged_on l (both l e) keep kept
+        keep_in : (ls : List Layer) (keep : PointSet) → AreKept (has_layer read_of) ls → IsKeptNear frame left.cells values.top ls keep → IsRanged frame (all_keep ls)
+        keep_in [] keep among_all kept = none_ranged frame
+        keep_in (l ∷ more) keep among_all kept = ranged_on (l ∷ more) among_all keep kept
 
-        keep_same : (o : Option Layer) (keep : PointSet) → keep_at ≡ o → IsKeptNear frame left.cells values.top o keep → keep ≡ squares_within frame (all_keep o)
-        keep_same None keep e kept = fun_ext (λ x. fun_ext (λ y. kept x y ∙ sym (none_within frame x y)))
-        keep_same (Some l) keep e kept = squares_on l (both l e) keep kept
+        keep_same : (ls : List Layer) (keep : PointSet) → AreKept (has_layer read_of) ls → IsKeptNear frame left.cells values.top ls keep → keep ≡ squares_within frame (all_keep ls)
+        keep_same [] keep among_all kept = fun_ext (λ x. fun_ext (λ y. kept x y ∙ sym (none_within frame x y)))
+        keep_same (l ∷ more) keep among_all kept = squares_on (l ∷ more) among_all keep kept
 
-        pub design_near : (keep : PointSet) (units dates : List ℕ) → units ≡ left.units → dates ≡ left.dates → IsKeptNear frame left.cells values.top keep_at keep
+        pub design_near : (keep : PointSet) (units dates : List ℕ) → units ≡ left.units → dates ≡ left.dates → IsKeptNear frame left.cells values.top kept_on keep
             → IsDesignNear frame bytes values (record { metal = metal; keep = keep }) units dates
         unfolding whole
         design_near keep units dates units_are dates_are kept = record {
-          layers = record { metal = all_on layer; keep = all_keep keep_at };
+          layers = record { metal = all_on layers; keep = all_keep kept_on };
           whole = record {
             drawn = record {
               metal = whole;
-              kept = subst (λ (o : Option Layer). IsKeptOut (size_near frame) design.cells values.top o (all_keep keep_at)) keep_is (keep_whole keep_at keep refl kept);
+              kept = subst (λ (ls : List Layer). IsKeptOut (size_near frame) design.cells values.top ls (all_keep kept_on)) keep_is (keep_whole kept_on keep both kept);
             };
             units_are = units_are ∙ ap (λ (x : Contents). x.units) left_is;
             dates_are = dates_are ∙ ap (λ (x : Contents). x.dates) left_is;
           };
-          metal_in = ranged_on layer among metal on;
-          keep_in = keep_in keep_at keep refl kept;
-          within = λ t. record { metal = squares_on layer among metal on t; keep = keep_same keep_at keep refl kept t };
+          metal_in = ranged_on layers among metal on;
+          keep_in = keep_in kept_on keep both kept;
+          within = λ t. record { metal = squares_on layers among metal on t; keep = keep_same kept_on keep both kept t };
         }
 
-        pub not_flattened_behind : (e : FlattenError) (l : Layer) → keep_at ≡ Some l → IsRefusedNear frame left.cells values.top l e → IsUnflattenedBehind frame bytes values e
+        pub not_flattened_behind : (e : FlattenError) → ¬ (kept_on ≡ []) → IsRefusedNear frame left.cells values.top kept_on e → IsUnflattenedBehind frame bytes values e
         unfolding whole
-        not_flattened_behind e l named refused = record {
-          metal = all_on layer;
+        not_flattened_behind e some refused = record {
+          metal = all_on layers;
           drawn = whole;
-          few = subst (λ (m : Layer). IsCountableNear frame design.cells values.top m) is ((tells layer among).countable on.countable);
-          layer = l;
-          named = sym keep_is ∙ named;
-          refused = (tells l (both l named)).refused e refused;
+          few = subst (λ (ls : List Layer). IsCountableNear frame design.cells values.top ls) is ((tells layers among).countable on.countable);
+          some = subst (λ (ls : List Layer). ¬ (ls ≡ [])) keep_is some;
+          refused = subst (λ (ls : List Layer). IsRefusedNear frame design.cells values.top ls e) keep_is ((tells kept_on both).refused e refused);
         }
 
--- a layer is among itself and others
-pub among_first : (a : Layer) (others : List Layer) → AreKept (has_layer (a ∷ others)) (a ∷ [])
-among_first a others l = here (same_layer a l) (has_layer others l)
-  where
-    here : (b c : Bool) → (b || false) ≡ true → (b || c) ≡ true
-    here true c h = refl
-    here false c h = absurd (let f : false ≡ true = h in cc)
+-- layers are among themselves, and among themselves and others
+pub among_themselves : (layers : List Layer) → AreKept (has_layer layers) layers
+among_themselves layers l member = member
 
--- the layer of the keep-outs is the second of two, where there is one
-pub among_both : (a : Layer) (o : Option Layer) (b : Layer) → b ≡ unwrap_or o a → (l : Layer) → o ≡ Some l → AreKept (has_layer (a ∷ b ∷ [])) (l ∷ [])
-among_both a o b second l is m h =
-    let this : b ≡ l = second ∙ ap (λ (p : Option Layer). unwrap_or p a) is in
-    subst (λ (k : Layer). has_layer (a ∷ k ∷ []) m ≡ true) (sym this) (either (same_layer a m) (has_layer (l ∷ []) m) h)
+pub among_first : (layers others read_of : List Layer) → read_of ≡ layers ++ others → AreKept (has_layer read_of) layers
+among_first layers others read_of is l member = rw (is, list_any-append (λ m. same_layer m l) layers others, member) refl
+
+pub among_second : (layers others read_of : List Layer) → read_of ≡ layers ++ others → AreKept (has_layer read_of) others
+among_second layers others read_of is l member = rw (is, list_any-append (λ m. same_layer m l) layers others) (behind (has_layer layers l) (has_layer others l) member)
   where
-    either : (b c : Bool) → c ≡ true → (b || c) ≡ true
-    either true c h = refl
-    either false c h = h
+    behind : (a b : Bool) → b ≡ true → (a || b) ≡ true
+    behind true b h = refl
+    behind false b h = h
 
 -- ---- the rows of a chip change neither its top nor its layers
 
@@ -191,7 +186,6 @@ module _ (bytes : List ℕ) (values : Values) (rows : ChipRows) (frame : Option 
     metal = keep.metal;
     drawn = record { design = keep.drawn.design; read = keep.drawn.read; drawn = keep.drawn.drawn };
     few = keep.few;
-    layer = keep.layer;
-    named = keep.named;
+    some = keep.some;
     refused = keep.refused;
   })

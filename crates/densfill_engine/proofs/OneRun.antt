@@ -9,7 +9,7 @@ use Rattle.std.proofs.lemmas.List.Folds.{flat_map-map}
 use Rattle.std.proofs.lemmas.List.FromFn.{fill_by_all}
 use Rattle.std.proofs.lemmas.Option.{slice_get-get_or}
 use Rattle.fill_base.specs.declared.layer.Layer.{Layer}
-use Rattle.fill_text.specs.Rules.{Values, keep_layer, metal_layer}
+use Rattle.fill_text.specs.Rules.{Values, keep_layers, metal_layers}
 use Rattle.fill_text.specs.Script.{Change}
 use Rattle.fill_job.specs.Plans.{Layers, PointSet, plan_of}
 use Rattle.fill_core.specs.Boxes.{low_fill}
@@ -79,17 +79,17 @@ one_answer {A = A} {E = E} r x y p q = ap (ok_or x) (sym p ∙ q)
     ok_or d (Ok z) = z
     ok_or d (Err e) = d
 
--- the keep-outs that a top draws, if there is a layer of them
-abbrev all_kept : List Cell → List ℕ → Option Layer → PointSet
-all_kept cells top None x y = false
-all_kept cells top (Some layer) x y = drawn (copies_of cells top (layer ∷ [])) x y
+-- the keep-outs that a top draws, if there are layers of them
+abbrev all_kept : List Cell → List ℕ → List Layer → PointSet
+all_kept cells top [] x y = false
+all_kept cells top (layer ∷ more) x y = drawn (copies_of cells top (layer ∷ more)) x y
 
 -- what a design draws, however many copies there are
 record IsSeen (bytes : List ℕ) (values : Values) (layers : Layers) (units dates : List ℕ) : Type 0 where
   design : Contents
   spelled : Spells bytes design
-  metal : layers.metal ≡ drawn (copies_of design.cells values.top (metal_layer values ∷ []))
-  keep : layers.keep ≡ all_kept design.cells values.top (keep_layer values)
+  metal : layers.metal ≡ drawn (copies_of design.cells values.top (metal_layers values))
+  keep : layers.keep ≡ all_kept design.cells values.top (keep_layers values)
   units_are : units ≡ design.units
   dates_are : dates ≡ design.dates
 
@@ -98,13 +98,13 @@ design_seen size bytes values layers units dates is = record {
   design = is.drawn.metal.design;
   spelled = is.drawn.metal.read.spelled;
   metal = is.drawn.metal.drawn.squares_are;
-  keep = kept is.drawn.metal.design.cells values.top (keep_layer values) layers.keep is.drawn.kept;
+  keep = kept is.drawn.metal.design.cells values.top (keep_layers values) layers.keep is.drawn.kept;
   units_are = is.units_are;
   dates_are = is.dates_are;
 } where
-  kept : (cells : List Cell) (top : List ℕ) (o : Option Layer) (p : PointSet) → IsKeptOut size cells top o p → p ≡ all_kept cells top o
-  kept cells top None p none = fun_ext (λ x. fun_ext (λ y. none x y))
-  kept cells top (Some layer) p on = on.squares_are
+  kept : (cells : List Cell) (top : List ℕ) (layers : List Layer) (p : PointSet) → IsKeptOut size cells top layers p → p ≡ all_kept cells top layers
+  kept cells top [] p none = fun_ext (λ x. fun_ext (λ y. none x y))
+  kept cells top (layer ∷ more) p on = on.squares_are
 
 -- a rule file of a chip within the limits of a run says the same of one of any size
 answer_chip : (size : Size) (r : List ℕ) (values : Values) → answer_of size r ≡ Ok values → chip_answer r ≡ Ok values
@@ -148,8 +148,8 @@ said_once r d s a b =
     let seen = subst (λ (v : Values). IsSeen d v b.layers b.units b.dates) (sym values) b.seen in
     let design : a.seen.design ≡ seen.design = spelled_once d a.seen.design seen.design a.seen.spelled seen.spelled in
     let metal : a.layers.metal ≡ b.layers.metal =
-    a.seen.metal ∙ (ap (λ (c : Contents). drawn (copies_of c.cells a.values.top (metal_layer a.values ∷ []))) design ∙ sym seen.metal) in
-    let keep : a.layers.keep ≡ b.layers.keep = a.seen.keep ∙ (ap (λ (c : Contents). all_kept c.cells a.values.top (keep_layer a.values)) design ∙ sym seen.keep) in
+    a.seen.metal ∙ (ap (λ (c : Contents). drawn (copies_of c.cells a.values.top (metal_layers a.values))) design ∙ sym seen.metal) in
+    let keep : a.layers.keep ≡ b.layers.keep = a.seen.keep ∙ (ap (λ (c : Contents). all_kept c.cells a.values.top (keep_layers a.values)) design ∙ sym seen.keep) in
     record {
       values_are = values;
       layers_are = λ t. record { metal = metal t; keep = keep t };

@@ -5,7 +5,7 @@ use Rattle.fill_base.specs.Coordinates.{IsInRange}
 use Rattle.fill_base.specs.Squares.{squares}
 use Rattle.fill_base.specs.declared.layer.Layer.{Layer}
 use Rattle.fill_base.specs.declared.rect.Rect.{Rect}
-use Rattle.fill_text.specs.Rules.{Values, keep_layer, metal_layer}
+use Rattle.fill_text.specs.Rules.{Values, keep_layers, metal_layers}
 use Rattle.fill_job.specs.Plans.{Layers, PointSet}
 use Rattle.gds_grammar.specs.Values.{Cell, Contents}
 use Rattle.gds_grammar.specs.Outcomes as library
@@ -25,31 +25,31 @@ pub record IsRead (bytes : List ℕ) (design : Contents) : Type 0 where
   pub spelled : library.Spells bytes design
 
 -- references and shapes are sound, and within the limits of a run there are not too many copies
-abbrev pub IsCountable : Size → List Cell → List ℕ → Layer → Type 0
-IsCountable limited cells top layer = flatten.IsCountable cells top (layer ∷ [])
-IsCountable unlimited cells top layer = flatten.IsSound cells top × AllFine cells (index_of cells top) (layer ∷ [])
+abbrev pub IsCountable : Size → List Cell → List ℕ → List Layer → Type 0
+IsCountable limited cells top layers = flatten.IsCountable cells top layers
+IsCountable unlimited cells top layers = flatten.IsSound cells top × AllFine cells (index_of cells top) layers
 
--- the squares are those that the top draws on the layer, and nothing is refused
-pub record IsDrawnOn (size : Size) (cells : List Cell) (top : List ℕ) (layer : Layer) (p : PointSet) : Type 0 where
-  pub countable : IsCountable size cells top layer
-  pub inside : AllStayInRange (copies_of cells top (layer ∷ []))
-  pub squares_are : p ≡ drawn (copies_of cells top (layer ∷ []))
+-- the squares are those that the top draws on the layers, and nothing is refused
+pub record IsDrawnOn (size : Size) (cells : List Cell) (top : List ℕ) (layers : List Layer) (p : PointSet) : Type 0 where
+  pub countable : IsCountable size cells top layers
+  pub inside : AllStayInRange (copies_of cells top layers)
+  pub squares_are : p ≡ drawn (copies_of cells top layers)
 
--- the same where there is a layer, and no square where there is none
-abbrev pub IsKeptOut : Size → List Cell → List ℕ → Option Layer → PointSet → Type 0
-IsKeptOut size cells top None keep = (x y : ℤ) → keep x y ≡ false
-IsKeptOut size cells top (Some layer) keep = IsDrawnOn size cells top layer keep
+-- the same where there are layers, and no square where there are none
+abbrev pub IsKeptOut : Size → List Cell → List ℕ → List Layer → PointSet → Type 0
+IsKeptOut size cells top [] keep = (x y : ℤ) → keep x y ≡ false
+IsKeptOut size cells top (layer ∷ more) keep = IsDrawnOn size cells top (layer ∷ more) keep
 
--- the metal is what the design's top draws on the checked layer
+-- the metal is what the design's top draws on the layers of the metal
 pub record IsDrawn (size : Size) (bytes : List ℕ) (values : Values) (metal : PointSet) : Type 0 where
   pub design : Contents
   pub read : IsRead bytes design
-  pub drawn : IsDrawnOn size design.cells values.top (metal_layer values) metal
+  pub drawn : IsDrawnOn size design.cells values.top (metal_layers values) metal
 
 -- so it is, and the keep-outs are what the same top draws on theirs
 pub record AreDrawn (size : Size) (bytes : List ℕ) (values : Values) (layers : Layers) : Type 0 where
   pub metal : IsDrawn size bytes values layers.metal
-  pub kept : IsKeptOut size metal.design.cells values.top (keep_layer values) layers.keep
+  pub kept : IsKeptOut size metal.design.cells values.top (keep_layers values) layers.keep
 
 -- these are metal and keep-outs, and the library has these units and dates
 pub record IsDesign (size : Size) (bytes : List ℕ) (values : Values) (layers : Layers) (units dates : List ℕ) : Type 0 where
@@ -77,24 +77,24 @@ IsRanged None p = Unit {0}
 IsRanged (Some frame) p = (x y : ℤ) → p x y ≡ true → IsInRange x y
 
 -- copies count, and are too many, where they meet it
-abbrev pub IsCountableNear : Option Rect → List Cell → List ℕ → Layer → Type 0
-IsCountableNear None cells top layer = flatten.IsCountable cells top (layer ∷ [])
-IsCountableNear (Some frame) cells top layer = flatten.IsCountableOn cells top (layer ∷ []) frame
+abbrev pub IsCountableNear : Option Rect → List Cell → List ℕ → List Layer → Type 0
+IsCountableNear None cells top layers = flatten.IsCountable cells top layers
+IsCountableNear (Some frame) cells top layers = flatten.IsCountableOn cells top layers frame
 
-abbrev pub IsRefusedNear : Option Rect → List Cell → List ℕ → Layer → FlattenError → Type 0
-IsRefusedNear None cells top layer e = flatten.IsRefused cells top (layer ∷ []) e
-IsRefusedNear (Some frame) cells top layer e = flatten.IsRefusedOn cells top (layer ∷ []) frame e
+abbrev pub IsRefusedNear : Option Rect → List Cell → List ℕ → List Layer → FlattenError → Type 0
+IsRefusedNear None cells top layers e = flatten.IsRefused cells top layers e
+IsRefusedNear (Some frame) cells top layers e = flatten.IsRefusedOn cells top layers frame e
 
--- the squares are those within it that the top draws on the layer
-pub record IsDrawnNear (frame : Option Rect) (cells : List Cell) (top : List ℕ) (layer : Layer) (p : PointSet) : Type 0 where
-  pub countable : IsCountableNear frame cells top layer
-  pub inside : AllStayInRange (copies_of cells top (layer ∷ []))
-  pub ranged : IsRanged frame (drawn (copies_of cells top (layer ∷ [])))
-  pub squares_are : (x y : ℤ) → p x y ≡ squares_within frame (drawn (copies_of cells top (layer ∷ []))) x y
+-- the squares are those within it that the top draws on the layers
+pub record IsDrawnNear (frame : Option Rect) (cells : List Cell) (top : List ℕ) (layers : List Layer) (p : PointSet) : Type 0 where
+  pub countable : IsCountableNear frame cells top layers
+  pub inside : AllStayInRange (copies_of cells top layers)
+  pub ranged : IsRanged frame (drawn (copies_of cells top layers))
+  pub squares_are : (x y : ℤ) → p x y ≡ squares_within frame (drawn (copies_of cells top layers)) x y
 
-abbrev pub IsKeptNear : Option Rect → List Cell → List ℕ → Option Layer → PointSet → Type 0
-IsKeptNear frame cells top None keep = (x y : ℤ) → keep x y ≡ false
-IsKeptNear frame cells top (Some layer) keep = IsDrawnNear frame cells top layer keep
+abbrev pub IsKeptNear : Option Rect → List Cell → List ℕ → List Layer → PointSet → Type 0
+IsKeptNear frame cells top [] keep = (x y : ℤ) → keep x y ≡ false
+IsKeptNear frame cells top (layer ∷ more) keep = IsDrawnNear frame cells top (layer ∷ more) keep
 
 -- the squares are those within it of the metal of a design
 pub record IsMetalNear (frame : Option Rect) (bytes : List ℕ) (values : Values) (p : PointSet) : Type 0 where
@@ -112,20 +112,19 @@ pub record IsDesignNear (frame : Option Rect) (bytes : List ℕ) (values : Value
 
 -- ---- refusals
 
--- why the checked layer of a design of these bytes can't be flattened there
+-- why the metal of a design of these bytes can't be flattened there
 pub record IsUnflattened (frame : Option Rect) (bytes : List ℕ) (values : Values) (e : FlattenError) : Type 0 where
   pub design : Contents
   pub read : IsRead bytes design
-  pub refused : IsRefusedNear frame design.cells values.top (metal_layer values) e
+  pub refused : IsRefusedNear frame design.cells values.top (metal_layers values) e
 
--- why the keep-outs' layer can't be, where the checked one is
+-- why the keep-outs, of which there are layers, can't be, where the metal is
 pub record IsUnflattenedBehind (frame : Option Rect) (bytes : List ℕ) (values : Values) (e : FlattenError) : Type 0 where
   pub metal : PointSet
   pub drawn : IsDrawn (size_near frame) bytes values metal
-  pub few : IsCountableNear frame drawn.design.cells values.top (metal_layer values)
-  pub layer : Layer
-  pub named : keep_layer values ≡ Some layer
-  pub refused : IsRefusedNear frame drawn.design.cells values.top layer e
+  pub few : IsCountableNear frame drawn.design.cells values.top (metal_layers values)
+  pub some : ¬ (keep_layers values ≡ [])
+  pub refused : IsRefusedNear frame drawn.design.cells values.top (keep_layers values) e
 
 -- why there is no metal there, or none of the keep-outs behind it
 abbrev pub IsUndrawn : Option Rect → List ℕ → Values → FlattenError → Type 0

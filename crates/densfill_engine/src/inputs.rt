@@ -1,5 +1,5 @@
 //! The inputs, each read to its end and interpreted.
-ghost use Rattle.std.specs.Prelude.{◌≡◌, ◌↔◌, ◌≤◌, ◌^◌, true, false, length, map, IfOk, IfErr, IfSome, IsErrOf, Ok, Some};
+ghost use Rattle.std.specs.Prelude.{◌≡◌, ◌↔◌, ◌≤◌, ◌^◌, ◌++◌, true, false, [], length, map, IfOk, IfErr, IfSome, IsErrOf, Ok};
 ghost use Rattle.std.specs.List.{flat_map};
 ghost use Rattle.std.specs.Vec.{vec_items};
 ghost use Rattle.densfill_io.specs.Taps.{has_failed, under};
@@ -85,22 +85,22 @@ pub fn take_edits<S: Read>(
     Ok(edits)
 }
 
-/// What the library's top draws on a layer within what is looked at: lists of rectangles that cover it, and may overlap.
+/// What the library's top draws on some layers within what is looked at: lists of rectangles that cover it, and may overlap.
 fn drawn_on(
     rt: &(impl Threads + Sync),
     alloc: Global,
     library: &Library<'_>,
     view: &View,
-    layer: Layer,
+    layers: &[Layer],
 ) -> Result<Vec<Vec<Rect>>, FlattenError>
-    ensures drawn { IfOk result (λ lists. IsDrawnNear view.now.frame (contents_of library.now).cells (values_of view.now.rules).top layer (covered (flat_map vec_items lists.items))) }
-    ensures refused { IfErr result (λ e. IsRefusedNear view.now.frame (contents_of library.now).cells (values_of view.now.rules).top layer e) }
+    ensures drawn { IfOk result (λ lists. IsDrawnNear view.now.frame (contents_of library.now).cells (values_of view.now.rules).top layers.now (covered (flat_map vec_items lists.items))) }
+    ensures refused { IfErr result (λ e. IsRefusedNear view.now.frame (contents_of library.now).cells (values_of view.now.rules).top layers.now e) }
 {
     let top = view.rules.top();
     match &view.frame {
-        None => flatten_parts(rt, alloc, library, top, &[layer]),
+        None => flatten_parts(rt, alloc, library, top, layers),
         Some(frame) => {
-            let rects = flatten_within(rt, alloc, library, top, &[layer], frame)?;
+            let rects = flatten_within(rt, alloc, library, top, layers, frame)?;
             let lists = one_list(alloc, rects)?;
             Ok(lists)
         }
@@ -113,12 +113,12 @@ fn region_on(
     alloc: Global,
     library: &Library<'_>,
     view: &View,
-    layer: Layer,
+    layers: &[Layer],
 ) -> Result<Region, FlattenError>
-    ensures drawn { IfOk result (λ r. IsDrawnNear view.now.frame (contents_of library.now).cells (values_of view.now.rules).top layer (holds r)) }
-    ensures refused { IfErr result (λ e. IsRefusedNear view.now.frame (contents_of library.now).cells (values_of view.now.rules).top layer e) }
+    ensures drawn { IfOk result (λ r. IsDrawnNear view.now.frame (contents_of library.now).cells (values_of view.now.rules).top layers.now (holds r)) }
+    ensures refused { IfErr result (λ e. IsRefusedNear view.now.frame (contents_of library.now).cells (values_of view.now.rules).top layers.now e) }
 {
-    let lists = drawn_on(rt, alloc, library, view, layer)?;
+    let lists = drawn_on(rt, alloc, library, view, layers)?;
     let region = region_of(rt, alloc, &lists)?;
     Ok(region)
 }
@@ -135,24 +135,24 @@ fn region_of(
     region_of_rects(rt, alloc, &rects)
 }
 
-/// What the library's top draws on the layer of the keep-outs, if there is one: no square without.
+/// What the library's top draws on the layers of the keep-outs: no square where there are none.
 fn kept_out(
     rt: &(impl Threads + Sync),
     alloc: Global,
     library: &Library<'_>,
     view: &View,
-    layer: Option<Layer>,
+    layers: &[Layer],
 ) -> Result<Region, FlattenError>
-    ensures kept { IfOk result (λ r. IsKeptNear view.now.frame (contents_of library.now).cells (values_of view.now.rules).top layer (holds r)) }
-    ensures refused { IfErr result (λ e. (l : Layer) × (layer ≡ Some l) × (IsRefusedNear view.now.frame (contents_of library.now).cells (values_of view.now.rules).top l e)) }
+    ensures kept { IfOk result (λ r. IsKeptNear view.now.frame (contents_of library.now).cells (values_of view.now.rules).top layers.now (holds r)) }
+    ensures refused { IfErr result (λ e. ¬ (layers.now ≡ []) × IsRefusedNear view.now.frame (contents_of library.now).cells (values_of view.now.rules).top layers.now e) }
 {
-    match layer {
-        Some(layer) => region_on(rt, alloc, library, view, layer),
-        None => Ok(Region::empty(alloc)),
+    if layers.is_empty() {
+        return Ok(Region::empty(alloc));
     }
+    region_on(rt, alloc, library, view, layers)
 }
 
-/// The metal that the design of these bytes draws on the checked layer within what is looked at, as lists of rectangles that cover it. Of other layers
+/// The metal that the design of these bytes draws on its layers within what is looked at, as lists of rectangles that cover it. Of other layers
 /// nothing is kept.
 fn metal_of(
     rt: &(impl Threads + Sync),
@@ -167,9 +167,9 @@ fn metal_of(
 {
     layers_suffice();
     layers_suffice_within();
-    let layer = view.rules.metal_layer();
-    let library = read_layers(alloc, bytes, &[layer])?;
-    let lists = drawn_on(rt, alloc, &library, view, layer)?;
+    let layers = view.rules.metal_layers(alloc)?;
+    let library = read_layers(alloc, bytes, &layers)?;
+    let lists = drawn_on(rt, alloc, &library, view, &layers)?;
     Ok(lists)
 }
 
@@ -192,9 +192,9 @@ pub fn take_metal<D: Read>(
 /// What a design gives to a fill.
 #[derive(Drop)]
 pub struct Design {
-    /// The metal that its top draws on the checked layer.
+    /// The metal that its top draws on the layers of the metal.
     pub metal: Region,
-    /// The squares that its top draws on the layer of the keep-outs; none where the rules name no such layer.
+    /// The squares that its top draws on the layers of the keep-outs; none where the rules name no such layer.
     pub keep: Region,
     /// The data of its UNITS.
     pub units: [u8; 16],
@@ -213,8 +213,17 @@ pub struct Task {
     pub edits: Vec<Edit>,
 }
 
-/// What the design of these bytes draws within what is looked at, on the checked layer and on that of the keep-outs, with its units
-/// and dates. It is read once, and the checked layer is flattened first.
+/// Two lists of layers, one behind the other.
+fn both(alloc: Global, first: &[Layer], second: &[Layer]) -> Result<Vec<Layer>, AllocError>
+    ensures { IfOk result (λ layers. layers.items ≡ first.now ++ second.now) }
+{
+    let mut layers = first.to_vec(alloc)?;
+    layers.extend_from_slice(second)?;
+    Ok(layers)
+}
+
+/// What the design of these bytes draws within what is looked at, on the layers of the metal and on those of the keep-outs, with its
+/// units and dates. It is read once, and the metal is flattened first.
 fn design_of(
     rt: &(impl Threads + Sync),
     alloc: Global,
@@ -228,11 +237,12 @@ fn design_of(
 {
     layers_suffice();
     layers_suffice_within();
-    let layer = view.rules.metal_layer();
-    let keep_layer = view.rules.keep_layer();
-    let library = read_layers(alloc, bytes, &[layer, keep_layer.unwrap_or(layer)])?;
-    let metal = region_on(rt, alloc, &library, view, layer)?;
-    let keep = kept_out(rt, alloc, &library, view, keep_layer)?;
+    let metal_layers = view.rules.metal_layers(alloc)?;
+    let keep_layers = view.rules.keep_layers(alloc)?;
+    let layers = both(alloc, &metal_layers, &keep_layers)?;
+    let library = read_layers(alloc, bytes, &layers)?;
+    let metal = region_on(rt, alloc, &library, view, &metal_layers)?;
+    let keep = kept_out(rt, alloc, &library, view, &keep_layers)?;
     Ok(Design {
         metal,
         keep,

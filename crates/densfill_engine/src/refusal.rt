@@ -95,6 +95,17 @@ impl<E> From<InputError> for InputFault<E> {
     }
 }
 
+impl<E> From<AllocError> for InputFault<E> {
+    ghost use Rattle.densfill_io.specs.declared.input.InputError.TheVariants.{Memory};
+    ghost use Rattle.densfill_engine.specs.declared.refusal.InputFault.TheVariants.{Unread};
+
+    ghost from_gives = { λ _ fault. fault ≡ Unread Memory };
+
+    fn from(_error: AllocError) -> InputFault<E> {
+        InputFault::Unread(InputError::Memory)
+    }
+}
+
 impl From<RuleError> for InputFault<RuleError> {
     ghost use Rattle.densfill_engine.specs.declared.refusal.InputFault.TheVariants.{Refused};
 

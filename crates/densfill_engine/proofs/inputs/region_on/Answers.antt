@@ -10,5 +10,5 @@ use Rattle.densfill_engine.proofs.inputs.region_on.Goals as goal
 
 pub returns-clause-drawn : goal.returns-clause-drawn
 returns-clause-drawn g c =
-    subst (λ (p : PointSet). IsDrawnNear c.args.view.now.frame (contents_of c.args.library.now).cells (values_of c.args.view.now.rules).top c.args.layer p)
+    subst (λ (p : PointSet). IsDrawnNear c.args.view.now.frame (contents_of c.args.library.now).cells (values_of c.args.view.now.rules).top c.args.layers.now p)
     (ap (λ lists. covered (flat_map vec_items lists)) (sym c.deref.ensures.value) ∙ c.in_ok-region.ensures) c.in_ok-lists.ensures.drawn
