@@ -49,6 +49,7 @@ test:
 	tools/test_cases.py $(BUILT)
 	tools/test_program.py $(BUILT)
 	tools/refuse.py $(BUILT)
+	tools/test_layers.py $(BUILT)
 	tools/test_parts.py $(BUILT)
 	tools/storm.py $(BUILT)
 	deck/test_deck.py $(BUILT)

@@ -95,8 +95,8 @@ def joined(lines: Iterable[str]) -> bytes:
 
 
 def changed(records: list[bytes], changes: Iterable[str]) -> list[bytes]:
-    """The records of a rule file with changes: `key,value` in the place of its key's or behind all, `-key` takes one out, and `3: text`
-    stands in the place of the third, with bytes such as \\xff."""
+    """The records of a rule file with changes: `key,value` in the place of its key's or, also of a list's, behind all, `-key` takes one out,
+    and `3: text` stands in the place of the third, with bytes such as \\xff."""
     found = list(records)
     for change in changes:
         numbered = re.fullmatch(r"(\d+): ?(.*)", change)
@@ -105,7 +105,8 @@ def changed(records: list[bytes], changes: Iterable[str]) -> list[bytes]:
             continue
         key = change.removeprefix("-").split(",")[0].encode() + b","
         kept = [change.encode()] if "," in change else []
-        at = next((i for i, line in enumerate(found) if line.startswith(key)), len(found))
+        is_of_a_list = key.startswith(b"also_")
+        at = len(found) if is_of_a_list else next((i for i, line in enumerate(found) if line.startswith(key)), len(found))
         found[at : at + 1] = kept
     return found
 
