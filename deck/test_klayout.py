@@ -282,6 +282,12 @@ class Klayout(FolderCase):
         for name, column in (("results/M1.rules.csv", 6), ("boxes.csv", 7)):
             seen = self.densfill("check", self.folder / name, merged).splitlines()
             self.assertEqual([line.split(",")[6] for line in seen], [row[column] for row in rows], name)
+        both = self.folder / "both.csv"
+        both.write_text(rules + "also_metal,31/1\n")
+        seen = self.densfill("check", both, merged)
+        self.assertEqual([line.split(",")[6] for line in seen.splitlines()], [row[8] for row in rows])
+        (self.folder / "both_report.csv").write_text(seen)
+        self.assertIn("windows that differ: 0 of 88", self.klayout(DECK / "klayout/compare.drc", design=merged, rules=both, report=self.folder / "both_report.csv"))
         script = self.folder / "count.py"
         script.write_text("import pya\ndb = pya.ReportDatabase('m')\ndb.load(markers)\nprint('items', db.num_items())\n")
         missed = sum(row[10] != "OK" for row in rows)
