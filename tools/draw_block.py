@@ -43,7 +43,8 @@ def corners(data: bytes) -> Iterator[tuple[int, int]]:
         if kind in (0x0A, 0x0B):
             reference, array = True, kind == 0x0B
         elif kind == 0x13:
-            counts = struct.unpack(">2H", body)
+            columns, rows = struct.unpack(">2H", body)
+            counts = columns, rows
         elif kind == 0x10 and reference:
             points = list(struct.iter_unpack(">2i", body))
             (x, y), (columns, rows) = points[0], counts if array else (1, 1)
@@ -63,8 +64,8 @@ def outlined(report: str, height: int) -> Iterator[str]:
     for line in report.splitlines():
         fields = line.split(",")
         if fields[-1] in ("LOW", "HIGH"):
-            rect = tuple(map(int, fields[2:6]))
-            yield svg_rect(rect, height, f'fill="none" stroke="{COLOURS[fields[-1]]}" stroke-width="6"')
+            left, bottom, right, top = map(int, fields[2:6])
+            yield svg_rect((left, bottom, right, top), height, f'fill="none" stroke="{COLOURS[fields[-1]]}" stroke-width="6"')
 
 
 def picture(fill: bytes, report: str, size: int) -> str:

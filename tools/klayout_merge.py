@@ -3,10 +3,12 @@
 # its path, a line each).
 import pya
 
+# The names that stand behind -rd.
+design, top, fills, merged = (str(globals()[name]) for name in ("design", "top", "fills", "merged"))
 layout = pya.Layout()
-layout.read(design)  # noqa: F821
-below = layout.cell(top)  # noqa: F821
-for line in fills.split("\n"):  # noqa: F821
+layout.read(design)
+below = layout.cell(top)
+for line in fills.split("\n"):
     name, path = line.split(" ", 1)
     one = pya.Layout()
     one.read(path)
@@ -15,12 +17,12 @@ for line in fills.split("\n"):  # noqa: F821
     below.insert(pya.CellInstArray(cell.cell_index(), pya.Trans()))
 
 other = pya.Layout()
-other.read(merged)  # noqa: F821
+other.read(merged)
 same = abs(other.dbu - layout.dbu) < 1e-12 and sorted(cell.name for cell in other.each_cell()) == sorted(cell.name for cell in layout.each_cell())
 infos = {(info.layer, info.datatype) for one in (layout, other) for info in one.layer_infos()}
 different = 0
 for number in sorted(infos):
-    regions = [pya.Region(one.cell(top).begin_shapes_rec(one.layer(*number))) for one in (layout, other)]  # noqa: F821
+    regions = [pya.Region(one.cell(top).begin_shapes_rec(one.layer(*number))) for one in (layout, other)]
     if regions[0].count() != regions[1].count() or not (regions[0] ^ regions[1]).is_empty():
         different += 1
 print("cells the same:", same, "layers:", len(infos), "different:", different)

@@ -195,7 +195,8 @@ def sweep(attempt: Attempt, most: int) -> tuple[int, list[str]]:
             refused += sum(came for _, came in tried)
             faults += [fault for fault, _ in tried if fault]
             if not any(came for _, came in tried):
-                return refused, faults
+                break
+    return refused, faults
 
 
 def attempts(program: Path, tests: Path | None, shim: Path, folder: Path) -> dict[str, Attempt]:

@@ -64,7 +64,8 @@ CHIPS = (
 def drawn(seed: int) -> Chip:
     """A random design under random rules, half of them with keep-outs, and a script."""
     draw = random.Random(seed)
-    rules = storm.rules_of(draw) | draw.choice(({}, {"padding": "ignore"}, {"keep_layer": storm.OTHER, "keep_datatype": 0}))
+    more: tuple[dict[str, int | str], ...] = ({}, {"padding": "ignore"}, {"keep_layer": storm.OTHER, "keep_datatype": 0})
+    rules = storm.rules_of(draw) | draw.choice(more)
     return Chip(f"drawn {seed}", rules, storm.design_of(draw, rules), storm.script_of(draw, rules), (1, 2, 3, 5, 11, 64))
 
 
@@ -117,7 +118,9 @@ class OneRun(Case):
             self.assert_one_run(drawn(seed))
 
     def test_the_example(self) -> None:
-        rules = dict(line.split(",") for line in (ROOT / "examples/block_rules.csv").read_text().split())
+        rules: dict[str, int | str] = {}
+        for line in (ROOT / "examples/block_rules.csv").read_text().split():
+            key, rules[key] = line.split(",")
         edits = "add,1200,12000,46800,12300\ncut,20000,1200,21000,34800\nkeep,30000,16000,31000,20000\n"
         self.assert_one_run(Chip("block", rules, (ROOT / "examples/block.gds").read_bytes(), edits, (1, 2, 4, 7)))
 
@@ -227,7 +230,9 @@ class Lines(Case):
                 self.assert_usage("--part", "1/4", *options)
 
     def test_a_refused_input_is_told_as_of_one_run(self) -> None:
-        for rules, design, script in (({"min": -1}, WIRE, ""), ({}, WIRE[:-3], ""), ({}, WIRE, "add,1,1,1,1\n"), ({"top": "NONE"}, WIRE, "")):
+        refused: tuple[tuple[dict[str, int | str], bytes, str], ...] = (
+            ({"min": -1}, WIRE, ""), ({}, WIRE[:-3], ""), ({}, WIRE, "add,1,1,1,1\n"), ({"top": "NONE"}, WIRE, ""))
+        for rules, design, script in refused:
             self.write(Chip("refused", RULES | rules, design, script))
             whole, part = self.fill("out.gds"), self.fill("out.gds", "--part", "2/3")
             self.assertEqual((part.returncode, part.stdout, part.stderr), (whole.returncode, b"", whole.stderr))

@@ -12,6 +12,7 @@ import signal
 import subprocess
 import sys
 import unittest
+from collections.abc import Callable
 from dataclasses import dataclass
 from functools import partial
 from pathlib import Path
@@ -67,15 +68,15 @@ class Case(FolderCase):
         (self.folder / "design.gds").write_bytes(DESIGN)
         (self.folder / "script.csv").touch()
 
-    def run_words(self, *given: str | bytes, **how: object) -> Ended:
+    def run_words(self, *given: str | bytes, preexec_fn: Callable[[], None] | None = None, timeout: float | None = None) -> Ended:
         """A run in the folder, by one who has no rights beyond those of a file."""
-        user = {"user": NOBODY} if os.geteuid() == 0 else {}
+        user = NOBODY if os.geteuid() == 0 else None
         done = subprocess.run([str(self.folder / "densfill"), *given], cwd=self.folder, capture_output=True, stdin=subprocess.DEVNULL,
-                              check=False, **user, **how)
+                              check=False, user=user, preexec_fn=preexec_fn, timeout=timeout)
         return Ended(done.returncode, done.stdout.decode(), done.stderr.decode(errors="replace"))
 
-    def fill(self, *options: str, **how: object) -> Ended:
-        return self.run_words("fill", "rules.csv", "design.gds", "script.csv", "out.gds", *options, **how)
+    def fill(self, *options: str, preexec_fn: Callable[[], None] | None = None) -> Ended:
+        return self.run_words("fill", "rules.csv", "design.gds", "script.csv", "out.gds", *options, preexec_fn=preexec_fn)
 
     def assert_fault(self, ended: Ended, status: int, line: str) -> None:
         self.assertEqual((ended.status, ended.out, ended.err), (status, "", f"densfill: {line}\n"))
