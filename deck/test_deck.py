@@ -173,6 +173,11 @@ class Faults(Folder):
             text = GOOD + re.sub(rf"(?m)^{key} = .*\n", "", layer(1))
             self.assertEqual(self.faults(text), [f':16: layer M1: the key "{key}" is missing, here and in [defaults]'], key)
 
+    def test_a_fault_of_what_all_layers_share(self) -> None:
+        design = self.design(structure("TOP", *(boundary(k, 0, 0, 5, 5) for k in (1, 2))))
+        self.assertEqual(self.faults(GOOD.replace('"40 um"]', '"0.5 nm"]') + layer(1) + layer(2), design),
+                         [":6: [defaults], frame: 0.5 nm is 0.5 database units of 1 nm: write a whole number of them"])
+
     def test_a_fault_of_the_design_is_told_alone(self) -> None:
         text = GOOD.replace('frame = [0, 0, "40 um", "40 um"]', 'frame = "top"') + layer(1)
         design = self.design(structure("TOPS", boundary(1, 0, 0, 5, 5)))

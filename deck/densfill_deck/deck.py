@@ -198,7 +198,9 @@ def read_layer(table: Table, top: object, contents: Contents | None, is_design_f
         judge_script(table, path)
     elif script is not None:
         table.fault("script", f"{script!r} is no path")
-    return Layer(str(name), bool(fills), table.numbers, texts, path, gradient, table.also) if len(table.text.faults) == before else None
+    if table.is_faulty or len(table.text.faults) > before:
+        return None
+    return Layer(str(name), bool(fills), table.numbers, texts, path, gradient, table.also)
 
 
 def unit_of(table: Table, design: Path | None) -> Fraction:

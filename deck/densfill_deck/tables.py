@@ -122,6 +122,7 @@ class Table:
     unit: Fraction = Fraction(1)
     numbers: dict[str, int] = field(default_factory=dict)
     also: dict[str, list[tuple[int, int]]] = field(default_factory=dict)
+    is_faulty: bool = False
 
     def get(self, key: str, otherwise: object = None) -> object:
         return self.own.get(key, self.shared.get(key, otherwise))
@@ -134,6 +135,8 @@ class Table:
         return Fault(self.text.path, self.text.line_of(header, key) if key else header or None, f"{where}, {key}" if key else where, text)
 
     def fault(self, key: str, text: str) -> None:
+        """A fault, which is told once where several layers share it."""
+        self.is_faulty = True
         if (fault := self.told(key, text)) not in self.text.faults:
             self.text.faults.append(fault)
 
