@@ -5,7 +5,6 @@ over unit squares. Then names all layers of the metal by one number, which must 
 usage: test_layers.py [PROGRAM]     (by default bin/densfill, else what the gate left in crates/densfill/out; needs python3)
 """
 import random
-import struct
 import subprocess
 import sys
 from collections.abc import Iterator, Set
@@ -14,8 +13,8 @@ from pathlib import Path
 
 sys.path.insert(0, str(Path(__file__).resolve().parent))
 from built import FolderCase, rule_file, run_tests  # noqa: E402
+from draw_block import corners  # noqa: E402
 from stream import boundary, library, reference, structure  # noqa: E402
-from test_parts import records  # noqa: E402
 
 RUNS = 500
 LAYERS = (31, 32, 33, 34, 35)
@@ -96,24 +95,6 @@ def lists_of(draw: random.Random) -> Lists:
     return Lists([LAYERS[0], *draw.choices(LAYERS, k=draw.randrange(4))], draw.choices(LAYERS, k=draw.randrange(4)))
 
 
-def corners_of(text: bytes) -> set[Square]:
-    """The lower left corners of the boxes of a fill library, by its references and arrays."""
-    found: set[Square] = set()
-    columns, rows, inside = 1, 1, False
-    for kind, body in records(text):
-        if kind in (0x0A, 0x0B):
-            columns, rows, inside = 1, 1, True
-        elif kind == 0x13:
-            columns, rows = struct.unpack(">hh", body)
-        elif kind == 0x10 and inside:
-            x, y, *ends = struct.unpack(f">{len(body) // 4}i", body)
-            across, up = ((ends[0] - x) // columns, (ends[3] - y) // rows) if ends else (0, 0)
-            found |= {(x + across * column, y + up * row) for column in range(columns) for row in range(rows)}
-        elif kind == 0x11:
-            inside = False
-    return found
-
-
 class Model:
     """A fill over unit squares, without a clever step."""
 
@@ -185,7 +166,7 @@ class Layers(FolderCase):
                 model = Model(rules, design.drawn(set(lists.metal)), design.drawn(set(lists.keep)))
                 filled = model.filled()
                 self.assertEqual(report, model.report(filled))
-                self.assertEqual(corners_of(out), {model.box(*place)[:2] for place in filled})
+                self.assertEqual(set(corners(out)), {model.box(*place)[:2] for place in filled})
 
     def test_one_name_for_all_metal(self) -> None:
         for seed in range(RUNS):
