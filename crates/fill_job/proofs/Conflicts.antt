@@ -13,7 +13,7 @@ use Rattle.fill_size.specs.Distance.{InConflict, IsNear, HasSquare}
 use Rattle.fill_size.proofs.Ranges.{nearest}
 use Rattle.fill_job.specs.Searches.{some_below, some_pair, some_within}
 use Rattle.fill_job.specs.Plans.{PointSet, meets_box}
-use Rattle.fill_job.specs.Laws.{BlockedIsSharing, ConflictsAreOfSquares}
+use Rattle.fill_job.specs.Laws.{BlockedIsSharing, ConflictsAreOfSquares, CrowdingIsOfSquares}
 use Rattle.fill_job.proofs.Searching.{some_below_finds, some_below_has, step_within}
 
 step_from : (lo hi x : ℤ) → lo ≤ℤ x → x <ℤ hi → (span_len lo x < span_len lo hi) × (lo +ℤ pos (span_len lo x) ≡ x)
@@ -93,6 +93,9 @@ met_of_squares r s p i j is spacing =
 
 pub conflict_of_squares : ConflictsAreOfSquares
 conflict_of_squares plan p i j is = met_of_squares plan.raster plan.spacing p i j is.raster is.spacing
+
+pub crowding_of_squares : CrowdingIsOfSquares
+crowding_of_squares plan p i j is = met_of_squares plan.raster plan.fill_spacing p i j is.raster is.fill_spacing
 
 -- ---- no distance at all
 

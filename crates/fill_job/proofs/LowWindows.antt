@@ -13,10 +13,9 @@ use Rattle.fill_region.specs.Runs.{Sides, holds}
 use Rattle.fill_raster.specs.Axes.{box_begin, box_end}
 use Rattle.fill_size.specs.Distance.{InConflict, IsNear}
 use Rattle.fill_size.proofs.Ranges.{grown_conflict, squares_inside, squares_true}
-use Rattle.fill_raster.specs.Lattice.{in_halo}
 use Rattle.fill_text.specs.Rules.{Values}
-use Rattle.fill_job.specs.Basis.{windows_in, read_by}
-use Rattle.fill_job.specs.ReadSets.{ReadSet, read_set, touches}
+use Rattle.fill_job.specs.Basis.{layers_by, layers_in, read_by, windows_in}
+use Rattle.fill_job.specs.ReadSets.{ReadSet, layers_near, read_set, touches}
 use Rattle.fill_job.specs.declared.basis.Basis.{Basis}
 use Rattle.fill_job.specs.Searches.{some_below, some_pair, some_within}
 use Rattle.fill_job.specs.Plans.{Layers, Plan, PointSet, plan_of, holds_box, in_window_of, is_suitable, is_taken}
@@ -123,23 +122,28 @@ free_is plan layers low i j r taken b e1 e2 e3 e4 taken_is free held =
 -- ---- equal read sets
 
 -- what was read is what there is to read now
-pub read_matches : (p : Basis) (rules : Values) (layers : Layers) (metal keep low : List Sides) (tile : ℕ) (r m k w : Bool) → (IsTrue r ↔ (p.rules ≡ rules)) → (IsTrue m ↔ ((x y : ℤ) → holds p.metal x y ≡ holds metal x y))
-    → (IsTrue k ↔ ((x y : ℤ) → holds p.keep x y ≡ holds keep x y))
+pub read_matches : (p : Basis) (rules : Values) (layers : Layers) (metal fill keep low : List Sides) (tile : ℕ) (r m f k w : Bool) → (IsTrue r ↔ (p.rules ≡ rules))
+    → (IsTrue m ↔ ((x y : ℤ) → holds p.pieces.metal x y ≡ holds metal x y)) → (IsTrue f ↔ ((x y : ℤ) → holds p.pieces.fill x y ≡ holds fill x y))
+    → (IsTrue k ↔ ((x y : ℤ) → holds p.pieces.keep x y ≡ holds keep x y))
     → (IsTrue w ↔ ((a b : ℕ) → windows_in p.low a b ≡ (windows_in low a b && touches (plan_of p.rules) tile a b)))
-    → ((x y : ℤ) → holds metal x y ≡ (layers.metal x y && in_halo (plan_of rules).raster tile (plan_of rules).spacing x y))
-    → ((x y : ℤ) → holds keep x y ≡ (layers.keep x y && in_halo (plan_of rules).raster tile (pos 0) x y))
-    → IsTrue ((r && (m && k)) && w) ↔ (read_by p ≡ read_set rules layers (windows_in low) tile)
-read_matches p rules layers metal keep low tile r m k w same_rules same_metal same_keep same_low is out = (
+    → layers_in metal fill keep ≡ layers_near (plan_of rules) layers tile
+    → IsTrue ((r && (m && (f && k))) && w) ↔ (read_by p ≡ read_set rules layers (windows_in low) tile)
+read_matches p rules layers metal fill keep low tile r m f k w same_rules same_metal same_fill same_keep same_low near = (
   (λ h.
-      let more = and_parts (r && (m && k)) w h in
-      let parts = and_parts r (m && k) more.0 in
-      let both = and_parts m k parts.1 in
-      let a = same_rules.0 parts.0 in let b = same_metal.0 both.0 in let f = same_keep.0 both.1 in let d = same_low.0 more.1 in
-      let e : (x y : ℕ) → windows_in p.low x y ≡ (windows_in low x y && touches (plan_of rules) tile x y) = λ x y. d x y ∙ ap (λ (v : Values). windows_in low x y && touches (plan_of v) tile x y) a in
-      λ i. record { rules = a i; layers = record { metal = λ x y. (b x y ∙ is x y) i; keep = λ x y. (f x y ∙ out x y) i }; low = λ x y. e x y i }),
+      let more = and_parts (r && (m && (f && k))) w h in
+      let parts = and_parts r (m && (f && k)) more.0 in
+      let both = and_parts m (f && k) parts.1 in let rest = and_parts f k both.1 in
+      let a = same_rules.0 parts.0 in let b = same_metal.0 both.0 in let c = same_fill.0 rest.0 in let d = same_keep.0 rest.1 in
+      let here : layers_by p ≡ layers_in metal fill keep = λ i. record { metal = λ x y. b x y i; fill = λ x y. c x y i; keep = λ x y. d x y i } in
+      let read = here ∙ near in
+      let e : (x y : ℕ) → windows_in p.low x y ≡ (windows_in low x y && touches (plan_of rules) tile x y) = λ x y. same_low.0 more.1 x y ∙ ap (λ (v : Values). windows_in low x y && touches (plan_of v) tile x y) a in
+      λ i. record { rules = a i; layers = read i; low = λ x y. e x y i }),
   (λ e.
       let a : p.rules ≡ rules = ap (λ (s : ReadSet). s.rules) e in
-      and_from _ _ (and_from _ _ (same_rules.1 a) (and_from _ _ (same_metal.1 (λ x y. ap (λ (s : ReadSet). s.layers.metal x y) e ∙ sym (is x y))) (same_keep.1 (λ x y. ap (λ (s : ReadSet). s.layers.keep x y) e ∙ sym (out x y)))))
+      let here : layers_by p ≡ layers_in metal fill keep = ap (λ (s : ReadSet). s.layers) e ∙ sym near in
+      let squares = and_from m (f && k) (same_metal.1 (λ x y. ap (λ (l : Layers). l.metal x y) here))
+      (and_from f k (same_fill.1 (λ x y. ap (λ (l : Layers). l.fill x y) here)) (same_keep.1 (λ x y. ap (λ (l : Layers). l.keep x y) here))) in
+      and_from _ _ (and_from _ _ (same_rules.1 a) squares)
       (same_low.1 (λ x y. ap (λ (s : ReadSet). s.low x y) e ∙ ap (λ (v : Values). windows_in low x y && touches (plan_of v) tile x y) (sym a)))),
 )
 

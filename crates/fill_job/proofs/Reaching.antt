@@ -20,10 +20,11 @@ use Rattle.fill_raster.proofs.Floors.{product_le}
 use Rattle.fill_size.specs.Distance.{HasSquare}
 use Rattle.fill_size.specs.Ranges.{AreRising, AreMarked}
 use Rattle.fill_size.proofs.Ranges.{spacing_read}
-use Rattle.fill_job.specs.Plans.{Layers, Plan, PointSet, blocked, meets_box}
+use Rattle.fill_job.specs.Plans.{Layers, Plan, PointSet, blocked, conflicts, crowded, meets_box}
 use Rattle.fill_job.specs.steps.Reaches.{reach, AreMet, AreReaches, AreTaken}
 use Rattle.fill_job.proofs.Conflicts.{some_within_decides, grown_le, some_wide}
 use Rattle.fill_job.proofs.LowWindows.{both_or_none}
+use Rattle.fill_job.proofs.Searching.{none_passes}
 
 -- a set meets a box where it has a square in the grown box
 met_found : (r : Lattice) (s : ℤ) (p : PointSet) (i j : ℤ) → IsLattice r → IsSpacing s
@@ -92,6 +93,12 @@ lines_fit r s y1 is e1 =
     let down : FitsSigned w64 (r.y1 -ℤ s) = omega (arith, ints, clamps) in
     rw (e1, read_y1 r, spacing_read s is) down
 
+pub lines_fit_above : (r : Rect) (s y2 : ℤ) → IsSpacing s → y2 ≡ r.y2 → FitsSigned w64 (read y2 +ℤ read s)
+lines_fit_above r s y2 is e2 =
+    let least = is.least in let most = is.most in let low = r.bottom in let tall = r.tall in let high = r.top in
+    let up : FitsSigned w64 (r.y2 +ℤ s) = omega (arith, ints, clamps) in
+    rw (e2, read_y2 r, spacing_read s is) up
+
 pub lines_ordered : (r : Rect) (s : ℤ) → IsSpacing s → (r.y1 -ℤ s) ≤ℤ (r.y2 +ℤ s)
 lines_ordered r s is = grown_le r.y1 r.y2 s r.tall is.least
 
@@ -121,12 +128,27 @@ met_places r s p left right j reaches old new is spacing are count same marked a
     or_right true b h = refl
     or_right false b h = h
 
--- where nothing was marked before, those that metal is near to and then those that keep-outs share a square with are the taken ones
-pub taken_places : (plan : Plan) (layers : Layers) (left j : ℤ) (n : ℕ) (near taken : List Bool) → length near ≡ n → length taken ≡ n
-    → AreMet plan.raster plan.spacing layers.metal left j (replicate n false) near → AreMet plan.raster (pos 0) layers.keep left j near taken → AreTaken plan layers left j taken
-taken_places plan layers left j n near taken count same metal keep a m lt =
+-- where nothing was marked before, those that metal is near to, then those that existing fill is near to and then those that
+-- keep-outs share a square with are the taken ones
+pub taken_places : (plan : Plan) (layers : Layers) (left j : ℤ) (n : ℕ) (near more taken : List Bool) → length near ≡ n → length more ≡ n → length taken ≡ n
+    → AreMet plan.raster plan.spacing layers.metal left j (replicate n false) near → AreMet plan.raster plan.fill_spacing layers.fill left j near more → AreMet plan.raster (pos 0) layers.keep left j more taken
+    → AreTaken plan layers left j taken
+taken_places plan layers left j n near more taken count many same metal fill keep a m lt =
     let none : get_or (replicate n false) a m ≡ false = get_or-replicate n a false m (omega (arith, same, lt)) in
-    keep a m lt ∙ ap (λ b. b || blocked plan layers.keep (left +ℤ pos a) j) (metal a m (omega (arith, count, same, lt)) ∙ rw none refl)
+    let first : get_or near a m ≡ conflicts plan layers.metal (left +ℤ pos a) j = metal a m (omega (arith, count, same, lt)) ∙ rw none refl in
+    keep a m lt ∙ ap (λ b. b || blocked plan layers.keep (left +ℤ pos a) j) (fill a m (omega (arith, many, same, lt)) ∙ ap (λ b. b || crowded plan layers.fill (left +ℤ pos a) j) first)
+
+-- a set without squares meets no box
+pub none_met : (r : Lattice) (s : ℤ) (p : PointSet) (left j : ℤ) (marks : List Bool) → ((x y : ℤ) → p x y ≡ false) → AreMet r s p left j marks marks
+unfolding meets_box
+none_met r s p left j marks none a m lt =
+    let i = left +ℤ pos a in
+    let off = none_passes p (box_begin r.across i -ℤ s) (box_begin r.up j -ℤ s) (box_end r.across i +ℤ s) (box_end r.up j +ℤ s) none in
+    rw off (or_no (get_or marks a m))
+  where
+    or_no : (b : Bool) → b ≡ b || false
+    or_no true = refl
+    or_no false = refl
 
 -- ---- the index of a place from the first of its part of a row
 

@@ -79,7 +79,8 @@ same_met plan s p tile i j is spacing h =
 
 -- what of the layers is near to a tile takes the same places of it
 pub same_taken : (plan : Plan) (layers : Layers) (tile : ℕ) (i j : ℤ) → IsPlan plan → in_tile plan.raster tile i j ≡ true → is_taken plan (layers_near plan layers tile) i j ≡ is_taken plan layers i j
-same_taken plan layers tile i j is h = rw (same_met plan plan.spacing layers.metal tile i j is is.spacing h, same_met plan (pos 0) layers.keep tile i j is no_spacing h) refl
+same_taken plan layers tile i j is h =
+    rw (same_met plan plan.spacing layers.metal tile i j is is.spacing h, same_met plan plan.fill_spacing layers.fill tile i j is is.fill_spacing h, same_met plan (pos 0) layers.keep tile i j is no_spacing h) refl
 
 -- a window that holds the box on an axis begins before the tile ends, and ends after it begins
 overlaps : (lo hi b n left right : ℤ) → IsLength n → lo ≤ℤ b → (b +ℤ n) ≤ℤ hi → int_le left b && int_le (b +ℤ n) right ≡ true → int_lt left hi && int_lt lo right ≡ true

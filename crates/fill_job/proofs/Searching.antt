@@ -52,3 +52,14 @@ some_below_has p (suc n) k lt holds = elim (cases_Bool (p n)) [
       | inl less ↦ less
       | inr ge ↦ absurd (let e : k ≡ n = omega arith in let f : p n ≡ true = rw e at holds in cc)
     ]
+
+-- a test that nothing passes finds nothing
+pub none_passes : (p : ℤ → ℤ → Bool) (left bottom right top : ℤ) → ((x y : ℤ) → p x y ≡ false) → some_within p left bottom right top ≡ false
+unfolding some_within some_pair
+none_passes p left bottom right top each = elim (cases_Bool (some_below (λ a. some_below (λ b. p (left +ℤ pos a) (bottom +ℤ pos b)) (span_len bottom top)) (span_len left right))) [
+  | inl h ↦
+      let column = some_below_finds (λ a. some_below (λ b. p (left +ℤ pos a) (bottom +ℤ pos b)) (span_len bottom top)) (span_len left right) h in
+      let row = some_below_finds (λ b. p (left +ℤ pos column.0) (bottom +ℤ pos b)) (span_len bottom top) column.2 in
+      absurd (let e : false ≡ true = rw (each (left +ℤ pos column.0) (bottom +ℤ pos row.0)) at row.2 in cc)
+  | inr h ↦ h
+]

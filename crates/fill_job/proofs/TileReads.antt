@@ -14,11 +14,12 @@ use Rattle.fill_area.specs.Grid.{IsGrid}
 use Rattle.fill_area.specs.declared.axis.Axis.{Axis}
 use Rattle.fill_area.proofs.Axes as axes
 use Rattle.fill_region.specs.Runs.{Sides, holds}
-use Rattle.fill_raster.specs.Lattice.{in_halo, tile_left, tile_right, tile_bottom, tile_top}
+use Rattle.fill_raster.specs.Lattice.{tile_left, tile_right, tile_bottom, tile_top}
 use Rattle.fill_text.specs.Rules.{Values}
-use Rattle.fill_job.specs.Basis.{layers_in, windows_in}
+use Rattle.fill_job.specs.Basis.{layers_of, windows_in}
 use Rattle.fill_job.specs.Plans.{Layers, Plan, WindowSet, plan_of}
-use Rattle.fill_job.specs.ReadSets.{ReadSet, read_set, touches}
+use Rattle.fill_job.specs.ReadSets.{ReadSet, layers_near, read_set, touches}
+use Rattle.fill_job.specs.declared.shared.Pieces.{Pieces}
 use Rattle.fill_job.proofs.LowWindows.{both_or_none}
 
 lt_is : (a b : ℤ) → a <ℤ b → int_lt a b ≡ true
@@ -131,16 +132,14 @@ and_when false b c h = refl
 abbrev pub set_of : Values → Layers → WindowSet → ReadSet
 set_of rules layers low = record { rules = rules; layers = layers; low = low }
 
--- rules, the metal within the halo, the keep-outs between the edges, and the windows that touch the tile are a read set
-pub read_is_set : (rules held : Values) (layers : Layers) (metal piece keep between low part : List Sides) (tile : ℕ) → held ≡ rules → piece ≡ metal → between ≡ keep
-    → ((x y : ℤ) → holds metal x y ≡ (layers.metal x y && in_halo (plan_of rules).raster tile (plan_of rules).spacing x y))
-    → ((x y : ℤ) → holds keep x y ≡ (layers.keep x y && in_halo (plan_of rules).raster tile (pos 0) x y))
+-- rules, what of a design is near to the tile, and the windows that touch it are a read set
+pub read_is_set : (rules held : Values) (layers : Layers) (given pieces : Pieces) (low part : List Sides) (tile : ℕ) → held ≡ rules → pieces ≡ given
+    → layers_of given ≡ layers_near (plan_of rules) layers tile
     → ((a b : ℕ) → windows_in part a b ≡ (windows_in low a b && touches (plan_of rules) tile a b))
-    → set_of held (layers_in piece between) (windows_in part) ≡ read_set rules layers (windows_in low) tile
-read_is_set rules held layers metal piece keep between low part tile same at on clip cut touched =
-    let metal_is : (x y : ℤ) → holds piece x y ≡ (layers.metal x y && in_halo (plan_of rules).raster tile (plan_of rules).spacing x y) = λ x y. ap (λ (b : List Sides). holds b x y) at ∙ clip x y in
-    let keep_is : (x y : ℤ) → holds between x y ≡ (layers.keep x y && in_halo (plan_of rules).raster tile (pos 0) x y) = λ x y. ap (λ (b : List Sides). holds b x y) on ∙ cut x y in
-    λ k. record { rules = same k; layers = record { metal = λ x y. metal_is x y k; keep = λ x y. keep_is x y k }; low = λ a b. touched a b k }
+    → set_of held (layers_of pieces) (windows_in part) ≡ read_set rules layers (windows_in low) tile
+read_is_set rules held layers given pieces low part tile same at near touched =
+    let read : layers_of pieces ≡ layers_near (plan_of rules) layers tile = ap layers_of at ∙ near in
+    λ k. record { rules = same k; layers = read k; low = λ a b. touched a b k }
 
 pub low_touches : (rules held : Values) (low part : List Sides) (tile : ℕ) → held ≡ rules → ((a b : ℕ) → windows_in part a b ≡ (windows_in low a b && touches (plan_of rules) tile a b)) → (a b : ℕ) → windows_in part a b ≡ true → touches (plan_of held) tile a b ≡ true
 low_touches rules held low part tile same is a b h = rw same (and_parts (windows_in low a b) (touches (plan_of rules) tile a b) (sym (is a b) ∙ h)).1

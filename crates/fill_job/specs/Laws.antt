@@ -4,7 +4,7 @@ use Rattle.fill_raster.specs.Lattice.{box_squares}
 use Rattle.fill_area.specs.Sharing.{ShareASquare}
 use Rattle.fill_size.specs.Distance.{InConflict}
 use Rattle.fill_text.specs.Rules.{Values, rules_of}
-use Rattle.fill_job.specs.Plans.{Plan, IsPlan, Layers, PointSet, WindowSet, blocked, plan_of, conflicts, wanted}
+use Rattle.fill_job.specs.Plans.{Plan, IsPlan, Layers, PointSet, WindowSet, blocked, crowded, plan_of, conflicts, wanted}
 use Rattle.fill_job.specs.ReadSets.{read_set, wanted_of}
 
 -- the values of a rule file that is accepted make a plan: each number is in its range, and the steps keep the boxes apart
@@ -23,6 +23,10 @@ EqualReadSetsWantTheSame = (rules other : Values) (layers changed : Layers) (low
 -- a place is in conflict where some square of the set and some square of its box keep less than the spacing
 abbrev pub ConflictsAreOfSquares : Type 0
 ConflictsAreOfSquares = (plan : Plan) (p : PointSet) (i j : ℤ) → IsPlan plan → IsTrue (conflicts plan p i j) ↔ InConflict p (box_squares plan.raster i j) plan.spacing
+
+-- it is crowded where they keep less than the fill spacing
+abbrev pub CrowdingIsOfSquares : Type 0
+CrowdingIsOfSquares = (plan : Plan) (p : PointSet) (i j : ℤ) → IsPlan plan → IsTrue (crowded plan p i j) ↔ InConflict p (box_squares plan.raster i j) plan.fill_spacing
 
 -- and it is blocked where a square is both in the set and in its box
 abbrev pub BlockedIsSharing : Type 0

@@ -16,8 +16,8 @@ PointSet = ℤ → ℤ → Bool
 abbrev pub WindowSet : Type 0
 WindowSet = ℕ → ℕ → Bool
 
--- what the rules say of a fill: its places, the density windows, the least gap to drawn metal and between boxes, and the least
--- share of a window, in parts of a million
+-- what the rules say of a fill: its places, the density windows, the least gap to drawn metal, that to existing fill and between
+-- boxes, and the least share of a window, in parts of a million
 pub record Plan : Type 0 where
   pub raster : Lattice
   pub windows : Grid
@@ -43,26 +43,35 @@ pub record IsPlan (plan : Plan) : Type 0 where
   pub pitch : KeepsPitch plan.raster plan.fill_spacing
   pub least : IsShare plan.least
 
--- what is there before a fill: the squares of metal, and those of keep-outs
+-- what is there before a fill: the squares of metal, of existing fill, and of keep-outs
 pub record Layers : Type 0 where
   pub metal : PointSet
+  pub fill : PointSet
   pub keep : PointSet
+
+-- what counts of a design: metal and existing fill together
+abbrev pub drawn_squares : Layers → PointSet
+drawn_squares layers x y = layers.metal x y || layers.fill x y
 
 -- some square of `p` is in the box of the place, grown by a distance on all sides
 unfoldable pub meets_box : Lattice → ℤ → PointSet → ℤ → ℤ → Bool
 meets_box r d p i j = some_within p (box_begin r.across i -ℤ d) (box_begin r.up j -ℤ d) (box_end r.across i +ℤ d) (box_end r.up j +ℤ d)
 
--- metal comes nearer to the box of the place than the spacing; a keep-out shares a square with it
+-- metal comes nearer to the box of the place than the spacing; existing fill comes nearer than the fill spacing; a keep-out shares
+-- a square with it
 abbrev pub conflicts : Plan → PointSet → ℤ → ℤ → Bool
 conflicts plan metal i j = meets_box plan.raster plan.spacing metal i j
+
+abbrev pub crowded : Plan → PointSet → ℤ → ℤ → Bool
+crowded plan fill i j = meets_box plan.raster plan.fill_spacing fill i j
 
 abbrev pub blocked : Plan → PointSet → ℤ → ℤ → Bool
 blocked plan keep i j = meets_box plan.raster (pos 0) keep i j
 
 abbrev pub is_taken : Plan → Layers → ℤ → ℤ → Bool
-is_taken plan layers i j = conflicts plan layers.metal i j || blocked plan layers.keep i j
+is_taken plan layers i j = (conflicts plan layers.metal i j || crowded plan layers.fill i j) || blocked plan layers.keep i j
 
--- the place may be filled: it is on the raster, and neither metal nor a keep-out takes it
+-- the place may be filled: it is on the raster, and neither metal nor existing fill nor a keep-out takes it
 abbrev pub allowed : Plan → Layers → ℤ → ℤ → Bool
 allowed plan layers i j = in_raster plan.raster i j && not (is_taken plan layers i j)
 
@@ -78,7 +87,7 @@ holds_box plan a b i j = (int_le (window_left plan.windows a) (box_begin plan.ra
 unfoldable pub in_window_of : Plan → WindowSet → ℤ → ℤ → Bool
 in_window_of plan low i j = some_pair (λ a b. low a b && holds_box plan a b i j) plan.windows.across.count plan.windows.up.count
 
--- neither metal nor a keep-out takes the place, and its box lies wholly in a low window
+-- neither metal nor existing fill nor a keep-out takes the place, and its box lies wholly in a low window
 abbrev pub is_suitable : Plan → Layers → WindowSet → ℤ → ℤ → Bool
 is_suitable plan layers low i j = not (is_taken plan layers i j) && in_window_of plan low i j
 

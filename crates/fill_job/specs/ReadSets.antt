@@ -9,7 +9,8 @@ use Rattle.fill_job.specs.Plans.{Plan, Layers, PointSet, WindowSet, plan_of, wan
 abbrev pub touches : Plan → ℕ → ℕ → ℕ → Bool
 touches plan tile a b = (nat_lt a plan.windows.across.count && (int_lt (window_left plan.windows a) (tile_right plan.raster tile) && int_lt (tile_left plan.raster tile) (window_right plan.windows a))) && (nat_lt b plan.windows.up.count && (int_lt (window_bottom plan.windows b) (tile_top plan.raster tile) && int_lt (tile_bottom plan.raster tile) (window_top plan.windows b)))
 
--- the rules, the metal in the halo of a tile and the keep-outs between its edges, and which of the windows that touch the tile are low
+-- the rules, the metal and the existing fill in the halo of a tile, each as far as its spacing, the keep-outs between its edges, and which
+-- of the windows that touch the tile are low
 pub record ReadSet : Type 0 where
   pub rules : Values
   pub layers : Layers
@@ -18,6 +19,7 @@ pub record ReadSet : Type 0 where
 abbrev pub layers_near : Plan → Layers → ℕ → Layers
 layers_near plan layers tile = record {
   metal = λ x y. layers.metal x y && in_halo plan.raster tile plan.spacing x y;
+  fill = λ x y. layers.fill x y && in_halo plan.raster tile plan.fill_spacing x y;
   keep = λ x y. layers.keep x y && in_halo plan.raster tile (pos 0) x y;
 }
 

@@ -1,14 +1,13 @@
 //! The work on one tile, to be done apart from the design.
-ghost use Rattle.std.specs.Prelude.{◌≡◌, ◌&&◌, ◌<◌, ℕ, ℤ, pos, true, IfOk, IfErr};
-ghost use Rattle.fill_region.specs.Runs.{holds};
-ghost use Rattle.fill_raster.specs.Lattice.{in_halo, tiles};
-ghost use Rattle.fill_job.specs.Basis.{plan_by, read_by, windows_in};
+ghost use Rattle.std.specs.Prelude.{◌≡◌, ◌<◌, ℕ, true, IfOk, IfErr};
+ghost use Rattle.fill_raster.specs.Lattice.{tiles};
+ghost use Rattle.fill_job.specs.Basis.{layers_of, plan_by, read_by, windows_in};
 ghost use Rattle.fill_job.specs.Plans.{Layers, plan_of};
-ghost use Rattle.fill_job.specs.ReadSets.{read_set, touches};
+ghost use Rattle.fill_job.specs.ReadSets.{layers_near, read_set, touches};
 
 use crate::basis::Basis;
 use crate::proposal::Proposal;
-use crate::shared::{Piece, SharedRules};
+use crate::shared::{Pieces, SharedRules};
 use fill_raster::Marks;
 use fill_region::Region;
 use std::alloc::{AllocError, Global};
@@ -24,10 +23,10 @@ pub struct Job {
 }
 
 impl Job {
-    /// The work on a tile of a version of a design: its rules, its metal in the tile's halo, its keep-outs in the bounding rectangle
-    /// of the tile's boxes, and its windows whose share is below the least, each as a unit square, the window in column `a` and row
-    /// `b` as the square `(a, b)`. Of the windows the job copies those that share a square with that rectangle; rules, metal and
-    /// keep-outs it holds together with others.
+    /// The work on a tile of a version of a design: its rules, what of its layers is near to the tile, and its windows whose share is
+    /// below the least, each as a unit square, the window in column `a` and row `b` as the square `(a, b)`. Of the windows the job
+    /// copies those that share a square with the bounding rectangle of the tile's boxes; rules and pieces it holds together with
+    /// others.
     ///
     /// # Errors
     /// `AllocError` where memory is refused.
@@ -36,16 +35,15 @@ impl Job {
         version: u64,
         tile: u32,
         rules: SharedRules,
-        metal: Piece,
-        keep: Piece,
+        pieces: Pieces,
         low: &Region,
     ) -> Result<Job, AllocError>
         requires tile { tile < tiles (plan_of rules).raster }
         ensures version { IfOk result (λ j. j.version ≡ version) }
         ensures tile { IfOk result (λ j. j.tile ≡ tile) }
-        ensures read { let plan = plan_of rules in (layers : Layers) → ((x y : ℤ) → holds metal x y ≡ (layers.metal x y && in_halo plan.raster tile plan.spacing x y)) → ((x y : ℤ) → holds keep x y ≡ (layers.keep x y && in_halo plan.raster tile (pos 0) x y)) → IfOk result (λ j. read_by j.basis ≡ read_set rules layers (windows_in low.now) tile) }
+        ensures read { (layers : Layers) → layers_of pieces ≡ layers_near (plan_of rules) layers tile → IfOk result (λ j. read_by j.basis ≡ read_set rules layers (windows_in low.now) tile) }
     {
-        let basis = Basis::read(alloc, rules, metal, keep, low, tile)?;
+        let basis = Basis::read(alloc, rules, pieces, low, tile)?;
         Ok(Job {
             version,
             tile,

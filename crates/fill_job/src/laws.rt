@@ -1,5 +1,5 @@
 //! What holds of wanted places and read sets, whatever the code does. Each function's contract is the law.
-ghost use Rattle.fill_job.specs.Laws.{AcceptedRulesMakeAPlan, BlockedIsSharing, ConflictsAreOfSquares, EqualReadSetsWantTheSame, WantedIsOfTheReadSet};
+ghost use Rattle.fill_job.specs.Laws.{AcceptedRulesMakeAPlan, BlockedIsSharing, ConflictsAreOfSquares, CrowdingIsOfSquares, EqualReadSetsWantTheSame, WantedIsOfTheReadSet};
 ghost use Rattle.fill_job.specs.Plans.{IsPlan, plan_of};
 ghost use Rattle.fill_text.specs.ValuesOfRules.{values_of};
 
@@ -9,6 +9,11 @@ use fill_text::Rules;
 /// and in y (KLayout's `space` in the square metric).
 pub fn conflicts_are_of_squares()
     ensures { ConflictsAreOfSquares }
+{}
+
+/// It is crowded where they are nearer than the fill spacing, at 0 where they share a square.
+pub fn crowding_is_of_squares()
+    ensures { CrowdingIsOfSquares }
 {}
 
 /// A place is blocked by a set of squares where one of them is in its box.

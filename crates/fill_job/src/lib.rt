@@ -12,4 +12,4 @@ mod wanted;
 
 pub use job::Job;
 pub use proposal::Proposal;
-pub use shared::{Piece, SharedRules};
+pub use shared::{Piece, Pieces, SharedRules};

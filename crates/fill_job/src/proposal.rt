@@ -1,12 +1,11 @@
 //! The places of one tile that a job proposes to fill.
-ghost use Rattle.std.specs.Prelude.{◌≡◌, ◌↔◌, ◌&&◌, ◌<◌, ℕ, ℤ, pos, true, IsTrue};
-ghost use Rattle.fill_region.specs.Runs.{holds};
-ghost use Rattle.fill_raster.specs.Lattice.{in_halo, tiles};
+ghost use Rattle.std.specs.Prelude.{◌≡◌, ◌↔◌, ◌<◌, ℕ, ℤ, true, IsTrue};
+ghost use Rattle.fill_raster.specs.Lattice.{tiles};
 ghost use Rattle.fill_raster.specs.Marks.{count_marked, is_marked};
-ghost use Rattle.fill_job.specs.Basis.{plan_by, read_by, windows_in};
+ghost use Rattle.fill_job.specs.Basis.{layers_in, plan_by, read_by, windows_in};
 ghost use Rattle.fill_text.specs.ValuesOfRules.{values_of};
 ghost use Rattle.fill_job.specs.Plans.{Layers, plan_of};
-ghost use Rattle.fill_job.specs.ReadSets.{read_set, touches, wanted_of};
+ghost use Rattle.fill_job.specs.ReadSets.{layers_near, read_set, touches, wanted_of};
 
 use crate::basis::Basis;
 use crate::reading::same_touching;
@@ -56,18 +55,25 @@ impl Proposal {
         self.marks.has(place)
     }
 
-    /// Whether the rules and all that was read are what there is to read now: these rules, this metal in the tile's halo, these
-    /// keep-outs in the bounding rectangle of the tile's boxes, and of these low windows those that touch the tile. Versions are not
-    /// compared. Takes no memory.
-    pub fn matches(&self, rules: &Rules, metal: &Region, keep: &Region, low: &Region) -> bool
-        ensures { let plan = plan_of (values_of rules.now) in (layers : Layers) → ((x y : ℤ) → holds metal.now x y ≡ (layers.metal x y && in_halo plan.raster self.now.tile plan.spacing x y)) → ((x y : ℤ) → holds keep.now x y ≡ (layers.keep x y && in_halo plan.raster self.now.tile (pos 0) x y)) → IsTrue result ↔ (read_by self.now.basis ≡ read_set (values_of rules.now) layers (windows_in low.now) self.now.tile) }
+    /// Whether the rules and all that was read are what there is to read now: these rules, this metal, existing fill and these keep-outs
+    /// near to the tile, and of these low windows those that touch the tile. Versions are not compared. Takes no memory.
+    pub fn matches(
+        &self,
+        rules: &Rules,
+        metal: &Region,
+        fill: &Region,
+        keep: &Region,
+        low: &Region,
+    ) -> bool
+        ensures { (layers : Layers) → layers_in metal.now fill.now keep.now ≡ layers_near (plan_of (values_of rules.now)) layers self.now.tile → IsTrue result ↔ (read_by self.now.basis ≡ read_set (values_of rules.now) layers (windows_in low.now) self.now.tile) }
     {
         let basis = &self.basis;
         let same_rules = basis.rules.rules().same_as(rules);
-        let same_metal = *basis.metal.metal() == *metal;
-        let same_keep = *basis.keep.metal() == *keep;
+        let same_metal = *basis.pieces.metal.region() == *metal;
+        let same_fill = *basis.pieces.fill.region() == *fill;
+        let same_keep = *basis.pieces.keep.region() == *keep;
         let same_low = same_touching(basis.rules.rules(), &basis.low, low, self.tile);
-        (same_rules & (same_metal & same_keep)) & same_low
+        (same_rules & (same_metal & (same_fill & same_keep))) & same_low
     }
 
     /// The marks.

@@ -9,7 +9,7 @@ ghost use Rattle.fill_job.specs.Plans.{plan_of};
 ghost use Rattle.fill_job.specs.ReadSets.{touches};
 
 use crate::basis::Basis;
-use crate::shared::{Piece, SharedRules};
+use crate::shared::{Pieces, SharedRules};
 use fill_base::Rect;
 use fill_raster::Raster;
 use fill_region::Region;
@@ -52,29 +52,21 @@ fn touching(alloc: Global, rules: &Rules, low: &Region, tile: u32) -> Result<Reg
 }
 
 impl Basis {
-    /// What is read for a tile: the rules, the metal and keep-outs as given, and which windows that touch
-    /// the tile are low.
+    /// What is read for a tile: the rules and the pieces of the design as given, and which windows that touch the tile are low.
     pub(crate) fn read(
         alloc: Global,
         rules: SharedRules,
-        metal: Piece,
-        keep: Piece,
+        pieces: Pieces,
         low: &Region,
         tile: u32,
     ) -> Result<Basis, AllocError>
         requires { tile < tiles (plan_of rules).raster }
         ensures rules { IfOk result (λ b. b.rules ≡ rules) }
-        ensures metal { IfOk result (λ b. b.metal ≡ metal) }
-        ensures keep { IfOk result (λ b. b.keep ≡ keep) }
+        ensures pieces { IfOk result (λ b. b.pieces ≡ pieces) }
         ensures low { IfOk result (λ b. (a c : ℕ) → windows_in b.low a c ≡ (windows_in low.now a c && touches (plan_of rules) tile a c)) }
     {
         let low = touching(alloc, rules.rules(), low, tile)?;
-        Ok(Basis {
-            rules,
-            metal,
-            keep,
-            low,
-        })
+        Ok(Basis { rules, pieces, low })
     }
 }
 

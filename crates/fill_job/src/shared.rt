@@ -1,4 +1,4 @@
-//! Rules and metal that jobs and books hold together.
+//! Rules and squares of a design that jobs and books hold together.
 ghost use Rattle.std.specs.Arc.{arc_value};
 ghost use Rattle.std.specs.Prelude.{◌≡◌, List, IfOk};
 ghost use Rattle.fill_region.specs.Runs.{Sides};
@@ -88,6 +88,14 @@ impl SharedRules {
         self.rules.spacing()
     }
 
+    /// The least gap between a fill box and existing fill, and between two boxes.
+    pub fn fill_spacing(&self) -> i64
+        ensures value { result ≡ value_of self.now NumberKey.FillSpacing }
+        ensures range { IsWithin NumberKey.FillSpacing result }
+    {
+        self.rules.fill_spacing()
+    }
+
     /// The least density, in millionths.
     pub fn min(&self) -> i64
         ensures value { result ≡ value_of self.now NumberKey.Min }
@@ -104,10 +112,10 @@ impl SharedRules {
     }
 }
 
-/// Metal in the halo of a tile, that several may hold together.
+/// Squares of a layer, as those in the halo of a tile, that several may hold together.
 #[derive(Drop)]
 pub struct Piece {
-    metal: Arc<Region>,
+    region: Arc<Region>,
 }
 
 impl Model for Piece {
@@ -117,7 +125,7 @@ impl Model for Piece {
 
     ghost Value = { List Sides };
 
-    ghost view = { λ p. arc_value p.metal };
+    ghost view = { λ p. arc_value p.region };
 }
 
 impl Piece {
@@ -125,11 +133,11 @@ impl Piece {
     ///
     /// # Errors
     /// `AllocError` where memory is refused.
-    pub fn new(alloc: Global, metal: Region) -> Result<Piece, AllocError>
-        ensures { IfOk result (λ p. p ≡ metal) }
+    pub fn new(alloc: Global, region: Region) -> Result<Piece, AllocError>
+        ensures { IfOk result (λ p. p ≡ region) }
     {
-        let metal = Arc::new(alloc, metal)?;
-        Ok(Piece { metal })
+        let region = Arc::new(alloc, region)?;
+        Ok(Piece { region })
     }
 
     /// The same piece, with one holder more.
@@ -139,14 +147,25 @@ impl Piece {
     pub fn share(&self) -> Result<Piece, AllocError>
         ensures { IfOk result (λ p. p ≡ self.now) }
     {
-        let metal = Arc::try_clone(&self.metal)?;
-        Ok(Piece { metal })
+        let region = Arc::try_clone(&self.region)?;
+        Ok(Piece { region })
     }
 
-    /// The metal.
-    pub fn metal(&self) -> &Region
+    /// The squares.
+    pub fn region(&self) -> &Region
         ensures { result.now ≡ self.now }
     {
-        &self.metal
+        &self.region
     }
+}
+
+/// What of a design the work on a tile depends on.
+#[derive(Drop)]
+pub struct Pieces {
+    /// The metal in the tile's halo.
+    pub metal: Piece,
+    /// The existing fill in its halo, as far as the fill spacing.
+    pub fill: Piece,
+    /// The keep-outs in the bounding rectangle of its boxes.
+    pub keep: Piece,
 }

@@ -3,7 +3,7 @@ use Rattle.fill_base.proofs.Signed.{read_is}
 use Rattle.fill_region.specs.Runs.{holds}
 use Rattle.fill_raster.specs.Lattice.{IsLattice}
 use Rattle.fill_job.specs.Basis.{plan_by}
-use Rattle.fill_job.proofs.Reaching.{reaches_rising, lines_fit, lines_read, lines_ordered, first_in, met_places}
+use Rattle.fill_job.proofs.Reaching.{reaches_rising, lines_fit, lines_fit_above, lines_read, lines_ordered, first_in, met_places, none_met}
 use Rattle.fill_job.proofs.basis.Basis.mark_near.Goals as goal
 
 pub box_of-rect-requires : goal.box_of-rect-requires
@@ -11,6 +11,12 @@ box_of-rect-requires c = rw (c.raster.ensures.raster, read_is c.args.left c.rang
 
 pub overflow_sub-y1 : goal.overflow_sub-y1
 overflow_sub-y1 c = lines_fit c.box_of-rect.result c.args.distance c.y1.result c.requires.distance c.y1.ensures
+
+pub overflow_add-y2 : goal.overflow_add-y2
+overflow_add-y2 c = lines_fit_above c.box_of-rect.result c.args.distance c.y2.result c.requires.distance c.y2.ensures
+
+pub returns-then-is_empty-clause-near : goal.returns-then-is_empty-clause-near
+returns-then-is_empty-clause-near c = none_met (plan_by c.args.self.now).raster c.args.distance (holds c.args.region.now) c.args.left c.args.j c.args.near.now (c.is_empty.ensures.0 c.if-is_empty.true)
 
 pub mark_met-requires-clause-rising : goal.mark_met-requires-clause-rising
 mark_met-requires-clause-rising c =

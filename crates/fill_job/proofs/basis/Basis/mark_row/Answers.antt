@@ -2,7 +2,7 @@ use Rattle.std.proofs.Common.{◌≡◌, refl, ap, sym, ◌∙◌, pos, ◌+ℤ�
 use Rattle.fill_base.proofs.Between.{is_between_true}
 use Rattle.fill_base.proofs.Signed.{read, read_is, is_lt}
 use Rattle.fill_raster.specs.Marks.{is_marked}
-use Rattle.fill_job.specs.Basis.{layers_in, plan_by, windows_in}
+use Rattle.fill_job.specs.Basis.{layers_by, plan_by, windows_in}
 use Rattle.fill_job.specs.Plans.{is_suitable, is_taken}
 use Rattle.fill_job.proofs.Reaching.{no_index, index_within, index_place, index_fits, next_index}
 use Rattle.fill_job.proofs.Marking.{row_begins, column_marked, column_passed, row_ends, next_within, first_within, next_fits, not_lt}
@@ -11,7 +11,7 @@ use Rattle.fill_job.proofs.basis.Basis.mark_row.Goals.{then-is_suitable, else-is
 
 pub loop-i-init : goal.loop-i-init
 loop-i-init c =
-    let s = is_suitable (plan_by c.args.self.now) (layers_in c.args.self.now.metal c.args.self.now.keep) (windows_in c.args.self.now.low) in
+    let s = is_suitable (plan_by c.args.self.now) (layers_by c.args.self.now) (windows_in c.args.self.now.low) in
     let at = first_within c.args.left c.args.right in
     rw (read_is c.args.left c.ranges.left, read_is c.args.right c.ranges.right) (record {
       from = at.0;
@@ -40,7 +40,7 @@ is_suitable-requires-clause-taken c =
     let index = rw (c.loop-i.i-is, read_is c.args.left c.ranges.left) at c.loop-i.invariant.index in
     let within = index_within c.args.left c.args.right c.loop-i.i c.loop-i.index (length c.args.taken.now) index lt c.requires.count in
     rw (c.loop-i.i-is, read_is c.args.j c.ranges.j)
-    (c.requires.taken c.loop-i.index false within ∙ ap (λ x. is_taken p (layers_in c.args.self.now.metal c.args.self.now.keep) x c.args.j) (index_place c.args.left c.loop-i.i c.loop-i.index index))
+    (c.requires.taken c.loop-i.index false within ∙ ap (λ x. is_taken p (layers_by c.args.self.now) x c.args.j) (index_place c.args.left c.loop-i.i c.loop-i.index index))
 
 pub overflow_add-index : goal.overflow_add-index
 overflow_add-index c =
@@ -56,7 +56,7 @@ set-requires c =
 
 pub loop-i-preserved : goal.loop-i-preserved
 loop-i-preserved c =
-    let s = is_suitable (plan_by c.args.self.now) (layers_in c.args.self.now.metal c.args.self.now.keep) (windows_in c.args.self.now.low) in
+    let s = is_suitable (plan_by c.args.self.now) (layers_by c.args.self.now) (windows_in c.args.self.now.low) in
     let o = is_marked c.args.marks.now in
     let b = is_marked c.loop-i.marks in
     let i = c.loop-i.i in let j = read c.args.j in
@@ -81,7 +81,7 @@ loop-i-preserved c =
 
 pub returns : goal.returns
 returns c =
-    let s = is_suitable (plan_by c.args.self.now) (layers_in c.args.self.now.metal c.args.self.now.keep) (windows_in c.args.self.now.low) in
+    let s = is_suitable (plan_by c.args.self.now) (layers_by c.args.self.now) (windows_in c.args.self.now.low) in
     let inv = rw (c.loop-i.i-is, read_is c.args.left c.ranges.left, read_is c.args.right c.ranges.right, read_is c.args.j c.ranges.j) at c.loop-i.invariant in
     let past = not_lt c.loop-i.i c.args.right (rw (c.loop-i.i-is, read_is c.args.right c.ranges.right) at c.loop-i-test.false) in
     record { block = inv.block; marked = row_ends (is_marked c.args.marks.now) (is_marked c.loop-i.marks) s c.args.left c.args.right c.loop-i.i c.args.j inv.from inv.to past inv.marked }

@@ -5,7 +5,7 @@ use Rattle.std.specs.Ordering.{int_eq}
 use Rattle.fill_base.specs.Counts.{is_between}
 use Rattle.fill_raster.specs.Marks.{is_marked}
 use Rattle.fill_job.specs.Plans.{is_suitable}
-use Rattle.fill_job.specs.Basis.{layers_in, plan_by, windows_in}
+use Rattle.fill_job.specs.Basis.{layers_by, plan_by, windows_in}
 use Rattle.fill_job.proofs.basis.Basis.mark_row.Given as goal
 
 abbrev pub invariant-loop-i : goal.invariant-loop-i
@@ -14,5 +14,5 @@ invariant-loop-i l = record {
   to : l.i ≤ℤ int_max l.left l.right;
   index : pos l.index ≡ l.i -ℤ l.left;
   block : l.marks.block ≡ l.fn.marks.block;
-  marked : (k m : ℤ) → is_marked l.marks k m ≡ (is_marked l.fn.marks k m || (int_eq m l.j && (is_between l.left l.i k && is_suitable (plan_by l.self) (layers_in l.self.metal l.self.keep) (windows_in l.self.low) k m)));
+  marked : (k m : ℤ) → is_marked l.marks k m ≡ (is_marked l.fn.marks k m || (int_eq m l.j && (is_between l.left l.i k && is_suitable (plan_by l.self) (layers_by l.self) (windows_in l.self.low) k m)));
 }

@@ -3,14 +3,14 @@ use Rattle.std.proofs.lemmas.Bool.{and_from}
 use Rattle.fill_base.proofs.Between.{is_between_true}
 use Rattle.fill_base.proofs.Signed.{read, read_is, is_lt}
 use Rattle.fill_raster.specs.Marks.{is_marked}
-use Rattle.fill_job.specs.Basis.{layers_in, plan_by, windows_in}
+use Rattle.fill_job.specs.Basis.{layers_by, plan_by, windows_in}
 use Rattle.fill_job.specs.Plans.{is_suitable}
 use Rattle.fill_job.proofs.Marking.{rows_begin, row_more, rows_end, next_within, first_within, next_fits, not_lt}
 use Rattle.fill_job.proofs.basis.Basis.mark_rows.Goals as goal
 
 pub loop-j-init : goal.loop-j-init
 loop-j-init c =
-    let s = is_suitable (plan_by c.args.self.now) (layers_in c.args.self.now.metal c.args.self.now.keep) (windows_in c.args.self.now.low) in
+    let s = is_suitable (plan_by c.args.self.now) (layers_by c.args.self.now) (windows_in c.args.self.now.low) in
     let at = first_within c.args.bottom c.args.top in
     rw (read_is c.args.bottom c.ranges.bottom, read_is c.args.top c.ranges.top) (record {
       from = at.0;
@@ -42,7 +42,7 @@ mark_row-requires-clause-block c =
 
 pub loop-j-preserved : goal.loop-j-preserved
 loop-j-preserved c =
-    let s = is_suitable (plan_by c.args.self.now) (layers_in c.args.self.now.metal c.args.self.now.keep) (windows_in c.args.self.now.low) in
+    let s = is_suitable (plan_by c.args.self.now) (layers_by c.args.self.now) (windows_in c.args.self.now.low) in
     let j = c.loop-j.j in
     let inv = rw (c.loop-j.j-is, read_is c.args.bottom c.ranges.bottom, read_is c.args.top c.ranges.top) at c.loop-j.invariant in
     let lt = is_lt j c.args.top (rw (c.loop-j.j-is, read_is c.args.top c.ranges.top) at c.loop-j-test.true) in
@@ -57,7 +57,7 @@ loop-j-preserved c =
 
 pub returns : goal.returns
 returns c =
-    let s = is_suitable (plan_by c.args.self.now) (layers_in c.args.self.now.metal c.args.self.now.keep) (windows_in c.args.self.now.low) in
+    let s = is_suitable (plan_by c.args.self.now) (layers_by c.args.self.now) (windows_in c.args.self.now.low) in
     let inv = rw (c.loop-j.j-is, read_is c.args.left c.ranges.left, read_is c.args.right c.ranges.right, read_is c.args.bottom c.ranges.bottom, read_is c.args.top c.ranges.top) at c.loop-j.invariant in
     let past = not_lt c.loop-j.j c.args.top (rw (c.loop-j.j-is, read_is c.args.top c.ranges.top) at c.loop-j-test.false) in
     rows_end (is_marked c.loop-j.marks) s c.args.left c.args.right c.args.bottom c.args.top c.loop-j.j inv.from inv.to past inv.marked

@@ -12,6 +12,6 @@ invariant_of-result c = record {
 }
 
 pub returns-clause-read : goal.returns-clause-read
-returns-clause-read c = λ layers clip cut.
-    read_is_set c.args.rules c.in_ok-basis.basis.rules layers c.args.metal c.in_ok-basis.basis.metal c.args.keep c.in_ok-basis.basis.keep c.args.low.now c.in_ok-basis.basis.low c.args.tile
-    c.in_ok-basis.ensures.rules c.in_ok-basis.ensures.metal c.in_ok-basis.ensures.keep clip cut c.in_ok-basis.ensures.low
+returns-clause-read c = λ layers near.
+    read_is_set c.args.rules c.in_ok-basis.basis.rules layers c.args.pieces c.in_ok-basis.basis.pieces c.args.low.now c.in_ok-basis.basis.low c.args.tile
+    c.in_ok-basis.ensures.rules c.in_ok-basis.ensures.pieces near c.in_ok-basis.ensures.low
