@@ -8,7 +8,7 @@ use Rattle.fill_raster.specs.Lattice.{Lattice, in_raster, tile_of}
 use Rattle.fill_raster.proofs.Points.{and_no, or_no}
 use Rattle.fill_text.specs.declared.script.Edit.{Edit}
 use Rattle.fill_text.specs.declared.script.Edit.TheVariants.{Add, Cut, Keep}
-use Rattle.fill_job.specs.Plans.{Layers, Plan, PointSet, allowed, blocked, conflicts, in_window_of, is_taken, low_windows, meets_box, wanted}
+use Rattle.fill_job.specs.Plans.{Layers, Plan, PointSet, allowed, blocked, conflicts, crowded, drawn_squares, in_window_of, is_taken, low_windows, meets_box, wanted}
 use Rattle.fill_core.specs.Boxes.{no_places, with_boxes}
 use Rattle.fill_core.specs.Machine.{State, opened, opening, is_accepted, with_tile, commit_step, fill_after, layers_after, edit_step, step, replay_from, replay}
 use Rattle.fill_core.specs.declared.event.Event.{Event}
@@ -18,7 +18,7 @@ use Rattle.fill_core.proofs.Searches.{none_within}
 pub record IsKept (plan : Plan) (s : State) : Type 0 where
   pub all_allowed : (i j : ℤ) → s.fill i j ≡ true → allowed plan s.layers i j ≡ true
   pub fill_is : (i j : ℤ) → s.fill i j ≡ s.base i j || (s.tiles_in (tile_of plan.raster i j) && (allowed plan s.layers i j && in_window_of plan s.low i j))
-  pub low_is : s.low ≡ low_windows plan (with_boxes plan s.layers.metal s.base)
+  pub low_is : s.low ≡ low_windows plan (with_boxes plan (drawn_squares s.layers) s.base)
 
 kept_opened : (plan : Plan) (layers : Layers) (fill : PointSet) (version : ℕ) → ((i j : ℤ) → fill i j ≡ true → allowed plan layers i j ≡ true) → IsKept plan (opened plan layers fill version)
 kept_opened plan layers fill version all = record { all_allowed = all; fill_is = λ i j. sym (or_no (fill i j)); low_is = refl }
@@ -66,7 +66,7 @@ kept_commit plan s version tile same k = elim (cases_Bool (is_accepted s version
 
 -- ---- the metal is edited
 
-not_false : (b : Bool) → not b ≡ true → b ≡ false
+pub not_false : (b : Bool) → not b ≡ true → b ≡ false
 not_false true h = absurd (let e : false ≡ true = h in cc)
 not_false false h = refl
 
@@ -94,19 +94,34 @@ neither : (a b : Bool) → a || b ≡ false → (a ≡ false) × (b ≡ false)
 neither false b h = (refl, h)
 neither true b h = absurd (let e : true ≡ false = h in cc)
 
+-- nothing takes the place
+pub record IsFree (plan : Plan) (layers : Layers) (i j : ℤ) : Type 0 where
+  pub apart : conflicts plan layers.metal i j ≡ false
+  pub uncrowded : crowded plan layers.fill i j ≡ false
+  pub unblocked : blocked plan layers.keep i j ≡ false
+
+pub free_is : (plan : Plan) (layers : Layers) (i j : ℤ) → is_taken plan layers i j ≡ false → IsFree plan layers i j
+free_is plan layers i j h =
+    let parts = neither (conflicts plan layers.metal i j || crowded plan layers.fill i j) (blocked plan layers.keep i j) h in
+    let squares = neither (conflicts plan layers.metal i j) (crowded plan layers.fill i j) parts.0 in
+    record { apart = squares.0; uncrowded = squares.1; unblocked = parts.1 }
+
+is_free : (plan : Plan) (layers : Layers) (i j : ℤ) → IsFree plan layers i j → is_taken plan layers i j ≡ false
+is_free plan layers i j f = both_false _ _ (both_false (conflicts plan layers.metal i j) (crowded plan layers.fill i j) f.apart f.uncrowded) f.unblocked
+
 -- a place that stays filled at an edit is free of what it leaves
 still_free : (plan : Plan) (layers : Layers) (fill : PointSet) (edit : Edit) (i j : ℤ) → is_taken plan layers i j ≡ false → fill_after plan edit fill i j ≡ true → is_taken plan (layers_after edit layers) i j ≡ false
 still_free plan layers fill (Add r) i j free h =
-    let before = neither (conflicts plan layers.metal i j) (blocked plan layers.keep i j) free in
-    let apart = not_false (conflicts plan (squares r) i j) (and_parts (fill i j) (not (conflicts plan (squares r) i j)) h).1 in
-    both_false _ (blocked plan layers.keep i j) (free_of_both plan.raster plan.spacing layers.metal (squares r) i j before.0 apart) before.1
+    let before = free_is plan layers i j free in
+    let beside = not_false (conflicts plan (squares r) i j) (and_parts (fill i j) (not (conflicts plan (squares r) i j)) h).1 in
+    is_free plan (layers_after (Add r) layers) i j (record { apart = free_of_both plan.raster plan.spacing layers.metal (squares r) i j before.apart beside; uncrowded = before.uncrowded; unblocked = before.unblocked })
 still_free plan layers fill (Cut r) i j free h =
-    let before = neither (conflicts plan layers.metal i j) (blocked plan layers.keep i j) free in
-    both_false _ (blocked plan layers.keep i j) (free_of_less plan.raster plan.spacing layers.metal (squares r) i j before.0) before.1
+    let before = free_is plan layers i j free in
+    is_free plan (layers_after (Cut r) layers) i j (record { apart = free_of_less plan.raster plan.spacing layers.metal (squares r) i j before.apart; uncrowded = before.uncrowded; unblocked = before.unblocked })
 still_free plan layers fill (Keep r) i j free h =
-    let before = neither (conflicts plan layers.metal i j) (blocked plan layers.keep i j) free in
-    let apart = not_false (blocked plan (squares r) i j) (and_parts (fill i j) (not (blocked plan (squares r) i j)) h).1 in
-    both_false (conflicts plan layers.metal i j) _ before.0 (free_of_both plan.raster (pos 0) layers.keep (squares r) i j before.1 apart)
+    let before = free_is plan layers i j free in
+    let beside = not_false (blocked plan (squares r) i j) (and_parts (fill i j) (not (blocked plan (squares r) i j)) h).1 in
+    is_free plan (layers_after (Keep r) layers) i j (record { apart = before.apart; uncrowded = before.uncrowded; unblocked = free_of_both plan.raster (pos 0) layers.keep (squares r) i j before.unblocked beside })
 
 -- no edit fills a place
 filled_before : (plan : Plan) (fill : PointSet) (edit : Edit) (i j : ℤ) → fill_after plan edit fill i j ≡ true → fill i j ≡ true

@@ -7,13 +7,13 @@ use Rattle.std.proofs.lemmas.Bool.Decides.{nat_tests}
 use Rattle.fill_raster.specs.Lattice.{in_raster, tile_of}
 use Rattle.fill_raster.proofs.Points.{and_no, or_no}
 use Rattle.fill_raster.proofs.RasterLaws.{place_has_a_tile}
-use Rattle.fill_job.specs.Plans.{Plan, IsPlan, Layers, PointSet, allowed, is_taken, in_window_of, low_windows, wanted}
+use Rattle.fill_job.specs.Plans.{Plan, IsPlan, Layers, PointSet, allowed, drawn_squares, is_taken, in_window_of, low_windows, wanted}
+use Rattle.fill_job.proofs.Searching.{none_passes}
 use Rattle.fill_core.specs.Boxes.{no_places, with_boxes}
 use Rattle.fill_core.specs.Machine.{State, IsComplete, step, reply_of, replay_from, replies_from, replay, replies, opening}
 use Rattle.fill_core.specs.declared.event.Event.{Event}
 use Rattle.fill_core.specs.declared.event.Event.TheVariants as event
-use Rattle.fill_core.specs.Laws.{IsRefusal, FilledPlacesAreAllowed, RefusedChangesNothing, FillIsThatOfItsTiles, LowIsThatOfTheOpening, OpeningIsLowOfTheMetal, CompleteFill}
-use Rattle.fill_core.proofs.Searches.{none_passes}
+use Rattle.fill_core.specs.Laws.{IsRefusal, FilledPlacesAreAllowed, RefusedChangesNothing, FillIsThatOfItsTiles, LowIsThatOfTheOpening, OpeningIsLowOfTheDesign, CompleteFill}
 use Rattle.fill_core.proofs.Keeping.{IsKept, kept_replay}
 
 -- ---- one event more
@@ -37,10 +37,10 @@ pub replies_push : (plan : Plan) (layers : Layers) (events : List Event) (e : Ev
 replies_push plan layers events e = replies_from_push plan (opening plan layers) events e
 
 -- states with the same points are one state
-pub same_state : (s t : State) → ((x y : ℤ) → s.layers.metal x y ≡ t.layers.metal x y) → ((x y : ℤ) → s.layers.keep x y ≡ t.layers.keep x y) → ((i j : ℤ) → s.fill i j ≡ t.fill i j) → s.version ≡ t.version
-    → ((a b : ℕ) → s.low a b ≡ t.low a b) → ((n : ℕ) → s.tiles_in n ≡ t.tiles_in n) → ((i j : ℤ) → s.base i j ≡ t.base i j) → s ≡ t
-same_state s t metal keep fill version low tiles_in base = λ k. record {
-  layers = record { metal = λ x y. metal x y k; keep = λ x y. keep x y k };
+pub same_state : (s t : State) → ((x y : ℤ) → s.layers.metal x y ≡ t.layers.metal x y) → ((x y : ℤ) → s.layers.fill x y ≡ t.layers.fill x y) → ((x y : ℤ) → s.layers.keep x y ≡ t.layers.keep x y) → ((i j : ℤ) → s.fill i j ≡ t.fill i j)
+    → s.version ≡ t.version → ((a b : ℕ) → s.low a b ≡ t.low a b) → ((n : ℕ) → s.tiles_in n ≡ t.tiles_in n) → ((i j : ℤ) → s.base i j ≡ t.base i j) → s ≡ t
+same_state s t metal existing keep fill version low tiles_in base = λ k. record {
+  layers = record { metal = λ x y. metal x y k; fill = λ x y. existing x y k; keep = λ x y. keep x y k };
   fill = λ i j. fill i j k;
   version = version k;
   low = λ a b. low a b k;
@@ -123,11 +123,11 @@ pub low_of_opening : LowIsThatOfTheOpening
 low_of_opening plan layers events = (kept_replay plan layers events).low_is
 
 -- no place has no box
-pub no_boxes : (plan : Plan) (metal : PointSet) → with_boxes plan metal no_places ≡ metal
-no_boxes plan metal = fun_ext (λ x. fun_ext (λ y. rw (none_passes _ _ _ _ _ (λ i j. refl)) (or_no (metal x y))))
+pub no_boxes : (plan : Plan) (drawn : PointSet) → with_boxes plan drawn no_places ≡ drawn
+no_boxes plan drawn = fun_ext (λ x. fun_ext (λ y. rw (none_passes _ _ _ _ _ (λ i j. refl)) (or_no (drawn x y))))
 
-pub opening_low : OpeningIsLowOfTheMetal
-opening_low plan layers = ap (low_windows plan) (no_boxes plan layers.metal)
+pub opening_low : OpeningIsLowOfTheDesign
+opening_low plan layers = ap (low_windows plan) (no_boxes plan (drawn_squares layers))
 
 -- n: the tile of the place is in, as it is where the place is on the raster
 all_in : (b n r c w : Bool) → (r ≡ true → n ≡ true) → b || (n && ((r && c) && w)) ≡ b || ((r && c) && w)

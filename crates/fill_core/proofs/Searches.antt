@@ -40,12 +40,3 @@ unfolding some_within
 none_within p q r left bottom right top either np nq =
     none_of_pairs (λ a b. p (left +ℤ pos a) (bottom +ℤ pos b)) (λ a b. q (left +ℤ pos a) (bottom +ℤ pos b)) (λ a b. r (left +ℤ pos a) (bottom +ℤ pos b)) (span_len left right) (span_len bottom top)
     (λ a b. either (left +ℤ pos a) (bottom +ℤ pos b)) np nq
-
--- a test that nothing passes finds nothing
-pub none_passes : (p : ℤ → ℤ → Bool) (left bottom right top : ℤ) → ((x y : ℤ) → p x y ≡ false) → some_within p left bottom right top ≡ false
-unfolding some_within
-none_passes p left bottom right top each = elim (cases_Bool (some_pair (λ a b. p (left +ℤ pos a) (bottom +ℤ pos b)) (span_len left right) (span_len bottom top))) [
-  | inl h ↦ let f = some_pair_finds (λ a b. p (left +ℤ pos a) (bottom +ℤ pos b)) (span_len left right) (span_len bottom top) h in
-      absurd (let e : false ≡ true = rw (each (left +ℤ pos f.a) (bottom +ℤ pos f.b)) at f.passes in cc)
-  | inr h ↦ h
-]

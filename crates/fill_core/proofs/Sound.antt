@@ -1,4 +1,4 @@
--- Every replay is sound, and what metal with boxes is.
+-- Every replay is sound, and what a set with boxes is.
 use Rattle.std.proofs.Common.{◌≡◌, refl, sym, ◌∙◌, ℤ, ◌+ℤ◌, ◌-ℤ◌, ◌≤ℤ◌, ◌<ℤ◌, arith, inl, inr, ◌⊎◌, Bool, true, false, ◌&&◌, ◌||◌, not}
 use Rattle.std.proofs.lemmas.Bool.{and_from, and_parts, or_cases}
 use Rattle.std.proofs.lemmas.Int.{ints}
@@ -11,14 +11,14 @@ use Rattle.fill_raster.specs.declared.axis.Axis.{Axis}
 use Rattle.fill_raster.proofs.RasterLaws.{places_range, spacing_kept}
 use Rattle.fill_raster.proofs.Ranges.{first_past}
 use Rattle.fill_size.specs.Distance.{IsNear}
-use Rattle.fill_job.specs.Plans.{IsPlan, Layers, Plan, PointSet, allowed, blocked, conflicts, in_window_of, is_taken, low_windows}
+use Rattle.fill_job.specs.Plans.{IsPlan, Layers, Plan, PointSet, allowed, blocked, conflicts, crowded, drawn_squares, in_window_of, is_taken, low_windows}
 use Rattle.fill_job.specs.Searches.{some_within}
-use Rattle.fill_job.proofs.Conflicts.{blocked_sharing, conflict_of_squares, some_within_decides}
+use Rattle.fill_job.proofs.Conflicts.{blocked_sharing, conflict_of_squares, crowding_of_squares, some_within_decides}
 use Rattle.fill_core.specs.Boxes.{low_fill}
 use Rattle.fill_core.specs.Laws.{BoxesKeepTheFillSpacing, BoxesAreOfPlaces, ReplayIsSound}
 use Rattle.fill_core.specs.Machine.{replay}
 use Rattle.fill_core.specs.Soundness.{IsSound}
-use Rattle.fill_core.proofs.Keeping.{kept_replay}
+use Rattle.fill_core.proofs.Keeping.{free_is, kept_replay, not_false}
 
 -- ---- boxes keep the fill spacing
 
@@ -46,34 +46,31 @@ boxes_apart plan is i j k l other c =
       | inr up ↦ too_far r.up j l c.y c.reached.v plan.fill_spacing up at.1 to.1 c.reached.up
     ]
 
-not_yes : (b : Bool) → not b ≡ true → b ≡ true → ⊥
-not_yes true h yes_b = let e : false ≡ true = h in cc
-not_yes false h yes_b = let e : false ≡ true = yes_b in cc
-
-neither : (a b : Bool) → not (a || b) ≡ true → (not a ≡ true) × (not b ≡ true)
-neither true b h = absurd (let e : false ≡ true = h in cc)
-neither false b h = (refl, h)
+no_yes : (b : Bool) → b ≡ false → b ≡ true → ⊥
+no_yes b h is = let e : false ≡ true = sym h ∙ is in cc
 
 -- places that may be filled are a sound fill
 pub allowed_sound : (plan : Plan) (layers : Layers) (fill : PointSet) → IsPlan plan → ((i j : ℤ) → fill i j ≡ true → allowed plan layers i j ≡ true) → IsSound plan layers fill
 allowed_sound plan layers fill is all =
-    let untaken = λ (i j : ℤ) (h : fill i j ≡ true). neither (conflicts plan layers.metal i j) (blocked plan layers.keep i j) (and_parts (in_raster plan.raster i j) (not (is_taken plan layers i j)) (all i j h)).1 in
+    let places = λ (i j : ℤ) (h : fill i j ≡ true). and_parts (in_raster plan.raster i j) (not (is_taken plan layers i j)) (all i j h) in
+    let free = λ (i j : ℤ) (h : fill i j ≡ true). free_is plan layers i j (not_false (is_taken plan layers i j) (places i j h).1) in
     record {
-      on_raster = λ i j h. (and_parts (in_raster plan.raster i j) (not (is_taken plan layers i j)) (all i j h)).0;
-      clear = λ i j h c. not_yes (conflicts plan layers.metal i j) (untaken i j h).0 ((conflict_of_squares plan layers.metal i j is).1 c);
-      free = λ i j h c. not_yes (blocked plan layers.keep i j) (untaken i j h).1 ((blocked_sharing plan layers.keep i j is).1 c);
+      on_raster = λ i j h. (places i j h).0;
+      clear = λ i j h c. no_yes (conflicts plan layers.metal i j) (free i j h).apart ((conflict_of_squares plan layers.metal i j is).1 c);
+      uncrowded = λ i j h c. no_yes (crowded plan layers.fill i j) (free i j h).uncrowded ((crowding_of_squares plan layers.fill i j is).1 c);
+      free = λ i j h c. no_yes (blocked plan layers.keep i j) (free i j h).unblocked ((blocked_sharing plan layers.keep i j is).1 c);
       apart = λ i j k l h g other. boxes_apart plan is i j k l other;
     }
 
 pub low_sound : (plan : Plan) (layers : Layers) → IsPlan plan → IsSound plan layers (low_fill plan layers)
-low_sound plan layers is = allowed_sound plan layers (low_fill plan layers) is (λ i j h. (and_parts (allowed plan layers i j) (in_window_of plan (low_windows plan layers.metal) i j) h).0)
+low_sound plan layers is = allowed_sound plan layers (low_fill plan layers) is (λ i j h. (and_parts (allowed plan layers i j) (in_window_of plan (low_windows plan (drawn_squares layers)) i j) h).0)
 
 pub replay_sound : ReplayIsSound
 replay_sound plan layers events is =
     let s = replay plan layers events in
     allowed_sound plan s.layers s.fill is (kept_replay plan layers events).all_allowed
 
--- ---- metal with boxes
+-- ---- a set with boxes
 
 or_into : (a b : Bool) → (a ≡ true) ⊎ (b ≡ true) → a || b ≡ true
 or_into true b either = refl
@@ -81,16 +78,16 @@ or_into false b (inl h) = absurd (let e : false ≡ true = h in cc)
 or_into false b (inr h) = h
 
 pub boxes_of_places : BoxesAreOfPlaces
-boxes_of_places plan metal fill is within x y =
+boxes_of_places plan drawn fill is within x y =
     let r = plan.raster in
     let p = λ (i j : ℤ). fill i j && box_squares r i j x y in
     let found = some_within_decides p (first r.across) (first r.up) (past r.across) (past r.up) (first_past r.across) (first_past r.up) in (
-      (λ h. elim (or_cases (metal x y) (some_within p (first r.across) (first r.up) (past r.across) (past r.up)) h) [
-        | inl drawn ↦ inl drawn
+      (λ h. elim (or_cases (drawn x y) (some_within p (first r.across) (first r.up) (past r.across) (past r.up)) h) [
+        | inl there ↦ inl there
         | inr box ↦ let f = found.0 box in let parts = and_parts (fill f.x f.y) (box_squares r f.x f.y x y) f.square in inr (f.x, f.y, parts.0, parts.1)
       ]),
       (λ either. or_into _ _ (elim either [
-        | inl drawn ↦ inl drawn
+        | inl there ↦ inl there
         | inr box ↦
             let on = within box.0 box.1 box.2 in
             let range = and_parts _ _ (sym (places_range r is.raster box.0 box.1) ∙ on) in

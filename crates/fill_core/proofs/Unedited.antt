@@ -1,11 +1,11 @@
--- What stays as it is while the metal isn't edited.
+-- What stays as it is while there is no edit, and whatever edits come.
 use Rattle.std.proofs.Common.{◌≡◌, refl, ap, ◌∙◌, ℕ, inl, inr, List, [], ◌∷◌, Bool, true, false}
 use Rattle.std.proofs.Math.Path.{fun_ext}
 use Rattle.std.proofs.lemmas.Bool.{cases_Bool}
 use Rattle.fill_text.specs.declared.script.Edit.{Edit}
-use Rattle.fill_job.specs.Plans.{Plan}
+use Rattle.fill_job.specs.Plans.{Layers, Plan}
 use Rattle.fill_core.specs.Histories.{edits_in}
-use Rattle.fill_core.specs.Laws.{CompleteFillWithoutEdits}
+use Rattle.fill_core.specs.Laws.{CompleteFillWithoutEdits, ExistingFillStays}
 use Rattle.fill_core.specs.Machine.{State, is_accepted, opening, replay, replay_from, step}
 use Rattle.fill_core.specs.declared.event.Event.{Event}
 use Rattle.fill_core.specs.declared.event.Event.TheVariants as event
@@ -43,3 +43,17 @@ complete_unedited plan layers events is e all =
     let s = replay plan layers events in
     complete_fill plan layers events is all
     ∙ fun_ext (λ i. fun_ext (λ j. rw (stays.layers, stays.base, stays.low, opening_low plan layers) refl))
+
+-- ---- the existing fill
+
+fill_stays : (plan : Plan) (s : State) (e : Event) → (step plan s e).layers.fill ≡ s.layers.fill
+fill_stays plan s (event.Commit version tile same) = ap (λ (l : Layers). l.fill) (committed_stays plan s version tile same).layers
+fill_stays plan s (event.Edit edit) = refl
+
+fill_stays_from : (plan : Plan) (s : State) (events : List Event) → (replay_from plan s events).layers.fill ≡ s.layers.fill
+unfolding replay_from
+fill_stays_from plan s [] = refl
+fill_stays_from plan s (e ∷ es) = fill_stays_from plan (step plan s e) es ∙ fill_stays plan s e
+
+pub existing_stays : ExistingFillStays
+existing_stays plan layers events = fill_stays_from plan (opening plan layers) events

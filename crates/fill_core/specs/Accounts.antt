@@ -1,4 +1,5 @@
--- What a book is to its callers: rules, the metal and the keep-outs that it opened on, its history, and how much history it may have.
+-- What a book is to its callers: rules, the metal, the existing fill and the keep-outs that it opened on, its history, and how much
+-- history it may have.
 use Rattle.std.specs.Prelude.{◌≡◌, ◌↔◌, ℕ, ◌+◌, ◌≤◌, ◌^◌, Bool, true, false, List, [], ◌∷◌, ◌++◌, length}
 use Rattle.fill_region.specs.Runs.{Sides}
 use Rattle.fill_text.specs.Rules.{Values}
@@ -20,17 +21,18 @@ use Rattle.fill_core.specs.declared.event.Reply.{Reply}
 pub record Account : Type 0 where
   pub rules : Values
   pub opening : List Sides
+  pub existing : List Sides
   pub keep : List Sides
   pub history : List Entry
   pub most : ℕ
 
 -- what the book was opened with
 abbrev pub terms_of : Account → Terms
-terms_of a = record { rules = a.rules; opening = a.opening; keep = a.keep; most = a.most }
+terms_of a = record { rules = a.rules; opening = a.opening; existing = a.existing; keep = a.keep; most = a.most }
 
--- the metal and the keep-outs that the book opened on
+-- the design that the book opened on
 abbrev pub opening_of : Account → Layers
-opening_of a = layers_in a.opening a.keep
+opening_of a = layers_in a.opening a.existing a.keep
 
 -- the state is the replay of the history on the opening
 abbrev pub state_of : Account → State

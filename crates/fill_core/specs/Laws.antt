@@ -6,7 +6,7 @@ use Rattle.fill_raster.specs.Lattice.{Lattice, IsLattice, in_raster, in_tile, bo
 use Rattle.fill_raster.specs.Marks.{IsBlock, in_block}
 use Rattle.fill_raster.specs.declared.block.Block.{Block}
 use Rattle.fill_size.specs.Distance.{InConflict}
-use Rattle.fill_job.specs.Plans.{Plan, IsPlan, Layers, PointSet, allowed, in_window_of, low_windows, plan_of, wanted}
+use Rattle.fill_job.specs.Plans.{Plan, IsPlan, Layers, PointSet, allowed, drawn_squares, in_window_of, low_windows, plan_of, wanted}
 use Rattle.fill_core.specs.Accounts.{Account, IsKeeping, IsLegal, state_of, with_entry}
 use Rattle.fill_core.specs.Boxes.{count_places, low_fill, with_boxes}
 use Rattle.fill_core.specs.Histories.{edits_in, placed_in, withdrawn_in}
@@ -49,18 +49,22 @@ FillIsThatOfItsTiles = (plan : Plan) (layers : Layers) (events : List Event) (i 
 
 -- the low windows are those of the version's opening, whatever has risen since
 abbrev pub LowIsThatOfTheOpening : Type 0
-LowIsThatOfTheOpening = (plan : Plan) (layers : Layers) (events : List Event) → let s = replay plan layers events in s.low ≡ low_windows plan (with_boxes plan s.layers.metal s.base)
+LowIsThatOfTheOpening = (plan : Plan) (layers : Layers) (events : List Event) → let s = replay plan layers events in s.low ≡ low_windows plan (with_boxes plan (drawn_squares s.layers) s.base)
 
--- the first version's are those of the metal
-abbrev pub OpeningIsLowOfTheMetal : Type 0
-OpeningIsLowOfTheMetal = (plan : Plan) (layers : Layers) → (opening plan layers).low ≡ low_windows plan layers.metal
+-- the first version's are those of metal and existing fill
+abbrev pub OpeningIsLowOfTheDesign : Type 0
+OpeningIsLowOfTheDesign = (plan : Plan) (layers : Layers) → (opening plan layers).low ≡ low_windows plan (drawn_squares layers)
+
+-- the existing fill stays as it was, whatever edits came
+abbrev pub ExistingFillStays : Type 0
+ExistingFillStays = (plan : Plan) (layers : Layers) (events : List Event) → (replay plan layers events).layers.fill ≡ layers.fill
 
 -- once every tile is in, the fill is that of the version's opening and all allowed places wholly in a window that was low then
 abbrev pub CompleteFill : Type 0
 CompleteFill = (plan : Plan) (layers : Layers) (events : List Event) → IsPlan plan → let s = replay plan layers events in
     IsComplete plan s → s.fill ≡ (λ i j. s.base i j || (allowed plan s.layers i j && in_window_of plan s.low i j))
 
--- without edits, that is what may be filled in windows that are low in the metal alone: the same in whatever order the tiles came
+-- without edits, that is what may be filled in windows that are low in metal and existing fill: the same in whatever order the tiles came
 abbrev pub CompleteFillWithoutEdits : Type 0
 CompleteFillWithoutEdits = (plan : Plan) (layers : Layers) (events : List Event) → IsPlan plan → edits_in events ≡ [] → let s = replay plan layers events in
     IsComplete plan s → s.fill ≡ low_fill plan layers
@@ -79,10 +83,10 @@ SumsAreBounded = (plan : Plan) (layers : Layers) (events : List Event) → IsPla
 abbrev pub VersionCountsEdits : Type 0
 VersionCountsEdits = (plan : Plan) (layers : Layers) (events : List Event) → (replay plan layers events).version ≡ length (edits_in events)
 
--- metal with boxes is the metal and the squares of the boxes of filled places
+-- a set with boxes is the set and the squares of the boxes of filled places
 abbrev pub BoxesAreOfPlaces : Type 0
-BoxesAreOfPlaces = (plan : Plan) (metal fill : PointSet) → IsPlan plan → ((i j : ℤ) → fill i j ≡ true → in_raster plan.raster i j ≡ true)
-    → (x y : ℤ) → IsTrue (with_boxes plan metal fill x y) ↔ ((metal x y ≡ true) ⊎ ((i j : ℤ) × (fill i j ≡ true) × (box_squares plan.raster i j x y ≡ true)))
+BoxesAreOfPlaces = (plan : Plan) (drawn fill : PointSet) → IsPlan plan → ((i j : ℤ) → fill i j ≡ true → in_raster plan.raster i j ≡ true)
+    → (x y : ℤ) → IsTrue (with_boxes plan drawn fill x y) ↔ ((drawn x y ≡ true) ⊎ ((i j : ℤ) × (fill i j ≡ true) × (box_squares plan.raster i j x y ≡ true)))
 
 -- a set that lies in a part of a rectangle may be counted in the part
 pub record IsPart (left bottom right top a b c d : ℤ) : Type 0 where

@@ -4,15 +4,15 @@ use Rattle.fill_base.specs.Squares.{squares}
 use Rattle.fill_raster.specs.Lattice.{tiles}
 use Rattle.fill_text.specs.declared.script.Edit.{Edit}
 use Rattle.fill_text.specs.declared.script.Edit.TheVariants.{Add, Cut, Keep}
-use Rattle.fill_job.specs.Plans.{Layers, Plan, PointSet, WindowSet, blocked, conflicts, low_windows, wanted}
+use Rattle.fill_job.specs.Plans.{Layers, Plan, PointSet, WindowSet, blocked, conflicts, drawn_squares, low_windows, wanted}
 use Rattle.fill_core.specs.Boxes.{no_places, with_boxes, count_places}
 use Rattle.fill_core.specs.declared.event.Event.{Event}
 use Rattle.fill_core.specs.declared.event.Event.TheVariants as event
 use Rattle.fill_core.specs.declared.event.Reply.{Reply}
 use Rattle.fill_core.specs.declared.event.Reply.TheVariants.{Placed, Stale, Already, Foreign, Withdrawn}
 
--- the metal and the keep-outs, the filled places, the version, the windows that were low when it opened, the tiles that are in, and the
--- places that were filled when it opened
+-- the metal, the existing fill and the keep-outs, the filled places, the version, the windows that were low when it opened, the tiles that
+-- are in, and the places that were filled when it opened
 pub record State : Type 0 where
   pub layers : Layers
   pub fill : PointSet
@@ -21,18 +21,18 @@ pub record State : Type 0 where
   pub tiles_in : ℕ → Bool
   pub base : PointSet
 
--- a version opens: its low windows are those of metal and boxes together, and no tile is in
+-- a version opens: its low windows are those of metal, existing fill and boxes together, and no tile is in
 abbrev pub opened : Plan → Layers → PointSet → ℕ → State
 opened plan layers fill version = record {
   layers = layers;
   fill = fill;
   version = version;
-  low = low_windows plan (with_boxes plan layers.metal fill);
+  low = low_windows plan (with_boxes plan (drawn_squares layers) fill);
   tiles_in = λ tile. false;
   base = fill;
 }
 
--- version 0 opens on metal and keep-outs alone
+-- version 0 opens on the design alone
 abbrev pub opening : Plan → Layers → State
 opening plan layers = opened plan layers no_places 0
 
@@ -75,8 +75,9 @@ keep_after (Add r) keep x y = keep x y
 keep_after (Cut r) keep x y = keep x y
 keep_after (Keep r) keep x y = keep x y || squares r x y
 
+-- no edit changes the existing fill, which also counts where metal over it is cut
 abbrev pub layers_after : Edit → Layers → Layers
-layers_after edit layers = record { metal = metal_after edit layers.metal; keep = keep_after edit layers.keep }
+layers_after edit layers = record { metal = metal_after edit layers.metal; fill = layers.fill; keep = keep_after edit layers.keep }
 
 -- added metal takes out the boxes that it comes too near to, an added keep-out those that it shares a square with
 abbrev pub fill_after : Plan → Edit → PointSet → PointSet
@@ -112,7 +113,7 @@ unfoldable pub replies_from : Plan → State → List Event → List Reply
 replies_from plan s [] = []
 replies_from plan s (e ∷ es) = reply_of plan s e ∷ replies_from plan (step plan s e) es
 
--- the state after the events, from the opening on metal and keep-outs, and the reply to each
+-- the state after the events, from the opening on the design, and the reply to each
 abbrev pub replay : Plan → Layers → List Event → State
 replay plan layers events = replay_from plan (opening plan layers) events
 

@@ -5,17 +5,18 @@ use Rattle.fill_text.specs.Rules.{Values}
 use Rattle.fill_job.specs.Basis.{layers_in}
 use Rattle.fill_job.specs.Plans.{Layers}
 
--- the rules, the metal and the keep-outs, and how many events the history may have
+-- the rules, the metal, the existing fill and the keep-outs, and how many events the history may have
 pub record Terms : Type 0 where
   pub rules : Values
   pub opening : List Sides
+  pub existing : List Sides
   pub keep : List Sides
   pub most : ℕ
 
--- the metal and the keep-outs as sets
+-- the metal, the existing fill and the keep-outs as sets
 abbrev pub layers_at : Terms → Layers
-layers_at t = layers_in t.opening t.keep
+layers_at t = layers_in t.opening t.existing t.keep
 
 -- no rules, no metal and no event
 abbrev pub no_terms : Terms
-no_terms = record { rules = record { numbers = []; top = []; fill_lib = []; fill_cell = []; fill_top = []; keep = None; also_metal = []; also_keep = []; ignores = false }; opening = []; keep = []; most = 0 }
+no_terms = record { rules = record { numbers = []; top = []; fill_lib = []; fill_cell = []; fill_top = []; keep = None; also_metal = []; also_keep = []; ignores = false }; opening = []; existing = []; keep = []; most = 0 }

@@ -5,7 +5,7 @@ ghost use Rattle.fill_raster.specs.Lattice.{in_tile, tiles};
 ghost use Rattle.fill_raster.specs.Marks.{in_block, is_marked};
 ghost use Rattle.fill_text.specs.ValuesOfRules.{values_of};
 ghost use Rattle.fill_job.specs.Basis.{read_by};
-ghost use Rattle.fill_job.specs.Plans.{allowed, in_window_of, low_windows, plan_of};
+ghost use Rattle.fill_job.specs.Plans.{allowed, drawn_squares, in_window_of, low_windows, plan_of};
 ghost use Rattle.fill_job.specs.ReadSets.{read_set};
 ghost use Rattle.fill_core.specs.Accounts.{Account, IsCommitted, IsEdited, IsKeeping, state_of, terms_of};
 ghost use Rattle.fill_core.specs.Boxes.{count_places, total_in, with_boxes};
@@ -47,9 +47,9 @@ impl From<AllocError> for BookError {
     }
 }
 
-/// A book of a fill: metal, placed boxes, the total of each window, a version with its low windows and the tiles that are in,
-/// and the history of all that happened. Its state is the replay of its history on the metal that it opened on, by the
-/// definitions of this crate alone.
+/// A book of a fill: metal, existing fill and keep-outs, placed boxes, the total of each window, a version with its low windows and the
+/// tiles that are in, and the history of all that happened. Its state is the replay of its history on the design that it opened on, by
+/// the definitions of this crate alone.
 ///
 /// Tiles, windows (columns and rows of the rules' windows) and places are those of the book's rules. Lengths are in database
 /// units, areas in unit squares. Calls without `alloc` take no memory.
@@ -95,9 +95,9 @@ pub trait FillBook: Drop {
         ensures err { OnErr result ((account self.new ≡ account self.old) × (pass.new ≡ pass.old)) }
         ensures seen { OnOk result (pass.old.calls ≤ length (account self.old).history) };
 
-    /// Adds a rectangle to the metal, which takes out the boxes that it comes too near to, or cuts one out of it. The answer is
-    /// `Withdrawn` with the number of boxes taken out; it is written in the history and counted in the pass. The next version
-    /// is open then.
+    /// Adds a rectangle to the metal, which takes out the boxes that it comes too near to, or cuts one out of it, which takes nothing off
+    /// the existing fill; or adds a keep-out, which takes out the boxes that it shares a square with. The answer is `Withdrawn` with the
+    /// number of boxes taken out; it is written in the history and counted in the pass. The next version is open then.
     ///
     /// # Errors
     /// `HistoryFull` where the history is full, else `Memory` where memory is refused; book and pass are then as before.
@@ -112,17 +112,17 @@ pub trait FillBook: Drop {
         ensures err { OnErr result ((account self.new ≡ account self.old) × (pass.new ≡ pass.old)) }
         ensures seen { OnOk result (pass.old.calls ≤ length (account self.old).history) };
 
-    /// The area of metal and boxes together in the window of column `a` and row `b`.
+    /// The area of metal, existing fill and boxes together in the window of column `a` and row `b`.
     fn total(&self, a: u32, b: u32) -> i64
         requires column { a < (plan_of (account self.now).rules).windows.across.count }
         requires row { b < (plan_of (account self.now).rules).windows.up.count }
-        ensures exact { let k = account self.now in let s = state_of k in result ≡ pos (total_in (plan_of k.rules) s.layers.metal s.fill a b) };
+        ensures exact { let k = account self.now in let s = state_of k in result ≡ pos (total_in (plan_of k.rules) (drawn_squares s.layers) s.fill a b) };
 
-    /// The area of the metal alone in the window of column `a` and row `b`.
+    /// The area of metal and existing fill together, without the boxes, in the window of column `a` and row `b`.
     fn drawn(&self, a: u32, b: u32) -> i64
         requires column { a < (plan_of (account self.now).rules).windows.across.count }
         requires row { b < (plan_of (account self.now).rules).windows.up.count }
-        ensures { let k = account self.now in result ≡ pos (window_area (state_of k).layers.metal (plan_of k.rules).windows a b) };
+        ensures { let k = account self.now in result ≡ pos (window_area (drawn_squares (state_of k).layers) (plan_of k.rules).windows a b) };
 
     /// The version: how many edits there were.
     fn version(&self) -> u64
@@ -133,7 +133,7 @@ pub trait FillBook: Drop {
     fn is_complete(&self) -> bool
         ensures complete { let a = account self.now in IsTrue result ↔ IsComplete (plan_of a.rules) (state_of a) }
         ensures filled { let plan = plan_of (account self.now).rules in let s = state_of (account self.now) in IsTrue result → (s.fill ≡ (λ i j. s.base i j || (allowed plan s.layers i j && in_window_of plan s.low i j))) }
-        ensures low { let plan = plan_of (account self.now).rules in let s = state_of (account self.now) in s.low ≡ low_windows plan (with_boxes plan s.layers.metal s.base) };
+        ensures low { let plan = plan_of (account self.now).rules in let s = state_of (account self.now) in s.low ≡ low_windows plan (with_boxes plan (drawn_squares s.layers) s.base) };
 
     /// Whether a place is filled.
     fn has(&self, place: Place) -> bool
@@ -160,6 +160,10 @@ pub trait FillBook: Drop {
     /// The metal that the book opened on.
     fn opening(&self) -> &Region
         ensures { result.now ≡ (account self.now).opening };
+
+    /// The existing fill that the book opened on. It stays so.
+    fn opening_fill(&self) -> &Region
+        ensures { result.now ≡ (account self.now).existing };
 
     /// The keep-outs that the book opened on.
     fn opening_keep(&self) -> &Region

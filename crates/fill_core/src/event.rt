@@ -13,7 +13,7 @@ pub enum Event {
         /// Whether they were for this version, the tile wasn't in, and what was read for them is what there is to read.
         same: bool,
     },
-    /// The metal was changed.
+    /// The metal or the keep-outs were changed.
     Edit(Edit),
 }
 
@@ -29,9 +29,9 @@ pub enum Reply {
     },
     /// The tile was in already. Nothing was changed.
     Already,
-    /// The places were found by other rules, metal or low windows. Nothing was changed.
+    /// The places were found by other rules, metal, existing fill, keep-outs or low windows. Nothing was changed.
     Foreign,
-    /// The metal is changed, the next version is open, and so many boxes were taken out.
+    /// The edit is made, the next version is open, and so many boxes were taken out.
     Withdrawn(u32),
 }
 

@@ -1,8 +1,9 @@
 //! What holds of every fill, whatever events came. Each function's contract is the law.
-ghost use Rattle.fill_core.specs.Laws.{AnswersStayLegal, BoxesAreOfPlaces, BoxesKeepTheFillSpacing, CompleteFill, CompleteFillWithoutEdits, CountIsPlacedLessWithdrawn, CountedInABlock, CountedInAPart, EntryIsAStep, FillIsThatOfItsTiles, FilledPlacesAreAllowed, LegalAccountsKeep, LowIsThatOfTheOpening, NextTileIsFirst, NoNextTileWhereAllAreIn, OpeningIsLowOfTheMetal, RefusedChangesNothing, ReplayIsSound, SumsAreBounded, VersionCountsEdits};
+ghost use Rattle.fill_core.specs.Laws.{AnswersStayLegal, BoxesAreOfPlaces, BoxesKeepTheFillSpacing, CompleteFill, CompleteFillWithoutEdits, CountIsPlacedLessWithdrawn, CountedInABlock, CountedInAPart, EntryIsAStep, ExistingFillStays, FillIsThatOfItsTiles, FilledPlacesAreAllowed, LegalAccountsKeep, LowIsThatOfTheOpening, NextTileIsFirst, NoNextTileWhereAllAreIn, OpeningIsLowOfTheDesign, RefusedChangesNothing, ReplayIsSound, SumsAreBounded, VersionCountsEdits};
 ghost use Rattle.fill_core.specs.RunLaws.{AcceptedMarksAreWanted, CommitIsAStep, EditIsAStep, OwnProposalIsPlaced, RefusedCommitChangesNothing, RunIsAReplay, RunIsSound, StaleChangesNothing};
 
-/// After any events each filled place is on the raster and its box keeps the spacing to the metal.
+/// After any events each filled place is on the raster and may be filled: its box keeps the spacing to the metal and the fill spacing
+/// to existing fill, and shares no square with a keep-out.
 pub fn filled_places_are_allowed()
     ensures { FilledPlacesAreAllowed }
 {}
@@ -32,9 +33,14 @@ pub fn low_is_that_of_the_opening()
     ensures { LowIsThatOfTheOpening }
 {}
 
-/// The low windows of the first version are those of the metal alone.
-pub fn opening_is_low_of_the_metal()
-    ensures { OpeningIsLowOfTheMetal }
+/// The low windows of the first version are those of metal and existing fill, without a box.
+pub fn opening_is_low_of_the_design()
+    ensures { OpeningIsLowOfTheDesign }
+{}
+
+/// After any events the existing fill is that of the opening, also where an edit cut metal over it.
+pub fn existing_fill_stays()
+    ensures { ExistingFillStays }
 {}
 
 /// Once every tile is in, the fill is that of the version's opening and exactly all places that may be filled and whose box
@@ -44,7 +50,7 @@ pub fn complete_fill()
 {}
 
 /// Without edits, a complete fill is exactly the places that may be filled and whose box lies wholly in a window that is low in
-/// the metal: one set, in whatever order the tiles came.
+/// metal and existing fill: one set, in whatever order the tiles came.
 pub fn complete_fill_without_edits()
     ensures { CompleteFillWithoutEdits }
 {}
@@ -64,7 +70,7 @@ pub fn version_counts_edits()
     ensures { VersionCountsEdits }
 {}
 
-/// Metal with boxes is the metal and the squares of the boxes of filled places, and nothing else.
+/// A set of squares with boxes is the set and the squares of the boxes of filled places, and nothing else.
 pub fn boxes_are_of_places()
     ensures { BoxesAreOfPlaces }
 {}
