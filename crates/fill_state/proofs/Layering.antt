@@ -11,16 +11,26 @@ use Rattle.fill_job.specs.Plans.{PointSet}
 
 -- ---- one square: whether it was there at the opening, is cut, is added, and lies in the rectangle of an edit
 
-pub with_square : (o c a r : Bool) → ((o && not (c && not r)) || (a || (r && not (o && r)))) ≡ (((o && not c) || a) || r)
-with_square true true true true = refl
-with_square true true true false = refl
-with_square true true false true = refl
-with_square true true false false = refl
-with_square true false a true = refl
-with_square true false a false = refl
-with_square false c true r = refl
-with_square false c false true = refl
-with_square false c false false = refl
+-- p: whether it comes, where it lies in the rectangle
+pub with_square : (o c a p r : Bool) → (p ≡ true → r ≡ true) → ((o && not (c && not p)) || (a || (p && not (o && r)))) ≡ (((o && not c) || a) || p)
+with_square o c a true r within = rw (within refl) (comes o c a)
+  where
+    comes : (o c a : Bool) → ((o && not (c && false)) || (a || not (o && true))) ≡ (((o && not c) || a) || true)
+    comes true true true = refl
+    comes true true false = refl
+    comes true false true = refl
+    comes true false false = refl
+    comes false c true = refl
+    comes false c false = refl
+with_square o c a false r within = stays o c a
+  where
+    stays : (o c a : Bool) → ((o && not (c && true)) || (a || false)) ≡ (((o && not c) || a) || false)
+    stays true true true = refl
+    stays true true false = refl
+    stays true false true = refl
+    stays true false false = refl
+    stays false c true = refl
+    stays false c false = refl
 
 pub without_square : (o c a r : Bool) → ((o && not (c || (o && r))) || (a && not r)) ≡ (((o && not c) || a) && not r)
 without_square true true true true = refl
@@ -63,11 +73,11 @@ cut_more true c r h is = refl
 cut_more false true r h is = h refl
 cut_more false false r h is = is
 
-pub added_more : (o a r : Bool) → (a ≡ true → o ≡ false) → (a || (r && not (o && r))) ≡ true → o ≡ false
-added_more false a r h is = refl
-added_more true true r h is = h refl
-added_more true false true h is = absurd (let e : false ≡ true = is in cc)
-added_more true false false h is = absurd (let e : false ≡ true = is in cc)
+pub added_more : (o a p r : Bool) → (p ≡ true → r ≡ true) → (a ≡ true → o ≡ false) → (a || (p && not (o && r))) ≡ true → o ≡ false
+added_more false a p r within h is = refl
+added_more true true p r within h is = h refl
+added_more true false true r within h is = absurd (let e : not r ≡ true = is in let f : r ≡ true = within refl in let g : false ≡ true = rw f at e in cc)
+added_more true false false r within h is = absurd (let e : false ≡ true = is in cc)
 
 pub added_less : (o a r : Bool) → (a ≡ true → o ≡ false) → (a && not r) ≡ true → o ≡ false
 added_less o true r h is = h refl

@@ -1,5 +1,6 @@
 pub mod Halving
 pub mod Layering
+pub mod Drawing
 pub mod BoxAreas
 pub mod BoxSums
 pub mod Nearby

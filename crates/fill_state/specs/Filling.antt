@@ -46,9 +46,9 @@ pub record IsCounted (f : Filling) (count : ℕ) : Type 0 where
 abbrev pub boxes_of : Lattice → PointSet → PointSet
 boxes_of r fill x y = some_within (λ i j. fill i j && box_squares r i j x y) (first r.across) (first r.up) (past r.across) (past r.up)
 
--- the squares that are metal or in a box, and that no square is both
-abbrev pub metal_or_box : Lattice → PointSet → PointSet → PointSet
-metal_or_box r fill metal x y = metal x y || boxes_of r fill x y
+-- the squares that count of a design or lie in a box, and that no square does both
+abbrev pub drawn_or_box : Lattice → PointSet → PointSet → PointSet
+drawn_or_box r fill drawn x y = drawn x y || boxes_of r fill x y
 
 abbrev pub KeepsClear : Lattice → PointSet → PointSet → Type 0
-KeepsClear r fill metal = (x y : ℤ) → metal x y ≡ true → boxes_of r fill x y ≡ true → ⊥
+KeepsClear r fill drawn = (x y : ℤ) → drawn x y ≡ true → boxes_of r fill x y ≡ true → ⊥

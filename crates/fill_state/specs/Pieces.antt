@@ -4,7 +4,8 @@ use Rattle.fill_region.specs.Runs.{Sides, holds}
 use Rattle.fill_raster.specs.Lattice.{Lattice, in_halo, tiles}
 use Rattle.fill_job.specs.Plans.{PointSet}
 
--- the squares of the set in the bounding rectangle of the tile's boxes, grown by a distance: for metal the spacing, for keep-outs none
+-- the squares of the set in the bounding rectangle of the tile's boxes, grown by a distance: for metal the spacing, for existing fill the
+-- fill spacing, for keep-outs none
 abbrev pub IsPiece : Lattice → ℤ → PointSet → ℕ → List Sides → Type 0
 IsPiece r d p tile piece = (x y : ℤ) → holds piece x y ≡ (p x y && in_halo r tile d x y)
 

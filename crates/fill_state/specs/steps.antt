@@ -1,4 +1,5 @@
 pub mod Taken
+pub mod Beside
 pub mod Empty
 pub mod Words
 pub mod Halves

@@ -8,11 +8,11 @@ ghost use Rattle.fill_raster.specs.Lattice.{KeepsPitch, in_raster, in_tile, tile
 ghost use Rattle.fill_raster.specs.Marks.{in_block, is_marked};
 ghost use Rattle.fill_job.specs.Plans.{PointSet};
 ghost use Rattle.fill_core.specs.Boxes.{count_places};
-ghost use Rattle.fill_state.specs.Filling.{Filling, IsCounted, IsFilling, KeepsClear, boxes_of, in_places, is_filled, left_by, metal_or_box};
-ghost use Rattle.fill_state.specs.Layers.{in_layer};
+ghost use Rattle.fill_state.specs.Filling.{Filling, IsCounted, IsFilling, KeepsClear, boxes_of, in_places, is_filled, left_by, drawn_or_box};
+ghost use Rattle.fill_state.specs.Layers.{is_drawn};
 ghost use Rattle.fill_state.specs.steps.Taken.{AreApart, taken_in, taken_by_row, taken_by_rows};
 
-use crate::layer::EditedLayer;
+use crate::drawn::DrawnLayer;
 use crate::places::Places;
 use fill_area::{Windows, shared_area};
 use fill_base::{Place, Rect};
@@ -300,13 +300,13 @@ impl Filled {
         )
     }
 
-    /// How many squares of a window are metal or in a box of a filled place but for some, where no such box shares a square
-    /// with the metal.
-    pub fn total_in(&self, metal: &EditedLayer, out: &Places, window: &Rect) -> i64
-        requires { KeepsClear self.now.raster (left_by self.now out.now) (in_layer metal.now) }
-        ensures { result ≡ pos (area_of (metal_or_box self.now.raster (left_by self.now out.now) (in_layer metal.now)) window.now) }
+    /// How many squares of a window are metal, existing fill or in a box of a filled place but for some, where no such box shares a
+    /// square with metal or existing fill.
+    pub fn total_in(&self, drawn: &DrawnLayer, out: &Places, window: &Rect) -> i64
+        requires { KeepsClear self.now.raster (left_by self.now out.now) (is_drawn drawn.now) }
+        ensures { result ≡ pos (area_of (drawn_or_box self.now.raster (left_by self.now out.now) (is_drawn drawn.now)) window.now) }
     {
-        metal.area_in(window) + self.boxes_in(out, window)
+        drawn.area_in(window) + self.boxes_in(out, window)
     }
 
     /// How many squares that count of the window in a column and a row the boxes of the filled places hold, but for some places.
@@ -322,27 +322,27 @@ impl Filled {
         }
     }
 
-    /// How many squares of each window are metal or in a box of a filled place but for some: row by row, the window in column
-    /// `a` and row `b` at `b * columns + a`.
+    /// How many squares of each window are metal, existing fill or in a box of a filled place but for some: row by row, the window in
+    /// column `a` and row `b` at `b * columns + a`.
     ///
     /// # Errors
     /// `AllocError` where memory is refused.
     pub fn totals(
         &self,
         alloc: Global,
-        metal: &EditedLayer,
+        drawn: &DrawnLayer,
         out: &Places,
         windows: &Windows,
     ) -> Result<Vec<i64>, AllocError>
-        requires { KeepsClear self.now.raster (left_by self.now out.now) (in_layer metal.now) }
-        ensures areas { IfOk result (λ v. AreMeasured (metal_or_box self.now.raster (left_by self.now out.now) (in_layer metal.now)) windows.now v.items) }
+        requires { KeepsClear self.now.raster (left_by self.now out.now) (is_drawn drawn.now) }
+        ensures areas { IfOk result (λ v. AreMeasured (drawn_or_box self.now.raster (left_by self.now out.now) (is_drawn drawn.now)) windows.now v.items) }
         ensures bounded { IfOk result (λ v. All IsArea v.items) }
     {
         let mut totals = Vec::with_capacity(alloc, windows.len())?;
         for k in 0..windows.len() {
             let (column, row) = windows.column_and_row(k);
-            let drawn = metal.counted_in(windows, column, row);
-            totals.push(drawn + self.boxes_counted(out, windows, column, row))?;
+            let area = drawn.counted_in(windows, column, row);
+            totals.push(area + self.boxes_counted(out, windows, column, row))?;
         }
         Ok(totals)
     }

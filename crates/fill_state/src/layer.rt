@@ -1,11 +1,10 @@
 //! A layer of a design after edits.
-ghost use Rattle.std.specs.Prelude.{◌≡◌, ◌<◌, ◌&&◌, ◌||◌, not, ℤ, pos, IfOk};
+ghost use Rattle.std.specs.Prelude.{◌≡◌, ◌&&◌, ◌||◌, not, ℤ, pos, true, IfOk};
 ghost use Rattle.fill_base.specs.Squares.{squares, area_of};
-ghost use Rattle.fill_area.specs.Density.{window_area};
 ghost use Rattle.fill_region.specs.Runs.{holds};
 ghost use Rattle.fill_state.specs.Layers.{in_layer};
 
-use fill_area::{Windows, area_in};
+use fill_area::area_in;
 use fill_base::Rect;
 use fill_job::Piece;
 use fill_region::Region;
@@ -58,6 +57,25 @@ impl EditedLayer {
         })
     }
 
+    /// The squares of the layer, and those of a region that lies within a rectangle.
+    fn with_squares(
+        &self,
+        alloc: Global,
+        region: &Region,
+        within: &Rect,
+    ) -> Result<EditedLayer, AllocError>
+        requires { (x y : ℤ) → holds region.now x y ≡ true → squares within.now x y ≡ true }
+        ensures squares { IfOk result (λ l. (x y : ℤ) → in_layer l x y ≡ in_layer self.now x y || holds region.now x y) }
+    {
+        let there = self.opening.region().clip(alloc, within)?;
+        let beside = region.minus(alloc, &there)?;
+        Ok(EditedLayer {
+            opening: self.opening.share()?,
+            cut: self.cut.minus(alloc, region)?,
+            added: self.added.union(alloc, &beside)?,
+        })
+    }
+
     /// The squares of the layer, and those of a rectangle.
     ///
     /// # Errors
@@ -65,13 +83,22 @@ impl EditedLayer {
     pub fn with_rect(&self, alloc: Global, rect: &Rect) -> Result<EditedLayer, AllocError>
         ensures squares { IfOk result (λ l. (x y : ℤ) → in_layer l x y ≡ in_layer self.now x y || squares rect.now x y) }
     {
-        let there = self.opening.metal().clip(alloc, rect)?;
-        let beside = Region::one(alloc, rect)?.minus(alloc, &there)?;
-        Ok(EditedLayer {
-            opening: self.opening.share()?,
-            cut: self.cut.without_rect(alloc, rect)?,
-            added: self.added.union(alloc, &beside)?,
-        })
+        self.with_squares(alloc, &Region::one(alloc, rect)?, rect)
+    }
+
+    /// The squares of the layer, and those of a region within a rectangle.
+    ///
+    /// # Errors
+    /// `AllocError` where memory is refused.
+    pub fn with_part(
+        &self,
+        alloc: Global,
+        region: &Region,
+        rect: &Rect,
+    ) -> Result<EditedLayer, AllocError>
+        ensures squares { IfOk result (λ l. (x y : ℤ) → in_layer l x y ≡ in_layer self.now x y || (holds region.now x y && squares rect.now x y)) }
+    {
+        self.with_squares(alloc, &region.clip(alloc, rect)?, rect)
     }
 
     /// The squares of the layer that aren't those of a rectangle.
@@ -81,7 +108,7 @@ impl EditedLayer {
     pub fn without_rect(&self, alloc: Global, rect: &Rect) -> Result<EditedLayer, AllocError>
         ensures squares { IfOk result (λ l. (x y : ℤ) → in_layer l x y ≡ in_layer self.now x y && not (squares rect.now x y)) }
     {
-        let there = self.opening.metal().clip(alloc, rect)?;
+        let there = self.opening.region().clip(alloc, rect)?;
         Ok(EditedLayer {
             opening: self.opening.share()?,
             cut: self.cut.union(alloc, &there)?,
@@ -96,7 +123,7 @@ impl EditedLayer {
     pub fn clip(&self, alloc: Global, rect: &Rect) -> Result<Region, AllocError>
         ensures squares { IfOk result (λ r. (x y : ℤ) → holds r x y ≡ in_layer self.now x y && squares rect.now x y) }
     {
-        let there = self.opening.metal().clip(alloc, rect)?;
+        let there = self.opening.region().clip(alloc, rect)?;
         let cut = self.cut.clip(alloc, rect)?;
         let added = self.added.clip(alloc, rect)?;
         there.minus(alloc, &cut)?.union(alloc, &added)
@@ -106,19 +133,7 @@ impl EditedLayer {
     pub fn area_in(&self, window: &Rect) -> i64
         ensures { result ≡ pos (area_of (in_layer self.now) window.now) }
     {
-        let there = area_in(self.opening.metal(), window);
+        let there = area_in(self.opening.region(), window);
         there - area_in(&self.cut, window) + area_in(&self.added, window)
-    }
-
-    /// How many squares that count of the window in a column and a row are in the layer. Takes no memory.
-    pub fn counted_in(&self, windows: &Windows, column: u32, row: u32) -> i64
-        requires column { column < windows.now.across.count }
-        requires row { row < windows.now.up.count }
-        ensures { result ≡ pos (window_area (in_layer self.now) windows.now column row) }
-    {
-        match windows.part(column, row) {
-            Some(window) => self.area_in(&window),
-            None => 0,
-        }
     }
 }

@@ -1,4 +1,4 @@
-//! What of the metal and of the keep-outs each tile depends on.
+//! What of the metal, of the existing fill and of the keep-outs each tile depends on.
 ghost use denote.Param.Send.{IsSync};
 ghost use Rattle.std.specs.Prelude.{◌≡◌, ◌+◌, ◌<◌, ◌≤◌, ℤ, pos, false, IfOk};
 ghost use Rattle.fill_base.specs.Limits.{IsSpacing};
@@ -209,6 +209,21 @@ pub fn metal_pieces<R: Threads + Sync>(
     pieces_of(rt, alloc, rules.raster(), rules.spacing(), metal)
 }
 
+/// The existing fill in the halo of each tile, as far as the fill spacing. No edit changes it.
+///
+/// # Errors
+/// `AllocError` where memory is refused.
+pub fn existing_pieces<R: Threads + Sync>(
+    rt: &R,
+    alloc: Global,
+    rules: &SharedRules,
+    existing: &Region,
+) -> Result<Vec<Piece>, AllocError>
+    ensures { let plan = plan_of rules.now in IfOk result (λ v. ArePieces plan.raster plan.fill_spacing (holds existing.now) v.items) }
+{
+    pieces_of(rt, alloc, rules.raster(), rules.fill_spacing(), existing)
+}
+
 /// The keep-outs in the bounding rectangle of each tile's boxes.
 ///
 /// # Errors
@@ -242,11 +257,11 @@ fn piece_after(
     let halo = raster.halo(tile, distance);
     match edit {
         Edit::Add(rect) => match rect.clip(&halo) {
-            Some(part) => Piece::new(alloc, piece.metal().with_rect(alloc, &part)?),
+            Some(part) => Piece::new(alloc, piece.region().with_rect(alloc, &part)?),
             None => piece.share(),
         },
         Edit::Cut(rect) => match rect.clip(&halo) {
-            Some(part) => Piece::new(alloc, piece.metal().without_rect(alloc, &part)?),
+            Some(part) => Piece::new(alloc, piece.region().without_rect(alloc, &part)?),
             None => piece.share(),
         },
         Edit::Keep(_) => piece.share(),

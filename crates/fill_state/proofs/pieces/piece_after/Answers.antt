@@ -14,7 +14,7 @@ pub returns-in_ok-with_rect-in-Some : goal.returns-in_ok-with_rect-in-Some
 returns-in_ok-with_rect-in-Some c =
     let r = c.args.raster.now in let d = c.args.distance in
     let bounds = rw (spacing_read d c.requires.distance) at c.halo-halo.ensures.squares in
-    let piece = added_piece r d (in_layer c.args._was.now) c.args.piece.now c.in_ok-with_rect-in-Some.field-0 c.in-Add.rect c.halo-halo.result c.args.tile (squares c.in-Some.part) c.requires.piece bounds c.in-Some.ensures.some (rw c.metal.ensures at c.in_ok-with_rect-in-Some.ensures.squares) in
+    let piece = added_piece r d (in_layer c.args._was.now) c.args.piece.now c.in_ok-with_rect-in-Some.field-0 c.in-Add.rect c.halo-halo.result c.args.tile (squares c.in-Some.part) c.requires.piece bounds c.in-Some.ensures.some (rw c.region.ensures at c.in_ok-with_rect-in-Some.ensures.squares) in
     rw c.in-Add.is (IfOk-weaker c.new.result _ _ (λ q e. subst (λ (b : List Sides). IsPiece r d (metal_after (Add c.in-Add.rect) (in_layer c.args._was.now)) c.args.tile b) (sym e) piece) c.new.ensures)
 
 pub returns-in-None : goal.returns-in-None
@@ -28,7 +28,7 @@ pub returns-in_ok-without_rect-in-Some-clip : goal.returns-in_ok-without_rect-in
 returns-in_ok-without_rect-in-Some-clip c =
     let r = c.args.raster.now in let d = c.args.distance in
     let bounds = rw (spacing_read d c.requires.distance) at c.halo-halo.ensures.squares in
-    let piece = cut_piece r d (in_layer c.args._was.now) c.args.piece.now c.in_ok-without_rect-in-Some-clip.field-0 c.in-Cut.rect c.halo-halo.result c.args.tile (squares c.in-Some-clip.part) c.requires.piece bounds c.in-Some-clip.ensures.some (rw c.metal-in-Some-clip.ensures at c.in_ok-without_rect-in-Some-clip.ensures.squares) in
+    let piece = cut_piece r d (in_layer c.args._was.now) c.args.piece.now c.in_ok-without_rect-in-Some-clip.field-0 c.in-Cut.rect c.halo-halo.result c.args.tile (squares c.in-Some-clip.part) c.requires.piece bounds c.in-Some-clip.ensures.some (rw c.region-in-Some-clip.ensures at c.in_ok-without_rect-in-Some-clip.ensures.squares) in
     rw c.in-Cut.is (IfOk-weaker c.new-in-Some-clip.result _ _ (λ q e. subst (λ (b : List Sides). IsPiece r d (metal_after (Cut c.in-Cut.rect) (in_layer c.args._was.now)) c.args.tile b) (sym e) piece) c.new-in-Some-clip.ensures)
 
 pub returns-in-None-clip : goal.returns-in-None-clip
