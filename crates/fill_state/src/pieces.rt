@@ -86,6 +86,18 @@ impl Halos {
     }
 }
 
+/// The pieces of all tiles of a set without squares: for each the piece without squares once more.
+fn no_pieces(alloc: Global, halos: &Halos) -> Result<Vec<Piece>, AllocError>
+    requires { (x y : ℤ) → holds halos.now.none x y ≡ false }
+    ensures { IfOk result (λ v. ArePieces halos.now.raster halos.now.distance (λ x y. false) v.items) }
+{
+    let mut pieces = Vec::new(alloc);
+    for _tile in 0..halos.raster.tiles() {
+        pieces.push(halos.none.share()?)?;
+    }
+    Ok(pieces)
+}
+
 /// The pieces of the tiles from one on and before another, of which there are some, by the calling thread alone: those of the lower
 /// half by the runs that meet its halos, then those of the upper half. The list that the two come from is given back first.
 #[cycle(alone)]
@@ -190,6 +202,9 @@ fn pieces_of<R: Threads + Sync>(
         none,
         share: tiles / MOST_SHARES,
     };
+    if region.is_empty() {
+        return no_pieces(alloc, &halos);
+    }
     let runs = runs_near(alloc, region.runs(), &halos.around(0, tiles))?;
     pieces_between(rt, alloc, &halos, runs, 0, tiles)
 }
