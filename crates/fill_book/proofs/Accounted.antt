@@ -2,27 +2,28 @@
 use Rattle.std.proofs.Common.{◌≡◌, refl, ap, sym, subst, ◌∙◌, ℕ, ◌+◌, ◌≤◌, ◌<◌, ◌^◌, ℤ, pos, arith, inl, inr, List, [], length, Bool, true, false, ◌||◌, ◌↔◌, cond, Option, None, Some, IfSome}
 use Rattle.std.specs.Prelude.{IsTrue, ◌==◌}
 use Rattle.std.proofs.lemmas.Bool.{and_parts, cases_Bool}
-use Rattle.fill_state.specs.Layers.{Layered, in_layer}
+use Rattle.fill_state.specs.Layers.{Drawn, Layered, in_layer, is_drawn}
 use Rattle.fill_region.specs.Runs.{Sides, holds}
 use Rattle.fill_area.specs.Density.{window_area}
 use Rattle.fill_raster.specs.Lattice.{Lattice, in_tile}
 use Rattle.fill_raster.specs.Marks.{Marked, is_marked}
 use Rattle.fill_text.specs.Rules.{Values}
 use Rattle.fill_text.specs.declared.script.Edit.{Edit}
-use Rattle.fill_job.specs.Basis.{layers_in, windows_in}
-use Rattle.fill_job.specs.Plans.{Layers, Plan, IsPlan, PointSet, plan_of}
+use Rattle.fill_job.specs.Basis.{layers_in, layers_of, windows_in}
+use Rattle.fill_job.specs.Plans.{Layers, Plan, IsPlan, PointSet, drawn_squares, plan_of}
 use Rattle.fill_job.specs.ReadSets.{ReadSet, read_set, wanted_of}
+use Rattle.fill_job.specs.declared.shared.Pieces.{Pieces}
 use Rattle.fill_core.specs.Accounts.{Account, IsKeeping, IsSame, state_of, with_entry}
 use Rattle.fill_core.specs.Boxes.{no_places, total_in, with_boxes}
 use Rattle.fill_core.specs.Histories.{placed_by, withdrawn_by}
-use Rattle.fill_core.specs.Machine.{State, commit_reply, fill_after, keep_after, metal_after, opening, replay_from, replies_from, reply_of, step}
+use Rattle.fill_core.specs.Machine.{State, commit_reply, fill_after, keep_after, layers_after, metal_after, opening, replay_from, replies_from, reply_of, step}
 use Rattle.fill_core.specs.Shares.{Held, Totals, counted, moved_by, totals_of}
 use Rattle.fill_core.specs.declared.event.Event.{Event}
 use Rattle.fill_core.specs.declared.event.Event.TheVariants as event
 use Rattle.fill_core.specs.declared.event.Reply.{Reply}
 use Rattle.fill_core.specs.declared.event.Reply.TheVariants.{Placed, Withdrawn}
 use Rattle.fill_core.proofs.Written.{keeping_of}
-use Rattle.fill_state.specs.Filling.{KeepsClear, is_filled, left_by, metal_or_box}
+use Rattle.fill_state.specs.Filling.{KeepsClear, is_filled, left_by, drawn_or_box}
 use Rattle.fill_book.specs.Keeping.{Fits, Keeps, state_by, stored_layers}
 use Rattle.fill_state.specs.Pieces.{ArePieces}
 use Rattle.fill_book.specs.Standing.{squares_in}
@@ -41,24 +42,28 @@ at_view {a} {b} {t} {s} keeps same = subst (λ (k : Account). Keeps k t s) same 
 pub keeping : {a : Account} {t : Totals} {s : Stored} → Keeps a t s → IsKeeping a
 keeping {a} {t} {s} keeps = keeping_of a keeps.plan keeps.legal keeps.room keeps.most
 
-pub clear_stored : {a : Account} {t : Totals} {s : Stored} → Keeps a t s → KeepsClear s.filled.raster (is_filled s.filled) (in_layer s.metal)
+pub clear_stored : {a : Account} {t : Totals} {s : Stored} → Keeps a t s → KeepsClear s.filled.raster (is_filled s.filled) (is_drawn s.drawn)
 clear_stored {a} {t} {s} keeps =
-    clear_same (plan_of a.rules).raster s.filled.raster (is_filled s.filled) (is_filled s.filled) (in_layer s.metal) (in_layer s.metal)
+    clear_same (plan_of a.rules).raster s.filled.raster (is_filled s.filled) (is_filled s.filled) (is_drawn s.drawn) (is_drawn s.drawn)
     keeps.fits.raster (λ i j. refl) (λ x y. refl) (clear_now a s (state_of a).base keeps.plan keeps.state)
 
+-- what is drawn, as it is stored
+drawn_stored : {a : Account} {t : Totals} {s : Stored} → Keeps a t s → drawn_squares (state_of a).layers ≡ is_drawn s.drawn
+drawn_stored {a} {t} {s} keeps = ap (λ (q : State). drawn_squares q.layers) keeps.state
+
 -- the areas of what is stored
-pub total_is : {a : Account} {t : Totals} {s : Stored} → Keeps a t s → (m n : ℕ) → window_area (squares_in s) (plan_of a.rules).windows m n ≡ total_in (plan_of a.rules) (state_of a).layers.metal (state_of a).fill m n
+pub total_is : {a : Account} {t : Totals} {s : Stored} → Keeps a t s → (m n : ℕ) → window_area (squares_in s) (plan_of a.rules).windows m n ≡ total_in (plan_of a.rules) (drawn_squares (state_of a).layers) (state_of a).fill m n
 total_is {a} {t} {s} keeps m n =
     let plan = plan_of a.rules in
-    let metal : (state_of a).layers.metal ≡ in_layer s.metal = ap (λ (q : State). q.layers.metal) keeps.state in
+    let drawn = drawn_stored keeps in
     let fill : (state_of a).fill ≡ is_filled s.filled = ap (λ (q : State). q.fill) keeps.state in
-    ap (λ r. window_area (metal_or_box r (is_filled s.filled) (in_layer s.metal)) plan.windows m n) keeps.fits.raster
-    ∙ (ap (λ (f : PointSet). total_in plan (in_layer s.metal) f m n) (sym fill) ∙ ap (λ (f : PointSet). total_in plan f (state_of a).fill m n) (sym metal))
+    ap (λ r. window_area (drawn_or_box r (is_filled s.filled) (is_drawn s.drawn)) plan.windows m n) keeps.fits.raster
+    ∙ (ap (λ (f : PointSet). total_in plan (is_drawn s.drawn) f m n) (sym fill) ∙ ap (λ (f : PointSet). total_in plan f (state_of a).fill m n) (sym drawn))
 
-pub drawn_is : {a : Account} {t : Totals} {s : Stored} → Keeps a t s → (m n : ℕ) → window_area (in_layer s.metal) (plan_of a.rules).windows m n ≡ window_area (state_of a).layers.metal (plan_of a.rules).windows m n
-drawn_is {a} {t} {s} keeps m n = ap (λ (f : PointSet). window_area f (plan_of a.rules).windows m n) (sym (ap (λ (q : State). q.layers.metal) keeps.state))
+pub drawn_is : {a : Account} {t : Totals} {s : Stored} → Keeps a t s → (m n : ℕ) → window_area (is_drawn s.drawn) (plan_of a.rules).windows m n ≡ window_area (drawn_squares (state_of a).layers) (plan_of a.rules).windows m n
+drawn_is {a} {t} {s} keeps m n = ap (λ (f : PointSet). window_area f (plan_of a.rules).windows m n) (sym (drawn_stored keeps))
 
-pub clear_by_edit : {a : Account} {t : Totals} {s : Stored} → Keeps a t s → (edit : Edit) → KeepsClear (plan_of a.rules).raster (fill_after (plan_of a.rules) edit (is_filled s.filled)) (metal_after edit (in_layer s.metal))
+pub clear_by_edit : {a : Account} {t : Totals} {s : Stored} → Keeps a t s → (edit : Edit) → KeepsClear (plan_of a.rules).raster (fill_after (plan_of a.rules) edit (is_filled s.filled)) (drawn_squares (layers_after edit (stored_layers s)))
 clear_by_edit {a} {t} {s} keeps edit = clear_after a s (state_of a).base edit keeps.plan keeps.state
 
 -- ---- the ledgers have room
@@ -95,6 +100,9 @@ pieces_kept : (r : Lattice) (d : ℤ) (p : PointSet) (layer : Layered) (pieces :
 pieces_kept r d p layer pieces m v metal same is are =
     subst (λ (b : Layered). ArePieces r d (in_layer b) pieces) (sym metal) (subst (λ (l : List (List Sides)). ArePieces r d (in_layer m) l) (sym same) (subst (λ (q : PointSet). ArePieces r d q v) (sym (same_set (in_layer m) p is)) are))
 
+existing_kept : (r : Lattice) (d : ℤ) (existing was : List Sides) (pieces v : List (List Sides)) → existing ≡ was → pieces ≡ v → ArePieces r d (holds was) v → ArePieces r d (holds existing) pieces
+existing_kept r d existing was pieces v same at are = subst (λ (b : List Sides). ArePieces r d (holds b) pieces) (sym same) (subst (λ (l : List (List Sides)). ArePieces r d (holds was) l) (sym at) are)
+
 pub edit_answer : {a : Account} {t : Totals} {s : Stored} → Keeps a t s → (n : Stored) (edit : Edit) (c : Change) (withdrawn : ℕ) → IsOf (plan_of a.rules) s edit c → IsChanged s n c withdrawn
     → Withdrawn withdrawn ≡ reply_of (plan_of a.rules) (state_of a) (event.Edit edit)
 edit_answer {a} {t} {s} keeps n edit c withdrawn of is =
@@ -109,7 +117,8 @@ keeps_edit {a} {t} {s} keeps u n edit c withdrawn room of is noted =
       state = stored_next plan (event.Edit edit) (state_of a) (state_by base s) (fill_after plan edit (is_filled s.filled)) n keeps.state (edited plan base s n edit c withdrawn of is);
       raster = is.raster;
       bits = is.bits;
-      pieces = pieces_kept plan.raster plan.spacing (metal_after edit (in_layer s.metal)) n.metal n.pieces.items c.metal c.pieces.items is.metal (ap (λ v. v.items) is.pieces) of.metal of.pieces;
+      pieces = pieces_kept plan.raster plan.spacing (metal_after edit (in_layer s.drawn.metal)) n.drawn.metal n.pieces.items c.drawn.metal c.pieces.items (ap (λ (d : Drawn). d.metal) is.drawn) (ap (λ v. v.items) is.pieces) of.metal of.pieces;
+      existing_pieces = existing_kept plan.raster plan.fill_spacing n.drawn.existing s.drawn.existing n.existing_pieces.items s.existing_pieces.items (ap (λ (d : Drawn). d.existing) is.drawn ∙ of.existing) (ap (λ v. v.items) is.existing_pieces) keeps.fits.existing_pieces;
       keep_pieces = pieces_kept plan.raster (pos 0) (keep_after edit (in_layer s.keep)) n.keep n.keep_pieces.items c.keep c.keep_pieces.items is.keep (ap (λ v. v.items) is.keep_pieces) of.keep of.keep_pieces;
       version = one_more n.version s.version is.version;
       answer = edit_answer keeps n edit c withdrawn of is;
@@ -148,7 +157,8 @@ keeps_commit {a} {t} {s} keeps u n version tile read same m placed reply room is
       state = stored_next plan (event.Commit version tile same) (state_of a) (state_by base s) base n keeps.state (committed a.rules base s n version tile read same m placed keeps.plan is.is_same is.marked taken);
       raster = taken.raster;
       bits = taken.bits;
-      pieces = pieces_kept plan.raster plan.spacing (in_layer s.metal) n.metal n.pieces.items s.metal s.pieces.items taken.metal (ap (λ v. v.items) taken.pieces) (λ x y. refl) keeps.fits.pieces;
+      pieces = pieces_kept plan.raster plan.spacing (in_layer s.drawn.metal) n.drawn.metal n.pieces.items s.drawn.metal s.pieces.items (ap (λ (d : Drawn). d.metal) taken.drawn) (ap (λ v. v.items) taken.pieces) (λ x y. refl) keeps.fits.pieces;
+      existing_pieces = existing_kept plan.raster plan.fill_spacing n.drawn.existing s.drawn.existing n.existing_pieces.items s.existing_pieces.items (ap (λ (d : Drawn). d.existing) taken.drawn) (ap (λ v. v.items) taken.existing_pieces) keeps.fits.existing_pieces;
       keep_pieces = pieces_kept plan.raster (pos 0) (in_layer s.keep) n.keep n.keep_pieces.items s.keep s.keep_pieces.items taken.keep (ap (λ v. v.items) taken.keep_pieces) (λ x y. refl) keeps.fits.keep_pieces;
       version = same_version n.version s.version taken.version;
       answer = answer;
@@ -204,10 +214,10 @@ same_now {a} {b} {t} {s} keeps at version tile read same is =
     subst (λ (k : Account). IsSame k.rules (state_of k) version tile read same) at (subst (λ (q : State). IsSame a.rules q version tile read same) (sym keeps.state) is)
 
 -- the book opens
-pub keeps_opening : (rules : Values) (opening_bands keep : List Sides) (most : ℕ) (t : Totals) (s : Stored) → IsPlan (plan_of rules) → Fits (plan_of rules) s → state_by no_places s ≡ opening (plan_of rules) (layers_in opening_bands keep) → most ≤ 2 ^ 32
-    → t ≡ record { calls = 0; placed = 0; withdrawn = 0 } → Keeps (record { rules = rules; opening = opening_bands; keep = keep; history = []; most = most }) t s
+pub keeps_opening : (rules : Values) (metal existing keep : List Sides) (most : ℕ) (t : Totals) (s : Stored) → IsPlan (plan_of rules) → Fits (plan_of rules) s → state_by no_places s ≡ opening (plan_of rules) (layers_in metal existing keep) → most ≤ 2 ^ 32
+    → t ≡ record { calls = 0; placed = 0; withdrawn = 0 } → Keeps (record { rules = rules; opening = metal; existing = existing; keep = keep; history = []; most = most }) t s
 unfolding replay_from replies_from
-keeps_opening rules opening_bands keep most t s plan fits state bound none =
+keeps_opening rules metal existing keep most t s plan fits state bound none =
     record {
       plan = plan;
       fits = fits;
@@ -229,27 +239,37 @@ pub if_some : {X : Type 0} {P : X → Type 0} (o : Option X) → ((x : X) → o 
 if_some None h = tt
 if_some (Some x) h = h x refl
 
--- what was brought keeps clear of the metal
+-- what was brought keeps clear of what is drawn
 pub clear_by_commit : {a : Account} {t : Totals} {s : Stored} → Keeps a t s → (version tile : ℕ) (read : ReadSet) (same : Bool) (m : Marked) → IsBrought a.rules s version tile read same m → same ≡ true
-    → KeepsClear s.filled.raster (λ i j. is_filled s.filled i j || is_marked m i j) (in_layer s.metal)
+    → KeepsClear s.filled.raster (λ i j. is_filled s.filled i j || is_marked m i j) (is_drawn s.drawn)
 clear_by_commit {a} {t} {s} keeps version tile read same m is all =
     let marks = (λ (i j : ℤ). is_filled s.filled i j || is_marked m i j) in
-    clear_same (plan_of a.rules).raster s.filled.raster marks marks (in_layer s.metal) (in_layer s.metal) keeps.fits.raster (λ i j. refl) (λ x y. refl)
+    clear_same (plan_of a.rules).raster s.filled.raster marks marks (is_drawn s.drawn) (is_drawn s.drawn) keeps.fits.raster (λ i j. refl) (λ x y. refl)
     (clear_commit a s (state_of a).base version tile read m keeps.plan keeps.state (subst (λ (b : Bool). IsSame a.rules (state_by no_places s) version tile read b) all is.is_same) is.marked)
 
--- the first squares are those of the metal
-pub opening_squares : (rules : Values) (s : Stored) (layers : Layers) → Fits (plan_of rules) s → state_by no_places s ≡ opening (plan_of rules) layers → (in_layer s.metal ≡ layers.metal) × (squares_in s ≡ layers.metal)
+-- what is measured at the opening is what is drawn
+pub design_drawn : (design : Pieces) (metal existing drawn region : List Sides) → metal ≡ design.metal → existing ≡ design.fill → ((x y : ℤ) → holds drawn x y ≡ holds metal x y || holds existing x y) → region ≡ drawn
+    → holds region ≡ drawn_squares (layers_of design)
+design_drawn design metal existing drawn region metal_is existing_is both same =
+    ap (λ (b : List Sides). holds b) same ∙ same_set (holds drawn) (drawn_squares (layers_of design))
+    (λ x y. both x y ∙ (ap (λ (b : List Sides). holds b x y || holds existing x y) metal_is ∙ ap (λ (b : List Sides). holds design.metal x y || holds b x y) existing_is))
+
+-- the first squares are those of the design
+pub opening_squares : (rules : Values) (s : Stored) (layers : Layers) → Fits (plan_of rules) s → state_by no_places s ≡ opening (plan_of rules) layers → (is_drawn s.drawn ≡ drawn_squares layers) × (squares_in s ≡ drawn_squares layers)
 opening_squares rules s layers fits state =
     let plan = plan_of rules in
-    let drawn : in_layer s.metal ≡ layers.metal = ap (λ (q : State). q.layers.metal) state in
-    let fill : is_filled s.filled ≡ no_places = ap (λ (q : State). q.fill) state in
-    (drawn, ap (λ r. metal_or_box r (is_filled s.filled) (in_layer s.metal)) fits.raster ∙ (ap (λ (f : PointSet). with_boxes plan (in_layer s.metal) f) fill ∙ (ap (λ (f : PointSet). with_boxes plan f no_places) drawn ∙ no_boxes plan layers.metal)))
+    let drawn : is_drawn s.drawn ≡ drawn_squares layers = ap (λ (q : State). drawn_squares q.layers) state in
+    let fill : is_filled s.filled ≡ no_places = ap (λ (q : State). q.fill) state in (
+      drawn,
+      ap (λ r. drawn_or_box r (is_filled s.filled) (is_drawn s.drawn)) fits.raster
+          ∙ (ap (λ (f : PointSet). with_boxes plan (is_drawn s.drawn) f) fill ∙ (ap (λ (f : PointSet). with_boxes plan f no_places) drawn ∙ no_boxes plan (drawn_squares layers))),
+    )
 
 -- what tells the areas of a change tells those of what is stored after it
-pub changed_stands : (P : PointSet → PointSet → Type 0) (s n : Stored) (c : Change) (withdrawn : ℕ) → IsChanged s n c withdrawn → P (in_layer c.metal) (metal_or_box s.filled.raster (left_by s.filled c.out) (in_layer c.metal)) → P (in_layer n.metal) (squares_in n)
+pub changed_stands : (P : PointSet → PointSet → Type 0) (s n : Stored) (c : Change) (withdrawn : ℕ) → IsChanged s n c withdrawn → P (is_drawn c.drawn) (drawn_or_box s.filled.raster (left_by s.filled c.out) (is_drawn c.drawn)) → P (is_drawn n.drawn) (squares_in n)
 changed_stands P s n c withdrawn is stands =
-    let same : metal_or_box s.filled.raster (left_by s.filled c.out) (in_layer n.metal) ≡ squares_in n = same_squares s.filled.raster n.filled.raster (left_by s.filled c.out) (is_filled n.filled) (in_layer n.metal) is.raster is.filled in
-    subst (λ (p : PointSet). P (in_layer n.metal) p) same (subst (λ (b : Layered). P (in_layer b) (metal_or_box s.filled.raster (left_by s.filled c.out) (in_layer b))) (sym is.metal) stands)
+    let same : drawn_or_box s.filled.raster (left_by s.filled c.out) (is_drawn n.drawn) ≡ squares_in n = same_squares s.filled.raster n.filled.raster (left_by s.filled c.out) (is_filled n.filled) (is_drawn n.drawn) is.raster is.filled in
+    subst (λ (p : PointSet). P (is_drawn n.drawn) p) same (subst (λ (b : Drawn). P (is_drawn b) (drawn_or_box s.filled.raster (left_by s.filled c.out) (is_drawn b))) (sym is.drawn) stands)
 
 -- what is stored is what there is to read
 pub read_now : {a b : Account} {t : Totals} {s : Stored} → Keeps a t s → a ≡ b → (rules : Values) (tile : ℕ) → rules ≡ a.rules → read_set rules (stored_layers s) (windows_in s.low) tile ≡ read_set b.rules (state_of b).layers (state_of b).low tile

@@ -20,7 +20,7 @@ use Rattle.fill_sums.proofs.Following.{AreParts, down_measured, down_stays, up_m
 use Rattle.fill_job.specs.Plans.{PointSet}
 use Rattle.fill_job.specs.Searches.{some_within}
 use Rattle.fill_job.proofs.Conflicts.{some_within_decides}
-use Rattle.fill_state.specs.Filling.{Filling, IsFilling, KeepsClear, boxes_of, in_places, is_filled, left_by, metal_or_box}
+use Rattle.fill_state.specs.Filling.{Filling, IsFilling, KeepsClear, boxes_of, in_places, is_filled, left_by, drawn_or_box}
 use Rattle.fill_state.specs.declared.places.Places.{Places}
 use Rattle.fill_state.proofs.Nearby.{filled_on, left_apart}
 use Rattle.fill_book.specs.steps.Following.{taken_at, taken_of_rows}
@@ -89,13 +89,13 @@ boxes_either r fill left moved x y are two = both _ _
     moved_on : AreOn r moved
     moved_on = record { lattice = are.lattice; on = λ i j h. are.on i j (two.either i j ∙ or_right _ _ h) }
 
--- so are the squares of metal and boxes
-pub box_parts : (r : Lattice) (fill left moved metal : PointSet) → AreOn r fill → AreTwo fill left moved → AreApart r fill → KeepsClear r fill metal → AreParts (metal_or_box r fill metal) (metal_or_box r left metal) (boxes_of r moved)
-box_parts r fill left moved metal are two apart clear = record {
+-- so are the squares of what is drawn and of boxes
+pub box_parts : (r : Lattice) (fill left moved drawn : PointSet) → AreOn r fill → AreTwo fill left moved → AreApart r fill → KeepsClear r fill drawn → AreParts (drawn_or_box r fill drawn) (drawn_or_box r left drawn) (boxes_of r moved)
+box_parts r fill left moved drawn are two apart clear = record {
   each = λ x y.
       let e = boxes_either r fill left moved x y are two in
-      ap (λ b. cond (metal x y || b) 1 0) e
-      ∙ one (metal x y) (boxes_of r left x y) (boxes_of r moved x y)
+      ap (λ b. cond (drawn x y || b) 1 0) e
+      ∙ one (drawn x y) (boxes_of r left x y) (boxes_of r moved x y)
       (λ m b. clear x y m (e ∙ or_right _ _ b))
       (λ l b. let p = place_of r left x y l in let q = place_of r moved x y b in
       let here = two.either p.i p.j ∙ or_left _ _ p.filled in let there = two.either q.i q.j ∙ or_right _ _ q.filled in
@@ -144,22 +144,22 @@ rows_taken r fill g left right bottom top is are apart wide tall inside = fun_ex
 
 -- ---- the same set, told otherwise
 
-pub same_squares : (r q : Lattice) (f g metal : PointSet) → q ≡ r → ((i j : ℤ) → g i j ≡ f i j) → metal_or_box r f metal ≡ metal_or_box q g metal
-same_squares r q f g metal raster fill = let e : g ≡ f = fun_ext (λ i. fun_ext (λ j. fill i j)) in rw (raster, e) refl
+pub same_squares : (r q : Lattice) (f g drawn : PointSet) → q ≡ r → ((i j : ℤ) → g i j ≡ f i j) → drawn_or_box r f drawn ≡ drawn_or_box q g drawn
+same_squares r q f g drawn raster fill = let e : g ≡ f = fun_ext (λ i. fun_ext (λ j. fill i j)) in rw (raster, e) refl
 
 -- ---- places that come to others, or go from them
 
-pub record AreMovedIn (r : Lattice) (fill left moved metal : PointSet) (from to bottom top : ℤ) : Type 0 where
+pub record AreMovedIn (r : Lattice) (fill left moved drawn : PointSet) (from to bottom top : ℤ) : Type 0 where
   pub on : AreOn r fill
   pub two : AreTwo fill left moved
   pub apart : AreApart r fill
-  pub clear : KeepsClear r fill metal
+  pub clear : KeepsClear r fill drawn
   pub wide : from ≤ℤ to
   pub tall : bottom ≤ℤ top
   pub inside : (i j : ℤ) → moved i j ≡ true → is_between from to i && is_between bottom top j ≡ true
 
-moved_taken : (r : Lattice) (fill left moved metal : PointSet) (from to bottom top : ℤ) (g : Grid) → IsGrid g → AreMovedIn r fill left moved metal from to bottom top → taken_of_rows r moved g from to bottom top ≡ window_area (boxes_of r moved) g
-moved_taken r fill left moved metal from to bottom top g grid are =
+moved_taken : (r : Lattice) (fill left moved drawn : PointSet) (from to bottom top : ℤ) (g : Grid) → IsGrid g → AreMovedIn r fill left moved drawn from to bottom top → taken_of_rows r moved g from to bottom top ≡ window_area (boxes_of r moved) g
+moved_taken r fill left moved drawn from to bottom top g grid are =
     rows_taken r moved g from to bottom top grid
     (record { lattice = are.on.lattice; on = λ i j h. are.on.on i j (are.two.either i j ∙ or_right _ _ h) })
     (record {
@@ -167,36 +167,36 @@ moved_taken r fill left moved metal from to bottom top g grid are =
       rows = λ i j k l x y f h. are.apart.rows i j k l x y (are.two.either i j ∙ or_right _ _ f) (are.two.either k l ∙ or_right _ _ h);
     }) are.wide are.tall are.inside
 
-parts_of : (r : Lattice) (fill left moved metal : PointSet) (from to bottom top : ℤ) → AreMovedIn r fill left moved metal from to bottom top → AreParts (metal_or_box r fill metal) (metal_or_box r left metal) (boxes_of r moved)
-parts_of r fill left moved metal from to bottom top are = box_parts r fill left moved metal are.on are.two are.apart are.clear
+parts_of : (r : Lattice) (fill left moved drawn : PointSet) (from to bottom top : ℤ) → AreMovedIn r fill left moved drawn from to bottom top → AreParts (drawn_or_box r fill drawn) (drawn_or_box r left drawn) (boxes_of r moved)
+parts_of r fill left moved drawn from to bottom top are = box_parts r fill left moved drawn are.on are.two are.apart are.clear
 
-pub rows_come : (r : Lattice) (fill left moved metal : PointSet) (from to bottom top : ℤ) (g : Grid) (numbers : List ℤ) → AreMovedIn r fill left moved metal from to bottom top → AreMeasured (metal_or_box r left metal) g numbers
+pub rows_come : (r : Lattice) (fill left moved drawn : PointSet) (from to bottom top : ℤ) (g : Grid) (numbers : List ℤ) → AreMovedIn r fill left moved drawn from to bottom top → AreMeasured (drawn_or_box r left drawn) g numbers
     → StaysBy Up (taken_of_rows r moved g from to bottom top) g numbers
-rows_come r fill left moved metal from to bottom top g numbers are measured =
-    subst (λ (f : ℕ → ℕ → ℕ). StaysBy Up f g numbers) (sym (moved_taken r fill left moved metal from to bottom top g measured.grid are)) (up_stays _ _ (boxes_of r moved) g numbers measured (parts_of r fill left moved metal from to bottom top are))
+rows_come r fill left moved drawn from to bottom top g numbers are measured =
+    subst (λ (f : ℕ → ℕ → ℕ). StaysBy Up f g numbers) (sym (moved_taken r fill left moved drawn from to bottom top g measured.grid are)) (up_stays _ _ (boxes_of r moved) g numbers measured (parts_of r fill left moved drawn from to bottom top are))
 
-pub rows_come_measured : (r : Lattice) (fill left moved metal : PointSet) (from to bottom top : ℤ) (g : Grid) (old new : List ℤ) → AreMovedIn r fill left moved metal from to bottom top → AreMeasured (metal_or_box r left metal) g old
-    → IsMovedBy Up (taken_of_rows r moved g from to bottom top) g old new → AreMeasured (metal_or_box r fill metal) g new
-rows_come_measured r fill left moved metal from to bottom top g old new are measured is =
-    up_measured _ _ (boxes_of r moved) g old new measured (parts_of r fill left moved metal from to bottom top are) (subst (λ (f : ℕ → ℕ → ℕ). IsMovedBy Up f g old new) (moved_taken r fill left moved metal from to bottom top g measured.grid are) is)
+pub rows_come_measured : (r : Lattice) (fill left moved drawn : PointSet) (from to bottom top : ℤ) (g : Grid) (old new : List ℤ) → AreMovedIn r fill left moved drawn from to bottom top → AreMeasured (drawn_or_box r left drawn) g old
+    → IsMovedBy Up (taken_of_rows r moved g from to bottom top) g old new → AreMeasured (drawn_or_box r fill drawn) g new
+rows_come_measured r fill left moved drawn from to bottom top g old new are measured is =
+    up_measured _ _ (boxes_of r moved) g old new measured (parts_of r fill left moved drawn from to bottom top are) (subst (λ (f : ℕ → ℕ → ℕ). IsMovedBy Up f g old new) (moved_taken r fill left moved drawn from to bottom top g measured.grid are) is)
 
-pub rows_go : (r : Lattice) (fill left moved metal : PointSet) (from to bottom top : ℤ) (g : Grid) (numbers : List ℤ) → AreMovedIn r fill left moved metal from to bottom top → AreMeasured (metal_or_box r fill metal) g numbers
+pub rows_go : (r : Lattice) (fill left moved drawn : PointSet) (from to bottom top : ℤ) (g : Grid) (numbers : List ℤ) → AreMovedIn r fill left moved drawn from to bottom top → AreMeasured (drawn_or_box r fill drawn) g numbers
     → StaysBy Down (taken_of_rows r moved g from to bottom top) g numbers
-rows_go r fill left moved metal from to bottom top g numbers are measured =
-    subst (λ (f : ℕ → ℕ → ℕ). StaysBy Down f g numbers) (sym (moved_taken r fill left moved metal from to bottom top g measured.grid are)) (down_stays _ _ (boxes_of r moved) g numbers measured (parts_of r fill left moved metal from to bottom top are))
+rows_go r fill left moved drawn from to bottom top g numbers are measured =
+    subst (λ (f : ℕ → ℕ → ℕ). StaysBy Down f g numbers) (sym (moved_taken r fill left moved drawn from to bottom top g measured.grid are)) (down_stays _ _ (boxes_of r moved) g numbers measured (parts_of r fill left moved drawn from to bottom top are))
 
-pub rows_go_measured : (r : Lattice) (fill left moved metal : PointSet) (from to bottom top : ℤ) (g : Grid) (old new : List ℤ) → AreMovedIn r fill left moved metal from to bottom top → AreMeasured (metal_or_box r fill metal) g old
-    → IsMovedBy Down (taken_of_rows r moved g from to bottom top) g old new → AreMeasured (metal_or_box r left metal) g new
-rows_go_measured r fill left moved metal from to bottom top g old new are measured is =
-    down_measured _ _ (boxes_of r moved) g old new measured (parts_of r fill left moved metal from to bottom top are) (subst (λ (f : ℕ → ℕ → ℕ). IsMovedBy Down f g old new) (moved_taken r fill left moved metal from to bottom top g measured.grid are) is)
+pub rows_go_measured : (r : Lattice) (fill left moved drawn : PointSet) (from to bottom top : ℤ) (g : Grid) (old new : List ℤ) → AreMovedIn r fill left moved drawn from to bottom top → AreMeasured (drawn_or_box r fill drawn) g old
+    → IsMovedBy Down (taken_of_rows r moved g from to bottom top) g old new → AreMeasured (drawn_or_box r left drawn) g new
+rows_go_measured r fill left moved drawn from to bottom top g old new are measured is =
+    down_measured _ _ (boxes_of r moved) g old new measured (parts_of r fill left moved drawn from to bottom top are) (subst (λ (f : ℕ → ℕ → ℕ). IsMovedBy Down f g old new) (moved_taken r fill left moved drawn from to bottom top g measured.grid are) is)
 
 -- ---- the places of a book
 
 -- marked places that come to the filled ones
-pub marks_come : (f : Filling) (m : Marked) (metal : PointSet) (from to bottom top : ℤ) → IsFilling f → from ≤ℤ to → bottom ≤ℤ top → ((i j : ℤ) → is_marked m i j ≡ true → is_between from to i && is_between bottom top j ≡ true)
-    → ((i j : ℤ) → is_marked m i j ≡ true → in_raster f.raster i j ≡ true) → KeepsClear f.raster (λ i j. is_filled f i j || is_marked m i j) metal
-    → AreMovedIn f.raster (λ i j. is_filled f i j || is_marked m i j) (is_filled f) (λ i j. is_marked m i j && not (is_filled f i j)) metal from to bottom top
-marks_come f m metal from to bottom top is wide tall within on clear = record {
+pub marks_come : (f : Filling) (m : Marked) (drawn : PointSet) (from to bottom top : ℤ) → IsFilling f → from ≤ℤ to → bottom ≤ℤ top → ((i j : ℤ) → is_marked m i j ≡ true → is_between from to i && is_between bottom top j ≡ true)
+    → ((i j : ℤ) → is_marked m i j ≡ true → in_raster f.raster i j ≡ true) → KeepsClear f.raster (λ i j. is_filled f i j || is_marked m i j) drawn
+    → AreMovedIn f.raster (λ i j. is_filled f i j || is_marked m i j) (is_filled f) (λ i j. is_marked m i j && not (is_filled f i j)) drawn from to bottom top
+marks_come f m drawn from to bottom top is wide tall within on clear = record {
   on = record {
     lattice = is.raster;
     on = λ i j h. elim (cases_Bool (is_filled f i j)) [
@@ -227,15 +227,15 @@ marks_come f m metal from to bottom top is wide tall within on clear = record {
     no false b h k = let e : false ≡ true = h in cc
 
 -- the same, told by the marks of the tile that the places are of
-pub tile_marks_come : (f : Filling) (of m : Marked) (metal : PointSet) (tile : ℕ) (from to bottom top : ℤ) → IsFilling f → from ≤ℤ to → bottom ≤ℤ top → ((i j : ℤ) → is_between from to i && is_between bottom top j ≡ in_tile f.raster tile i j)
-    → ((i j : ℤ) → is_marked of i j ≡ in_tile f.raster tile i j && is_filled f i j) → ((i j : ℤ) → is_marked m i j ≡ true → in_tile f.raster tile i j ≡ true) → KeepsClear f.raster (λ i j. is_filled f i j || is_marked m i j) metal
-    → AreMovedIn f.raster (λ i j. is_filled f i j || is_marked m i j) (is_filled f) (λ i j. is_marked m i j && not (is_marked of i j)) metal from to bottom top
-tile_marks_come f of m metal tile from to bottom top is wide tall places marked within clear =
+pub tile_marks_come : (f : Filling) (of m : Marked) (drawn : PointSet) (tile : ℕ) (from to bottom top : ℤ) → IsFilling f → from ≤ℤ to → bottom ≤ℤ top → ((i j : ℤ) → is_between from to i && is_between bottom top j ≡ in_tile f.raster tile i j)
+    → ((i j : ℤ) → is_marked of i j ≡ in_tile f.raster tile i j && is_filled f i j) → ((i j : ℤ) → is_marked m i j ≡ true → in_tile f.raster tile i j ≡ true) → KeepsClear f.raster (λ i j. is_filled f i j || is_marked m i j) drawn
+    → AreMovedIn f.raster (λ i j. is_filled f i j || is_marked m i j) (is_filled f) (λ i j. is_marked m i j && not (is_marked of i j)) drawn from to bottom top
+tile_marks_come f of m drawn tile from to bottom top is wide tall places marked within clear =
     let new : PointSet = λ i j. is_marked m i j && not (is_marked of i j) in
     let old : PointSet = λ i j. is_marked m i j && not (is_filled f i j) in
     let same : new ≡ old = fun_ext (λ i. fun_ext (λ j. ap (λ b. is_marked m i j && not b) (marked i j) ∙ here (is_marked m i j) (in_tile f.raster tile i j) (is_filled f i j) (within i j))) in
-    subst (λ (p : PointSet). AreMovedIn f.raster (λ i j. is_filled f i j || is_marked m i j) (is_filled f) p metal from to bottom top) (sym same)
-    (marks_come f m metal from to bottom top is wide tall (λ i j h. places i j ∙ within i j h) (λ i j h. (and_parts (in_raster f.raster i j) (tile_of f.raster i j == tile) (within i j h)).0) clear)
+    subst (λ (p : PointSet). AreMovedIn f.raster (λ i j. is_filled f i j || is_marked m i j) (is_filled f) p drawn from to bottom top) (sym same)
+    (marks_come f m drawn from to bottom top is wide tall (λ i j h. places i j ∙ within i j h) (λ i j h. (and_parts (in_raster f.raster i j) (tile_of f.raster i j == tile) (within i j h)).0) clear)
   where
     here : (m t f : Bool) → (m ≡ true → t ≡ true) → m && not (t && f) ≡ m && not f
     here true true f h = refl
@@ -243,9 +243,9 @@ tile_marks_come f of m metal tile from to bottom top is wide tall places marked 
     here false t f h = refl
 
 -- filled places that go
-pub places_go : (f : Filling) (p : Places) (metal : PointSet) → IsFilling f → p.columns.start ≤ℤ p.columns.end → p.rows.start ≤ℤ p.rows.end → KeepsClear f.raster (is_filled f) metal
-    → AreMovedIn f.raster (is_filled f) (left_by f p) (λ i j. is_filled f i j && in_places p i j) metal p.columns.start p.columns.end p.rows.start p.rows.end
-places_go f p metal is wide tall clear = record {
+pub places_go : (f : Filling) (p : Places) (drawn : PointSet) → IsFilling f → p.columns.start ≤ℤ p.columns.end → p.rows.start ≤ℤ p.rows.end → KeepsClear f.raster (is_filled f) drawn
+    → AreMovedIn f.raster (is_filled f) (left_by f p) (λ i j. is_filled f i j && in_places p i j) drawn p.columns.start p.columns.end p.rows.start p.rows.end
+places_go f p drawn is wide tall clear = record {
   on = record { lattice = is.raster; on = filled_on f };
   two = record { either = λ i j. either (is_filled f i j) (in_places p i j); apart = λ i j h k. no (is_filled f i j) (in_places p i j) h k };
   apart = left_apart f _ is;
@@ -266,5 +266,5 @@ places_go f p metal is wide tall clear = record {
     no false b h k = let e : false ≡ true = h in cc
 
 -- what keeps clear of all boxes keeps clear of some
-pub fewer_clear : (r : Lattice) (fill left moved metal : PointSet) → AreOn r fill → AreTwo fill left moved → KeepsClear r fill metal → KeepsClear r left metal
-fewer_clear r fill left moved metal on two clear x y drawn box = clear x y drawn (boxes_either r fill left moved x y on two ∙ or_left _ _ box)
+pub fewer_clear : (r : Lattice) (fill left moved drawn : PointSet) → AreOn r fill → AreTwo fill left moved → KeepsClear r fill drawn → KeepsClear r left drawn
+fewer_clear r fill left moved drawn on two clear x y here box = clear x y here (boxes_either r fill left moved x y on two ∙ or_left _ _ box)

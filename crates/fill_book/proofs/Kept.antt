@@ -4,21 +4,21 @@ use Rattle.std.specs.Prelude.{◌==◌}
 use Rattle.std.proofs.Math.Path.{fun_ext}
 use Rattle.std.proofs.lemmas.List.{length_push, map-append}
 use Rattle.std.proofs.lemmas.List.Sums.{sum_by_push}
-use Rattle.fill_state.specs.Layers.{in_layer}
+use Rattle.fill_state.specs.Layers.{Drawn, in_layer}
 use Rattle.fill_region.specs.Runs.{holds}
 use Rattle.fill_raster.specs.Lattice.{Lattice}
 use Rattle.fill_raster.specs.Marks.{Marked, is_marked}
 use Rattle.fill_raster.proofs.Points.{or_no}
 use Rattle.fill_text.specs.Rules.{Values}
 use Rattle.fill_text.specs.declared.script.Edit.{Edit}
-use Rattle.fill_job.specs.Basis.{layers_in, windows_in}
-use Rattle.fill_job.specs.Plans.{Plan, IsPlan, PointSet, low_windows, plan_of, wanted}
+use Rattle.fill_job.specs.Basis.{windows_in}
+use Rattle.fill_job.specs.Plans.{Plan, IsPlan, PointSet, drawn_squares, low_windows, plan_of, wanted}
 use Rattle.fill_job.specs.ReadSets.{ReadSet, wanted_of}
 use Rattle.fill_job.proofs.ReadSets.{same_wanted}
 use Rattle.fill_core.specs.Accounts.{Account, IsSame, state_of, with_entry}
 use Rattle.fill_core.specs.Boxes.{count_places, with_boxes}
 use Rattle.fill_core.specs.Histories.{placed_by, placed_in, replies_in, withdrawn_by, withdrawn_in}
-use Rattle.fill_core.specs.Machine.{State, commit_reply, commit_step, edit_reply, edit_step, fill_after, is_accepted, keep_after, metal_after, newly_placed, reply_of, step, withdrawn_places}
+use Rattle.fill_core.specs.Machine.{State, commit_reply, commit_step, edit_reply, edit_step, fill_after, is_accepted, keep_after, layers_after, metal_after, newly_placed, reply_of, step, withdrawn_places}
 use Rattle.fill_core.specs.Shares.{Totals, counted, totals_of}
 use Rattle.fill_core.specs.declared.event.Entry.{Entry}
 use Rattle.fill_core.specs.declared.event.Event.{Event}
@@ -39,9 +39,10 @@ use Rattle.fill_book.specs.declared.stored.Stored.{Stored}
 
 -- where `same` holds the marked places are filled and the tile is in; all else is as before
 pub record IsTakenIn (s n : Stored) (same : Bool) (tile : ℕ) (m : Marked) (placed : ℕ) : Type 0 where
-  pub metal : n.metal ≡ s.metal
+  pub drawn : n.drawn ≡ s.drawn
   pub keep : n.keep ≡ s.keep
   pub pieces : n.pieces ≡ s.pieces
+  pub existing_pieces : n.existing_pieces ≡ s.existing_pieces
   pub keep_pieces : n.keep_pieces ≡ s.keep_pieces
   pub low : n.low ≡ s.low
   pub version : n.version ≡ s.version
@@ -75,12 +76,12 @@ pub committed : (rules : Values) (base : PointSet) (s n : Stored) (version tile 
     → ((i j : ℤ) → is_marked m i j ≡ wanted_of read tile i j) → IsTakenIn s n same tile m placed → state_by base n ≡ commit_step (plan_of rules) (state_by base s) version tile same
 committed rules base s n version tile read true m placed plan is marked taken =
     rw (accepted rules base s version tile read true is)
-    (same_state (state_by base n) _ (λ x y. ap (λ b. in_layer b x y) taken.metal) (λ x y. ap (λ b. in_layer b x y) taken.keep)
+    (same_state (state_by base n) _ (λ x y. ap (λ (d : Drawn). in_layer d.metal x y) taken.drawn) (λ x y. ap (λ (d : Drawn). holds d.existing x y) taken.drawn) (λ x y. ap (λ b. in_layer b x y) taken.keep)
     (λ i j. taken.filled i j ∙ ap (λ b. is_filled s.filled i j || b) (wanted_marks rules base s version tile read m plan is marked i j))
     taken.version (λ a b. ap (λ l. windows_in l a b) taken.low) taken.tiles (λ i j. refl))
 committed rules base s n version tile read false m placed plan is marked taken =
     rw (accepted rules base s version tile read false is)
-    (same_state (state_by base n) (state_by base s) (λ x y. ap (λ b. in_layer b x y) taken.metal) (λ x y. ap (λ b. in_layer b x y) taken.keep)
+    (same_state (state_by base n) (state_by base s) (λ x y. ap (λ (d : Drawn). in_layer d.metal x y) taken.drawn) (λ x y. ap (λ (d : Drawn). holds d.existing x y) taken.drawn) (λ x y. ap (λ b. in_layer b x y) taken.keep)
     (λ i j. taken.filled i j ∙ or_no (is_filled s.filled i j))
     taken.version (λ a b. ap (λ l. windows_in l a b) taken.low) (λ t. taken.tiles t ∙ or_no (is_in s.tiles t)) (λ i j. refl))
 
@@ -115,11 +116,12 @@ answered rules base s n version tile read true m placed refusal plan raster is m
 
 -- ---- an edit
 
--- the metal and the low windows are those of the change, its places are emptied, and the next version has no tile
+-- what is drawn and the low windows are those of the change, its places are emptied, and the next version has no tile
 pub record IsChanged (s n : Stored) (c : Change) (withdrawn : ℕ) : Type 0 where
-  pub metal : n.metal ≡ c.metal
+  pub drawn : n.drawn ≡ c.drawn
   pub keep : n.keep ≡ c.keep
   pub pieces : n.pieces ≡ c.pieces
+  pub existing_pieces : n.existing_pieces ≡ s.existing_pieces
   pub keep_pieces : n.keep_pieces ≡ c.keep_pieces
   pub low : n.low ≡ c.low
   pub version : n.version ≡ s.version + 1
@@ -131,18 +133,19 @@ pub record IsChanged (s n : Stored) (c : Change) (withdrawn : ℕ) : Type 0 wher
 
 -- the change is that of the edit
 pub record IsOf (plan : Plan) (s : Stored) (edit : Edit) (c : Change) : Type 0 where
-  pub metal : (x y : ℤ) → in_layer c.metal x y ≡ metal_after edit (in_layer s.metal) x y
+  pub metal : (x y : ℤ) → in_layer c.drawn.metal x y ≡ metal_after edit (in_layer s.drawn.metal) x y
+  pub existing : c.drawn.existing ≡ s.drawn.existing
   pub keep : (x y : ℤ) → in_layer c.keep x y ≡ keep_after edit (in_layer s.keep) x y
-  pub pieces : ArePieces plan.raster plan.spacing (metal_after edit (in_layer s.metal)) c.pieces.items
+  pub pieces : ArePieces plan.raster plan.spacing (metal_after edit (in_layer s.drawn.metal)) c.pieces.items
   pub keep_pieces : ArePieces plan.raster (pos 0) (keep_after edit (in_layer s.keep)) c.keep_pieces.items
   pub filled : (i j : ℤ) → left_by s.filled c.out i j ≡ fill_after plan edit (is_filled s.filled) i j
-  pub low : (a b : ℕ) → windows_in c.low a b ≡ low_windows plan (with_boxes plan (metal_after edit (in_layer s.metal)) (fill_after plan edit (is_filled s.filled))) a b
+  pub low : (a b : ℕ) → windows_in c.low a b ≡ low_windows plan (with_boxes plan (drawn_squares (layers_after edit (stored_layers s))) (fill_after plan edit (is_filled s.filled))) a b
 
 pub edited : (plan : Plan) (base : PointSet) (s n : Stored) (edit : Edit) (c : Change) (withdrawn : ℕ) → IsOf plan s edit c → IsChanged s n c withdrawn
     → state_by (fill_after plan edit (is_filled s.filled)) n ≡ edit_step plan (state_by base s) edit
 edited plan base s n edit c withdrawn of is =
     same_state (state_by (fill_after plan edit (is_filled s.filled)) n) (edit_step plan (state_by base s) edit)
-    (λ x y. ap (λ b. in_layer b x y) is.metal ∙ of.metal x y) (λ x y. ap (λ b. in_layer b x y) is.keep ∙ of.keep x y) (λ i j. is.filled i j ∙ of.filled i j) is.version
+    (λ x y. ap (λ (d : Drawn). in_layer d.metal x y) is.drawn ∙ of.metal x y) (λ x y. ap (λ (d : Drawn). holds d.existing x y) is.drawn ∙ ap (λ b. holds b x y) of.existing) (λ x y. ap (λ b. in_layer b x y) is.keep ∙ of.keep x y) (λ i j. is.filled i j ∙ of.filled i j) is.version
     (λ a b. ap (λ l. windows_in l a b) is.low ∙ of.low a b) is.tiles (λ i j. refl)
 
 pub withdrawn_is : (plan : Plan) (base : PointSet) (s n : Stored) (edit : Edit) (c : Change) (withdrawn : ℕ) → s.filled.raster ≡ plan.raster → IsOf plan s edit c → IsChanged s n c withdrawn
@@ -175,7 +178,8 @@ pub record IsNext (a : Account) (t u : Totals) (s n : Stored) (e : Event) (reply
   pub state : step (plan_of a.rules) (state_of a) e ≡ state_by (step (plan_of a.rules) (state_of a) e).base n
   pub raster : n.filled.raster ≡ s.filled.raster
   pub bits : length n.tiles ≡ length s.tiles
-  pub pieces : ArePieces (plan_of a.rules).raster (plan_of a.rules).spacing (in_layer n.metal) n.pieces.items
+  pub pieces : ArePieces (plan_of a.rules).raster (plan_of a.rules).spacing (in_layer n.drawn.metal) n.pieces.items
+  pub existing_pieces : ArePieces (plan_of a.rules).raster (plan_of a.rules).fill_spacing (holds n.drawn.existing) n.existing_pieces.items
   pub keep_pieces : ArePieces (plan_of a.rules).raster (pos 0) (in_layer n.keep) n.keep_pieces.items
   pub version : n.version ≤ s.version + 1
   pub answer : reply ≡ reply_of (plan_of a.rules) (state_of a) e
@@ -187,7 +191,7 @@ keeps_next a t u s n e reply keeps room next =
     let calls : length (with_entry a e reply).history ≡ length a.history + 1 = length_push a.history (record { event = e; reply = reply }) in
     record {
       plan = keeps.plan;
-      fits = record { raster = next.raster ∙ keeps.fits.raster; tiles = next.bits ∙ keeps.fits.tiles; pieces = next.pieces; keep_pieces = next.keep_pieces };
+      fits = record { raster = next.raster ∙ keeps.fits.raster; tiles = next.bits ∙ keeps.fits.tiles; pieces = next.pieces; existing_pieces = next.existing_pieces; keep_pieces = next.keep_pieces };
       state = after ∙ (next.state ∙ ap (λ (b : State). state_by b.base n) (sym after));
       legal = legal_with a e reply keeps.legal next.answer;
       version = rw calls (one_on n.version s.version (length a.history) next.version keeps.version);

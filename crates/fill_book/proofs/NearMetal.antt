@@ -1,4 +1,4 @@
--- What an edit changes is told by the metal in its rectangle alone.
+-- What an edit changes is told by what is drawn in its rectangle alone.
 use Rattle.std.proofs.Common.{◌≡◌, Bool, true, false, ◌&&◌, refl}
 use Rattle.std.specs.Prelude.{not}
 

@@ -13,9 +13,9 @@ use Rattle.fill_state.specs.Pieces.{ArePieces}
 use Rattle.fill_state.specs.Tiles.{is_in}
 use Rattle.fill_book.specs.declared.stored.Stored.{Stored}
 
--- the metal and the keep-outs that are stored, as sets of squares
+-- the metal, the existing fill and the keep-outs that are stored, as sets of squares
 abbrev pub stored_layers : Stored → Layers
-stored_layers s = record { metal = in_layer s.metal; keep = in_layer s.keep }
+stored_layers s = record { metal = in_layer s.drawn.metal; fill = holds s.drawn.existing; keep = in_layer s.keep }
 
 -- what is stored, as a state; the places that were filled when the version opened are not stored
 abbrev pub state_by : PointSet → Stored → State
@@ -28,11 +28,13 @@ state_by base s = record {
   base = base;
 }
 
--- the raster is the plan's, and there is a bit for each of its tiles, and a piece of the metal and one of the keep-outs
+-- the raster is the plan's, and there is a bit for each of its tiles, and a piece of the metal, one of the existing fill and one of the
+-- keep-outs
 pub record Fits (plan : Plan) (s : Stored) : Type 0 where
   pub raster : s.filled.raster ≡ plan.raster
   pub tiles : length s.tiles ≡ tiles plan.raster
-  pub pieces : ArePieces plan.raster plan.spacing (in_layer s.metal) s.pieces.items
+  pub pieces : ArePieces plan.raster plan.spacing (in_layer s.drawn.metal) s.pieces.items
+  pub existing_pieces : ArePieces plan.raster plan.fill_spacing (holds s.drawn.existing) s.existing_pieces.items
   pub keep_pieces : ArePieces plan.raster (pos 0) (in_layer s.keep) s.keep_pieces.items
 
 -- the state that is stored is the account's, its replies are those of the replay, its history has no more events than it may

@@ -14,11 +14,11 @@ use std::alloc::{AllocError, Global};
 pub struct Measured;
 
 impl Totals for Measured {
-    ghost stand_for = { λ t g metal all. Unit {0} };
+    ghost stand_for = { λ t g drawn all. Unit {0} };
 
     fn of(
         _alloc: Global,
-        _metal: &Region,
+        _drawn: &Region,
         _windows: &Windows,
         _areas: Vec<i64>,
     ) -> Result<Measured, AllocError> {
@@ -29,13 +29,13 @@ impl Totals for Measured {
         match windows.part(a, b) {
             Some(window) => stored
                 .filled
-                .total_in(&stored.metal, &Places::none(), &window),
+                .total_in(&stored.drawn, &Places::none(), &window),
             None => 0,
         }
     }
 
     fn drawn(&self, stored: &Stored, windows: &Windows, a: u32, b: u32) -> i64 {
-        stored.metal.counted_in(windows, a, b)
+        stored.drawn.counted_in(windows, a, b)
     }
 
     fn take_in(&mut self, _stored: &Stored, _windows: &Windows, _tile: u32, _marks: &Marks) {}
@@ -54,7 +54,7 @@ impl Totals for Measured {
         let windows = rules.windows();
         let totals = stored
             .filled
-            .totals(alloc, &edited.metal, &edited.out, &windows)?;
+            .totals(alloc, &edited.drawn, &edited.out, &windows)?;
         low_windows(alloc, &windows, rules.min(), &totals)
     }
 }

@@ -1,7 +1,7 @@
 //! The books.
 ghost use Rattle.std.specs.Prelude.{◌≡◌, ◌↔◌, ◌<◌, ◌≤◌, ◌^◌, [], IfOk, IsTrue, length};
 ghost use Rattle.fill_region.specs.Runs.{holds};
-ghost use Rattle.fill_state.specs.Layers.{in_layer};
+ghost use Rattle.fill_state.specs.Layers.{is_drawn};
 ghost use Rattle.fill_text.specs.Rules.{windows_of};
 ghost use Rattle.fill_text.specs.ValuesOfRules.{values_of};
 ghost use Rattle.fill_core.specs.Accounts.{Account};
@@ -12,11 +12,11 @@ ghost use Rattle.fill_book.specs.Standing.{squares_in};
 
 use crate::anew::Measured;
 use crate::areas::Totals;
-use crate::origin::Origin;
+use crate::origin::{Opening, Origin};
 use crate::stored::{Stored, answer};
 use fill_base::Place;
 use fill_core::{BookError, Books, Entry, Event, FillBook, History, Opened, Pass, Reply};
-use fill_job::{Job, Piece, Proposal};
+use fill_job::{Job, Piece, Pieces, Proposal};
 use fill_measure::measure_all;
 use fill_raster::Marks;
 use fill_region::Region;
@@ -46,14 +46,14 @@ pub struct BookOf<T: Totals, C: Opened, P: Ledger, W: Ledger> {
 impl<T: Totals, C: Opened, P: Ledger, W: Ledger> Model for BookOf<T, C, P, W> {
     ghost Value = { Account };
 
-    ghost view = { λ b. record { rules = b.origin.rules; opening = b.origin.opening; keep = b.origin.keep; history = entries_of b.history; most = b.origin.most } };
+    ghost view = { λ b. record { rules = b.origin.rules; opening = b.origin.opening; existing = b.origin.existing; keep = b.origin.keep; history = entries_of b.history; most = b.origin.most } };
 
-    ghost invariant = { λ b. (Keeps (record { rules = b.origin.rules; opening = b.origin.opening; keep = b.origin.keep; history = entries_of b.history; most = b.origin.most }) b.books b.stored) × T.stand_for b.totals (windows_of b.origin.rules) (in_layer b.stored.metal) (squares_in b.stored) };
+    ghost invariant = { λ b. (Keeps (record { rules = b.origin.rules; opening = b.origin.opening; existing = b.origin.existing; keep = b.origin.keep; history = entries_of b.history; most = b.origin.most }) b.books b.stored) × T.stand_for b.totals (windows_of b.origin.rules) (is_drawn b.stored.drawn) (squares_in b.stored) };
 }
 
 impl<T: Totals, C: Opened, P: Ledger, W: Ledger> BookOf<T, C, P, W> {
-    /// Opens a book on the drawn metal and the keep-outs, at version 0: no place is filled and no tile is in. Its history will have at most
-    /// `max_events` events. These are the terms of the ledger of calls. The pass holds all parts of the three ledgers.
+    /// Opens a book on a design, at version 0: no place is filled and no tile is in. Its history will have at most `max_events` events.
+    /// These are the terms of the ledger of calls. The pass holds all parts of the three ledgers.
     ///
     /// # Errors
     /// `AllocError` where memory is refused.
@@ -63,8 +63,7 @@ impl<T: Totals, C: Opened, P: Ledger, W: Ledger> BookOf<T, C, P, W> {
         calls: Blank,
         placed: Blank,
         withdrawn: Blank,
-        metal: Region,
-        keep: Region,
+        opening: Opening,
         rules: Rules,
         max_events: u64,
     ) -> Result<(BookOf<T, C, P, W>, Pass<C, P, W>), AllocError>
@@ -72,18 +71,22 @@ impl<T: Totals, C: Opened, P: Ledger, W: Ledger> BookOf<T, C, P, W> {
         requires parts { (calls.parts ≡ C.parts) × (placed.parts ≡ P.parts) × (withdrawn.parts ≡ W.parts) }
         requires all { AllParts C.parts P.parts W.parts }
         requires most { max_events ≤ 2 ^ 32 }
-        requires terms { record { rules = values_of rules; opening = metal; keep = keep; most = max_events } ≡ C.terms }
-        ensures book { IfOk result (λ r. r.0 ≡ record { rules = values_of rules; opening = metal; keep = keep; history = []; most = max_events }) }
+        requires terms { record { rules = values_of rules; opening = opening.metal; existing = opening.fill; keep = opening.keep; most = max_events } ≡ C.terms }
+        ensures book { IfOk result (λ r. r.0 ≡ record { rules = values_of rules; opening = opening.metal; existing = opening.fill; keep = opening.keep; history = []; most = max_events }) }
         ensures pass { IfOk result (λ r. r.1 ≡ nothing_with 1024) }
     {
-        let metal = Piece::new(alloc, metal)?;
-        let keep = Piece::new(alloc, keep)?;
-        let origin = Origin::new(alloc, rules, &metal, &keep, max_events)?;
+        let design = Pieces {
+            metal: Piece::new(alloc, opening.metal)?,
+            fill: Piece::new(alloc, opening.fill)?,
+            keep: Piece::new(alloc, opening.keep)?,
+        };
+        let origin = Origin::new(alloc, rules, &design, max_events)?;
         origin.rules.make_a_plan();
         let windows = origin.rules.windows();
-        let areas = measure_all(rt, alloc, metal.metal(), &windows)?;
-        let stored = Stored::open(rt, alloc, metal, keep, &origin.rules, &areas)?;
-        let totals = T::of(alloc, origin.opening.metal(), &windows, areas)?;
+        let drawn = origin.drawn(alloc)?;
+        let areas = measure_all(rt, alloc, drawn.region(), &windows)?;
+        let stored = Stored::open(rt, alloc, design, &origin.rules, &areas)?;
+        let totals = T::of(alloc, drawn.region(), &windows, areas)?;
         let (books, pass) = Books::open(calls, placed, withdrawn);
         let book = BookOf {
             books,
@@ -122,9 +125,8 @@ impl<T: Totals, C: Opened + Send + Sync, P: Ledger + Send + Sync, W: Ledger + Se
     fn job(&self, alloc: Global, tile: u32) -> Result<Job, AllocError> {
         let stored = &self.stored;
         let rules = self.origin.rules.share()?;
-        let metal = stored.pieces[tile as usize].share()?;
-        let keep = stored.keep_pieces[tile as usize].share()?;
-        Job::new(alloc, stored.version, tile, rules, metal, keep, &stored.low)
+        let near = stored.near(&rules, tile)?;
+        Job::new(alloc, stored.version, tile, rules, near, &stored.low)
     }
 
     fn commit(
@@ -218,11 +220,15 @@ impl<T: Totals, C: Opened + Send + Sync, P: Ledger + Send + Sync, W: Ledger + Se
     }
 
     fn opening(&self) -> &Region {
-        self.origin.opening.metal()
+        self.origin.opening.region()
+    }
+
+    fn opening_fill(&self) -> &Region {
+        self.origin.existing.region()
     }
 
     fn opening_keep(&self) -> &Region {
-        self.origin.keep.metal()
+        self.origin.keep.region()
     }
 
     fn audit(&mut self, pass: &mut Pass<C, P, W>) {

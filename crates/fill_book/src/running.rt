@@ -1,10 +1,10 @@
 //! Areas that are kept as running sums.
 ghost use Rattle.std.specs.Prelude.{◌≡◌, ◌≤ℤ◌, ℤ, true};
 ghost use Rattle.fill_base.specs.Counts.{is_between};
-ghost use Rattle.fill_state.specs.Layers.{in_layer};
+ghost use Rattle.fill_state.specs.Layers.{is_drawn};
 ghost use Rattle.fill_raster.specs.Lattice.{in_raster};
 ghost use Rattle.fill_sums.specs.Numbers.{AreNumbers, AreSums, IsMovedBy, StaysBy};
-ghost use Rattle.fill_state.specs.Filling.{in_places, left_by, metal_or_box};
+ghost use Rattle.fill_state.specs.Filling.{in_places, left_by, drawn_or_box};
 ghost use Rattle.fill_book.specs.Standing.{IsEdited, StandFor, squares_in};
 ghost use Rattle.fill_book.specs.steps.Following.{is_moved, taken_of_row, taken_of_rows, taken_out};
 
@@ -112,9 +112,9 @@ fn move_out(sums: &mut Sums, way: Way, stored: &Stored, out: &Places)
 
 /// Takes the boxes out that an edit takes out.
 fn take_out(sums: &mut Sums, stored: &Stored, _windows: &Windows, edited: &Edited)
-    requires stands { StandFor sums.old _windows.now (in_layer stored.now.metal) (squares_in stored.now) }
+    requires stands { StandFor sums.old _windows.now (is_drawn stored.now.drawn) (squares_in stored.now) }
     requires edited { IsEdited stored.now edited.now }
-    ensures { StandFor sums.new _windows.now (in_layer stored.now.metal) (metal_or_box stored.now.filled.raster (left_by stored.now.filled edited.now.out) (in_layer stored.now.metal)) }
+    ensures { StandFor sums.new _windows.now (is_drawn stored.now.drawn) (drawn_or_box stored.now.filled.raster (left_by stored.now.filled edited.now.out) (is_drawn stored.now.drawn)) }
 {
     stored.filled.keeps_apart();
     move_out(sums, Way::Down, stored, &edited.out);
@@ -122,9 +122,9 @@ fn take_out(sums: &mut Sums, stored: &Stored, _windows: &Windows, edited: &Edite
 
 /// Puts them back.
 fn put_back(sums: &mut Sums, stored: &Stored, _windows: &Windows, edited: &Edited)
-    requires stands { StandFor sums.old _windows.now (in_layer stored.now.metal) (metal_or_box stored.now.filled.raster (left_by stored.now.filled edited.now.out) (in_layer stored.now.metal)) }
+    requires stands { StandFor sums.old _windows.now (is_drawn stored.now.drawn) (drawn_or_box stored.now.filled.raster (left_by stored.now.filled edited.now.out) (is_drawn stored.now.drawn)) }
     requires edited { IsEdited stored.now edited.now }
-    ensures { StandFor sums.new _windows.now (in_layer stored.now.metal) (squares_in stored.now) }
+    ensures { StandFor sums.new _windows.now (is_drawn stored.now.drawn) (squares_in stored.now) }
 {
     stored.filled.keeps_apart();
     move_out(sums, Way::Up, stored, &edited.out);
@@ -135,11 +135,11 @@ impl Totals for Sums {
 
     fn of(
         alloc: Global,
-        metal: &Region,
+        drawn: &Region,
         windows: &Windows,
         areas: Vec<i64>,
     ) -> Result<Sums, AllocError> {
-        Sums::of_areas(alloc, metal, windows, areas)
+        Sums::of_areas(alloc, drawn, windows, areas)
     }
 
     fn total(&self, _stored: &Stored, _windows: &Windows, a: u32, b: u32) -> i64 {

@@ -4,53 +4,55 @@ ghost use Rattle.fill_region.specs.Runs.{holds};
 ghost use Rattle.fill_area.specs.Density.{AreMeasured, IsArea};
 ghost use Rattle.fill_raster.specs.Lattice.{in_raster, in_tile, tiles};
 ghost use Rattle.fill_raster.specs.Marks.{is_marked};
-ghost use Rattle.fill_job.specs.Basis.{layers_in, read_by, windows_in};
-ghost use Rattle.fill_job.specs.Plans.{Plan, PointSet, low_windows, plan_of};
+ghost use Rattle.fill_job.specs.Basis.{layers_of, read_by, windows_in};
+ghost use Rattle.fill_job.specs.Plans.{Plan, PointSet, drawn_squares, low_windows, plan_of};
+ghost use Rattle.fill_job.specs.ReadSets.{layers_near};
 ghost use Rattle.fill_core.specs.Accounts.{IsSame};
 ghost use Rattle.fill_core.specs.Boxes.{count_places, no_places, with_boxes};
-ghost use Rattle.fill_core.specs.Machine.{commit_reply, fill_after, keep_after, metal_after, opening};
+ghost use Rattle.fill_core.specs.Machine.{commit_reply, fill_after, keep_after, layers_after, metal_after, opening};
 ghost use Rattle.fill_core.specs.declared.event.Reply.TheVariants.{Placed};
-ghost use Rattle.fill_state.specs.Filling.{KeepsClear, in_places, is_filled, left_by, metal_or_box};
-ghost use Rattle.fill_book.specs.Keeping.{Fits, state_by};
-ghost use Rattle.fill_state.specs.Layers.{in_layer};
+ghost use Rattle.fill_state.specs.Filling.{KeepsClear, in_places, is_filled, left_by, drawn_or_box};
+ghost use Rattle.fill_book.specs.Keeping.{Fits, state_by, stored_layers};
+ghost use Rattle.fill_state.specs.Layers.{in_layer, is_drawn};
 ghost use Rattle.fill_state.specs.Pieces.{ArePieces};
 ghost use Rattle.fill_book.specs.Standing.{IsEdited, squares_in, squares_left};
 ghost use Rattle.fill_state.specs.Tiles.{is_in};
 
 use crate::areas::Totals;
-use crate::edited::{Edited, difference_of, metal_edited};
+use crate::edited::{Edited, difference_of};
 use fill_area::Windows;
 use fill_core::Reply;
-use fill_job::{Piece, Proposal, SharedRules};
+use fill_job::{Piece, Pieces, Proposal, SharedRules};
 use fill_raster::{Marks, Raster};
 use fill_region::Region;
 use fill_state::{
-    EditedLayer, Filled, Places, TileSet, keep_pieces, keep_pieces_after, low_windows,
-    metal_pieces, metal_pieces_after,
+    DrawnLayer, EditedLayer, Filled, Places, TileSet, existing_pieces, keep_pieces,
+    keep_pieces_after, low_windows, metal_pieces, metal_pieces_after,
 };
 use fill_text::Edit;
 use std::alloc::{AllocError, Global};
 use std::thread::Threads;
 
-/// The metal and the keep-outs, and what of them each tile depends on, the filled places, the version with its low windows, and the
-/// tiles that are in.
+/// The metal with the existing fill and the keep-outs, and what of them each tile depends on, the filled places, the version with its low
+/// windows, and the tiles that are in.
 #[derive(Drop)]
 pub struct Stored {
-    pub(crate) metal: EditedLayer,
+    pub(crate) drawn: DrawnLayer,
     pub(crate) keep: EditedLayer,
     pub(crate) filled: Filled,
     pub(crate) low: Region,
     pub(crate) tiles: TileSet,
     pub(crate) version: u64,
     pub(crate) pieces: Vec<Piece>,
+    pub(crate) existing_pieces: Vec<Piece>,
     pub(crate) keep_pieces: Vec<Piece>,
 }
 
-/// What an edit makes of a state, with all the memory that it takes: the metal, the keep-outs and the low windows after it, and the places whose
-/// boxes it takes out.
+/// What an edit makes of a state, with all the memory that it takes: what is drawn, the keep-outs and the low windows after it, and the places
+/// whose boxes it takes out. The pieces of the existing fill stay.
 #[derive(Drop)]
 pub(crate) struct Change {
-    pub(crate) metal: EditedLayer,
+    pub(crate) drawn: DrawnLayer,
     pub(crate) keep: EditedLayer,
     pub(crate) low: Region,
     pub(crate) out: Places,
@@ -96,7 +98,7 @@ pub(crate) fn answer(same: bool, placed: u32, refusal: Reply) -> Reply
 }
 
 impl Stored {
-    /// Version 0 on metal and keep-outs alone, of which the metal's area in each window was measured: no place is filled, and no tile is
+    /// Version 0 on a design, of which the area of metal and existing fill in each window was measured: no place is filled, and no tile is
     /// in.
     ///
     /// # Errors
@@ -104,27 +106,44 @@ impl Stored {
     pub(crate) fn open(
         rt: &(impl Threads + Sync),
         alloc: Global,
-        metal: Piece,
-        keep: Piece,
+        design: Pieces,
         rules: &SharedRules,
         areas: &[i64],
     ) -> Result<Stored, AllocError>
-        requires measured { AreMeasured (holds metal) (plan_of rules.now).windows areas.now }
+        requires measured { AreMeasured (drawn_squares (layers_of design)) (plan_of rules.now).windows areas.now }
         requires bounded { All IsArea areas.now }
-        ensures state { IfOk result (λ s. state_by no_places s ≡ opening (plan_of rules.now) (layers_in metal keep)) }
+        ensures state { IfOk result (λ s. state_by no_places s ≡ opening (plan_of rules.now) (layers_of design)) }
         ensures fits { IfOk result (λ s. Fits (plan_of rules.now) s) }
     {
         rules.make_a_plan();
         let (raster, windows) = (rules.raster(), rules.windows());
         Ok(Stored {
-            pieces: metal_pieces(rt, alloc, rules, metal.metal())?,
-            keep_pieces: keep_pieces(rt, alloc, rules, keep.metal())?,
+            pieces: metal_pieces(rt, alloc, rules, design.metal.region())?,
+            existing_pieces: existing_pieces(rt, alloc, rules, design.fill.region())?,
+            keep_pieces: keep_pieces(rt, alloc, rules, design.keep.region())?,
             low: low_windows(alloc, &windows, rules.min(), areas)?,
             filled: Filled::none(alloc, raster)?,
             tiles: TileSet::none(alloc, raster.tiles())?,
-            metal: EditedLayer::open(alloc, metal),
-            keep: EditedLayer::open(alloc, keep),
+            drawn: DrawnLayer::open(alloc, design.metal, design.fill)?,
+            keep: EditedLayer::open(alloc, design.keep),
             version: 0,
+        })
+    }
+
+    /// What of the design lies in the halos of a tile.
+    ///
+    /// # Errors
+    /// `AllocError` where memory is refused.
+    pub(crate) fn near(&self, _rules: &SharedRules, tile: u32) -> Result<Pieces, AllocError>
+        requires fits { Fits (plan_of _rules.now) self.now }
+        requires tile { tile < tiles (plan_of _rules.now).raster }
+        ensures { IfOk result (λ p. layers_of p ≡ layers_near (plan_of _rules.now) (stored_layers self.now) tile) }
+    {
+        let tile = tile as usize;
+        Ok(Pieces {
+            metal: self.pieces[tile].share()?,
+            fill: self.existing_pieces[tile].share()?,
+            keep: self.keep_pieces[tile].share()?,
         })
     }
 
@@ -141,9 +160,10 @@ impl Stored {
         if tile >= rules.raster().tiles() || self.tiles.has(tile) {
             return false;
         }
-        let metal = self.pieces[tile as usize].metal();
-        let keep = self.keep_pieces[tile as usize].metal();
-        proposal.matches(rules.rules(), metal, keep, &self.low)
+        let metal = self.pieces[tile as usize].region();
+        let fill = self.existing_pieces[tile as usize].region();
+        let keep = self.keep_pieces[tile as usize].region();
+        proposal.matches(rules.rules(), metal, fill, keep, &self.low)
     }
 
     /// The answer to a commit that isn't the same.
@@ -169,15 +189,16 @@ impl Stored {
         tile: u32,
         marks: &Marks,
     ) -> u32
-        requires stands { T.stand_for totals.old windows.now (in_layer self.old.metal) (squares_in self.old) }
-        requires clear { same ≡ true → KeepsClear self.old.filled.raster (λ i j. is_filled self.old.filled i j || is_marked marks.now i j) (in_layer self.old.metal) }
+        requires stands { T.stand_for totals.old windows.now (is_drawn self.old.drawn) (squares_in self.old) }
+        requires clear { same ≡ true → KeepsClear self.old.filled.raster (λ i j. is_filled self.old.filled i j || is_marked marks.now i j) (is_drawn self.old.drawn) }
         requires tile { same ≡ true → tile < tiles self.old.filled.raster }
         requires bits { length self.old.tiles ≡ tiles self.old.filled.raster }
         requires marked { same ≡ true → (i j : ℤ) → is_marked marks.now i j ≡ true → in_tile self.old.filled.raster tile i j ≡ true }
-        ensures stands { T.stand_for totals.new windows.now (in_layer self.new.metal) (squares_in self.new) }
-        ensures metal { self.new.metal ≡ self.old.metal }
+        ensures stands { T.stand_for totals.new windows.now (is_drawn self.new.drawn) (squares_in self.new) }
+        ensures drawn { self.new.drawn ≡ self.old.drawn }
         ensures keep { self.new.keep ≡ self.old.keep }
         ensures pieces { self.new.pieces ≡ self.old.pieces }
+        ensures existing_pieces { self.new.existing_pieces ≡ self.old.existing_pieces }
         ensures keep_pieces { self.new.keep_pieces ≡ self.old.keep_pieces }
         ensures low { self.new.low ≡ self.old.low }
         ensures version { self.new.version ≡ self.old.version }
@@ -197,22 +218,22 @@ impl Stored {
         self.filled.count() - before
     }
 
-    /// What an edit makes of the metal, what of it comes or goes, and the places whose boxes it takes out.
+    /// What an edit makes of the metal, what comes or goes of what counts, and the places whose boxes it takes out.
     ///
     /// # Errors
     /// `AllocError` where memory is refused.
     fn edited(&self, alloc: Global, rules: &SharedRules, edit: Edit) -> Result<Edited, AllocError>
         requires raster { self.now.filled.raster ≡ (plan_of rules.now).raster }
-        requires clear_now { KeepsClear self.now.filled.raster (is_filled self.now.filled) (in_layer self.now.metal) }
-        requires clear { KeepsClear (plan_of rules.now).raster (fill_after (plan_of rules.now) edit (is_filled self.now.filled)) (metal_after edit (in_layer self.now.metal)) }
+        requires clear_now { KeepsClear self.now.filled.raster (is_filled self.now.filled) (is_drawn self.now.drawn) }
+        requires clear { KeepsClear (plan_of rules.now).raster (fill_after (plan_of rules.now) edit (is_filled self.now.filled)) (drawn_squares (layers_after edit (stored_layers self.now))) }
         ensures edit { IfOk result (λ e. e.edit ≡ edit) }
         ensures edited { IfOk result (λ e. IsEdited self.now e) }
         ensures left { IfOk result (λ e. (i j : ℤ) → left_by self.now.filled e.out i j ≡ fill_after (plan_of rules.now) edit (is_filled self.now.filled) i j) }
     {
         Ok(Edited {
             edit,
-            metal: metal_edited(alloc, &self.metal, edit)?,
-            difference: difference_of(alloc, &self.metal, edit)?,
+            drawn: self.drawn.after(alloc, edit)?,
+            difference: difference_of(alloc, &self.drawn, edit)?,
             out: too_near(rules, edit),
         })
     }
@@ -228,11 +249,11 @@ impl Stored {
         totals: &mut T,
         edited: &Edited,
     ) -> Result<Region, AllocError>
-        requires stands { T.stand_for totals.old (plan_of rules.now).windows (in_layer self.now.metal) (squares_in self.now) }
+        requires stands { T.stand_for totals.old (plan_of rules.now).windows (is_drawn self.now.drawn) (squares_in self.now) }
         requires edited { IsEdited self.now edited.now }
         ensures low { IfOk result (λ r. (a b : ℕ) → windows_in r a b ≡ low_windows (plan_of rules.now) (squares_left self.now edited.now) a b) }
-        ensures stands { OnOk result (T.stand_for totals.new (plan_of rules.now).windows (in_layer edited.now.metal) (squares_left self.now edited.now)) }
-        ensures back { OnErr result (T.stand_for totals.new (plan_of rules.now).windows (in_layer self.now.metal) (squares_in self.now)) }
+        ensures stands { OnOk result (T.stand_for totals.new (plan_of rules.now).windows (is_drawn edited.now.drawn) (squares_left self.now edited.now)) }
+        ensures back { OnErr result (T.stand_for totals.new (plan_of rules.now).windows (is_drawn self.now.drawn) (squares_in self.now)) }
     {
         let windows = rules.windows();
         totals.follow(self, &windows, edited);
@@ -258,26 +279,27 @@ impl Stored {
         edit: Edit,
     ) -> Result<Change, AllocError>
         requires fits { Fits (plan_of rules.now) self.now }
-        requires stands { T.stand_for totals.old (plan_of rules.now).windows (in_layer self.now.metal) (squares_in self.now) }
-        requires clear_now { KeepsClear self.now.filled.raster (is_filled self.now.filled) (in_layer self.now.metal) }
-        requires clear { KeepsClear (plan_of rules.now).raster (fill_after (plan_of rules.now) edit (is_filled self.now.filled)) (metal_after edit (in_layer self.now.metal)) }
-        ensures metal { IfOk result (λ c. (x y : ℤ) → in_layer c.metal x y ≡ metal_after edit (in_layer self.now.metal) x y) }
+        requires stands { T.stand_for totals.old (plan_of rules.now).windows (is_drawn self.now.drawn) (squares_in self.now) }
+        requires clear_now { KeepsClear self.now.filled.raster (is_filled self.now.filled) (is_drawn self.now.drawn) }
+        requires clear { KeepsClear (plan_of rules.now).raster (fill_after (plan_of rules.now) edit (is_filled self.now.filled)) (drawn_squares (layers_after edit (stored_layers self.now))) }
+        ensures metal { IfOk result (λ c. (x y : ℤ) → in_layer c.drawn.metal x y ≡ metal_after edit (in_layer self.now.drawn.metal) x y) }
+        ensures existing { IfOk result (λ c. c.drawn.existing ≡ self.now.drawn.existing) }
         ensures keep { IfOk result (λ c. (x y : ℤ) → in_layer c.keep x y ≡ keep_after edit (in_layer self.now.keep) x y) }
         ensures on { IfOk result (λ c. (i j : ℤ) → in_places c.out i j ≡ true → in_raster self.now.filled.raster i j ≡ true) }
         ensures left { IfOk result (λ c. (i j : ℤ) → left_by self.now.filled c.out i j ≡ fill_after (plan_of rules.now) edit (is_filled self.now.filled) i j) }
-        ensures low { let plan = plan_of rules.now in IfOk result (λ c. (a b : ℕ) → windows_in c.low a b ≡ low_windows plan (with_boxes plan (metal_after edit (in_layer self.now.metal)) (fill_after plan edit (is_filled self.now.filled))) a b) }
-        ensures pieces { let plan = plan_of rules.now in IfOk result (λ c. ArePieces plan.raster plan.spacing (metal_after edit (in_layer self.now.metal)) c.pieces.items) }
+        ensures low { let plan = plan_of rules.now in IfOk result (λ c. (a b : ℕ) → windows_in c.low a b ≡ low_windows plan (with_boxes plan (drawn_squares (layers_after edit (stored_layers self.now))) (fill_after plan edit (is_filled self.now.filled))) a b) }
+        ensures pieces { let plan = plan_of rules.now in IfOk result (λ c. ArePieces plan.raster plan.spacing (metal_after edit (in_layer self.now.drawn.metal)) c.pieces.items) }
         ensures keep_pieces { let plan = plan_of rules.now in IfOk result (λ c. ArePieces plan.raster (pos 0) (keep_after edit (in_layer self.now.keep)) c.keep_pieces.items) }
-        ensures stands { let plan = plan_of rules.now in IfOk result (λ c. T.stand_for totals.new plan.windows (in_layer c.metal) (metal_or_box self.now.filled.raster (left_by self.now.filled c.out) (in_layer c.metal))) }
-        ensures back { OnErr result (T.stand_for totals.new (plan_of rules.now).windows (in_layer self.now.metal) (squares_in self.now)) }
+        ensures stands { let plan = plan_of rules.now in IfOk result (λ c. T.stand_for totals.new plan.windows (is_drawn c.drawn) (drawn_or_box self.now.filled.raster (left_by self.now.filled c.out) (is_drawn c.drawn))) }
+        ensures back { OnErr result (T.stand_for totals.new (plan_of rules.now).windows (is_drawn self.now.drawn) (squares_in self.now)) }
     {
         let edited = self.edited(alloc, rules, edit)?;
         let keep = kept_out(alloc, &self.keep, edit)?;
-        let pieces = metal_pieces_after(alloc, rules, &self.metal, &self.pieces, edit)?;
+        let pieces = metal_pieces_after(alloc, rules, self.drawn.metal(), &self.pieces, edit)?;
         let keep_pieces = keep_pieces_after(alloc, rules, &self.keep, &self.keep_pieces, edit)?;
         let low = self.low_after(alloc, rules, totals, &edited)?;
         Ok(Change {
-            metal: edited.metal,
+            drawn: edited.drawn,
             keep,
             low,
             out: edited.out,
@@ -290,9 +312,10 @@ impl Stored {
     pub(crate) fn change(&mut self, change: Change) -> u32
         requires on { (i j : ℤ) → in_places change.out i j ≡ true → in_raster self.old.filled.raster i j ≡ true }
         requires version { self.old.version + 1 < 2 ^ 64 }
-        ensures metal { self.new.metal ≡ change.metal }
+        ensures drawn { self.new.drawn ≡ change.drawn }
         ensures keep { self.new.keep ≡ change.keep }
         ensures pieces { self.new.pieces ≡ change.pieces }
+        ensures existing_pieces { self.new.existing_pieces ≡ self.old.existing_pieces }
         ensures keep_pieces { self.new.keep_pieces ≡ change.keep_pieces }
         ensures low { self.new.low ≡ change.low }
         ensures version { self.new.version ≡ self.old.version + 1 }
@@ -305,7 +328,7 @@ impl Stored {
         let before = self.filled.count();
         self.filled.clear_places(&change.out);
         self.tiles.clear_all();
-        self.metal = change.metal;
+        self.drawn = change.drawn;
         self.keep = change.keep;
         self.pieces = change.pieces;
         self.keep_pieces = change.keep_pieces;

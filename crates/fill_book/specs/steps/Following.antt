@@ -1,5 +1,5 @@
 -- What the boxes of places take of windows: of a place, of the places of a row between two columns, and of rows.
-use Rattle.std.specs.Prelude.{ℕ, ℤ, false, cond, ◌&&◌, not}
+use Rattle.std.specs.Prelude.{ℕ, ℤ, false, cond, ◌&&◌, ◌||◌, not}
 use Rattle.fill_base.specs.Counts.{sum_between}
 use Rattle.fill_area.specs.Density.{window_area}
 use Rattle.fill_area.specs.Grid.{Grid}
@@ -35,7 +35,7 @@ taken_of_rows r fill g left right bottom top a b = sum_between (λ j. taken_of_r
 abbrev pub taken_out : Stored → Places → Grid → ℕ → ℕ → ℕ
 taken_out s p g = taken_of_rows s.filled.raster (λ i j. is_filled s.filled i j && in_places p i j) g p.columns.start p.columns.end p.rows.start p.rows.end
 
--- whether metal comes or goes, and which
+-- whether squares come or go
 abbrev pub way_of : Edit → Way
 way_of (Add r) = Up
 way_of (Cut r) = Down
@@ -47,8 +47,8 @@ opposite_of (Add r) = Down
 opposite_of (Cut r) = Up
 opposite_of (Keep r) = Down
 
--- what of an edit's rectangle was no metal and comes, or was metal and goes
-abbrev pub difference_by : Edit → PointSet → PointSet
-difference_by (Add r) metal x y = squares r x y && not (metal x y)
-difference_by (Cut r) metal x y = metal x y && squares r x y
-difference_by (Keep r) metal x y = false
+-- what of an edit's rectangle was neither metal nor existing fill and comes, or was metal and no existing fill and goes
+abbrev pub difference_by : Edit → PointSet → PointSet → PointSet
+difference_by (Add r) metal existing x y = squares r x y && not (metal x y || existing x y)
+difference_by (Cut r) metal existing x y = (metal x y && not (existing x y)) && squares r x y
+difference_by (Keep r) metal existing x y = false

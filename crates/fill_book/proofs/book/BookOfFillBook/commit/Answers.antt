@@ -1,6 +1,5 @@
 use Rattle.std.proofs.Common.{rules, ◌≡◌, refl, ap, sym, subst, ◌∙◌, ◌<◌, ◌^◌, List, [], ◌∷◌, ◌++◌}
-use Rattle.fill_state.specs.Layers.{in_layer}
-use Rattle.fill_region.specs.Runs.{holds}
+use Rattle.fill_state.specs.Layers.{is_drawn}
 use Rattle.fill_area.specs.Grid.{Grid}
 use Rattle.fill_raster.specs.Marks.{Marked, is_marked}
 use Rattle.fill_job.specs.Basis.{read_by}
@@ -27,13 +26,13 @@ returns-then-is_full-clause-err g c = (refl, refl)
 pub returns-then-is_full-clause-seen : goal.returns-then-is_full-clause-seen
 returns-then-is_full-clause-seen g c = tt
 
-done : (g : given.Over) (c : goal.After-push g) → IsDone (record { rules = c.self.inside.origin.rules; opening = c.self.inside.origin.opening; keep = c.self.inside.origin.keep; history = entries_of c.self.inside.history; most = c.self.inside.origin.most })
+done : (g : given.Over) (c : goal.After-push g) → IsDone (record { rules = c.self.inside.origin.rules; opening = c.self.inside.origin.opening; existing = c.self.inside.origin.existing; keep = c.self.inside.origin.keep; history = entries_of c.self.inside.history; most = c.self.inside.origin.most })
     c.self.inside.stored c.take_in-placed.new.self c.version-version.result c.tile-tile.result (read_by c.args.proposal.now.basis) c.is_same-same.result c.marks-marks.result.now c.take_in-placed.result c.answer-reply.result
 done g c =
     let p = c.args.proposal.now in let made = c.take_in-placed.ensures in
     commit_done c.self.invariant.0 c.take_in-placed.new.self c.version-version.result c.tile-tile.result (read_by p.basis) c.is_same-same.result c.marks-marks.result.now c.take_in-placed.result c.refusal-refusal.result c.answer-reply.result
     (rw (c.version-version.ensures, c.tile-tile.ensures) (record { is_same = c.is_same-same.ensures; marked = λ i j. ap (λ (q : Marked). is_marked q i j) c.marks-marks.ensures ∙ p.marked i j }))
-    (record { metal = made.metal; keep = made.keep; pieces = made.pieces; keep_pieces = made.keep_pieces; low = made.low; version = made.version; raster = made.raster; bits = made.bits; filled = made.filled; tiles = made.tiles; placed_is = made.placed })
+    (record { drawn = made.drawn; keep = made.keep; pieces = made.pieces; existing_pieces = made.existing_pieces; keep_pieces = made.keep_pieces; low = made.low; version = made.version; raster = made.raster; bits = made.bits; filled = made.filled; tiles = made.tiles; placed_is = made.placed })
     c.refusal-refusal.ensures c.answer-reply.ensures
 
 pub take_in-placed-requires-clause-marked : goal.take_in-placed-requires-clause-marked
@@ -61,7 +60,7 @@ invariant_of-self-2 g c =
     let history = c.push.ensures ∙ ap (λ (h : List Entry). h ++ record { event = event.Commit v t same; reply = reply } ∷ []) c.reserve.ensures.same in (
       rw history (keeps_commit c.self.invariant.0 c.note.new.self c.take_in-placed.new.self v t (read_by c.args.proposal.now.basis) same c.marks-marks.result.now c.take_in-placed.result reply (not_full c.self.view_is c.is_full.result c.is_full.ensures c.if-is_full.false) d.brought d.taken d.answer
           (counted_as c.self.inside.books c.note.new.self c.from.result (placed_by reply) 0 (withdrawn_by reply) c.note.ensures.books (c.from.ensures ∙ d.counts.0) d.counts.1)),
-      subst (λ (w : Grid). g.T.Totals.stand_for c.take_in-placed.new.totals w (in_layer c.take_in-placed.new.self.metal) (squares_in c.take_in-placed.new.self)) c.windows-windows.ensures c.take_in-placed.ensures.stands,
+      subst (λ (w : Grid). g.T.Totals.stand_for c.take_in-placed.new.totals w (is_drawn c.take_in-placed.new.self.drawn) (squares_in c.take_in-placed.new.self)) c.windows-windows.ensures c.take_in-placed.ensures.stands,
     )
 
 pub take_in-placed-requires-clause-clear : goal.take_in-placed-requires-clause-clear
@@ -82,7 +81,7 @@ returns-clause-written g c =
       is_same = same_now c.self.invariant.0 c.self.view_is v t (read_by c.args.proposal.now.basis) same d.brought.is_same;
       writes = record {
         answer = subst (λ (a : Account). reply ≡ reply_of (plan_of a.rules) (state_of a) (event.Commit v t same)) c.self.view_is d.answer;
-        written = ap (λ (h : List Entry). record { rules = c.self.inside.origin.rules; opening = c.self.inside.origin.opening; keep = c.self.inside.origin.keep; history = h; most = c.self.inside.origin.most }) history
+        written = ap (λ (h : List Entry). record { rules = c.self.inside.origin.rules; opening = c.self.inside.origin.opening; existing = c.self.inside.origin.existing; keep = c.self.inside.origin.keep; history = h; most = c.self.inside.origin.most }) history
             ∙ ap (λ (a : Account). with_entry a (event.Commit v t same) reply) c.self.view_is;
         shares = moved_as c.args.pass.now c.note.new.pass c.from.result (placed_by reply) 0 (withdrawn_by reply) c.note.ensures.pass (c.from.ensures ∙ d.counts.0) d.counts.1;
       };

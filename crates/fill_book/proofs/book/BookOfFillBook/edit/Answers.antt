@@ -24,10 +24,10 @@ invariant_of-self g c = rw c.reserve.ensures.same c.self.invariant
 pub invariant_of-self-2 : goal.invariant_of-self-2
 invariant_of-self-2 g c =
     let plan = plan_of c.self.inside.origin.rules in
-    let of : IsOf plan c.self.inside.stored c.args.edit c.in_ok-change.change = record { metal = c.in_ok-change.ensures.metal; keep = c.in_ok-change.ensures.keep; pieces = c.in_ok-change.ensures.pieces; keep_pieces = c.in_ok-change.ensures.keep_pieces; filled = c.in_ok-change.ensures.left; low = c.in_ok-change.ensures.low } in
+    let of : IsOf plan c.self.inside.stored c.args.edit c.in_ok-change.change = record { metal = c.in_ok-change.ensures.metal; existing = c.in_ok-change.ensures.existing; keep = c.in_ok-change.ensures.keep; pieces = c.in_ok-change.ensures.pieces; keep_pieces = c.in_ok-change.ensures.keep_pieces; filled = c.in_ok-change.ensures.left; low = c.in_ok-change.ensures.low } in
     let made = c.change-withdrawn.ensures in
     let is : IsChanged c.self.inside.stored c.change-withdrawn.new.self c.in_ok-change.change c.change-withdrawn.result =
-    record { metal = made.metal; keep = made.keep; pieces = made.pieces; keep_pieces = made.keep_pieces; low = made.low; version = made.version; raster = made.raster; bits = made.bits; filled = made.filled; tiles = made.tiles; withdrawn_is = made.withdrawn } in
+    record { drawn = made.drawn; keep = made.keep; pieces = made.pieces; existing_pieces = made.existing_pieces; keep_pieces = made.keep_pieces; low = made.low; version = made.version; raster = made.raster; bits = made.bits; filled = made.filled; tiles = made.tiles; withdrawn_is = made.withdrawn } in
     let history = c.push.ensures ∙ ap (λ (h : List Entry). h ++ record { event = event.Edit c.args.edit; reply = Withdrawn c.change-withdrawn.result } ∷ []) c.reserve.ensures.same in (
       rw history (keeps_edit c.self.invariant.0 c.note.new.self c.change-withdrawn.new.self c.args.edit c.in_ok-change.change c.change-withdrawn.result
           (not_full c.self.view_is c.is_full.result c.is_full.ensures c.if-is_full.false) of is (c.note.ensures.books ∙ ap (λ (n : ℕ). counted c.self.inside.books 0 n) c.from.ensures)),
@@ -40,14 +40,14 @@ change_by-requires-clause-clear_now g c = clear_stored c.self.invariant.0
 pub returns-clause-written : goal.returns-clause-written
 returns-clause-written g c =
     let plan = plan_of c.self.inside.origin.rules in
-    let of : IsOf plan c.self.inside.stored c.args.edit c.in_ok-change.change = record { metal = c.in_ok-change.ensures.metal; keep = c.in_ok-change.ensures.keep; pieces = c.in_ok-change.ensures.pieces; keep_pieces = c.in_ok-change.ensures.keep_pieces; filled = c.in_ok-change.ensures.left; low = c.in_ok-change.ensures.low } in
+    let of : IsOf plan c.self.inside.stored c.args.edit c.in_ok-change.change = record { metal = c.in_ok-change.ensures.metal; existing = c.in_ok-change.ensures.existing; keep = c.in_ok-change.ensures.keep; pieces = c.in_ok-change.ensures.pieces; keep_pieces = c.in_ok-change.ensures.keep_pieces; filled = c.in_ok-change.ensures.left; low = c.in_ok-change.ensures.low } in
     let made = c.change-withdrawn.ensures in
     let is : IsChanged c.self.inside.stored c.change-withdrawn.new.self c.in_ok-change.change c.change-withdrawn.result =
-    record { metal = made.metal; keep = made.keep; pieces = made.pieces; keep_pieces = made.keep_pieces; low = made.low; version = made.version; raster = made.raster; bits = made.bits; filled = made.filled; tiles = made.tiles; withdrawn_is = made.withdrawn } in
+    record { drawn = made.drawn; keep = made.keep; pieces = made.pieces; existing_pieces = made.existing_pieces; keep_pieces = made.keep_pieces; low = made.low; version = made.version; raster = made.raster; bits = made.bits; filled = made.filled; tiles = made.tiles; withdrawn_is = made.withdrawn } in
     let history = c.push.ensures ∙ ap (λ (h : List Entry). h ++ record { event = event.Edit c.args.edit; reply = Withdrawn c.change-withdrawn.result } ∷ []) c.reserve.ensures.same in
     record {
       answer = rw (sym c.self.view_is) (edit_answer c.self.invariant.0 c.change-withdrawn.new.self c.args.edit c.in_ok-change.change c.change-withdrawn.result of is);
-      written = ap (λ (h : List Entry). record { rules = c.self.inside.origin.rules; opening = c.self.inside.origin.opening; keep = c.self.inside.origin.keep; history = h; most = c.self.inside.origin.most }) history
+      written = ap (λ (h : List Entry). record { rules = c.self.inside.origin.rules; opening = c.self.inside.origin.opening; existing = c.self.inside.origin.existing; keep = c.self.inside.origin.keep; history = h; most = c.self.inside.origin.most }) history
           ∙ ap (λ (a : Account). with_entry a (event.Edit c.args.edit) (Withdrawn c.change-withdrawn.result)) c.self.view_is;
       shares = c.note.ensures.pass ∙ ap (λ (n : ℕ). moved_by c.args.pass.now 0 n) c.from.ensures;
     }

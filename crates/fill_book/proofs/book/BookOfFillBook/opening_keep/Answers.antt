@@ -3,4 +3,4 @@ use Rattle.fill_core.specs.Accounts.{Account}
 use Rattle.fill_book.proofs.book.BookOfFillBook.opening_keep.Goals as goal
 
 pub returns : goal.returns
-returns g c = c.metal.ensures ∙ ap (λ (a : Account). a.keep) c.self.view_is
+returns g c = c.region.ensures ∙ ap (λ (a : Account). a.keep) c.self.view_is

@@ -1,17 +1,19 @@
-use Rattle.fill_state.specs.Layers.{in_layer}
-use Rattle.fill_region.specs.Runs.{holds}
-use Rattle.fill_job.specs.Plans.{plan_of}
-use Rattle.fill_core.specs.Machine.{fill_after, metal_after}
+use Rattle.fill_state.specs.Layers.{is_drawn}
+use Rattle.fill_job.specs.Plans.{drawn_squares, plan_of}
+use Rattle.fill_core.specs.Machine.{fill_after, layers_after}
 use Rattle.fill_state.specs.Filling.{is_filled, left_by}
-use Rattle.fill_book.proofs.Measured.{clear_same, left_after}
+use Rattle.fill_book.specs.Keeping.{stored_layers}
+use Rattle.fill_book.proofs.Measured.{clear_same, drawn_edited, left_after}
 use Rattle.fill_book.proofs.stored.Stored.edited.Goals as goal
 
 pub returns-clause-edited : goal.returns-clause-edited
 returns-clause-edited c =
-    let plan = plan_of c.args.rules.now in let f = c.args.self.now.filled in let out = c.too_near.result in
+    let plan = plan_of c.args.rules.now in let s = c.args.self.now in let f = s.filled in let out = c.too_near.result in
     let left = left_after plan f out c.args.edit c.requires.raster c.too_near.ensures.near in
+    let drawn = drawn_edited s c.in_ok-after.field-0 c.args.edit c.in_ok-after.ensures.metal c.in_ok-after.ensures.existing in
     record {
-      metal = c.in_ok-metal_edited.ensures;
+      metal = c.in_ok-after.ensures.metal;
+      existing = c.in_ok-after.ensures.existing;
       difference = c.in_ok-difference_of.ensures.metal;
       within = c.in_ok-difference_of.ensures.within;
       way = c.in_ok-difference_of.ensures.way;
@@ -20,7 +22,7 @@ returns-clause-edited c =
       columns = c.too_near.ensures.ordered.0;
       rows = c.too_near.ensures.ordered.1;
       clear = c.requires.clear_now;
-      clear_left = clear_same plan.raster f.raster (fill_after plan c.args.edit (is_filled f)) (left_by f out) (metal_after c.args.edit (in_layer c.args.self.now.metal)) (in_layer c.in_ok-metal_edited.field-0) c.requires.raster left c.in_ok-metal_edited.ensures c.requires.clear;
+      clear_left = clear_same plan.raster f.raster (fill_after plan c.args.edit (is_filled f)) (left_by f out) (drawn_squares (layers_after c.args.edit (stored_layers s))) (is_drawn c.in_ok-after.field-0) c.requires.raster left drawn c.requires.clear;
     }
 
 pub returns-clause-left : goal.returns-clause-left

@@ -1,9 +1,8 @@
 use Rattle.std.proofs.Common.{ap, subst, ◌∙◌, ◌||◌}
-use Rattle.fill_state.specs.Layers.{in_layer}
+use Rattle.fill_state.specs.Layers.{is_drawn}
 use Rattle.fill_core.specs.Boxes.{count_places}
 use Rattle.fill_raster.specs.Marks.{is_marked}
 use Rattle.fill_state.specs.Filling.{is_filled}
-use Rattle.fill_region.specs.Runs.{holds}
 use Rattle.fill_job.specs.Plans.{PointSet}
 use Rattle.fill_book.proofs.BoxParts.{same_squares}
 use Rattle.fill_book.proofs.Grown.{Grown, grown, more_filled}
@@ -24,5 +23,5 @@ returns-clause-placed g c = (more g c).sum
 pub returns-clause-stands : goal.returns-clause-stands
 returns-clause-stands g c =
     let s = c.args.self.now in
-    subst (λ (p : PointSet). g.T.Totals.stand_for c.take_in.new.self c.args.windows.now (in_layer s.metal) p)
-    (same_squares s.filled.raster c.take_in-2.new.self.raster (λ i j. is_filled s.filled i j || is_marked c.args.marks.now i j) (is_filled c.take_in-2.new.self) (in_layer s.metal) c.take_in-2.ensures.raster c.take_in-2.ensures.filled) c.take_in.ensures
+    subst (λ (p : PointSet). g.T.Totals.stand_for c.take_in.new.self c.args.windows.now (is_drawn s.drawn) p)
+    (same_squares s.filled.raster c.take_in-2.new.self.raster (λ i j. is_filled s.filled i j || is_marked c.args.marks.now i j) (is_filled c.take_in-2.new.self) (is_drawn s.drawn) c.take_in-2.ensures.raster c.take_in-2.ensures.filled) c.take_in.ensures

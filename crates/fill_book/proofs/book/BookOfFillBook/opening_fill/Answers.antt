@@ -1,0 +1,6 @@
+use Rattle.std.proofs.Common.{◌∙◌, ap}
+use Rattle.fill_core.specs.Accounts.{Account}
+use Rattle.fill_book.proofs.book.BookOfFillBook.opening_fill.Goals as goal
+
+pub returns : goal.returns
+returns g c = c.region.ensures ∙ ap (λ (a : Account). a.existing) c.self.view_is
