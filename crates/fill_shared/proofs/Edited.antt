@@ -54,7 +54,7 @@ layers_stay plan s [] e = refl
 layers_stay plan s (event.Commit version tile same ∷ es) e = layers_stay plan (step plan s (event.Commit version tile same)) es e ∙ (committed_stays plan s version tile same).layers
 layers_stay plan s (event.Edit edit ∷ es) e = absurd (let f : suc (length (edits_in es)) ≡ 0 = ap length e in omega (arith, f))
 
--- without edits metal and keep-outs stay, and the fill is one function of it and the rules
+-- without edits the design stays, and the fill is one function of it and the rules
 pub unedited_fill : (t : Terms) (edits : List Edit) (a : Account) (pass : Held) → edits ≡ [] → IsFinished t edits a pass → IsUnedited t (state_of a)
 unedited_fill t edits a pass none is =
     let left = is.left in

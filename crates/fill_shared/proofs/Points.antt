@@ -6,7 +6,7 @@ use Rattle.fill_area.specs.Grid.{Grid}
 use Rattle.fill_raster.specs.Lattice.{tiles}
 use Rattle.fill_raster.proofs.Tiling.{tiles_few}
 use Rattle.fill_text.specs.declared.script.Edit.{Edit}
-use Rattle.fill_job.specs.Plans.{plan_of}
+use Rattle.fill_job.specs.Plans.{drawn_squares, plan_of}
 use Rattle.fill_job.specs.declared.job.Job.{Job}
 use Rattle.fill_core.specs.Accounts.{Account, IsEdited, IsKeeping, state_of, terms_of}
 use Rattle.fill_core.specs.Boxes.{count_places, total_in}
@@ -40,7 +40,7 @@ complete_at t a b h from version r at same first none is =
 
 -- the total of a window that the book's rules have
 pub seen_at : (t : Terms) (a b : Account) (h : Held) (m n : ℕ) (windows : Grid) (columns rows version events : ℕ) (total : ℤ) → IsPoint t a h → b ≡ a → windows ≡ (plan_of b.rules).windows → columns ≡ windows.across.count → rows ≡ windows.up.count → m < columns → n < rows
-    → version ≡ (state_of b).version → events ≡ length b.history → total ≡ pos (total_in (plan_of b.rules) (state_of b).layers.metal (state_of b).fill m n)
+    → version ≡ (state_of b).version → events ≡ length b.history → total ≡ pos (total_in (plan_of b.rules) (drawn_squares (state_of b).layers) (state_of b).fill m n)
     → AtSomePoint t h.calls (λ k. IsSeen k m n (Some (record { version = version; events = events; total = total })))
 seen_at t a b h m n windows columns rows version events total at same windows_is columns_is rows_is column row version_is events_is total_is =
     let across : m < (plan_of b.rules).windows.across.count = subst (λ (w : Grid). m < w.across.count) windows_is (rw columns_is at column) in

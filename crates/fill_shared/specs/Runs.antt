@@ -47,7 +47,7 @@ pub record IsMixed (terms : Terms) (edits : List Edit) (a : Account) (pass : Hel
   pub keeping : IsKeeping a
   pub counted : HasCounted a pass
 
--- what is left without edits: metal and keep-outs as they were, and all those places
+-- what is left without edits: the design as it was, and all those places
 pub record IsUnedited (terms : Terms) (s : State) : Type 0 where
   pub layers : s.layers ≡ layers_at terms
   pub fill : s.fill ≡ low_fill (plan_of terms.rules) (layers_at terms)

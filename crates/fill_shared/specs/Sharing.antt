@@ -3,7 +3,7 @@ use Rattle.std.specs.Prelude.{◌≡◌, ℕ, ◌<◌, ◌≤◌, pos, Option, S
 use Rattle.fill_area.specs.Grid.{Grid}
 use Rattle.fill_raster.specs.Lattice.{tiles}
 use Rattle.fill_job.specs.Basis.{read_by}
-use Rattle.fill_job.specs.Plans.{plan_of}
+use Rattle.fill_job.specs.Plans.{drawn_squares, plan_of}
 use Rattle.fill_job.specs.ReadSets.{read_set}
 use Rattle.fill_job.specs.declared.job.Job.{Job}
 use Rattle.fill_core.specs.Accounts.{Account, IsKeeping, state_of, terms_of}
@@ -44,5 +44,5 @@ HasWindow windows a b = (a < windows.across.count) × (b < windows.up.count)
 -- the total of a window that there is, and nothing of any other
 abbrev pub IsSeen : Account → ℕ → ℕ → Option Seen → Type 0
 IsSeen k a b (Some seen) =
-    HasWindow (plan_of k.rules).windows a b × (seen.version ≡ (state_of k).version) × (seen.events ≡ length k.history) × (seen.total ≡ pos (total_in (plan_of k.rules) (state_of k).layers.metal (state_of k).fill a b))
+    HasWindow (plan_of k.rules).windows a b × (seen.version ≡ (state_of k).version) × (seen.events ≡ length k.history) × (seen.total ≡ pos (total_in (plan_of k.rules) (drawn_squares (state_of k).layers) (state_of k).fill a b))
 IsSeen k a b None = HasWindow (plan_of k.rules).windows a b → ⊥

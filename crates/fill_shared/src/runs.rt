@@ -121,7 +121,7 @@ fn settle<B: FillBook>(
 /// Fills a book: so many workers bring tile after tile, each in a thread of its own and in at most `limit` turns, while one editor
 /// makes the edits in their order. Where the version isn't complete after that, the workers have as many turns once more, without
 /// the editor. Worker `k` of `n` starts at the tile `k * tiles / n`. What comes back was opened as the book handed in, and its
-/// edits are those handed in. Without edits its fill is one function of metal, keep-outs and rules, whatever the number of workers.
+/// edits are those handed in. Without edits its fill is one function of the design and the rules, whatever the number of workers.
 ///
 /// # Errors
 /// `Memory` where memory is refused, to whichever worker, the editor or the run itself; `Mixed` where the book's edits do not begin

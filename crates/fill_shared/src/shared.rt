@@ -45,7 +45,7 @@ pub struct Seen {
     pub version: u64,
     /// How many events had happened.
     pub events: u64,
-    /// The area of metal and boxes together in the window, in unit squares.
+    /// The area of metal, existing fill and boxes together in the window, in unit squares.
     pub total: i64,
 }
 
@@ -179,7 +179,7 @@ impl<B: FillBook> Shared<B> {
         book.commit(alloc, pass, proposal)
     }
 
-    /// Edits the metal, as `FillBook::edit`.
+    /// Edits the metal or the keep-outs, as `FillBook::edit`.
     ///
     /// # Errors
     /// `HistoryFull` where the history is full, else `Memory` where memory is refused; the pass is then as before.
