@@ -9,7 +9,7 @@ use Rattle.fill_report.specs.Report.{report_text, nothing}
 abbrev pub boxes_of : Plan → PointSet → PointSet
 boxes_of plan fill = with_boxes plan nothing fill
 
--- the report of a set of metal and of the boxes of the filled places, over the rules' windows and with their least and greatest
--- density
+-- the report of a set of squares, what is drawn, and of the boxes of the filled places, over the rules' windows and with their least and
+-- greatest density
 abbrev pub fill_report : Values → PointSet → PointSet → List ℕ
-fill_report values metal fill = report_text metal (boxes_of (plan_of values) fill) (windows_of values) (limits_of values)
+fill_report values drawn fill = report_text drawn (boxes_of (plan_of values) fill) (windows_of values) (limits_of values)

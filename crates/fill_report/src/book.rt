@@ -1,8 +1,8 @@
-//! The report of a book's metal and fill.
+//! The report of a book's metal, existing fill and fill.
 ghost use Rattle.std.specs.Prelude.{◌≡◌, ◌+◌, ◌-◌, ◌*◌, ◌/◌, ◌%◌, ◌<◌, ◌≤◌, IfOk};
 ghost use Rattle.fill_text.specs.Limits.{AreShares};
 ghost use Rattle.fill_area.specs.Density.{IsArea};
-ghost use Rattle.fill_job.specs.Plans.{IsPlan, plan_of};
+ghost use Rattle.fill_job.specs.Plans.{IsPlan, drawn_squares, plan_of};
 ghost use Rattle.fill_core.specs.Accounts.{state_of};
 ghost use Rattle.fill_text.specs.Rules.{limits_of, windows_of};
 ghost use Rattle.fill_report.specs.Report.{lines_above, measures_of};
@@ -19,17 +19,17 @@ use fill_text::Limits;
 use std::alloc::Global;
 use std::ops::Range;
 
-/// The report of a book's metal and fill, over the windows of its rules: one line a window with its
-/// column and row, its edges, the areas of metal, of fill boxes and of both, the share of both in parts
-/// of a million rounded down, and `LOW`, `HIGH` or `OK` (this project's profile).
+/// The report of a book's design and fill, over the windows of its rules: one line a window with its
+/// column and row, its edges, the areas of metal and existing fill together, of fill boxes and of all,
+/// the share of all in parts of a million rounded down, and `LOW`, `HIGH` or `OK` (this project's profile).
 ///
 /// # Errors
 /// `OutOfMemory` where memory runs out.
 pub fn report<B: FillBook>(alloc: Global, book: &B) -> Result<Vec<u8>, OutOfMemory>
-    ensures { let a = B.account book.now in let s = state_of a in IfOk result (λ v. v.items ≡ fill_report a.rules s.layers.metal s.fill) }
+    ensures { let a = B.account book.now in let s = state_of a in IfOk result (λ v. v.items ≡ fill_report a.rules (drawn_squares s.layers) s.fill) }
 {
     let rules = book.rules();
-    // A law: the rules make a plan, and under a plan no box of a fill has a square of the metal.
+    // A law: the rules make a plan, and under a plan no box of a fill has a square of metal or existing fill.
     rules_make_a_plan(rules);
     let windows = rules.windows();
     let section = Section {
@@ -54,7 +54,7 @@ pub fn rows_report<B: FillBook>(
     requires ordered { rows.start ≤ rows.end }
     requires within { rows.end ≤ (windows_of (B.account book.now).rules).up.count }
     ensures { let a = B.account book.now in let s = state_of a in let g = windows_of a.rules in IfOk result (λ v. v.items ≡
-        lines_above above g (limits_of a.rules) (measures_of s.layers.metal (boxes_of (plan_of a.rules) s.fill) g) (rows.start * g.across.count) ((rows.end - rows.start) * g.across.count)) }
+        lines_above above g (limits_of a.rules) (measures_of (drawn_squares s.layers) (boxes_of (plan_of a.rules) s.fill) g) (rows.start * g.across.count) ((rows.end - rows.start) * g.across.count)) }
 {
     let rules = book.rules();
     rules_make_a_plan(rules);
@@ -80,7 +80,7 @@ fn book_lines<B: FillBook>(
     requires windows { windows.now ≡ (plan_of (B.account book.now).rules).windows }
     requires limits { AreShares limits }
     requires within { section.from + section.count ≤ windows.now.across.count * windows.now.up.count }
-    ensures { let a = B.account book.now in let s = state_of a in IfOk result (λ v. v.items ≡ lines_above section.above windows.now limits (measures_of s.layers.metal (boxes_of (plan_of a.rules) s.fill) windows.now) section.from section.count) }
+    ensures { let a = B.account book.now in let s = state_of a in IfOk result (λ v. v.items ≡ lines_above section.above windows.now limits (measures_of (drawn_squares s.layers) (boxes_of (plan_of a.rules) s.fill) windows.now) section.from section.count) }
 {
     let mut writer = Writer::from_writer(Vec::new(alloc));
     let mut row = ByteRecord::new(alloc);
@@ -93,12 +93,12 @@ fn book_lines<B: FillBook>(
     Ok(text)
 }
 
-/// How many squares of the window at place `k` are metal, in fill boxes, and either of both.
+/// How many squares of the window at place `k` are metal or existing fill, in fill boxes, and either of both.
 fn measures_in<B: FillBook>(book: &B, windows: &Windows, k: usize) -> Measures
     requires plan { IsPlan (plan_of (B.account book.now).rules) }
     requires windows { windows.now ≡ (plan_of (B.account book.now).rules).windows }
     requires within { k < windows.now.across.count * windows.now.up.count }
-    ensures measures { let a = B.account book.now in let s = state_of a in result ≡ measures_of s.layers.metal (boxes_of (plan_of a.rules) s.fill) windows.now (k % windows.now.across.count) (k / windows.now.across.count) }
+    ensures measures { let a = B.account book.now in let s = state_of a in result ≡ measures_of (drawn_squares s.layers) (boxes_of (plan_of a.rules) s.fill) windows.now (k % windows.now.across.count) (k / windows.now.across.count) }
     ensures total { IsArea result.total }
 {
     let (a, b) = windows.column_and_row(k);

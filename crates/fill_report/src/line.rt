@@ -34,14 +34,14 @@ impl Density {
     }
 }
 
-/// How many squares of a window are metal, fill, and either of both.
+/// How many squares of a window are drawn, which is metal and existing fill, in fill boxes, and either of both.
 #[derive(Clone, Copy, Debug, PartialEq, Eq)]
 pub struct Measures {
-    /// The metal's area.
+    /// The area of metal and existing fill together.
     pub drawn: i64,
     /// The fill boxes' area.
     pub fill: i64,
-    /// The area of metal and fill together.
+    /// The area of all of them.
     pub total: i64,
 }
 

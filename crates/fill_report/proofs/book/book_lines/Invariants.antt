@@ -1,5 +1,5 @@
 use Rattle.std.proofs.Common.{◌≡◌, ◌≤◌, ◌-◌, Some}
-use Rattle.fill_job.specs.Plans.{plan_of}
+use Rattle.fill_job.specs.Plans.{drawn_squares, plan_of}
 use Rattle.fill_core.specs.Accounts.{state_of}
 use Rattle.fill_report.specs.BookReport.{boxes_of}
 use Rattle.fill_report.specs.Report.{lines_above, measures_of}
@@ -13,5 +13,5 @@ invariant-loop-k g l =
     record {
       from : l.section.from ≤ l.k;
       ready : IsReady l.writer;
-      text : written l.writer ≡ Some (lines_above l.section.above l.windows l.limits (measures_of s.layers.metal (boxes_of (plan_of a.rules) s.fill) l.windows) l.section.from (l.k - l.section.from));
+      text : written l.writer ≡ Some (lines_above l.section.above l.windows l.limits (measures_of (drawn_squares s.layers) (boxes_of (plan_of a.rules) s.fill) l.windows) l.section.from (l.k - l.section.from));
     }
