@@ -18,10 +18,10 @@ use Rattle.fill_area.specs.Grid.{Grid, parts_across, parts_up, window_left, wind
 use Rattle.fill_raster.specs.Axes.{box_begin, box_end}
 use Rattle.fill_raster.specs.Lattice.{in_raster, in_tile, tile_of, tiles, tile_left, tile_right, tile_bottom, tile_top}
 use Rattle.fill_raster.proofs.RasterLaws.{place_has_a_tile}
-use Rattle.fill_job.specs.Plans.{Plan, IsPlan, Layers, PointSet, WindowSet, blocked, conflicts, is_taken, meets_box, in_window_of, low_windows}
+use Rattle.fill_job.specs.Plans.{Plan, IsPlan, Layers, PointSet, WindowSet, blocked, conflicts, crowded, drawn_squares, is_taken, meets_box, in_window_of, low_windows}
 use Rattle.fill_job.proofs.ReadSets.{bounded, grown_ordered}
 use Rattle.fill_job.proofs.Searching.{some_within_same}
-use Rattle.fill_parts.specs.Needs.{AgreeInside, IsEnough, LayersAgree, LieInside, has_tile, window_sides}
+use Rattle.fill_parts.specs.Needs.{AgreeInside, IsEnough, LayersAgree, LieInside, has_tile, reach, window_sides}
 use Rattle.fill_parts.specs.Laws.{AreasAgree, FillsAgree, LowWindowsAgree, PartFillIsWanted}
 
 -- ---- squares of a rectangle between the sides
@@ -87,8 +87,8 @@ nearer l z d s h k = omega (arith, ints)
 further : (h z d s : ℤ) → d ≤ℤ s → (z +ℤ s) ≤ℤ h → (z +ℤ d) ≤ℤ h
 further h z d s g k = omega (arith, ints)
 
--- a distance of at most the spacing
-same_meeting : (plan : Plan) (s : Sides) (d : ℤ) (p q : PointSet) → IsPlan plan → IsEnough plan s → AgreeInside s p q → IsSpacing d → d ≤ℤ plan.spacing
+-- a distance of at most the reach
+same_meeting : (plan : Plan) (s : Sides) (d : ℤ) (p q : PointSet) → IsPlan plan → IsEnough plan s → AgreeInside s p q → IsSpacing d → d ≤ℤ reach plan
     → (tile : ℕ) (i j : ℤ) → tile < tiles plan.raster → in_tile plan.raster tile i j ≡ true → meets_box plan.raster d p i j ≡ meets_box plan.raster d q i j
 unfolding meets_box
 same_meeting plan s d p q is enough agree few near tile i j lt h =
@@ -99,24 +99,35 @@ same_meeting plan s d p q is enough agree few near tile i j lt h =
     (grown_ordered (box_begin r.across i) r.across.length d is.raster.across.length_is few)
     (grown_ordered (box_begin r.up j) r.up.length d is.raster.up.length_is few)
     (agree_at s (record { left = box_begin r.across i -ℤ d; bottom = box_begin r.up j -ℤ d; right = box_end r.across i +ℤ d; top = box_end r.up j +ℤ d }) p q agree (record {
-      from_left = lower s.left (tile_left r tile) (box_begin r.across i) d (nearer s.left (tile_left r tile) d plan.spacing near halo.from_left) b.left;
-      from_bottom = lower s.bottom (tile_bottom r tile) (box_begin r.up j) d (nearer s.bottom (tile_bottom r tile) d plan.spacing near halo.from_bottom) b.bottom;
-      to_right = upper s.right (tile_right r tile) (box_end r.across i) d (further s.right (tile_right r tile) d plan.spacing near halo.to_right) b.right;
-      to_top = upper s.top (tile_top r tile) (box_end r.up j) d (further s.top (tile_top r tile) d plan.spacing near halo.to_top) b.top;
+      from_left = lower s.left (tile_left r tile) (box_begin r.across i) d (nearer s.left (tile_left r tile) d (reach plan) near halo.from_left) b.left;
+      from_bottom = lower s.bottom (tile_bottom r tile) (box_begin r.up j) d (nearer s.bottom (tile_bottom r tile) d (reach plan) near halo.from_bottom) b.bottom;
+      to_right = upper s.right (tile_right r tile) (box_end r.across i) d (further s.right (tile_right r tile) d (reach plan) near halo.to_right) b.right;
+      to_top = upper s.top (tile_top r tile) (box_end r.up j) d (further s.top (tile_top r tile) d (reach plan) near halo.to_top) b.top;
     }))
 
 same_taken : (plan : Plan) (s : Sides) (p q : Layers) → IsPlan plan → IsEnough plan s → LayersAgree s p q
     → (tile : ℕ) (i j : ℤ) → tile < tiles plan.raster → in_tile plan.raster tile i j ≡ true → is_taken plan p i j ≡ is_taken plan q i j
 same_taken plan s p q is enough agree tile i j lt h =
     let none : IsSpacing (pos 0) = record { least = omega (arith, ints); most = omega (arith, ints) } in
-    ap (λ b. b || blocked plan p.keep i j) (same_meeting plan s plan.spacing p.metal q.metal is enough agree.metal is.spacing (same plan.spacing) tile i j lt h)
-    ∙ ap (λ b. conflicts plan q.metal i j || b) (same_meeting plan s (pos 0) p.keep q.keep is enough agree.keep none is.spacing.least tile i j lt h)
+    ap (λ b. (b || crowded plan p.fill i j) || blocked plan p.keep i j) (same_meeting plan s plan.spacing p.metal q.metal is enough agree.metal is.spacing (first plan.spacing plan.fill_spacing) tile i j lt h)
+    ∙ (ap (λ b. (conflicts plan q.metal i j || b) || blocked plan p.keep i j) (same_meeting plan s plan.fill_spacing p.fill q.fill is enough agree.fill is.fill_spacing (second plan.spacing plan.fill_spacing) tile i j lt h)
+    ∙ ap (λ b. (conflicts plan q.metal i j || crowded plan q.fill i j) || b) (same_meeting plan s (pos 0) p.keep q.keep is enough agree.keep none (third plan.spacing plan.fill_spacing is.spacing.least) tile i j lt h))
   where
-    same : (z : ℤ) → z ≤ℤ z
-    same z = omega (arith, ints)
+    first : (a b : ℤ) → a ≤ℤ int_max a b
+    first a b = omega (arith, ints, clamps)
 
-same_low : (plan : Plan) (s : Sides) (p q : Layers) → IsPlan plan → IsEnough plan s → LayersAgree s p q → (i j : ℤ) → in_window_of plan (low_windows plan p.metal) i j ≡ in_window_of plan (low_windows plan q.metal) i j
-same_low plan s p q is enough agree i j = ap (λ (low : WindowSet). in_window_of plan low i j) (fun_ext (λ a. fun_ext (λ b. low_agree plan s p.metal q.metal is enough agree.metal a b)))
+    second : (a b : ℤ) → b ≤ℤ int_max a b
+    second a b = omega (arith, ints, clamps)
+
+    third : (a b : ℤ) → pos 0 ≤ℤ a → pos 0 ≤ℤ int_max a b
+    third a b h = omega (arith, ints, clamps)
+
+-- so does what counts
+pub drawn_agree : (s : Sides) (p q : Layers) → LayersAgree s p q → AgreeInside s (drawn_squares p) (drawn_squares q)
+drawn_agree s p q agree x y inside = rw (agree.metal x y inside, agree.fill x y inside) refl
+
+same_low : (plan : Plan) (s : Sides) (p q : Layers) → IsPlan plan → IsEnough plan s → LayersAgree s p q → (i j : ℤ) → in_window_of plan (low_windows plan (drawn_squares p)) i j ≡ in_window_of plan (low_windows plan (drawn_squares q)) i j
+same_low plan s p q is enough agree i j = ap (λ (low : WindowSet). in_window_of plan low i j) (fun_ext (λ a. fun_ext (λ b. low_agree plan s (drawn_squares p) (drawn_squares q) is enough (drawn_agree s p q agree) a b)))
 
 -- ---- fills
 
@@ -131,7 +142,7 @@ filled_same true a b c d x y = rw (x refl, y) refl
 pub fills_agree : FillsAgree
 fills_agree plan s p q is enough agree = fun_ext (λ i. fun_ext (λ j.
     let t = tile_of plan.raster i j in
-    filled_same (in_raster plan.raster i j) (is_taken plan p i j) (in_window_of plan (low_windows plan p.metal) i j) (is_taken plan q i j) (in_window_of plan (low_windows plan q.metal) i j)
+    filled_same (in_raster plan.raster i j) (is_taken plan p i j) (in_window_of plan (low_windows plan (drawn_squares p)) i j) (is_taken plan q i j) (in_window_of plan (low_windows plan (drawn_squares q)) i j)
     (λ on. same_taken plan s p q is enough agree t i j (place_has_a_tile plan.raster is.raster i j on) (and_from _ _ on (nat_same t)))
     (same_low plan s p q is enough agree i j)))
 
@@ -144,4 +155,4 @@ own_wanted false m c w n h = refl
 pub part_wanted : PartFillIsWanted
 part_wanted plan layers k i j =
     let t = tile_of plan.raster i j in
-    own_wanted (in_raster plan.raster i j) (t == t) (is_taken plan layers i j) (in_window_of plan (low_windows plan layers.metal) i j) (has_tile plan k t) (nat_same t)
+    own_wanted (in_raster plan.raster i j) (t == t) (is_taken plan layers i j) (in_window_of plan (low_windows plan (drawn_squares layers)) i j) (has_tile plan k t) (nat_same t)

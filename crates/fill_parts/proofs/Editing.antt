@@ -7,7 +7,7 @@ use Rattle.fill_base.specs.Squares.{squares}
 use Rattle.fill_text.specs.Script.{change_of}
 use Rattle.fill_text.specs.declared.script.Edit.{Edit}
 use Rattle.fill_text.specs.declared.script.Edit.TheVariants.{Add, Cut, Keep}
-use Rattle.fill_job.specs.Plans.{Plan, Layers, low_windows}
+use Rattle.fill_job.specs.Plans.{Plan, Layers, drawn_squares, low_windows}
 use Rattle.fill_core.specs.Boxes.{no_places, with_boxes}
 use Rattle.fill_core.specs.Histories.{edits_in}
 use Rattle.fill_core.specs.Machine.{State, is_accepted, layers_after, opened, replay, replay_from, step, with_tile}
@@ -19,9 +19,9 @@ use Rattle.fill_parts.specs.PartFill.{change_after, layers_by, layers_with}
 use Rattle.fill_parts.specs.Laws.{EditsAgree, EditsAreChanges, EditsInsideSuffice, EditsOpenAnew, EditsOutsideDoNothing, FillAfterEdits}
 
 agree_after : (s : Sides) (edit : Edit) (p q : Layers) → LayersAgree s p q → LayersAgree s (layers_after edit p) (layers_after edit q)
-agree_after s (Add r) p q agree = record { metal = λ x y inside. rw (agree.metal x y inside) refl; keep = agree.keep }
-agree_after s (Cut r) p q agree = record { metal = λ x y inside. rw (agree.metal x y inside) refl; keep = agree.keep }
-agree_after s (Keep r) p q agree = record { metal = agree.metal; keep = λ x y inside. rw (agree.keep x y inside) refl }
+agree_after s (Add r) p q agree = record { metal = λ x y inside. rw (agree.metal x y inside) refl; fill = agree.fill; keep = agree.keep }
+agree_after s (Cut r) p q agree = record { metal = λ x y inside. rw (agree.metal x y inside) refl; fill = agree.fill; keep = agree.keep }
+agree_after s (Keep r) p q agree = record { metal = agree.metal; fill = agree.fill; keep = λ x y inside. rw (agree.keep x y inside) refl }
 
 pub edits_agree : EditsAgree
 unfolding layers_with
@@ -47,18 +47,18 @@ but_none true b h = rw h refl
 but_none false b h = refl
 
 pub outside_nothing : EditsOutsideDoNothing
-outside_nothing s (Add r) p outside = record { metal = λ x y inside. or_none (p.metal x y) (squares r x y) (outside x y inside); keep = λ x y inside. refl }
-outside_nothing s (Cut r) p outside = record { metal = λ x y inside. but_none (p.metal x y) (squares r x y) (outside x y inside); keep = λ x y inside. refl }
-outside_nothing s (Keep r) p outside = record { metal = λ x y inside. refl; keep = λ x y inside. or_none (p.keep x y) (squares r x y) (outside x y inside) }
+outside_nothing s (Add r) p outside = record { metal = λ x y inside. or_none (p.metal x y) (squares r x y) (outside x y inside); fill = λ x y inside. refl; keep = λ x y inside. refl }
+outside_nothing s (Cut r) p outside = record { metal = λ x y inside. but_none (p.metal x y) (squares r x y) (outside x y inside); fill = λ x y inside. refl; keep = λ x y inside. refl }
+outside_nothing s (Keep r) p outside = record { metal = λ x y inside. refl; fill = λ x y inside. refl; keep = λ x y inside. or_none (p.keep x y) (squares r x y) (outside x y inside) }
 
 pub both_agree : (s : Sides) (p q r : Layers) → LayersAgree s p q → LayersAgree s q r → LayersAgree s p r
-both_agree s p q r a b = record { metal = λ x y inside. a.metal x y inside ∙ b.metal x y inside; keep = λ x y inside. a.keep x y inside ∙ b.keep x y inside }
+both_agree s p q r a b = record { metal = λ x y inside. a.metal x y inside ∙ b.metal x y inside; fill = λ x y inside. a.fill x y inside ∙ b.fill x y inside; keep = λ x y inside. a.keep x y inside ∙ b.keep x y inside }
 
 self_agrees : (s : Sides) (p : Layers) → LayersAgree s p p
-self_agrees s p = record { metal = λ x y inside. refl; keep = λ x y inside. refl }
+self_agrees s p = record { metal = λ x y inside. refl; fill = λ x y inside. refl; keep = λ x y inside. refl }
 
 pub turned : (s : Sides) (p q : Layers) → LayersAgree s p q → LayersAgree s q p
-turned s p q a = record { metal = λ x y inside. sym (a.metal x y inside); keep = λ x y inside. sym (a.keep x y inside) }
+turned s p q a = record { metal = λ x y inside. sym (a.metal x y inside); fill = λ x y inside. sym (a.fill x y inside); keep = λ x y inside. sym (a.keep x y inside) }
 
 pub inside_suffice : EditsInsideSuffice
 unfolding layers_with
@@ -121,7 +121,7 @@ commits_stay plan s (event.Edit edit ∷ es) e = absurd (let f : false ≡ true 
 pub record IsAfter (plan : Plan) (layers : Layers) (edits : List Edit) (s : State) : Type 0 where
   pub layers_is : s.layers ≡ layers_with edits layers
   pub base_is : s.base ≡ no_places
-  pub low_is : s.low ≡ low_windows plan (layers_with edits layers).metal
+  pub low_is : s.low ≡ low_windows plan (drawn_squares (layers_with edits layers))
 
 pub is_after : (plan : Plan) (layers : Layers) (edits : List Edit) (commits : List Event) → edits_in commits ≡ [] → IsAfter plan layers edits (replay plan layers (map event.Edit edits ++ commits))
 is_after plan layers edits commits none =
@@ -134,8 +134,8 @@ is_after plan layers edits commits none =
     record {
       layers_is = m;
       base_is = b;
-      low_is = low_of_opening plan layers events ∙ (ap (λ f. low_windows plan (with_boxes plan s.layers.metal f)) b
-          ∙ (ap (λ d. low_windows plan (with_boxes plan d.metal no_places)) m ∙ ap (low_windows plan) (no_boxes plan (layers_with edits layers).metal)));
+      low_is = low_of_opening plan layers events ∙ (ap (λ f. low_windows plan (with_boxes plan (drawn_squares s.layers) f)) b
+          ∙ (ap (λ (d : Layers). low_windows plan (with_boxes plan (drawn_squares d) no_places)) m ∙ ap (low_windows plan) (no_boxes plan (drawn_squares (layers_with edits layers)))));
     }
 
 pub fill_after : FillAfterEdits

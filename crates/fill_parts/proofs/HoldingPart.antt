@@ -16,10 +16,10 @@ use Rattle.fill_raster.proofs.Ranges.{on_in, on_within}
 use Rattle.fill_text.specs.Chips.{AreChipNumbers, with_rows}
 use Rattle.fill_text.specs.Rules.{Values, limits_of, raster_of, whole_windows, windows_of}
 use Rattle.fill_text.specs.declared.chip.ChipRows.{ChipRows}
-use Rattle.fill_job.specs.Plans.{IsPlan, Layers, Plan, PointSet, allowed, blocked, conflicts, in_window_of, is_taken, low_windows, plan_of}
+use Rattle.fill_job.specs.Plans.{IsPlan, Layers, Plan, PointSet, allowed, blocked, conflicts, crowded, drawn_squares, in_window_of, is_taken, low_windows, plan_of}
 use Rattle.fill_job.specs.Plans as plans
 use Rattle.fill_job.specs.Searches.{some_below, some_within}
-use Rattle.fill_job.proofs.Conflicts.{blocked_sharing, conflict_of_squares}
+use Rattle.fill_job.proofs.Conflicts.{blocked_sharing, conflict_of_squares, crowding_of_squares}
 use Rattle.fill_job.proofs.Searching.{some_below_has}
 use Rattle.fill_core.specs.Boxes.{low_fill}
 use Rattle.fill_core.specs.Soundness.{IsSound}
@@ -134,11 +134,13 @@ unfolding plans.meets_box
 chip_sound values rows layers is =
     let plan = plan_of values in let small = plan_of (with_rows values rows) in
     let may : (i j : ℤ) → low_fill plan layers i j ≡ true → (in_raster plan.raster i j && not (is_taken plan layers i j)) ≡ true
-    = λ i j h. (and_parts (allowed plan layers i j) (in_window_of plan (low_windows plan layers.metal) i j) h).0 in
-    let untaken = λ (i j : ℤ) (h : low_fill plan layers i j ≡ true). neither (conflicts plan layers.metal i j) (blocked plan layers.keep i j) (and_parts (in_raster plan.raster i j) (not (is_taken plan layers i j)) (may i j h)).1 in
+    = λ i j h. (and_parts (allowed plan layers i j) (in_window_of plan (low_windows plan (drawn_squares layers)) i j) h).0 in
+    let untaken = λ (i j : ℤ) (h : low_fill plan layers i j ≡ true). neither (conflicts plan layers.metal i j || crowded plan layers.fill i j) (blocked plan layers.keep i j) (and_parts (in_raster plan.raster i j) (not (is_taken plan layers i j)) (may i j h)).1 in
+    let clear_of = λ (i j : ℤ) (h : low_fill plan layers i j ≡ true). neither (conflicts plan layers.metal i j) (crowded plan layers.fill i j) (untaken i j h).0 in
     record {
       on_raster = λ i j h. filled_on plan layers i j h;
-      clear = λ i j h c. not_yes (conflicts plan layers.metal i j) (untaken i j h).0 ((conflict_of_squares small layers.metal i j is).1 c);
+      clear = λ i j h c. not_yes (conflicts plan layers.metal i j) (clear_of i j h).0 ((conflict_of_squares small layers.metal i j is).1 c);
+      uncrowded = λ i j h c. not_yes (crowded plan layers.fill i j) (clear_of i j h).1 ((crowding_of_squares small layers.fill i j is).1 c);
       free = λ i j h c. not_yes (blocked plan layers.keep i j) (untaken i j h).1 ((blocked_sharing small layers.keep i j is).1 c);
       apart = λ i j k l h g other. boxes_apart small is i j k l other;
     }
@@ -291,12 +293,12 @@ module _ (values : Values) (k : Part) (numbers : AreChipNumbers values) (looks :
         less : (b f t : ℕ) → f ≤ b → b < t → b - f < t - f
         less b f t le lt = omega (arith, le, lt)
 
-    lines_held : (layers : Layers) → rows_told (part_alone values k) own_windows (part_windows (plan_of values) k).from layers.metal (boxes_of (chip_plan values k) (low_fill (chip_plan values k) layers)) ≡ part_report values layers.metal (low_fill (plan_of values) layers) k
+    lines_held : (layers : Layers) → rows_told (part_alone values k) own_windows (part_windows (plan_of values) k).from (drawn_squares layers) (boxes_of (chip_plan values k) (low_fill (chip_plan values k) layers)) ≡ part_report values (drawn_squares layers) (low_fill (plan_of values) layers) k
     lines_held layers = sym (elim (cases_lt 0 (bands (plan_of values).raster.up)) [
-      | inl some ↦ lines_of_chip values k layers axes part some looks ∙ told_rows layers.metal (boxes_of (chip_plan values k) (low_fill (chip_plan values k) layers))
+      | inl some ↦ lines_of_chip values k layers axes part some looks ∙ told_rows (drawn_squares layers) (boxes_of (chip_plan values k) (low_fill (chip_plan values k) layers))
       | inr none ↦ (let zero : bands (plan_of values).raster.up ≡ 0 = omega (arith, none) in
-          lines_same layers.metal (boxes_of (chip_plan values k) (low_fill (chip_plan values k) layers)) (boxes_of (plan_of values) (low_fill (plan_of values) layers)) (boxes_same zero)
-          ∙ told_rows layers.metal (boxes_of (chip_plan values k) (low_fill (chip_plan values k) layers)))
+          lines_same (drawn_squares layers) (boxes_of (chip_plan values k) (low_fill (chip_plan values k) layers)) (boxes_of (plan_of values) (low_fill (plan_of values) layers)) (boxes_same zero)
+          ∙ told_rows (drawn_squares layers) (boxes_of (chip_plan values k) (low_fill (chip_plan values k) layers)))
     ])
       where
         boxes_on : Lattice → PointSet
@@ -368,7 +370,7 @@ held_none values k numbers part none small sized plan =
         to = other.stands.to;
         fill = λ layers i j filled. absurd (let e : false ≡ true = sym (empty.fill layers i j) ∙ filled in cc);
       };
-      lines = λ layers. nothing_told layers.metal (boxes_of (plan_of small) (low_fill (plan_of small) layers)) ∙ sym (nothing_of (measures_of layers.metal (boxes_of (plan_of values) (low_fill (plan_of values) layers)) (windows_of values)));
+      lines = λ layers. nothing_told (drawn_squares layers) (boxes_of (plan_of small) (low_fill (plan_of small) layers)) ∙ sym (nothing_of (measures_of (drawn_squares layers) (boxes_of (plan_of values) (low_fill (plan_of values) layers)) (windows_of values)));
       checks = λ metal. nothing_told metal nothing ∙ sym (nothing_of (measures_of metal nothing (windows_of values)));
       sound = other.sound;
     }

@@ -3,7 +3,7 @@ use Rattle.std.proofs.Common.{◌≡◌, refl, ap, ◌∙◌, ℕ, zero, suc, �
 use Rattle.std.specs.List.{flat_map, range_with_len}
 use Rattle.std.proofs.lemmas.Nat.{le-div, div_below, mod_below}
 use Rattle.fill_text.specs.Rules.{Values, limits_of, windows_of}
-use Rattle.fill_job.specs.Plans.{PointSet, plan_of}
+use Rattle.fill_job.specs.Plans.{PointSet, drawn_squares, plan_of}
 use Rattle.fill_core.specs.Boxes.{low_fill}
 use Rattle.fill_report.specs.BookReport.{boxes_of}
 use Rattle.fill_report.specs.Report.{line_above, line_at, measures_of, told_line, window_line}
@@ -14,7 +14,7 @@ use Rattle.fill_parts.specs.PartChip.{rows_told}
 use Rattle.fill_parts.specs.PartReport.{part_lines}
 use Rattle.fill_parts.specs.Smaller.{Rows}
 use Rattle.fill_parts.specs.Laws.{LinesAgree}
-use Rattle.fill_parts.proofs.Agreeing.{agree_at, areas_agree, fills_agree, window_same}
+use Rattle.fill_parts.proofs.Agreeing.{agree_at, areas_agree, drawn_agree, fills_agree, window_same}
 use Rattle.fill_parts.proofs.Cutting.{cut_le, cut_ends, is_row_of}
 
 -- ---- lines one after another
@@ -102,10 +102,11 @@ pub lines_agree : LinesAgree
 lines_agree values rows below s p q is enough agree ordered within =
     let plan = plan_of values in
     let v = boxes_of plan (low_fill plan q) in
-    ap (λ (f : PointSet). rows_told values rows below p.metal (boxes_of plan f)) (fills_agree plan s p q is enough agree)
-    ∙ told_alike values rows below (measures_of p.metal v plan.windows) (measures_of q.metal v plan.windows) is.windows.across.count_is.least ordered within
+    ap (λ (f : PointSet). rows_told values rows below (drawn_squares p) (boxes_of plan f)) (fills_agree plan s p q is enough agree)
+    ∙ told_alike values rows below (measures_of (drawn_squares p) v plan.windows) (measures_of (drawn_squares q) v plan.windows) is.windows.across.count_is.least ordered within
     (λ a b column row from to.
-    let metal = agree_at s (window_sides plan.windows a b) p.metal q.metal agree.metal (enough.windows a b column row) in
-    same_measures _ _ (ap pos (areas_agree plan s p.metal q.metal is enough agree.metal a b column row)) refl
-    (ap pos (window_same (λ x y. p.metal x y || v x y) (λ x y. q.metal x y || v x y) plan.windows a b is.windows.across.length_is is.windows.up.length_is
-    (λ x y left right low high. ap (λ c. c || v x y) (metal x y left right low high)))))
+    let drawn = drawn_agree s p q agree in
+    let there = agree_at s (window_sides plan.windows a b) (drawn_squares p) (drawn_squares q) drawn (enough.windows a b column row) in
+    same_measures _ _ (ap pos (areas_agree plan s (drawn_squares p) (drawn_squares q) is enough drawn a b column row)) refl
+    (ap pos (window_same (λ x y. drawn_squares p x y || v x y) (λ x y. drawn_squares q x y || v x y) plan.windows a b is.windows.across.length_is is.windows.up.length_is
+    (λ x y left right low high. ap (λ c. c || v x y) (there x y left right low high)))))

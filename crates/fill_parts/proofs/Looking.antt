@@ -14,7 +14,7 @@ use Rattle.fill_raster.specs.Lattice.{in_raster, tile_of, tiles}
 use Rattle.fill_raster.specs.declared.axis.Axis.{Axis}
 use Rattle.fill_raster.proofs.Blocks.{tile_parts}
 use Rattle.fill_text.specs.Rules.{Values, whole_windows, windows_with}
-use Rattle.fill_job.specs.Plans.{Plan, WindowSet, holds_box, in_window_of, low_windows, plan_of}
+use Rattle.fill_job.specs.Plans.{Plan, WindowSet, drawn_squares, holds_box, in_window_of, low_windows, plan_of}
 use Rattle.fill_job.specs.Searches.{some_below, some_pair}
 use Rattle.fill_job.proofs.Searching.{some_below_finds, some_below_has}
 use Rattle.fill_core.specs.Boxes.{low_fill}
@@ -406,9 +406,9 @@ pub nothing : PartOfNoWindowHasNothing
 nothing values k is none = record {
   fill = λ layers i j. false_from_ne_true (part_fill plan layers k i j) (λ filled.
       let parts = and_parts (low_fill plan layers i j) (has_tile plan k (tile_of plan.raster i j)) filled in
-      let allowed_low = and_parts _ (in_window_of plan (low_windows plan layers.metal) i j) parts.0 in
+      let allowed_low = and_parts _ (in_window_of plan (low_windows plan (drawn_squares layers)) i j) parts.0 in
       let on = (and_parts (in_raster plan.raster i j) _ allowed_low.0).0 in
-      let window = window_found plan (low_windows plan layers.metal) i j allowed_low.1 in
+      let window = window_found plan (low_windows plan (drawn_squares layers)) i j allowed_low.1 in
       let tile = tile_of plan.raster i j in
       let lt = place_tile plan.raster i j is.places_across is.places_up on in
       let level = level_holding plan window.column window.row i j is on window.holds in

@@ -5,7 +5,7 @@ use Rattle.fill_raster.specs.Axes.{band_of, bands, is_on}
 use Rattle.fill_raster.specs.Lattice.{in_raster, tile_of}
 use Rattle.fill_raster.proofs.Ranges.{both}
 use Rattle.fill_text.specs.Rules.{Values}
-use Rattle.fill_job.specs.Plans.{plan_of}
+use Rattle.fill_job.specs.Plans.{drawn_squares, plan_of}
 use Rattle.fill_core.specs.Boxes.{low_fill}
 use Rattle.fill_report.specs.BookReport.{boxes_of}
 use Rattle.fill_report.specs.Report.{measures_of}
@@ -57,8 +57,8 @@ fill_of_chip values k layers axes some looks i j = both _ _ into back
 
 pub lines_of_chip : PartLinesAreOfItsChip
 lines_of_chip values k layers axes part some looks =
-    lines_by values k (measures_of layers.metal (boxes_of (plan_of values) (low_fill (plan_of values) layers)) (plan_of values).windows)
-    (λ a b. measures_of layers.metal (boxes_of (chip_plan values k) (low_fill (chip_plan values k) layers)) (chip_plan values k).windows a (b - (part_windows (plan_of values) k).from)) axes.windows_across.count_is.least part
+    lines_by values k (measures_of (drawn_squares layers) (boxes_of (plan_of values) (low_fill (plan_of values) layers)) (plan_of values).windows)
+    (λ a b. measures_of (drawn_squares layers) (boxes_of (chip_plan values k) (low_fill (chip_plan values k) layers)) (chip_plan values k).windows a (b - (part_windows (plan_of values) k).from)) axes.windows_across.count_is.least part
     (λ a b column below own.
     let plan = plan_of values in
     let chip : IsChipOf values k = part_chip values k axes looks in
@@ -69,7 +69,7 @@ lines_of_chip values k layers axes part some looks =
     let inside : b - (part_windows plan k).from < (chip_plan values k).windows.up.count = rw is.rows (less b (part_windows plan k).from (part_windows plan k).to row.0 row.1) in
     sym (measures_same plan (chip_plan values k) (part_tiles values k) (part_windows plan k) layers axes rows chip.windows.within is a (b - (part_windows plan k).from) inside
     (λ tile lt level. held_by values k tile axes lt (level_needed plan k tile b axes own (ap (is_level plan tile) (sym back) ∙ level)))
-    ∙ ap (λ n. measures_of layers.metal (boxes_of plan (low_fill plan layers)) plan.windows a n) back))
+    ∙ ap (λ n. measures_of (drawn_squares layers) (boxes_of plan (low_fill plan layers)) plan.windows a n) back))
   where
     there : (b f : ℕ) → f ≤ b → f + (b - f) ≡ b
     there b f le = omega (arith, le)

@@ -16,7 +16,7 @@ use Rattle.fill_raster.specs.declared.axis.Axis.{Axis}
 use Rattle.fill_raster.proofs.Bands.{band_below}
 use Rattle.fill_raster.proofs.Floors.{one_more}
 use Rattle.fill_raster.proofs.Ranges.{both, in_on, on_in, on_within, within_on}
-use Rattle.fill_job.specs.Plans.{Plan, Layers, PointSet, holds_box, in_window_of, is_taken, low_windows, meets_box}
+use Rattle.fill_job.specs.Plans.{Plan, Layers, PointSet, drawn_squares, holds_box, in_window_of, is_taken, low_windows, meets_box}
 use Rattle.fill_job.specs.Searches.{some_below, some_pair}
 use Rattle.fill_job.proofs.Searching.{some_below_finds, some_below_has, some_below_same}
 use Rattle.fill_parts.specs.Laws.{SmallerChipWantsTheSame}
@@ -172,7 +172,7 @@ low_alone whole small tiles windows p is within a b lt =
 
 pub taken_alone : (whole small : Plan) (tiles windows : Rows) (layers : Layers) → IsSmaller whole small tiles windows → (i j : ℤ) → is_taken small layers i j ≡ is_taken whole layers i j
 unfolding meets_box
-taken_alone whole small tiles windows layers is i j = rw (is.across, is.up, is.spacing) refl
+taken_alone whole small tiles windows layers is i j = rw (is.across, is.up, is.spacing, is.fill_spacing) refl
 
 pub holds_alone : (whole small : Plan) (tiles windows : Rows) → IsSmaller whole small tiles windows → (a b : ℕ) (i j : ℤ) → holds_box small a b i j ≡ holds_box whole a (windows.from + b) i j
 holds_alone whole small tiles windows is a b i j = rw (bottom_alone whole small tiles windows is b, length, is.columns, is.across, is.up) refl
@@ -231,10 +231,10 @@ banded a is = record { step = is.step_is.least; band = is.band_is.least }
 pub wants_same : SmallerChipWantsTheSame
 wants_same whole small rows windows layers axes are within is tile lt level = fun_ext (λ i. fun_ext (λ j.
     let there = rows.from * bands whole.raster.across + tile in
-    both_same (in_tile small.raster tile i j) (in_tile whole.raster there i j) (is_taken small layers i j) (in_window_of small (low_windows small layers.metal) i j)
-    (is_taken whole layers i j) (in_window_of whole (low_windows whole layers.metal) i j)
+    both_same (in_tile small.raster tile i j) (in_tile whole.raster there i j) (is_taken small layers i j) (in_window_of small (low_windows small (drawn_squares layers)) i j)
+    (is_taken whole layers i j) (in_window_of whole (low_windows whole (drawn_squares layers)) i j)
     (rw (is.across, is.up) (tile_alone whole.raster rows tile (banded whole.raster.across axes.places_across) (banded whole.raster.up axes.places_up) are lt i j))
     (λ here. taken_alone whole small rows windows layers is i j)
-    (λ here. in_low_alone whole small rows windows layers.metal is within i j (λ a b column row holds.
+    (λ here. in_low_alone whole small rows windows (drawn_squares layers) is within i j (λ a b column row holds.
     let parts = and_parts (in_raster whole.raster i j) (tile_of whole.raster i j == there) here in
     level b row (subst (λ (t : ℕ). is_level whole t b ≡ true) (eqb-true _ _ parts.1) (level_holding whole a b i j axes parts.0 holds))))))

@@ -43,6 +43,7 @@ smaller_chip values rows windows is tiles grid cover = record {
   begins = λ b lt. begins values.ignores cover b (inside b lt);
   ends = λ b lt. ends values.ignores cover b (inside b lt);
   spacing = refl;
+  fill_spacing = refl;
   least = refl;
 }
   where

@@ -19,7 +19,7 @@ use Rattle.fill_raster.specs.Lattice.{tiles}
 use Rattle.fill_raster.proofs.Bands.{band_is}
 use Rattle.fill_job.specs.Plans.{IsPlan, Plan}
 use Rattle.fill_parts.specs.Laws.{NeededSidesAreLeast}
-use Rattle.fill_parts.specs.Needs.{IsEnough, LieInside, halo_sides, in_coordinates, needed_sides, round, round_halos, round_windows, window_sides}
+use Rattle.fill_parts.specs.Needs.{IsEnough, LieInside, halo_sides, in_coordinates, needed_sides, reach, round, round_halos, round_windows, window_sides}
 use Rattle.fill_parts.proofs.Chipping.{coordinate_read}
 use Rattle.fill_parts.proofs.RulesAlone.{rises}
 use Rattle.fill_parts.proofs.TileRows.{band_begin_le, band_end_le}
@@ -119,10 +119,10 @@ halos_inside plan tile is lt =
     let some = some_columns m n tile lt in
     let column = last_column m n some.0 some.1 in
     record {
-      from_left = less _ _ plan.spacing (band_begin_le r.across (0 % n) (tile % n) is.raster.across (from (0 % n) (tile % n) (no_column n).1));
-      from_bottom = less _ _ plan.spacing (band_begin_le r.up (0 / n) (tile / n) is.raster.up (le-div (0 / n) tile n some.1 (from (0 / n * n) tile (no_column n).0)));
-      to_right = more _ _ plan.spacing (band_end_le r.across (tile % n) ((tiles r - 1) % n) is.raster.across (rw column (before_last (tile % n) n (mod_below tile n some.1))));
-      to_top = more _ _ plan.spacing (band_end_le r.up (tile / n) ((tiles r - 1) / n) is.raster.up (le-div (tile / n) (tiles r - 1) n some.1 (whole (tile / n * n) (tile % n) tile (tiles r) (div-add-mod' tile n) lt)));
+      from_left = less _ _ (reach plan) (band_begin_le r.across (0 % n) (tile % n) is.raster.across (from (0 % n) (tile % n) (no_column n).1));
+      from_bottom = less _ _ (reach plan) (band_begin_le r.up (0 / n) (tile / n) is.raster.up (le-div (0 / n) tile n some.1 (from (0 / n * n) tile (no_column n).0)));
+      to_right = more _ _ (reach plan) (band_end_le r.across (tile % n) ((tiles r - 1) % n) is.raster.across (rw column (before_last (tile % n) n (mod_below tile n some.1))));
+      to_top = more _ _ (reach plan) (band_end_le r.up (tile / n) ((tiles r - 1) / n) is.raster.up (le-div (tile / n) (tiles r - 1) n some.1 (whole (tile / n * n) (tile % n) tile (tiles r) (div-add-mod' tile n) lt)));
     }
   where
     from : (a b : ℕ) → a ≤ 0 → a ≤ b

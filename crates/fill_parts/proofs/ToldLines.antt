@@ -8,7 +8,7 @@ use Rattle.fill_area.specs.Axes.{axis_begin, axis_end}
 use Rattle.fill_area.specs.Grid.{counted_size, window_bottom, window_left, window_right, window_top}
 use Rattle.fill_text.specs.Rules.{limits_of}
 use Rattle.fill_text.specs.declared.limits.Limits.{Limits}
-use Rattle.fill_job.specs.Plans.{Plan, plan_of}
+use Rattle.fill_job.specs.Plans.{Plan, drawn_squares, plan_of}
 use Rattle.fill_core.specs.Boxes.{low_fill}
 use Rattle.fill_report.specs.BookReport.{boxes_of}
 use Rattle.fill_report.specs.Report.{density_of, line_above, line_at, line_text, lines_above, measures_of, share_of, told_line}
@@ -154,4 +154,4 @@ pub lines_told : PartLinesAreTold
 lines_told values k layers is part some looks =
     lines_of_chip values k layers is part some looks
     ∙ told_by (plan_of values) (chip_plan values k) (part_tiles values k) (part_windows (plan_of values) k) (limits_of values)
-    (measures_of layers.metal (boxes_of (chip_plan values k) (low_fill (chip_plan values k) layers)) (chip_plan values k).windows) k (chip_smaller values k is (part_chip values k is looks)) is.windows_across.count_is.least (own_within (plan_of values) k part)
+    (measures_of (drawn_squares layers) (boxes_of (chip_plan values k) (low_fill (chip_plan values k) layers)) (chip_plan values k).windows) k (chip_smaller values k is (part_chip values k is looks)) is.windows_across.count_is.least (own_within (plan_of values) k part)

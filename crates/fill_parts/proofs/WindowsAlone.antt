@@ -6,7 +6,7 @@ use Rattle.fill_area.specs.Grid.{window_bottom, window_top}
 use Rattle.fill_raster.specs.Axes.{bands, band_of, first, is_on, past}
 use Rattle.fill_raster.specs.Lattice.{Lattice, in_raster, box_squares, tile_of, tiles}
 use Rattle.fill_raster.proofs.Ranges.{both, first_past, in_on, on_in, on_within, within_on}
-use Rattle.fill_job.specs.Plans.{Plan, Layers, PointSet, in_window_of, is_taken, low_windows}
+use Rattle.fill_job.specs.Plans.{Plan, Layers, PointSet, drawn_squares, in_window_of, is_taken, low_windows}
 use Rattle.fill_size.specs.Distance.{HasSquare}
 use Rattle.fill_job.specs.Searches.{some_within}
 use Rattle.fill_job.proofs.Conflicts.{some_within_decides}
@@ -33,8 +33,8 @@ pub filled_alike : (whole small : Plan) (rows windows : Rows) (layers : Layers) 
     → (i j : ℤ) → in_raster whole.raster i j ≡ true → IsHeldBy whole rows windows (tile_of whole.raster i j) → IsFilledAlike whole small layers i j
 filled_alike whole small rows windows layers plan are within is i j on held = record {
   there = here;
-  filled = alike (in_raster small.raster i j) (in_raster r i j) (is_taken small layers i j) (in_window_of small (low_windows small layers.metal) i j) (is_taken whole layers i j) (in_window_of whole (low_windows whole layers.metal) i j)
-      here on (taken_alone whole small rows windows layers is i j) (in_low_alone whole small rows windows layers.metal is within i j (λ a b column row holds.
+  filled = alike (in_raster small.raster i j) (in_raster r i j) (is_taken small layers i j) (in_window_of small (low_windows small (drawn_squares layers)) i j) (is_taken whole layers i j) (in_window_of whole (low_windows whole (drawn_squares layers)) i j)
+      here on (taken_alone whole small rows windows layers is i j) (in_low_alone whole small rows windows (drawn_squares layers) is within i j (λ a b column row holds.
       held.level b row (level_holding whole a b i j plan on holds)));
 }
   where
@@ -117,7 +117,7 @@ measures_same whole small rows windows layers plan are within is a b lt held =
     let v = boxes_of whole (low_fill whole layers) in
     let boxes = λ (x y : ℤ) (low : window_bottom w row ≤ℤ y) (high : y <ℤ window_top w row). boxes_alone whole small rows windows layers plan are within is row x y held low high in
     same_measures _ _
-    (ap pos (area_alone whole small rows windows layers.metal is a b lt))
+    (ap pos (area_alone whole small rows windows (drawn_squares layers) is a b lt))
     (ap pos (area_alone whole small rows windows u is a b lt ∙ window_same u v w a row plan.windows_across.length_is plan.windows_up.length_is (λ x y left right low high. boxes x y low high)))
-    (ap pos (area_alone whole small rows windows (λ x y. layers.metal x y || u x y) is a b lt
-    ∙ window_same (λ x y. layers.metal x y || u x y) (λ x y. layers.metal x y || v x y) w a row plan.windows_across.length_is plan.windows_up.length_is (λ x y left right low high. rw (boxes x y low high) refl)))
+    (ap pos (area_alone whole small rows windows (λ x y. drawn_squares layers x y || u x y) is a b lt
+    ∙ window_same (λ x y. drawn_squares layers x y || u x y) (λ x y. drawn_squares layers x y || v x y) w a row plan.windows_across.length_is plan.windows_up.length_is (λ x y left right low high. rw (boxes x y low high) refl)))

@@ -12,7 +12,7 @@ use Rattle.fill_text.specs.Rules.{Values, limits_of, windows_of}
 use Rattle.fill_text.specs.Script.{change_of}
 use Rattle.fill_text.specs.declared.limits.Limits.{Limits}
 use Rattle.fill_text.specs.declared.script.Edit.{Edit}
-use Rattle.fill_job.specs.Plans.{Plan, IsPlan, Layers, PointSet, plan_of, low_windows, wanted}
+use Rattle.fill_job.specs.Plans.{Plan, IsPlan, Layers, PointSet, drawn_squares, plan_of, low_windows, wanted}
 use Rattle.fill_job.specs.Searches.{some_below}
 use Rattle.fill_core.specs.Boxes.{no_places}
 use Rattle.fill_core.specs.Histories.{edits_in}
@@ -104,7 +104,7 @@ FillsAgree = (plan : Plan) (s : Sides) (p q : Layers) → IsPlan plan → IsEnou
 abbrev pub LinesAgree : Type 0
 LinesAgree = (values : Values) (rows : Rows) (below : ℕ) (s : Sides) (p q : Layers) → let plan = plan_of values in IsPlan plan → IsEnough plan s → LayersAgree s p q
     → rows.from ≤ rows.to → rows.to ≤ plan.windows.up.count
-    → rows_told values rows below p.metal (boxes_of plan (low_fill plan p)) ≡ rows_told values rows below q.metal (boxes_of plan (low_fill plan q))
+    → rows_told values rows below (drawn_squares p) (boxes_of plan (low_fill plan p)) ≡ rows_told values rows below (drawn_squares q) (boxes_of plan (low_fill plan q))
 
 -- ---- edits
 
@@ -120,7 +120,7 @@ EditsAreChanges = (edits : List Edit) (layers : Layers) → layers_with edits la
 abbrev pub EditsOutsideDoNothing : Type 0
 EditsOutsideDoNothing = (s : Sides) (edit : Edit) (p : Layers) → ((x y : ℤ) → is_inside s x y ≡ true → squares (rect_of edit) x y ≡ false) → LayersAgree s p (layers_after edit p)
 
--- where the edits come first and then every tile, the metal is that after the edits, and the fill is all places that may be filled
+-- where the edits come first and then every tile, the layers are those after the edits, and the fill is all places that may be filled
 -- and whose box lies wholly in a window that is low in it
 pub record IsEditedFirst (plan : Plan) (layers : Layers) (edits : List Edit) (events : List Event) : Type 0 where
   pub layers_is : (replay plan layers events).layers ≡ layers_with edits layers
@@ -139,10 +139,10 @@ EditsInsideSuffice = (s : Sides) (touches : Edit → Bool) (edits : List Edit) (
 abbrev pub EditsOpenAnew : Type 0
 EditsOpenAnew = (plan : Plan) (layers : Layers) (edits : List Edit) → replay plan layers (map event.Edit edits) ≡ opened plan (layers_with edits layers) no_places (length edits)
 
--- a part's fill is that of its tiles: in each the wanted places, by the windows that are low in the metal
+-- a part's fill is that of its tiles: in each the wanted places, by the windows that are low in metal and existing fill
 abbrev pub PartFillIsWanted : Type 0
 PartFillIsWanted = (plan : Plan) (layers : Layers) (k : Part) (i j : ℤ) → let tile = tile_of plan.raster i j in
-    part_fill plan layers k i j ≡ wanted plan layers (low_windows plan layers.metal) tile i j && has_tile plan k tile
+    part_fill plan layers k i j ≡ wanted plan layers (low_windows plan (drawn_squares layers)) tile i j && has_tile plan k tile
 
 -- ---- all parts together
 
@@ -158,17 +158,17 @@ PartsAreApart = (plan : Plan) (layers : Layers) (count k l : ℕ) (i j : ℤ) �
 
 -- ---- one part, whole
 
--- the fill of a smaller chip of such metal and keep-outs is the part's in these rows of tiles, and so are the lines of these rows of windows
+-- the fill of a smaller chip of such layers is the part's in these rows of tiles, and so are the lines of these rows of windows
 pub record TellsPart (values : Values) (k : Part) (small : Values) (tiles windows : Rows) (below : ℕ) (near layers : Layers) : Type 0 where
   pub places : rows_fill (plan_of small) tiles (low_fill (plan_of small) near) ≡ part_fill (plan_of values) layers k
-  pub lines : rows_told small windows below near.metal (boxes_of (plan_of small) (low_fill (plan_of small) near)) ≡ part_report values layers.metal (low_fill (plan_of values) layers) k
+  pub lines : rows_told small windows below (drawn_squares near) (boxes_of (plan_of small) (low_fill (plan_of small) near)) ≡ part_report values (drawn_squares layers) (low_fill (plan_of values) layers) k
 
--- Of a design whose metal and keep-outs lie within the coordinates, a chip that holds the part needs but what lies between its needed sides,
+-- Of a design whose metal, existing fill and keep-outs lie within the coordinates, a chip that holds the part needs but what lies between its needed sides,
 -- and of the edits those that have a square there.
 abbrev pub ChipRunIsThePart : Type 0
 ChipRunIsThePart = (values : Values) (k : Part) (small : Values) (tiles windows : Rows) (below : ℕ) (layers : Layers) (touches : Edit → Bool) (edits : List Edit) → let s = needed_sides (plan_of small) in
     HoldsPart values k small tiles windows below → IsPlan (plan_of small) → windows.from ≤ windows.to → windows.to ≤ (plan_of small).windows.up.count
-    → ((x y : ℤ) → layers.metal x y ≡ true → IsInRange x y) → ((x y : ℤ) → layers.keep x y ≡ true → IsInRange x y)
+    → ((x y : ℤ) → layers.metal x y ≡ true → IsInRange x y) → ((x y : ℤ) → layers.fill x y ≡ true → IsInRange x y) → ((x y : ℤ) → layers.keep x y ≡ true → IsInRange x y)
     → ((edit : Edit) → touches edit ≡ false → (x y : ℤ) → is_inside s x y ≡ true → squares (rect_of edit) x y ≡ false)
     → TellsPart values k small tiles windows below (layers_with (filter touches edits) (layers_met (in_coordinates s) layers)) (layers_by (map change_of edits) layers)
 
@@ -180,7 +180,7 @@ abbrev pub SmallerChipWantsTheSame : Type 0
 SmallerChipWantsTheSame = (whole small : Plan) (rows windows : Rows) (layers : Layers) → AreAxes whole → AreSome rows (bands whole.raster.up) → windows.to ≤ whole.windows.up.count → IsSmaller whole small rows windows
     → (tile : ℕ) → tile < (rows.to - rows.from) * bands whole.raster.across → let there = rows.from * bands whole.raster.across + tile in
     ((b : ℕ) → b < whole.windows.up.count → is_level whole there b ≡ true → (windows.from ≤ b) × (b < windows.to))
-    → wanted small layers (low_windows small layers.metal) tile ≡ wanted whole layers (low_windows whole layers.metal) there
+    → wanted small layers (low_windows small (drawn_squares layers)) tile ≡ wanted whole layers (low_windows whole (drawn_squares layers)) there
 
 -- The rules of some rows of tiles and of windows alone make such a plan, if the tiles cover what counts of the windows, or all counts of
 -- these wherever the frame ends.
@@ -188,12 +188,12 @@ abbrev pub RulesAloneMakeASmallerChip : Type 0
 RulesAloneMakeASmallerChip = (values : Values) (rows windows : Rows) → let plan = plan_of values in AreAxes plan → AreRowsOf rows (bands plan.raster.up) → AreSome windows plan.windows.up.count → (values.ignores ≡ true → Cover values rows windows)
     → IsSmaller plan (plan_of (rules_alone values rows windows)) rows windows
 
--- And a window measures in it what it measures in the chip: its metal, and the boxes of a complete fill, if all tiles level with the
+-- And a window measures in it what it measures in the chip: its metal and existing fill, and the boxes of a complete fill, if all tiles level with the
 -- window are among the rows, and all windows level with these tiles.
 abbrev pub SmallerChipMeasuresTheSame : Type 0
 SmallerChipMeasuresTheSame = (whole small : Plan) (rows windows : Rows) (layers : Layers) → AreAxes whole → AreSome rows (bands whole.raster.up) → windows.to ≤ whole.windows.up.count → IsSmaller whole small rows windows
     → (a b : ℕ) → b < small.windows.up.count → ((tile : ℕ) → tile < tiles whole.raster → is_level whole tile (windows.from + b) ≡ true → IsHeldBy whole rows windows tile)
-    → measures_of layers.metal (boxes_of small (low_fill small layers)) small.windows a b ≡ measures_of layers.metal (boxes_of whole (low_fill whole layers)) whole.windows a (windows.from + b)
+    → measures_of (drawn_squares layers) (boxes_of small (low_fill small layers)) small.windows a b ≡ measures_of (drawn_squares layers) (boxes_of whole (low_fill whole layers)) whole.windows a (windows.from + b)
 
 -- The rows of a part that looks at any window are such rows.
 abbrev pub PartIsASmallerChip : Type 0
@@ -215,13 +215,13 @@ PartFillIsOfItsChip = (values : Values) (k : Part) (layers : Layers) → let pla
 -- And its lines are those of what its windows measure there, told with their rows in the whole chip.
 abbrev pub PartLinesAreOfItsChip : Type 0
 PartLinesAreOfItsChip = (values : Values) (k : Part) (layers : Layers) → let plan = plan_of values in let chip = chip_plan values k in AreAxes plan → IsPart k → 0 < bands plan.raster.up → some_below (looks_at plan k) plan.windows.up.count ≡ true
-    → part_report values layers.metal (low_fill plan layers) k
-    ≡ part_lines (windows_of values) (limits_of values) (λ a b. measures_of layers.metal (boxes_of chip (low_fill chip layers)) chip.windows a (b - (part_windows plan k).from)) k
+    → part_report values (drawn_squares layers) (low_fill plan layers) k
+    ≡ part_lines (windows_of values) (limits_of values) (λ a b. measures_of (drawn_squares layers) (boxes_of chip (low_fill chip layers)) chip.windows a (b - (part_windows plan k).from)) k
 
 -- The part's piece of the report is what its chip tells of the part's own windows, with so many rows more as lie below its chip.
 abbrev pub PartLinesAreTold : Type 0
 PartLinesAreTold = (values : Values) (k : Part) (layers : Layers) → let plan = plan_of values in let chip = chip_plan values k in let rows = part_windows plan k in
     AreAxes plan → IsPart k → 0 < bands plan.raster.up → some_below (looks_at plan k) plan.windows.up.count ≡ true
-    → part_report values layers.metal (low_fill plan layers) k
-    ≡ lines_above rows.from chip.windows (limits_of values) (measures_of layers.metal (boxes_of chip (low_fill chip layers)) chip.windows)
+    → part_report values (drawn_squares layers) (low_fill plan layers) k
+    ≡ lines_above rows.from chip.windows (limits_of values) (measures_of (drawn_squares layers) (boxes_of chip (low_fill chip layers)) chip.windows)
     ((first_row k plan.windows.up.count - rows.from) * chip.windows.across.count) ((past_row k plan.windows.up.count - first_row k plan.windows.up.count) * chip.windows.across.count)

@@ -32,16 +32,20 @@ is_level plan tile b = int_lt (window_bottom plan.windows b) (tile_top plan.rast
 abbrev pub is_inside : Sides → ℤ → ℤ → Bool
 is_inside s x y = is_between s.left s.right x && is_between s.bottom s.top y
 
+-- how far from a box metal or existing fill may lie that takes its place
+abbrev pub reach : Plan → ℤ
+reach plan = int_max plan.spacing plan.fill_spacing
+
 -- the edges of a window, and of the halo of a tile
 abbrev pub window_sides : Grid → ℕ → ℕ → Sides
 window_sides g a b = record { left = window_left g a; bottom = window_bottom g b; right = window_right g a; top = window_top g b }
 
 abbrev pub halo_sides : Plan → ℕ → Sides
 halo_sides plan tile = record {
-  left = tile_left plan.raster tile -ℤ plan.spacing;
-  bottom = tile_bottom plan.raster tile -ℤ plan.spacing;
-  right = tile_right plan.raster tile +ℤ plan.spacing;
-  top = tile_top plan.raster tile +ℤ plan.spacing;
+  left = tile_left plan.raster tile -ℤ reach plan;
+  bottom = tile_bottom plan.raster tile -ℤ reach plan;
+  right = tile_right plan.raster tile +ℤ reach plan;
+  top = tile_top plan.raster tile +ℤ reach plan;
 }
 
 -- the first sides lie between the second ones
@@ -80,9 +84,10 @@ needed_sides plan =
 abbrev pub AgreeInside : Sides → PointSet → PointSet → Type 0
 AgreeInside s p q = (x y : ℤ) → is_inside s x y ≡ true → p x y ≡ q x y
 
--- so do metal and keep-outs
+-- so do metal, existing fill and keep-outs
 pub record LayersAgree (s : Sides) (p q : Layers) : Type 0 where
   pub metal : AgreeInside s p.metal q.metal
+  pub fill : AgreeInside s p.fill q.fill
   pub keep : AgreeInside s p.keep q.keep
 
 -- the part of some sides within the coordinates
@@ -93,6 +98,6 @@ in_coordinates s = record { left = int_max s.left lowest; bottom = int_max s.bot
 abbrev pub met_with : Sides → PointSet → PointSet
 met_with s p x y = p x y && is_inside s x y
 
--- so of metal and keep-outs
+-- so of metal, existing fill and keep-outs
 abbrev pub layers_met : Sides → Layers → Layers
-layers_met s p = record { metal = met_with s p.metal; keep = met_with s p.keep }
+layers_met s p = record { metal = met_with s p.metal; fill = met_with s p.fill; keep = met_with s p.keep }

@@ -6,7 +6,7 @@ use Rattle.fill_text.specs.Chips.{with_rows}
 use Rattle.fill_text.specs.Rasters.{has_few_places}
 use Rattle.fill_text.specs.Rules.{Values, limits_of, raster_of, whole_windows, windows_of}
 use Rattle.fill_text.specs.declared.chip.ChipRows.{ChipRows}
-use Rattle.fill_job.specs.Plans.{Layers, Plan, PointSet, plan_of}
+use Rattle.fill_job.specs.Plans.{Layers, Plan, PointSet, drawn_squares, plan_of}
 use Rattle.fill_job.specs.Searches.{some_below}
 use Rattle.fill_core.specs.Boxes.{low_fill}
 use Rattle.fill_core.specs.Soundness.{IsSound}
@@ -105,13 +105,13 @@ pub record StandsIn (values : Values) (part : Part) (small : Values) : Type 0 wh
   pub to : past (plan_of small).raster.up ≤ℤ past (plan_of values).raster.up
   pub fill : (layers : Layers) (i j : ℤ) → part_fill (plan_of values) layers part i j ≡ true → (first (plan_of small).raster.up ≤ℤ j) × (j <ℤ past (plan_of small).raster.up)
 
--- Rules of some rows of a chip hold all that a part of it has, of any metal and keep-outs: the fill of these rows of tiles is the part's,
+-- Rules of some rows of a chip hold all that a part of it has, of any layers: the fill of these rows of tiles is the part's,
 -- and the lines of these rows of windows, which tell so many rows more than their own, are the part's, with fill and without.
 pub record HoldsPart (values : Values) (part : Part) (small : Values) (tiles windows : Rows) (below : ℕ) : Type 0 where
   pub rows : ChipRows
   pub alone : small ≡ with_rows values rows
   pub fill : (layers : Layers) → rows_fill (plan_of small) tiles (low_fill (plan_of small) layers) ≡ part_fill (plan_of values) layers part
   pub stands : StandsIn values part small
-  pub lines : (layers : Layers) → rows_told small windows below layers.metal (boxes_of (plan_of small) (low_fill (plan_of small) layers)) ≡ part_report values layers.metal (low_fill (plan_of values) layers) part
+  pub lines : (layers : Layers) → rows_told small windows below (drawn_squares layers) (boxes_of (plan_of small) (low_fill (plan_of small) layers)) ≡ part_report values (drawn_squares layers) (low_fill (plan_of values) layers) part
   pub checks : (metal : PointSet) → rows_told small windows below metal nothing ≡ part_check values metal part
   pub sound : (layers : Layers) → IsSound (plan_of values) layers (low_fill (plan_of values) layers)

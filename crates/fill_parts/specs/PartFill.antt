@@ -1,4 +1,4 @@
--- The fill of a part, and the metal after a script.
+-- The fill of a part, and the layers after a script.
 use Rattle.std.specs.Prelude.{◌&&◌, ◌||◌, not, Bool, List, [], ◌∷◌}
 use Rattle.fill_base.specs.declared.rect.Rect.{Rect}
 use Rattle.fill_text.specs.Script.{Change}
@@ -13,11 +13,11 @@ use Rattle.fill_parts.specs.Cuts.{Part}
 use Rattle.fill_parts.specs.Needs.{has_tile, is_inside}
 use Rattle.fill_raster.specs.Lattice.{tile_of}
 
--- of the fill of the whole metal the places in the part's tiles
+-- of the fill of the whole design the places in the part's tiles
 abbrev pub part_fill : Plan → Layers → Part → PointSet
-part_fill plan metal part i j = low_fill plan metal i j && has_tile plan part (tile_of plan.raster i j)
+part_fill plan layers part i j = low_fill plan layers i j && has_tile plan part (tile_of plan.raster i j)
 
--- metal and keep-outs after edits, one after another
+-- the layers after edits, one after another
 unfoldable pub layers_with : List Edit → Layers → Layers
 layers_with [] layers = layers
 layers_with (edit ∷ edits) layers = layers_with edits (layers_after edit layers)
@@ -42,6 +42,7 @@ kind_keeps kind.Keep keep inside = keep || inside
 abbrev pub change_after : Change → Layers → Layers
 change_after change layers = record {
   metal = λ x y. kind_after change.kind (layers.metal x y) (is_inside change.rect x y);
+  fill = layers.fill;
   keep = λ x y. kind_keeps change.kind (layers.keep x y) (is_inside change.rect x y);
 }
 

@@ -66,6 +66,7 @@ pub record IsSmaller (whole small : Plan) (tiles windows : Rows) : Type 0 where
   pub begins : (b : ℕ) → b < small.windows.up.count → part_begin (parts_up small.windows) b ≡ part_begin (parts_up whole.windows) (windows.from + b)
   pub ends : (b : ℕ) → b < small.windows.up.count → part_end (parts_up small.windows) b ≡ part_end (parts_up whole.windows) (windows.from + b)
   pub spacing : small.spacing ≡ whole.spacing
+  pub fill_spacing : small.fill_spacing ≡ whole.fill_spacing
   pub least : small.least ≡ whole.least
 
 -- the tile is of those rows, and so are the windows level with it

@@ -1,8 +1,10 @@
 //! The rectangle that a chip needs of a design.
 ghost use Rattle.std.specs.Prelude.{◌≡◌, ◌<◌, ◌≤◌};
+ghost use Rattle.fill_base.specs.Limits.{IsSpacing};
 ghost use Rattle.fill_base.specs.Sides.{sides_of};
 ghost use Rattle.fill_text.specs.ValuesOfRules.{values_of};
 ghost use Rattle.fill_job.specs.Plans.{plan_of};
+ghost use Rattle.fill_parts.specs.Needs as spec;
 ghost use Rattle.fill_parts.specs.Needs.{in_coordinates, needed_sides, round_windows};
 
 use fill_area::Windows;
@@ -23,8 +25,16 @@ pub(crate) fn around_windows(windows: &Windows, rows: &Range<u32>) -> Rect
     Rect::from_edges(first.x1(), first.y1(), last.x2(), last.y2())
 }
 
+/// How far from a box metal or existing fill may lie that takes its place.
+fn reach(rules: &Rules) -> i64
+    ensures value { result ≡ spec.reach (plan_of (values_of rules.now)) }
+    ensures range { IsSpacing result }
+{
+    rules.spacing().max(rules.fill_spacing())
+}
+
 /// The least rectangle round all that a chip of these rules looks at, as far as there are coordinates: its windows, and the boxes of its
-/// places with the spacing round them.
+/// places with the greater one of both spacings round them.
 pub fn needed_rect(rules: &Rules) -> Rect
     ensures { sides_of result ≡ in_coordinates (needed_sides (plan_of (values_of rules.now))) }
 {
@@ -36,8 +46,9 @@ pub fn needed_rect(rules: &Rules) -> Rect
     if tiles == 0 {
         return all;
     }
-    let first = raster.halo(0, rules.spacing());
-    let last = raster.halo(tiles - 1, rules.spacing());
+    let reach = reach(rules);
+    let first = raster.halo(0, reach);
+    let last = raster.halo(tiles - 1, reach);
     let left = all.x1().min(first.x1());
     let bottom = all.y1().min(first.y1());
     let right = all.x2().max(last.x2());

@@ -1,5 +1,5 @@
 //! A part of a chip of any size as a smaller chip: its rules, and which of its rows are the part's own.
-ghost use Rattle.std.specs.Prelude.{◌≡◌, ◌&&◌, ◌-◌, ◌≤◌, ℤ, false, nat_lt, true, IfOk};
+ghost use Rattle.std.specs.Prelude.{◌≡◌, ◌&&◌, ◌-◌, ◌≤◌, false, nat_lt, true, IfOk};
 ghost use Rattle.fill_base.specs.Sides.{sides_of};
 ghost use Rattle.fill_base.specs.Squares.{squares};
 ghost use Rattle.fill_raster.specs.Axes.{IsAxis, bands};

@@ -1,11 +1,12 @@
-use Rattle.std.proofs.Common.{◌≡◌, ◌∙◌, sym, ap, ap₂, ℕ, ◌-◌, ◌<◌, arith, ℤ, ◌+ℤ◌, ◌-ℤ◌}
+use Rattle.std.proofs.Common.{◌≡◌, ◌∙◌, sym, ap, ap₂, subst, ℕ, ◌-◌, ◌<◌, arith, ℤ, ◌+ℤ◌, ◌-ℤ◌}
 use Rattle.std.specs.Int.{int_max, int_min}
 use Rattle.fill_base.specs.Coordinates.{highest, lowest}
+use Rattle.fill_base.specs.Limits.{IsSpacing}
 use Rattle.fill_base.specs.Sides.{Sides, sides_of}
 use Rattle.fill_raster.specs.Lattice.{Lattice, tile_bottom, tile_left, tile_right, tile_top, tiles}
 use Rattle.fill_text.specs.ValuesOfRules.{values_of}
 use Rattle.fill_job.specs.Plans.{plan_of}
-use Rattle.fill_parts.specs.Needs.{halo_sides, in_coordinates, round_windows}
+use Rattle.fill_parts.specs.Needs.{halo_sides, in_coordinates, reach, round_windows}
 use Rattle.fill_parts.proofs.Sides.{first_x, first_y, from_lowest, high_side, higher_is, last_x, last_y, low_side, lower_is, needed_both, needed_windows, rect_kept, sides_apart, spacing_read, to_highest}
 use Rattle.fill_parts.proofs.needs.needed_rect.Goals as goal
 
@@ -44,13 +45,13 @@ returns c =
     let some : 0 < tiles plan.raster = positive c.tiles-tiles.result (tiles plan.raster) count c.if-tiles-eq0.false in
     (λ i. record {
       left = low_side _ _ _ _ (halo_sides plan 0).left (e.0 ∙ lower_is c.min-left.result c.x1.result c.x1-2.result c.around_windows-all.result.x1 c.halo-first.result.x1 c.min-left.ensures.value c.x1.ensures c.x1-2.ensures (first_x c.around_windows-all.result) (first_x c.halo-first.result)) (first_x c.around_windows-all.result) (ap (λ (s : Sides). s.left) windows)
-          (c.halo-first.ensures.left ∙ ap₂ (λ (r : Lattice) (d : ℤ). int_max (tile_left r 0 -ℤ d) lowest) c.raster-raster.ensures.raster (spacing_read c.spacing.result plan.spacing c.spacing.ensures.value c.rules_make_a_plan.ensures.spacing)) i;
+          (c.halo-first.ensures.left ∙ ap₂ (λ (r : Lattice) (d : ℤ). int_max (tile_left r 0 -ℤ d) lowest) c.raster-raster.ensures.raster (spacing_read c.reach-reach.result (reach plan) c.reach-reach.ensures.value (subst IsSpacing c.reach-reach.ensures.value c.reach-reach.ensures.range))) i;
       bottom = low_side _ _ _ _ (halo_sides plan 0).bottom (e.1 ∙ lower_is c.min-bottom.result c.y1.result c.y1-2.result c.around_windows-all.result.y1 c.halo-first.result.y1 c.min-bottom.ensures.value c.y1.ensures c.y1-2.ensures (first_y c.around_windows-all.result) (first_y c.halo-first.result)) (first_y c.around_windows-all.result) (ap (λ (s : Sides). s.bottom) windows)
-          (c.halo-first.ensures.bottom ∙ ap₂ (λ (r : Lattice) (d : ℤ). int_max (tile_bottom r 0 -ℤ d) lowest) c.raster-raster.ensures.raster (spacing_read c.spacing.result plan.spacing c.spacing.ensures.value c.rules_make_a_plan.ensures.spacing)) i;
+          (c.halo-first.ensures.bottom ∙ ap₂ (λ (r : Lattice) (d : ℤ). int_max (tile_bottom r 0 -ℤ d) lowest) c.raster-raster.ensures.raster (spacing_read c.reach-reach.result (reach plan) c.reach-reach.ensures.value (subst IsSpacing c.reach-reach.ensures.value c.reach-reach.ensures.range))) i;
       right = high_side _ _ _ _ (halo_sides plan (tiles plan.raster - 1)).right (e.2 ∙ higher_is c.max-right.result c.x2.result c.x2-2.result c.around_windows-all.result.x2 c.halo-last.result.x2 c.max-right.ensures.value c.x2.ensures c.x2-2.ensures (last_x c.around_windows-all.result) (last_x c.halo-last.result)) (last_x c.around_windows-all.result) (ap (λ (s : Sides). s.right) windows)
-          (c.halo-last.ensures.right ∙ (λ k. int_min (tile_right (c.raster-raster.ensures.raster k) (count k - 1) +ℤ spacing_read c.spacing-2.result plan.spacing c.spacing-2.ensures.value c.rules_make_a_plan.ensures.spacing k) highest)) i;
+          (c.halo-last.ensures.right ∙ (λ k. int_min (tile_right (c.raster-raster.ensures.raster k) (count k - 1) +ℤ spacing_read c.reach-reach.result (reach plan) c.reach-reach.ensures.value (subst IsSpacing c.reach-reach.ensures.value c.reach-reach.ensures.range) k) highest)) i;
       top = high_side _ _ _ _ (halo_sides plan (tiles plan.raster - 1)).top (e.3 ∙ higher_is c.max-top.result c.y2.result c.y2-2.result c.around_windows-all.result.y2 c.halo-last.result.y2 c.max-top.ensures.value c.y2.ensures c.y2-2.ensures (last_y c.around_windows-all.result) (last_y c.halo-last.result)) (last_y c.around_windows-all.result) (ap (λ (s : Sides). s.top) windows)
-          (c.halo-last.ensures.top ∙ (λ k. int_min (tile_top (c.raster-raster.ensures.raster k) (count k - 1) +ℤ spacing_read c.spacing-2.result plan.spacing c.spacing-2.ensures.value c.rules_make_a_plan.ensures.spacing k) highest)) i;
+          (c.halo-last.ensures.top ∙ (λ k. int_min (tile_top (c.raster-raster.ensures.raster k) (count k - 1) +ℤ spacing_read c.reach-reach.result (reach plan) c.reach-reach.ensures.value (subst IsSpacing c.reach-reach.ensures.value c.reach-reach.ensures.range) k) highest)) i;
     })
     ∙ ap in_coordinates (sym (needed_both plan some))
   where
