@@ -19,4 +19,4 @@ layers_at t = layers_in t.opening t.existing t.keep
 
 -- no rules, no metal and no event
 abbrev pub no_terms : Terms
-no_terms = record { rules = record { numbers = []; top = []; fill_lib = []; fill_cell = []; fill_top = []; keep = None; also_metal = []; also_keep = []; ignores = false }; opening = []; existing = []; keep = []; most = 0 }
+no_terms = record { rules = record { numbers = []; top = []; fill_lib = []; fill_cell = []; fill_top = []; keep = None; also_metal = []; also_fill = []; also_keep = []; ignores = false }; opening = []; existing = []; keep = []; most = 0 }

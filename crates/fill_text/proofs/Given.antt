@@ -70,22 +70,22 @@ pair_given a None m (Some n) further e f = cc f
 pair_given a (Some b) m None further e f = cc f
 
 -- the four texts, or the first that is missing
-abbrev made_of : List ℤ → List Layer → List Layer → Bool → List ℕ → List ℕ → List ℕ → List ℕ → Option (ℤ × ℤ) → Values
-made_of numbers metal kept ignores top fill_lib fill_cell fill_top keep = record { numbers = numbers; top = top; fill_lib = fill_lib; fill_cell = fill_cell; fill_top = fill_top; keep = keep; also_metal = metal; also_keep = kept; ignores = ignores }
+abbrev made_of : List ℤ → List Layer → List Layer → List Layer → Bool → List ℕ → List ℕ → List ℕ → List ℕ → Option (ℤ × ℤ) → Values
+made_of numbers metal fill kept ignores top fill_lib fill_cell fill_top keep = record { numbers = numbers; top = top; fill_lib = fill_lib; fill_cell = fill_cell; fill_top = fill_top; keep = keep; also_metal = metal; also_fill = fill; also_keep = kept; ignores = ignores }
 
-texts_given : (numbers : List ℤ) (a b c d : Option (List ℕ)) (metal kept : List Layer) (ignores : Bool) (keep : Result (Option (ℤ × ℤ)) RuleError) (faults : List (Option RuleError)) (two : Option (ℤ × ℤ)) → keep ≡ refused_or (first_some faults) two
+texts_given : (numbers : List ℤ) (a b c d : Option (List ℕ)) (metal fill kept : List Layer) (ignores : Bool) (keep : Result (Option (ℤ × ℤ)) RuleError) (faults : List (Option RuleError)) (two : Option (ℤ × ℤ)) → keep ≡ refused_or (first_some faults) two
     → (ok_or a (BadRule (Text text.Top)) >>= λ top. ok_or b (BadRule (Text text.FillLib)) >>= λ fill_lib. ok_or c (BadRule (Text text.FillCell)) >>= λ fill_cell. ok_or d (BadRule (Text text.FillTop)) >>= λ fill_top. keep >>= λ keep.
-    let values : Result Values RuleError = Ok (made_of numbers metal kept ignores top fill_lib fill_cell fill_top keep) in values)
+    let values : Result Values RuleError = Ok (made_of numbers metal fill kept ignores top fill_lib fill_cell fill_top keep) in values)
     ≡ refused_or (first_some (fault_unless (is_some a) (BadRule (Text text.Top)) ∷ fault_unless (is_some b) (BadRule (Text text.FillLib)) ∷ fault_unless (is_some c) (BadRule (Text text.FillCell)) ∷ fault_unless (is_some d) (BadRule (Text text.FillTop)) ∷ faults))
-    (made_of numbers metal kept ignores (unwrap_or a []) (unwrap_or b []) (unwrap_or c []) (unwrap_or d []) two)
-texts_given numbers None b c d metal kept ignores keep faults two e = refl
-texts_given numbers (Some w) None c d metal kept ignores keep faults two e = refl
-texts_given numbers (Some w) (Some x) None d metal kept ignores keep faults two e = refl
-texts_given numbers (Some w) (Some x) (Some y) None metal kept ignores keep faults two e = refl
-texts_given numbers (Some w) (Some x) (Some y) (Some z) metal kept ignores keep faults two e = rw e (by (first_some faults))
+    (made_of numbers metal fill kept ignores (unwrap_or a []) (unwrap_or b []) (unwrap_or c []) (unwrap_or d []) two)
+texts_given numbers None b c d metal fill kept ignores keep faults two e = refl
+texts_given numbers (Some w) None c d metal fill kept ignores keep faults two e = refl
+texts_given numbers (Some w) (Some x) None d metal fill kept ignores keep faults two e = refl
+texts_given numbers (Some w) (Some x) (Some y) None metal fill kept ignores keep faults two e = refl
+texts_given numbers (Some w) (Some x) (Some y) (Some z) metal fill kept ignores keep faults two e = rw e (by (first_some faults))
   where
-    by : (o : Option RuleError) → (refused_or o two >>= λ (keep : Option (ℤ × ℤ)). let values : Result Values RuleError = Ok (made_of numbers metal kept ignores w x y z keep) in values)
-        ≡ refused_or o (made_of numbers metal kept ignores w x y z two)
+    by : (o : Option RuleError) → (refused_or o two >>= λ (keep : Option (ℤ × ℤ)). let values : Result Values RuleError = Ok (made_of numbers metal fill kept ignores w x y z keep) in values)
+        ≡ refused_or o (made_of numbers metal fill kept ignores w x y z two)
     by None = refl
     by (Some f) = refl
 
@@ -126,8 +126,8 @@ values_given rows found held = by (first_some (map (missing rows) (map Number al
         → all_values found ≡ refused_or (first_some (key_faults rows)) (values_for rows)
     by (Some e) first = rw (numbers, first, first_stays (map (missing rows) (map Number all_number_keys)) behind e first) refl
     by None first =
-        rw (numbers, first, later_first (map (missing rows) (map Number all_number_keys)) behind first, ← same_word _ _ (held.texts text.Top), ← same_word _ _ (held.texts text.FillLib), ← same_word _ _ (held.texts text.FillCell), ← same_word _ _ (held.texts text.FillTop), further, ← held.also also.Metal, ← held.also also.Keep, padding)
-        (texts_given (map (number_for rows) all_number_keys) (word_for (Text text.Top) rows) (word_for (Text text.FillLib) rows) (word_for (Text text.FillCell) rows) (word_for (Text text.FillTop) rows) _ _ _ _ _ _
+        rw (numbers, first, later_first (map (missing rows) (map Number all_number_keys)) behind first, ← same_word _ _ (held.texts text.Top), ← same_word _ _ (held.texts text.FillLib), ← same_word _ _ (held.texts text.FillCell), ← same_word _ _ (held.texts text.FillTop), further, ← held.also also.Metal, ← held.also also.Fill, ← held.also also.Keep, padding)
+        (texts_given (map (number_for rows) all_number_keys) (word_for (Text text.Top) rows) (word_for (Text text.FillLib) rows) (word_for (Text text.FillCell) rows) (word_for (Text text.FillTop) rows) _ _ _ _ _ _ _
         (pair_given (word_for (Optional KeepLayer) rows) (word_for (Optional KeepDatatype) rows) (optional_found found.optionals KeepLayer) (optional_found found.optionals KeepDatatype) (nat_lt 0 (length (words_for (Also also.Keep) rows))) (held.optionals KeepLayer) (held.optionals KeepDatatype)))
 
 pub checked_given : (values : Values) → checked values ≡ judged values

@@ -37,7 +37,7 @@ pub record Holds (found : Found) (before : List (List (List ℕ))) : Type 0 wher
   pub many : length found.numbers ≡ 28
   pub four : length found.texts ≡ 4
   pub two : length found.optionals ≡ 2
-  pub both : length found.also ≡ 2
+  pub three : length found.also ≡ 3
   pub numbers : Hold Number (λ key. (number_rule key).index) number_of found.numbers before
   pub texts : Hold Text text_index Some found.texts before
   pub optionals : Hold Optional optional_index number_of found.optionals before
@@ -55,7 +55,7 @@ nothing_held = record {
   numbers = λ key. let none = nothing_here key in rw none refl;
   texts = λ key. nothing key;
   optionals = λ key. no_optional key;
-  both = refl;
+  three = refl;
   also = λ key. no_layer key;
   padding = refl;
   ranged = λ key. let none = nothing_here key in rw none tt;
@@ -85,6 +85,7 @@ nothing_held = record {
 
     no_layer : (key : AlsoKey) → layers_for [] key ≡ also_found nothing_found.also key
     no_layer also.Metal = refl
+    no_layer also.Fill = refl
     no_layer also.Keep = refl
 
 -- a key may stand no more where its slot is filled
@@ -184,7 +185,7 @@ number_held found before fields key n held named fresh written within = record {
   numbers = one_more_held Number (λ key. (number_rule key).index) number_of found.numbers before fields key n held.numbers named fresh written
       (subst (λ count. (number_rule key).index < count) (sym held.many) (index_below key)) (λ a b e. cc e) same_index;
   two = held.two;
-  both = held.both;
+  three = held.three;
   also = still_also found.also before fields (Number key) held.also named (λ k e. cc e);
   texts = still_hold Text text_index Some found.texts before fields (Number key) held.texts named (λ k e. cc e);
   optionals = still_hold Optional optional_index number_of found.optionals before fields (Number key) held.optionals named (λ k e. cc e);
@@ -205,7 +206,7 @@ text_held found before fields key held named fresh this = record {
   many = held.many;
   four = length-set found.texts (text_index key) (Some (get_or fields 1 [])) ∙ held.four;
   two = held.two;
-  both = held.both;
+  three = held.three;
   also = still_also found.also before fields (Text key) held.also named (λ k e. cc e);
   numbers = still_hold Number (λ key. (number_rule key).index) number_of found.numbers before fields (Text key) held.numbers named (λ k e. cc e);
   optionals = still_hold Optional optional_index number_of found.optionals before fields (Text key) held.optionals named (λ k e. cc e);
@@ -244,7 +245,7 @@ optional_held found before fields key n held named fresh written within = record
   many = held.many;
   four = held.four;
   two = length-set found.optionals (optional_index key) (Some n) ∙ held.two;
-  both = held.both;
+  three = held.three;
   also = still_also found.also before fields (Optional key) held.also named (λ k e. cc e);
   numbers = still_hold Number (λ key. (number_rule key).index) number_of found.numbers before fields (Optional key) held.numbers named (λ k e. cc e);
   texts = still_hold Text text_index Some found.texts before fields (Optional key) held.texts named (λ k e. cc e);
@@ -278,7 +279,7 @@ also_held found before fields key layer held named written = record {
   many = held.many;
   four = held.four;
   two = held.two;
-  both = length-set found.also (also_index key) (also_found found.also key ++ layer ∷ []) ∙ held.both;
+  three = length-set found.also (also_index key) (also_found found.also key ++ layer ∷ []) ∙ held.three;
   numbers = still_hold Number (λ key. (number_rule key).index) number_of found.numbers before fields (Also key) held.numbers named (λ k e. cc e);
   texts = still_hold Text text_index Some found.texts before fields (Also key) held.texts named (λ k e. cc e);
   optionals = still_hold Optional optional_index number_of found.optionals before fields (Also key) held.optionals named (λ k e. cc e);
@@ -289,8 +290,9 @@ also_held found before fields key layer held named written = record {
   optional = held.optional;
 }
   where
-    below : (key : AlsoKey) → also_index key < 2
+    below : (key : AlsoKey) → also_index key < 3
     below also.Metal = lit< tt
+    below also.Fill = lit< tt
     below also.Keep = lit< tt
 
     same_also : (a b : AlsoKey) → also_index a ≡ also_index b → a ≡ b
@@ -298,12 +300,13 @@ also_held found before fields key layer held named written = record {
       where
         at : (key : AlsoKey) → get_or all_also_keys (also_index key) also.Metal ≡ key
         at also.Metal = refl
+        at also.Fill = refl
         at also.Keep = refl
 
     by : (other : AlsoKey) → (also_index other ≡ also_index key) ⊎ (also_index other ≡ also_index key → ⊥)
         → layers_for (before ++ fields ∷ []) other ≡ also_found (set found.also (also_index key) (also_found found.also key ++ layer ∷ [])) other
     by other (inl e) =
-        rw (same_also other key e, get_or-set_same found.also (also_index key) (also_found found.also key ++ layer ∷ []) [] (subst (λ count. also_index key < count) (sym held.both) (below key)), layers_added before fields key (its_name (get_or fields 0 []) (Also key) named), held.also key, written) refl
+        rw (same_also other key e, get_or-set_same found.also (also_index key) (also_found found.also key ++ layer ∷ []) [] (subst (λ count. also_index key < count) (sym held.three) (below key)), layers_added before fields key (its_name (get_or fields 0 []) (Also key) named), held.also key, written) refl
     by other (inr differ) =
         layers_kept before fields other (another_name (get_or fields 0 []) (Also key) (Also other) named (λ e. let same : other ≡ key = cc e in differ (ap also_index same)))
         ∙ held.also other ∙ sym (get_or-set_other found.also (also_index key) (also_index other) (also_found found.also key ++ layer ∷ []) [] differ)
@@ -315,7 +318,7 @@ padding_held found before fields ignores held named fresh written = record {
   many = held.many;
   four = held.four;
   two = held.two;
-  both = held.both;
+  three = held.three;
   also = still_also found.also before fields Padding held.also named (λ k e. cc e);
   numbers = still_hold Number (λ key. (number_rule key).index) number_of found.numbers before fields Padding held.numbers named (λ k e. cc e);
   texts = still_hold Text text_index Some found.texts before fields Padding held.texts named (λ k e. cc e);

@@ -60,5 +60,6 @@ each_named (Text text.FillTop) = refl
 each_named (Optional KeepLayer) = refl
 each_named (Optional KeepDatatype) = refl
 each_named (Also also.Metal) = refl
+each_named (Also also.Fill) = refl
 each_named (Also also.Keep) = refl
 each_named Padding = refl

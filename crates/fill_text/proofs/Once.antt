@@ -235,6 +235,7 @@ has_all (Text text.FillTop) = refl
 has_all (Optional KeepLayer) = refl
 has_all (Optional KeepDatatype) = refl
 has_all (Also also.Metal) = refl
+has_all (Also also.Fill) = refl
 has_all (Also also.Keep) = refl
 has_all Padding = refl
 
@@ -260,7 +261,7 @@ many key rows = length (words_for (Also key) rows)
 
 -- each record is of a key that stands once, or adds a layer
 counted : (before rest : List (List (List ℕ))) → first_some (each_fault record_fault before rest) ≡ None
-    → length rest ≡ length (single_records rest) + (many also.Metal rest + many also.Keep rest)
+    → length rest ≡ length (single_records rest) + (many also.Metal rest + many also.Fill rest + many also.Keep rest)
 counted before [] sound = refl
 counted before (fields ∷ rest) sound =
     let (this, later) = first_none (record_fault before fields) (each_fault record_fault (before ++ fields ∷ []) rest) sound in
@@ -279,23 +280,24 @@ counted before (fields ∷ rest) sound =
     this_one : (k : AlsoKey) → key_named (get_or fields 0 []) ≡ Some (Also k) → bytes_eq (get_or fields 0 []) (also_name k) ≡ true
     this_one k = its_name (get_or fields 0 []) (Also k)
 
-    IsCount : Bool → Bool → Bool → Type 0
-    IsCount s a b = suc (length rest) ≡ length (cond s (fields ∷ single_records rest) (single_records rest))
-        + (length (map second (cond a (fields ∷ named_as also.Metal) (named_as also.Metal))) + length (map second (cond b (fields ∷ named_as also.Keep) (named_as also.Keep))))
+    IsCount : Bool → Bool → Bool → Bool → Type 0
+    IsCount s a b c = suc (length rest) ≡ length (cond s (fields ∷ single_records rest) (single_records rest))
+        + (length (map second (cond a (fields ∷ named_as also.Metal) (named_as also.Metal))) + length (map second (cond b (fields ∷ named_as also.Fill) (named_as also.Fill))) + length (map second (cond c (fields ∷ named_as also.Keep) (named_as also.Keep))))
 
-    as_tested : (s a b : Bool) → is_single (key_named (get_or fields 0 [])) ≡ s → bytes_eq (get_or fields 0 []) (also_name also.Metal) ≡ a
-        → bytes_eq (get_or fields 0 []) (also_name also.Keep) ≡ b → IsCount s a b
-        → IsCount (is_single (key_named (get_or fields 0 []))) (bytes_eq (get_or fields 0 []) (also_name also.Metal)) (bytes_eq (get_or fields 0 []) (also_name also.Keep))
-    as_tested s a b e f g is = rw (e, f, g) is
+    as_tested : (s a b c : Bool) → is_single (key_named (get_or fields 0 [])) ≡ s → bytes_eq (get_or fields 0 []) (also_name also.Metal) ≡ a → bytes_eq (get_or fields 0 []) (also_name also.Fill) ≡ b
+        → bytes_eq (get_or fields 0 []) (also_name also.Keep) ≡ c → IsCount s a b c
+        → IsCount (is_single (key_named (get_or fields 0 []))) (bytes_eq (get_or fields 0 []) (also_name also.Metal)) (bytes_eq (get_or fields 0 []) (also_name also.Fill)) (bytes_eq (get_or fields 0 []) (also_name also.Keep))
+    as_tested s a b c e f g h is = rw (e, f, g, h) is
 
     by : (key : Key) → key_named (get_or fields 0 []) ≡ Some key → (s : Bool) → is_single (Some key) ≡ s
-        → length rest ≡ length (single_records rest) + (length (map second (named_as also.Metal)) + length (map second (named_as also.Keep)))
-        → IsCount (is_single (key_named (get_or fields 0 []))) (bytes_eq (get_or fields 0 []) (also_name also.Metal)) (bytes_eq (get_or fields 0 []) (also_name also.Keep))
+        → length rest ≡ length (single_records rest) + (length (map second (named_as also.Metal)) + length (map second (named_as also.Fill)) + length (map second (named_as also.Keep)))
+        → IsCount (is_single (key_named (get_or fields 0 []))) (bytes_eq (get_or fields 0 []) (also_name also.Metal)) (bytes_eq (get_or fields 0 []) (also_name also.Fill)) (bytes_eq (get_or fields 0 []) (also_name also.Keep))
     by key named true single e =
         let none : (k : AlsoKey) → bytes_eq (get_or fields 0 []) (also_name k) ≡ false = λ k. other key k named (λ q. let h : false ≡ true = ap (λ (x : Key). is_single (Some x)) q ∙ single in cc h) in
-        as_tested true false false (ap is_single named ∙ single) (none also.Metal) (none also.Keep) (omega (arith, e))
-    by (Also also.Metal) named false several e = as_tested false true false (ap is_single named) (this_one also.Metal named) (other _ also.Keep named (λ q. cc q)) (omega (arith, e))
-    by (Also also.Keep) named false several e = as_tested false false true (ap is_single named) (other _ also.Metal named (λ q. cc q)) (this_one also.Keep named) (omega (arith, e))
+        as_tested true false false false (ap is_single named ∙ single) (none also.Metal) (none also.Fill) (none also.Keep) (omega (arith, e))
+    by (Also also.Metal) named false several e = as_tested false true false false (ap is_single named) (this_one also.Metal named) (other _ also.Fill named (λ q. cc q)) (other _ also.Keep named (λ q. cc q)) (omega (arith, e))
+    by (Also also.Fill) named false several e = as_tested false false true false (ap is_single named) (other _ also.Metal named (λ q. cc q)) (this_one also.Fill named) (other _ also.Keep named (λ q. cc q)) (omega (arith, e))
+    by (Also also.Keep) named false several e = as_tested false false false true (ap is_single named) (other _ also.Metal named (λ q. cc q)) (other _ also.Fill named (λ q. cc q)) (this_one also.Keep named) (omega (arith, e))
     by (Number key) named false several e = cc several
     by (Text key) named false several e = cc several
     by (Optional key) named false several e = cc several
@@ -312,4 +314,4 @@ as_many file values e =
     ∙ (length-map standing key_name ∙ length-append required_keys (optional_standing rows))) in
     let layers : (k : AlsoKey) → many k rows ≡ length (layers_of values k) =
     λ k. sym (length-map (words_for (Also k) rows) layer_by) ∙ ap length (sym (layers_listed rows k) ∙ ap (λ (v : Values). layers_of v k) is.same) in
-    counted [] rows is.sound ∙ rw (singles, layers also.Metal, layers also.Keep) refl
+    counted [] rows is.sound ∙ rw (singles, layers also.Metal, layers also.Fill, layers also.Keep) refl

@@ -44,28 +44,28 @@ layers_decided = pointwise_decides one
         let each = Decides-and _ _ (unsigned_Decides a.layer b.layer) (unsigned_Decides a.data_type b.data_type) in
         (λ h. let e = each.0 h in λ k. record { layer = e.0 k; data_type = e.1 k }, λ e. each.1 (ap (λ (l : Layer). l.layer) e, ap (λ (l : Layer). l.data_type) e))
 
-made_of : List ℤ → List ℕ → List ℕ → List ℕ → List ℕ → List Layer → List Layer → Option (ℤ × ℤ) → Bool → Values
-made_of numbers top fill_lib fill_cell fill_top metal kept keep ignores = record { numbers = numbers; top = top; fill_lib = fill_lib; fill_cell = fill_cell; fill_top = fill_top; keep = keep; also_metal = metal; also_keep = kept; ignores = ignores }
+made_of : List ℤ → List ℕ → List ℕ → List ℕ → List ℕ → List Layer → List Layer → List Layer → Option (ℤ × ℤ) → Bool → Values
+made_of numbers top fill_lib fill_cell fill_top metal fill kept keep ignores = record { numbers = numbers; top = top; fill_lib = fill_lib; fill_cell = fill_cell; fill_top = fill_top; keep = keep; also_metal = metal; also_fill = fill; also_keep = kept; ignores = ignores }
 
-made_same : (n m : List ℤ) (a a' b b' c c' d d' : List ℕ) (x x' y y' : List Layer) (k k' : Option (ℤ × ℤ)) (v v' : Bool) → n ≡ m → a ≡ a' → b ≡ b' → c ≡ c' → d ≡ d' → x ≡ x' → y ≡ y' → k ≡ k' → v ≡ v'
-    → made_of n a b c d x y k v ≡ made_of m a' b' c' d' x' y' k' v'
-made_same n m a a' b b' c c' d d' x x' y y' k k' v v' e f g h i o p j r = rw (e, f, g, h, i, o, p, j, r) refl
+made_same : (n m : List ℤ) (a a' b b' c c' d d' : List ℕ) (x x' y y' z z' : List Layer) (k k' : Option (ℤ × ℤ)) (v v' : Bool) → n ≡ m → a ≡ a' → b ≡ b' → c ≡ c' → d ≡ d' → x ≡ x' → y ≡ y' → z ≡ z' → k ≡ k' → v ≡ v'
+    → made_of n a b c d x y z k v ≡ made_of m a' b' c' d' x' y' z' k' v'
+made_same n m a a' b b' c c' d d' x x' y y' z z' k k' v v' e f g h i o p q j r = rw (e, f, g, h, i, o, p, q, j, r) refl
 
 pub same_values : (a b : Values) → Decides (pointwise int_eq a.numbers b.numbers && ((bytes_eq a.top b.top && (bytes_eq a.fill_lib b.fill_lib && (bytes_eq a.fill_cell b.fill_cell && bytes_eq a.fill_top b.fill_top)))
-    && ((pointwise same_layer a.also_metal b.also_metal && pointwise same_layer a.also_keep b.also_keep) && (same_pair a.keep b.keep && beq a.ignores b.ignores)))) (a ≡ b)
+    && ((pointwise same_layer a.also_metal b.also_metal && (pointwise same_layer a.also_fill b.also_fill && pointwise same_layer a.also_keep b.also_keep)) && (same_pair a.keep b.keep && beq a.ignores b.ignores)))) (a ≡ b)
 unfolding made_of
 same_values a b =
     let texts = Decides-and _ _ (bytes_eq-Decides a.top b.top)
     (Decides-and _ _ (bytes_eq-Decides a.fill_lib b.fill_lib) (Decides-and _ _ (bytes_eq-Decides a.fill_cell b.fill_cell) (bytes_eq-Decides a.fill_top b.fill_top))) in
-    let lists = Decides-and _ _ (layers_decided a.also_metal b.also_metal) (layers_decided a.also_keep b.also_keep) in
+    let lists = Decides-and _ _ (layers_decided a.also_metal b.also_metal) (Decides-and _ _ (layers_decided a.also_fill b.also_fill) (layers_decided a.also_keep b.also_keep)) in
     let each = Decides-and _ _ (signed_items a.numbers b.numbers) (Decides-and _ _ texts (Decides-and _ _ lists (Decides-and _ _ (pairs_decided a.keep b.keep) (bools_decided a.ignores b.ignores)))) in (
       λ test. let e = each.0 test in
-          made_same _ _ _ _ _ _ _ _ _ _ _ _ _ _ _ _ _ _ e.0 e.1.0.0 e.1.0.1.0 e.1.0.1.1.0 e.1.0.1.1.1 e.1.1.0.0 e.1.1.0.1 e.1.1.1.0 e.1.1.1.1,
+          made_same _ _ _ _ _ _ _ _ _ _ _ _ _ _ _ _ _ _ _ _ e.0 e.1.0.0 e.1.0.1.0 e.1.0.1.1.0 e.1.0.1.1.1 e.1.1.0.0 e.1.1.0.1.0 e.1.1.0.1.1 e.1.1.1.0 e.1.1.1.1,
       λ e. each.1 (
         ap (λ (v : Values). v.numbers) e,
         (
           (ap (λ (v : Values). v.top) e, (ap (λ (v : Values). v.fill_lib) e, (ap (λ (v : Values). v.fill_cell) e, ap (λ (v : Values). v.fill_top) e))),
-          ((ap (λ (v : Values). v.also_metal) e, ap (λ (v : Values). v.also_keep) e), (ap (λ (v : Values). v.keep) e, ap (λ (v : Values). v.ignores) e)),
+          ((ap (λ (v : Values). v.also_metal) e, (ap (λ (v : Values). v.also_fill) e, ap (λ (v : Values). v.also_keep) e)), (ap (λ (v : Values). v.keep) e, ap (λ (v : Values). v.ignores) e)),
         ),
       ),
     )

@@ -75,6 +75,7 @@ value_listed f key = get_or-map f all_number_keys (number_rule key).index FrameX
 
 pub layers_listed : (rows : List (List (List ℕ))) (key : AlsoKey) → layers_of (values_for rows) key ≡ layers_for rows key
 layers_listed rows also.Metal = refl
+layers_listed rows also.Fill = refl
 layers_listed rows also.Keep = refl
 
 -- an accepted file: no record breaks a rule, no key is missing, the values are those of the records, and they fit one another

@@ -108,15 +108,17 @@ all_optional_keys = KeepLayer ∷ KeepDatatype ∷ []
 
 abbrev pub also_name : AlsoKey → List ℕ
 also_name also.Metal = codes "also_metal"
+also_name also.Fill = codes "also_fill"
 also_name also.Keep = codes "also_keep"
 
 abbrev pub also_index : AlsoKey → ℕ
 also_index also.Metal = 0
-also_index also.Keep = 1
+also_index also.Fill = 1
+also_index also.Keep = 2
 
 -- those that may stand several times, with a layer in each record
 abbrev pub all_also_keys : List AlsoKey
-all_also_keys = also.Metal ∷ also.Keep ∷ []
+all_also_keys = also.Metal ∷ also.Fill ∷ also.Keep ∷ []
 
 -- the keys that each rule file has, in table order
 abbrev pub required_keys : List Key

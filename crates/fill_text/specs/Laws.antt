@@ -90,7 +90,7 @@ EachKeyStandsOnce = (file : List ℕ) (values : Values) → rules_of file ≡ Ok
 -- and so it has 32 records, one for each optional key that stands and one for each layer of a list, and nothing else stands in it
 abbrev pub ARecordForEachKey : Type 0
 ARecordForEachKey = (file : List ℕ) (values : Values) → rules_of file ≡ Ok values
-    → length (rows_of file) ≡ 32 + length (optional_standing (rows_of file)) + (length values.also_metal + length values.also_keep)
+    → length (rows_of file) ≡ 32 + length (optional_standing (rows_of file)) + (length values.also_metal + length values.also_fill + length values.also_keep)
 
 -- the name of each key names that key, so that no two keys have one name
 abbrev pub EachNameIsOfOneKey : Type 0

@@ -38,6 +38,7 @@ pub record Values : Type 0 where
   -- the further layers of the metal, the layers of fill that the design brings, and the further ones of the keep-outs, each list in
   -- the order of the file
   pub also_metal : List Layer
+  pub also_fill : List Layer
   pub also_keep : List Layer
   -- what is out of the frame counts nothing
   pub ignores : Bool
@@ -67,6 +68,10 @@ keep_layer values = option_map (λ k. layer_of k.0 k.1) values.keep
 -- the layers of the metal: the checked one, and then the others
 abbrev pub metal_layers : Values → List Layer
 metal_layers values = metal_layer values ∷ values.also_metal
+
+-- the layers of the existing fill, which the design brings
+abbrev pub existing_layers : Values → List Layer
+existing_layers values = values.also_fill
 
 abbrev pub behind : Option Layer → List Layer → List Layer
 behind None more = more
@@ -131,6 +136,7 @@ word_for key rows = option_map (λ fields. get_or fields 1 []) (find (λ fields.
 -- the layers of a key
 abbrev pub layers_of : Values → AlsoKey → List Layer
 layers_of values also.Metal = values.also_metal
+layers_of values also.Fill = values.also_fill
 layers_of values also.Keep = values.also_keep
 
 -- the words that the records give a key: the second field of each that begins with its name
@@ -257,6 +263,7 @@ values_for rows = record {
   fill_top = text_for rows text.FillTop;
   keep = pair (optional_for rows KeepLayer) (optional_for rows KeepDatatype);
   also_metal = layers_for rows also.Metal;
+  also_fill = layers_for rows also.Fill;
   also_keep = layers_for rows also.Keep;
   ignores = unwrap_or (option_and_then padding_of (word_for Padding rows)) false;
 }

@@ -16,10 +16,10 @@ also_found lists key = get_or lists (also_index key) []
 
 -- the layers of each key
 abbrev pub also_of : AlsoLayers → AlsoKey → List Layer
-also_of a = also_found (a.metal.items ∷ a.keep.items ∷ [])
+also_of a = also_found (a.metal.items ∷ a.fill.items ∷ a.keep.items ∷ [])
 
 abbrev pub values_from : Numbers → Texts → AlsoLayers → Option (ℤ × ℤ) → Bool → Values
-values_from n t a k i = record { numbers = n.values; top = t.top.items; fill_lib = t.fill_lib.items; fill_cell = t.fill_cell.items; fill_top = t.fill_top.items; keep = k; also_metal = a.metal.items; also_keep = a.keep.items; ignores = i }
+values_from n t a k i = record { numbers = n.values; top = t.top.items; fill_lib = t.fill_lib.items; fill_cell = t.fill_cell.items; fill_top = t.fill_top.items; keep = k; also_metal = a.metal.items; also_fill = a.fill.items; also_keep = a.keep.items; ignores = i }
 
 abbrev pub key_values : KeyValues → Values
 key_values v = values_from v.numbers v.texts v.also v.keep v.ignores
@@ -38,4 +38,5 @@ pub record SameTexts (a b : Texts) : Type 0 where
 -- each list has the same layers
 pub record SameLayers (a b : AlsoLayers) : Type 0 where
   pub metal : a.metal.items ≡ b.metal.items
+  pub fill : a.fill.items ≡ b.fill.items
   pub keep : a.keep.items ≡ b.keep.items

@@ -329,6 +329,13 @@ impl Rules {
         )
     }
 
+    /// The layers of the existing fill, which the design brings: those of `also_fill`, in the order of the rule file.
+    pub fn existing_layers(&self) -> &[Layer]
+        ensures { result.now ≡ spec.existing_layers (values_of self.now) }
+    {
+        self.also.of(AlsoKey::Fill)
+    }
+
     /// The layers of the keep-outs: the first, if there are any, and then those of `also_keep`, in the order of the rule file.
     ///
     /// # Errors

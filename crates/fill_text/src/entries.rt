@@ -120,6 +120,7 @@ impl Entries {
         let layer = listed_layer(line, key, word)?;
         match key {
             AlsoKey::Metal => self.also.metal.push(layer)?,
+            AlsoKey::Fill => self.also.fill.push(layer)?,
             AlsoKey::Keep => self.also.keep.push(layer)?,
         }
         Ok(())

@@ -98,6 +98,8 @@ pub enum OptionalKey {
 pub enum AlsoKey {
     /// A further layer of the metal.
     Metal,
+    /// A layer of fill that the design brings.
+    Fill,
     /// A further layer of the keep-outs, which asks for the keep-outs' first layer and its data type.
     Keep,
 }
@@ -164,7 +166,7 @@ pub const TEXT_KEYS: [TextKey; 4] = [
 pub const OPTIONAL_KEYS: [OptionalKey; 2] = [OptionalKey::KeepLayer, OptionalKey::KeepDatatype];
 
 /// The keys that may stand several times, in table order.
-pub const ALSO_KEYS: [AlsoKey; 2] = [AlsoKey::Metal, AlsoKey::Keep];
+pub const ALSO_KEYS: [AlsoKey; 3] = [AlsoKey::Metal, AlsoKey::Fill, AlsoKey::Keep];
 
 /// What the table says of a number: its name in the rule file, and the least and the greatest value that it may have.
 #[derive(Clone, Copy)]
@@ -310,6 +312,7 @@ impl AlsoKey {
     {
         match self {
             AlsoKey::Metal => "also_metal",
+            AlsoKey::Fill => "also_fill",
             AlsoKey::Keep => "also_keep",
         }
     }

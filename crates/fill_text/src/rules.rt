@@ -151,11 +151,14 @@ pub struct Texts {
     pub ghost fill_top_allowed: { spec.is_text TextKey.FillTop fill_top.items ≡ true },
 }
 
-/// The further layers of the metal and those of the keep-outs: each list in the order of the rule file.
+/// The further layers of the metal, the layers of fill that the design brings, and the further layers of the keep-outs: each list in
+/// the order of the rule file.
 #[derive(Debug, Drop, PartialEq, Eq)]
 pub struct AlsoLayers {
     /// Those of the metal.
     pub metal: Vec<Layer>,
+    /// Those of the existing fill.
+    pub fill: Vec<Layer>,
     /// Those of the keep-outs.
     pub keep: Vec<Layer>,
 }
@@ -218,10 +221,12 @@ impl AlsoLayers {
     /// No layer yet.
     pub(crate) fn new(alloc: Global) -> AlsoLayers
         ensures metal { result.metal.items ≡ [] }
+        ensures fill { result.fill.items ≡ [] }
         ensures keep { result.keep.items ≡ [] }
     {
         AlsoLayers {
             metal: Vec::new(alloc),
+            fill: Vec::new(alloc),
             keep: Vec::new(alloc),
         }
     }
@@ -232,6 +237,7 @@ impl AlsoLayers {
     {
         match key {
             AlsoKey::Metal => &self.metal,
+            AlsoKey::Fill => &self.fill,
             AlsoKey::Keep => &self.keep,
         }
     }
@@ -242,6 +248,7 @@ impl AlsoLayers {
     {
         Ok(AlsoLayers {
             metal: self.metal.to_vec(alloc)?,
+            fill: self.fill.to_vec(alloc)?,
             keep: self.keep.to_vec(alloc)?,
         })
     }

@@ -39,7 +39,7 @@ pub record Found : Type 0 where
   pub padding : Option Bool
 
 abbrev pub nothing_found : Found
-nothing_found = record { numbers = replicate 28 None; texts = replicate 4 None; optionals = replicate 2 None; also = [] ∷ [] ∷ []; padding = None }
+nothing_found = record { numbers = replicate 28 None; texts = replicate 4 None; optionals = replicate 2 None; also = [] ∷ [] ∷ [] ∷ []; padding = None }
 
 abbrev pub text_index : TextKey → ℕ
 text_index text.Top = 0
@@ -158,7 +158,7 @@ all_values found = do
   fill_cell ← ok_or (text_found found.texts text.FillCell) (BadRule (Text text.FillCell))
   fill_top ← ok_or (text_found found.texts text.FillTop) (BadRule (Text text.FillTop))
   keep ← pair_found (optional_found found.optionals KeepLayer) (optional_found found.optionals KeepDatatype) (nat_lt 0 (length (also_found found.also also.Keep)))
-  Ok (record { numbers = numbers; top = top; fill_lib = fill_lib; fill_cell = fill_cell; fill_top = fill_top; keep = keep; also_metal = also_found found.also also.Metal; also_keep = also_found found.also also.Keep; ignores = unwrap_or found.padding false })
+  Ok (record { numbers = numbers; top = top; fill_lib = fill_lib; fill_cell = fill_cell; fill_top = fill_top; keep = keep; also_metal = also_found found.also also.Metal; also_fill = also_found found.also also.Fill; also_keep = also_found found.also also.Keep; ignores = unwrap_or found.padding false })
 
 -- the values that a rule file gives, whatever holds of them together, or the first fault of a record or a key
 unfoldable pub values_in : List ℕ → Result Values RuleError
@@ -191,4 +191,4 @@ checked_chip values = do
 
 -- what the entries hold
 abbrev pub found_in : Entries → Found
-found_in s = record { numbers = s.numbers; texts = map (option_map (λ v. v.items)) (s.top ∷ s.fill_lib ∷ s.fill_cell ∷ s.fill_top ∷ []); optionals = s.optionals; also = s.also.metal.items ∷ s.also.keep.items ∷ []; padding = s.padding }
+found_in s = record { numbers = s.numbers; texts = map (option_map (λ v. v.items)) (s.top ∷ s.fill_lib ∷ s.fill_cell ∷ s.fill_top ∷ []); optionals = s.optionals; also = s.also.metal.items ∷ s.also.fill.items ∷ s.also.keep.items ∷ []; padding = s.padding }
