@@ -1,6 +1,6 @@
 #!/usr/bin/env python3
-"""Fills and checks random designs whose metal and keep-outs lie on several layers, and compares each report and library with a plain model
-over unit squares. Then names all layers of the metal by one number, which must change no byte.
+"""Fills random designs whose metal, existing fill and keep-outs lie on several layers, and compares each report and library with a plain
+model over unit squares. Then names all layers of the metal by one number, which must change no byte.
 
 usage: test_layers.py [PROGRAM]     (by default bin/densfill, else what the gate left in crates/densfill/out; needs python3)
 """
@@ -52,13 +52,14 @@ class Design:
 
 @dataclass(frozen=True)
 class Lists:
-    """The layers of metal and of keep-outs, the first one of each with a key of its own."""
+    """The layers of metal and of keep-outs, the first one of each with a key of its own, and those of existing fill."""
     metal: list[int]
+    fill: list[int]
     keep: list[int]
 
     def rules(self) -> str:
         keep = f"keep_layer,{self.keep[0]}\nkeep_datatype,0\n" if self.keep else ""
-        lists = (("also_metal", self.metal[1:]), ("also_keep", self.keep[1:]))
+        lists = (("also_metal", self.metal[1:]), ("also_fill", self.fill), ("also_keep", self.keep[1:]))
         return keep + "".join(f"{key},{layer}/0\n" for key, layers in lists for layer in layers)
 
 
@@ -91,16 +92,17 @@ def design_of(draw: random.Random) -> Design:
 
 
 def lists_of(draw: random.Random) -> Lists:
-    """Up to four layers of each, some of them twice or in both."""
-    return Lists([LAYERS[0], *draw.choices(LAYERS, k=draw.randrange(4))], draw.choices(LAYERS, k=draw.randrange(4)))
+    """Up to four layers of each, some of them twice or in several."""
+    return Lists([LAYERS[0], *draw.choices(LAYERS, k=draw.randrange(4))], draw.choices(LAYERS, k=draw.randrange(3)), draw.choices(LAYERS, k=draw.randrange(3)))
 
 
 class Model:
     """A fill over unit squares, without a clever step."""
 
-    def __init__(self, rules: Rules, metal: set[Square], keep: set[Square]) -> None:
+    def __init__(self, rules: Rules, metal: set[Square], existing: set[Square], keep: set[Square]) -> None:
         self.n = {key: value for key, value in rules.items() if isinstance(value, int)}
-        self.metal, self.keep = metal, keep
+        self.metal, self.existing, self.keep = metal, existing, keep
+        self.counted = metal | existing
 
     def box(self, i: int, j: int, beyond: int = 0) -> Rectangle:
         """The edges of the box of a place, moved outwards."""
@@ -123,13 +125,13 @@ class Model:
         return [(a, b, (x, y, x + n["win_w"], y + n["win_h"])) for a, b, x, y in corners]
 
     def is_allowed(self, i: int, j: int) -> bool:
-        near = any(square in self.metal for square in squares(self.box(i, j, self.n["spacing"])))
-        return not near and not any(square in self.keep for square in squares(self.box(i, j)))
+        kept = ((self.metal, self.n["spacing"]), (self.existing, self.n["fill_spacing"]), (self.keep, 0))
+        return not any(square in some for some, beyond in kept for square in squares(self.box(i, j, beyond)))
 
     def filled(self) -> set[tuple[int, int]]:
         """All allowed places whose box lies in a low window."""
         size = self.n["win_w"] * self.n["win_h"]
-        low = [of for _, _, of in self.windows() if sum(square in self.metal for square in squares(of)) * 1_000_000 < self.n["min"] * size]
+        low = [of for _, _, of in self.windows() if sum(square in self.counted for square in squares(of)) * 1_000_000 < self.n["min"] * size]
 
         def is_in_low(i: int, j: int) -> bool:
             x1, y1, x2, y2 = self.box(i, j)
@@ -140,7 +142,7 @@ class Model:
         inside = {square for place in filled for square in squares(self.box(*place))}
         lines = ""
         for a, b, of in self.windows():
-            drawn, fill = (sum(square in some for square in squares(of)) for some in (self.metal, inside))
+            drawn, fill = (sum(square in some for square in squares(of)) for some in (self.counted, inside))
             size, total = self.n["win_w"] * self.n["win_h"], (drawn + fill) * 1_000_000
             state = "LOW" if total < self.n["min"] * size else "HIGH" if total > self.n["max"] * size else "OK"
             lines += f"{a},{b},{','.join(map(str, of))},{drawn},{fill},{drawn + fill},{total // size},{state}\n"
@@ -148,7 +150,7 @@ class Model:
 
 
 class Layers(FolderCase):
-    """Metal and keep-outs of several layers."""
+    """Metal, existing fill and keep-outs of several layers."""
 
     def run_on(self, design: bytes, rules: str) -> tuple[str, bytes]:
         (self.folder / "rules.csv").write_text(rules)
@@ -163,7 +165,7 @@ class Layers(FolderCase):
             rules, design, lists = rules_of(draw), design_of(draw), lists_of(draw)
             with self.subTest(seed=seed):
                 report, out = self.run_on(design.stream({}), rule_file(rules) + lists.rules())
-                model = Model(rules, design.drawn(set(lists.metal)), design.drawn(set(lists.keep)))
+                model = Model(rules, *(design.drawn(set(of)) for of in (lists.metal, lists.fill, lists.keep)))
                 filled = model.filled()
                 self.assertEqual(report, model.report(filled))
                 self.assertEqual(set(corners(out)), {model.box(*place)[:2] for place in filled})
@@ -171,7 +173,7 @@ class Layers(FolderCase):
     def test_one_name_for_all_metal(self) -> None:
         for seed in range(RUNS):
             draw = random.Random(seed)
-            rules, design, lists = rules_of(draw), design_of(draw), Lists(lists_of(draw).metal, [])
+            rules, design, lists = rules_of(draw), design_of(draw), Lists(lists_of(draw).metal, [], [])
             with self.subTest(seed=seed):
                 several = self.run_on(design.stream({}), rule_file(rules) + lists.rules())
                 one = self.run_on(design.stream({layer: LAYERS[0] for layer in lists.metal}), rule_file(rules))

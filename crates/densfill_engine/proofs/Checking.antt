@@ -1,5 +1,5 @@
 -- What a rule file and a design say together, of all of a chip or of a part.
-use Rattle.std.proofs.Common.{◌≡◌, ◌⊎◌, ◌≤◌, inl, inr, ℕ, List, Option, Some, None, Result, Ok, Err, IfOk, IfSome, IsOk, refl, sym, ap, ap₂, subst, ◌∙◌, ◌&&◌}
+use Rattle.std.proofs.Common.{◌≡◌, ◌⊎◌, ◌≤◌, inl, inr, ℕ, List, Option, Some, None, Result, Ok, Err, IfOk, IfSome, IsOk, refl, sym, ap, ap₂, subst, ◌∙◌, ◌&&◌, ◌||◌}
 use Rattle.fill_base.specs.Squares.{squares}
 use Rattle.fill_base.specs.declared.rect.Rect.{Rect}
 use Rattle.densfill_io.specs.declared.input.InputError.TheVariants.{TooLong, Device, Memory as NoMemory}
@@ -12,7 +12,7 @@ use Rattle.fill_parts.specs.declared.part_rules.ToldRows.{ToldRows}
 use Rattle.fill_report.specs.RulesReport.{metal_report}
 use Rattle.gds_cells.specs.declared.error.FlattenError.{FlattenError}
 use Rattle.densfill_engine.specs.Checks.{IsChecked, IsCheckReason, report_in}
-use Rattle.densfill_engine.specs.Designs.{IsDrawn, IsFaultBy, IsMetalNear, IsUnflattened, size_near}
+use Rattle.densfill_engine.specs.Designs.{AreCounted, IsCountedNear, IsFaultBy, IsUncounted, size_near}
 use Rattle.densfill_engine.specs.Inputs.{answer_of, IsRulesReason}
 use Rattle.densfill_engine.specs.Scopes.{size_of, told_in}
 use Rattle.densfill_engine.specs.Views.{FitsIn, IsFaultIn, IsPartView, IsView, IsViewOf, Suffices, lines_told}
@@ -29,7 +29,7 @@ use Rattle.densfill_engine.specs.declared.scope.Scope.{Scope}
 use Rattle.densfill_engine.specs.declared.scope.Scope.TheVariants as asked
 use Rattle.densfill_engine.specs.declared.view.Told.{Told}
 use Rattle.densfill_engine.specs.declared.view.Told.TheVariants.{Everything, Rows}
-use Rattle.densfill_engine.proofs.Drawing.{metal_rows, unflattened_rows}
+use Rattle.densfill_engine.proofs.Drawing.{counted_rows, uncounted_rows}
 use Rattle.densfill_engine.proofs.Reasons.{is_ok_of}
 
 -- what is said of the bytes of two inputs holds where both are known
@@ -89,15 +89,15 @@ fault_in (asked.Part k) reach refused bytes values small told frame met (rows, r
   told = refl;
 }
 
--- the lines that are told of the metal near it are those of all metal
-drawn_in : (scope : Scope) (bytes : List ℕ) (values small : Values) (told : Told) (frame : Option Rect) (p : PointSet) → IsViewOf scope Windows values small told frame → IsMetalNear frame bytes small p
-    → (metal : PointSet) × IsDrawn (size_of scope) bytes values metal × (lines_told told small p ≡ report_in scope values metal)
+-- the lines that are told of what counts near it are those of all that counts
+drawn_in : (scope : Scope) (bytes : List ℕ) (values small : Values) (told : Told) (frame : Option Rect) (p : PointSet) → IsViewOf scope Windows values small told frame → IsCountedNear frame bytes small p
+    → (metal : PointSet) × (fill : PointSet) × AreCounted (size_of scope) bytes values metal fill × (lines_told told small p ≡ report_in scope values (λ x y. metal x y || fill x y))
 drawn_in asked.Whole bytes values small told frame p (small_is, told_is, frame_is) near =
-    let all = subst (λ (f : Option Rect). IsMetalNear f bytes values p) frame_is (subst (λ (v : Values). IsMetalNear frame bytes v p) small_is near) in
-    (all.metal, all.drawn, ap₂ (λ (t : Told) (v : Values). lines_told t v p) told_is small_is ∙ ap (λ (m : PointSet). metal_report m values) all.within)
+    let all = subst (λ (f : Option Rect). IsCountedNear f bytes values p) frame_is (subst (λ (v : Values). IsCountedNear frame bytes v p) small_is near) in
+    (all.metal, all.fill, all.counted, ap₂ (λ (t : Told) (v : Values). lines_told t v p) told_is small_is ∙ ap (λ (m : PointSet). metal_report m values) all.within)
 drawn_in (asked.Part k) bytes values small told frame p (rows, rect, told_is, frame_is, is) near =
-    let all = metal_rows bytes values is.holds.rows (Some rect) p (subst (λ (v : Values). IsMetalNear (Some rect) bytes v p) is.holds.alone (subst (λ (f : Option Rect). IsMetalNear f bytes small p) frame_is near)) in
-    (all.metal, all.drawn, ap (λ (t : Told). lines_told t small p) told_is ∙ (ap (λ (q : PointSet). lines_told (Rows rows) small q) all.within ∙ (is.frame_is all.metal ∙ is.holds.checks all.metal)))
+    let all = counted_rows bytes values is.holds.rows (Some rect) p (subst (λ (v : Values). IsCountedNear (Some rect) bytes v p) is.holds.alone (subst (λ (f : Option Rect). IsCountedNear f bytes small p) frame_is near)) in
+    (all.metal, all.fill, all.counted, ap (λ (t : Told). lines_told t small p) told_is ∙ (ap (λ (q : PointSet). lines_told (Rows rows) small q) all.within ∙ (is.frame_is (λ x y. all.metal x y || all.fill x y) ∙ is.holds.checks (λ x y. all.metal x y || all.fill x y))))
 
 pub view_read : (scope : Scope) (reach : Reach) (rules : Option (List ℕ)) (small : Values) (told : Told) (frame : Option Rect) → IsView scope reach rules small told frame → IfSome rules (λ r. IsOk (answer_of (size_of scope) r))
 view_read scope reach None small told frame view = tt
@@ -121,19 +121,19 @@ pub rules_reason : (scope : Scope) (rules design : Option (List ℕ)) (e : Refus
 rules_reason scope rules design e why = if_two rules design (λ r d at_r at_d. check_of_rules scope r d e (of _ rules r at_r why))
 
 module _ (scope : Scope) (rules design : Option (List ℕ)) (small : Values) (told : Told) (frame : Option Rect) (view : IsView scope Windows rules small told frame) where
-  pub design_reason : (met : InputFault DesignError) → IfSome design (λ bytes. IsFaultBy (IsUnflattened frame bytes small) bytes met) → (e : Refusal) → e ≡ Design (told_in scope met)
+  pub design_reason : (met : InputFault DesignError) → IfSome design (λ bytes. IsFaultBy (IsUncounted frame bytes small) bytes met) → (e : Refusal) → e ≡ Design (told_in scope met)
       → IfSome rules (λ r. IfSome design (λ d. IsCheckReason scope r d e))
   design_reason met why e is = if_two rules design (λ r d at_r at_d. subst (λ x. IsCheckReason scope r d x) (sym is) (
     view.0,
     of _ rules r at_r view.2,
-    fault_in scope Windows (λ v f. IsUnflattened f d v) d view.0 small told frame met view.1 (λ rows f e h. unflattened_rows d view.0 rows f e h) (of _ design d at_d why),
+    fault_in scope Windows (λ v f. IsUncounted f d v) d view.0 small told frame met view.1 (λ rows f e h. uncounted_rows d view.0 rows f e h) (of _ design d at_d why),
   ))
 
-  module _ (p : PointSet) (taken : IfSome design (λ bytes. IsMetalNear frame bytes small p)) where
+  module _ (p : PointSet) (taken : IfSome design (λ bytes. IsCountedNear frame bytes small p)) where
     checked : (r d : List ℕ) → rules ≡ Some r → design ≡ Some d → IsChecked scope r d (lines_told told small p)
     checked r d at_r at_d =
-        let (metal, drawn, same) = drawn_in scope d view.0 small told frame p view.1 (of _ design d at_d taken) in
-        record { values = view.0; accepted = of _ rules r at_r view.2; metal = metal; drawn = drawn; report = same }
+        let (metal, fill, counted, same) = drawn_in scope d view.0 small told frame p view.1 (of _ design d at_d taken) in
+        record { values = view.0; accepted = of _ rules r at_r view.2; metal = metal; fill = fill; counted = counted; report = same }
 
     pub check_written : (P : List ℕ → Type 0) → P (lines_told told small p) → IfSome rules (λ r. IfSome design (λ d. (text : List ℕ) × IsChecked scope r d text × P text))
     check_written P holds = if_two rules design (λ r d at_r at_d. (lines_told told small p, checked r d at_r at_d, holds))

@@ -93,14 +93,22 @@ patched (Some true) false = refl
 patched (Some false) true = refl
 patched (Some false) false = refl
 
--- ---- both
+-- ---- existing fill, which no edit changes
 
-pub edited_layers : (edits : List Edit) (metal keep m k : List Sides)
+fill_all : (edits : List Edit) (p : Layers) → (layers_with edits p).fill ≡ p.fill
+unfolding layers_with
+fill_all [] p = refl
+fill_all (e ∷ edits) p = fill_all edits (layers_after e p)
+
+-- ---- all three
+
+pub edited_layers : (edits : List Edit) (metal fill keep m k : List Sides)
     → ((x y : ℤ) → holds m x y ≡ ((holds metal x y && not (is_cut (last_change (map change_of edits) x y))) || is_added (last_change (map change_of edits) x y)))
-    → ((x y : ℤ) → holds k x y ≡ (holds keep x y || (layers_with edits no_layers).keep x y)) → layers_in m k ≡ layers_with edits (layers_in metal keep)
-edited_layers edits metal keep m k drawn kept = λ i. record {
-  metal = fun_ext (λ x. fun_ext (λ y. drawn x y ∙ (patched (last_change (map change_of edits) x y) (holds metal x y) ∙ metal_all edits (layers_in metal keep) x y))) i;
-  keep = fun_ext (λ x. fun_ext (λ y. kept x y ∙ sym (keep_all edits (layers_in metal keep) x y))) i;
+    → ((x y : ℤ) → holds k x y ≡ (holds keep x y || (layers_with edits no_layers).keep x y)) → layers_in m fill k ≡ layers_with edits (layers_in metal fill keep)
+edited_layers edits metal fill keep m k drawn kept = λ i. record {
+  metal = fun_ext (λ x. fun_ext (λ y. drawn x y ∙ (patched (last_change (map change_of edits) x y) (holds metal x y) ∙ metal_all edits (layers_in metal fill keep) x y))) i;
+  fill = sym (fill_all edits (layers_in metal fill keep)) i;
+  keep = fun_ext (λ x. fun_ext (λ y. kept x y ∙ sym (keep_all edits (layers_in metal fill keep) x y))) i;
 }
 
 pub not_edited : (edits : List Edit) (p : Layers) (none : Bool) → none ≡ (length edits == 0) → none ≡ true → p ≡ layers_with edits p

@@ -5,7 +5,7 @@ use Rattle.fill_region.specs.Runs.{Sides}
 use Rattle.fill_text.specs.Rules.{Values}
 use Rattle.fill_text.specs.Script.{change_of}
 use Rattle.fill_text.specs.declared.script.Edit.{Edit}
-use Rattle.fill_job.specs.Plans.{IsPlan, Layers, Plan, PointSet, WindowSet, allowed, in_window_of, plan_of}
+use Rattle.fill_job.specs.Plans.{IsPlan, Layers, Plan, PointSet, WindowSet, allowed, drawn_squares, in_window_of, plan_of}
 use Rattle.fill_core.specs.Accounts.{Account, state_of, terms_of}
 use Rattle.fill_core.specs.Histories.{edits_in, events_in}
 use Rattle.fill_core.specs.Machine.{IsComplete, State, opening as start, replay, replay_from}
@@ -29,12 +29,12 @@ use Rattle.densfill_engine.specs.declared.view.Told.{Told}
 use Rattle.densfill_engine.proofs.TileTurns.{run_brief, run_unedited}
 
 -- what a fill opens its book with
-abbrev pub fill_terms : Values → List Sides → List Sides → Terms
-fill_terms values metal keep = record { rules = values; opening = metal; keep = keep; most = 2 ^ 32 }
+abbrev pub fill_terms : Values → List Sides → List Sides → List Sides → Terms
+fill_terms values metal existing keep = record { rules = values; opening = metal; existing = existing; keep = keep; most = 2 ^ 32 }
 
 -- a book with no history yet
 abbrev pub blank : Terms → Account
-blank t = record { rules = t.rules; opening = t.opening; keep = t.keep; history = []; most = t.most }
+blank t = record { rules = t.rules; opening = t.opening; existing = t.existing; keep = t.keep; history = []; most = t.most }
 
 pub blank_fresh : (t : Terms) (a : Account) → a ≡ blank t → IsFresh (state_of a)
 unfolding replay_from
@@ -43,14 +43,14 @@ blank_fresh t a is tile = ap (λ (x : Account). (state_of x).tiles_in tile) is
 -- without an edit there is one fill only
 only_fill : (told : Told) (t : Terms) (b : Account) (units dates library report : List ℕ) → IsPlan (plan_of t.rules) → edits_in (events_in b.history) ≡ []
     → library ≡ fill_text units dates t.rules (places_told told (plan_of t.rules) (replay (plan_of t.rules) (layers_at t) (events_in b.history)).fill)
-    → report ≡ report_told told t.rules (replay (plan_of t.rules) (layers_at t) (events_in b.history)).layers.metal (replay (plan_of t.rules) (layers_at t) (events_in b.history)).fill
+    → report ≡ report_told told t.rules (drawn_squares (replay (plan_of t.rules) (layers_at t) (events_in b.history)).layers) (replay (plan_of t.rules) (layers_at t) (events_in b.history)).fill
     → IsComplete (plan_of t.rules) (replay (plan_of t.rules) (layers_at t) (events_in b.history)) → IsOnlyFillOf told t.rules (layers_at t) units dates library report
 only_fill told t b units dates library report plan unedited l r complete =
     let fill_is = complete_unedited (plan_of t.rules) (layers_at t) (events_in b.history) plan unedited complete in
     let layers_are = layers_stay (plan_of t.rules) (start (plan_of t.rules) (layers_at t)) (events_in b.history) unedited in
     record {
       library_is = l ∙ ap (λ (f : PointSet). fill_text units dates t.rules (places_told told (plan_of t.rules) f)) fill_is;
-      report_is = r ∙ ap₂ (λ (l : Layers) (f : PointSet). report_told told t.rules l.metal f) layers_are fill_is;
+      report_is = r ∙ ap₂ (λ (l : Layers) (f : PointSet). report_told told t.rules (drawn_squares l) f) layers_are fill_is;
       sound = low_sound (plan_of t.rules) (layers_at t) plan;
     }
 
@@ -81,10 +81,10 @@ came_back Left t a b edits pass after workers limit room is fresh left rounds = 
 -- the texts of a book in which every tile is in, whose edits are these
 fill_by : (told : Told) (t : Terms) (b : Account) (edits : List Edit) (workers : ℕ) (limit : Option ℕ) (units dates library report : List ℕ) → IsPlan (plan_of t.rules) → terms_of b ≡ t
     → changes_in b.history ≡ map change_of edits → length b.history ≤ length (map change_of edits) + most_commits t.rules workers limit → IsComplete (plan_of b.rules) (state_of b)
-    → library ≡ fill_text units dates b.rules (places_told told (plan_of b.rules) (state_of b).fill) → report ≡ report_told told b.rules (state_of b).layers.metal (state_of b).fill
+    → library ≡ fill_text units dates b.rules (places_told told (plan_of b.rules) (state_of b).fill) → report ≡ report_told told b.rules (drawn_squares (state_of b).layers) (state_of b).fill
     → (workers ≡ 1 → IsComplete (plan_of t.rules) (replay (plan_of t.rules) (layers_at t) (events_in b.history))
     → library ≡ fill_text units dates t.rules (places_told told (plan_of t.rules) (replay (plan_of t.rules) (layers_at t) (events_in b.history)).fill)
-    → report ≡ report_told told t.rules (replay (plan_of t.rules) (layers_at t) (events_in b.history)).layers.metal (replay (plan_of t.rules) (layers_at t) (events_in b.history)).fill
+    → report ≡ report_told told t.rules (drawn_squares (replay (plan_of t.rules) (layers_at t) (events_in b.history)).layers) (replay (plan_of t.rules) (layers_at t) (events_in b.history)).fill
     → IsOnlyFillOf told t.rules (layers_by (map change_of edits) (layers_at t)) units dates library report)
     → (1 < workers → (back : IsBack IsFinished t.rules (layers_at t) (map change_of edits) workers limit) × (events_in back.book.history ≡ events_in b.history))
     → IsFillOf told t.rules (layers_at t) units dates (map change_of edits) workers limit library report
@@ -93,7 +93,7 @@ fill_by told t b edits workers limit units dates library report plan under made 
     let rules : b.rules ≡ values = ap (λ (u : Terms). u.rules) under in
     let state : state_of b ≡ replay (plan_of values) (layers_at t) events = ap (λ (u : Terms). replay (plan_of u.rules) (layers_at u) events) under in
     let library_then = library_is ∙ (ap (λ (v : Values). fill_text units dates v (places_told told (plan_of v) (state_of b).fill)) rules ∙ ap (λ (s : State). fill_text units dates values (places_told told (plan_of values) s.fill)) state) in
-    let report_then = report_is ∙ (ap (λ (v : Values). report_told told v (state_of b).layers.metal (state_of b).fill) rules ∙ ap (λ (s : State). report_told told values s.layers.metal s.fill) state) in
+    let report_then = report_is ∙ (ap (λ (v : Values). report_told told v (drawn_squares (state_of b).layers) (state_of b).fill) rules ∙ ap (λ (s : State). report_told told values (drawn_squares s.layers) s.fill) state) in
     let complete_then = subst (λ (s : State). IsComplete (plan_of values) s) state (subst (λ (v : Values). IsComplete (plan_of v) (state_of b)) rules complete) in
     record {
       events = events;
@@ -113,7 +113,7 @@ fill_by told t b edits workers limit units dates library report plan under made 
 pub texts_of_run : (told : Told) (t : Terms) (a b : Account) (pass : Held) (edits : List Edit) (workers : ℕ) (limit : Option ℕ) (units dates library report : List ℕ) → IsPlan (plan_of t.rules)
     → 1 < workers → t.most ≡ 2 ^ 32 → a ≡ blank t → pass ≡ nothing_with 1024
     → (after : Held) × IsFinished (terms_of a) edits b after × HasRun (terms_of a) edits workers (most_turns a.rules limit) pass b after × (after.calls ≤ pass.calls + (length edits + 2 * (workers * most_turns a.rules limit)))
-    → library ≡ fill_text units dates b.rules (places_told told (plan_of b.rules) (state_of b).fill) → report ≡ report_told told b.rules (state_of b).layers.metal (state_of b).fill
+    → library ≡ fill_text units dates b.rules (places_told told (plan_of b.rules) (state_of b).fill) → report ≡ report_told told b.rules (drawn_squares (state_of b).layers) (state_of b).fill
     → IsFillOf told t.rules (layers_at t) units dates (map change_of edits) workers limit library report
 unfolding came_back
 texts_of_run told t a b pass edits workers limit units dates library report plan many room is fresh (after, done, rounds, brief) library_is report_is =
@@ -134,7 +134,7 @@ unmade layers = refl
 module _ (t : Terms) (a : Account) (limit : Option ℕ) (is : a ≡ blank t) where
   -- the texts of a book that one worker filled
   pub texts_alone : (told : Told) (c : Account) (units dates library report : List ℕ) → IsPlan (plan_of t.rules) → IsRun a c (2 * most_turns a.rules limit) → IsComplete (plan_of c.rules) (state_of c)
-      → library ≡ fill_text units dates c.rules (places_told told (plan_of c.rules) (state_of c).fill) → report ≡ report_told told c.rules (state_of c).layers.metal (state_of c).fill
+      → library ≡ fill_text units dates c.rules (places_told told (plan_of c.rules) (state_of c).fill) → report ≡ report_told told c.rules (drawn_squares (state_of c).layers) (state_of c).fill
       → IsFillOf told t.rules (layers_at t) units dates [] 1 limit library report
   texts_alone told c units dates library report plan filled complete library_is report_is =
       fill_by told t c [] 1 limit units dates library report plan under (ap (map change_of) unedited)
@@ -143,7 +143,7 @@ module _ (t : Terms) (a : Account) (limit : Option ℕ) (is : a ≡ blank t) whe
       (λ many. absurd (omega (arith, many)))
     where
       same : terms_of c ≡ terms_of a
-      same = λ k. record { rules = filled.rules k; opening = filled.opening k; keep = filled.keep k; most = filled.most k }
+      same = λ k. record { rules = filled.rules k; opening = filled.opening k; existing = filled.existing k; keep = filled.keep k; most = filled.most k }
 
       under : terms_of c ≡ t
       under = same ∙ ap terms_of is

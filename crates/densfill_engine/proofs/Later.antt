@@ -6,7 +6,7 @@ use Rattle.std.proofs.lemmas.List.{append-nil, length-append, length-map, map-ap
 use Rattle.fill_text.specs.Rules.{Values}
 use Rattle.fill_text.specs.Script.{Change, change_of}
 use Rattle.fill_text.specs.declared.script.Edit.{Edit}
-use Rattle.fill_job.specs.Plans.{Layers, Plan, plan_of}
+use Rattle.fill_job.specs.Plans.{Layers, Plan, drawn_squares, plan_of}
 use Rattle.fill_core.specs.Boxes.{no_places}
 use Rattle.fill_core.specs.Histories.{edits_by, edits_in}
 use Rattle.fill_core.specs.Machine.{State, fill_after, is_accepted, layers_after, opened, opening, replay, replay_from, step, with_tile}
@@ -108,7 +108,7 @@ behind_fill told values layers after edits workers limit u units d dates library
   sound = subst (λ (s : State). IsSound (plan_of values) s.layers s.fill) (sym run) fill.sound;
   whole = subst (λ (s : State). IsAllWanted (plan_of values) s) (sym run) fill.whole;
   library_is = fill.library_is ∙ ap (λ (s : State). fill_text units dates values (places_told told (plan_of values) s.fill)) (sym run);
-  report_is = fill.report_is ∙ ap (λ (s : State). report_told told values s.layers.metal s.fill) (sym run);
+  report_is = fill.report_is ∙ ap (λ (s : State). report_told told values (drawn_squares s.layers) s.fill) (sym run);
   unedited = λ none. subst (λ (l : Layers). IsOnlyFillOf told values l units dates library report) (ap (λ (c : List Change). layers_by c layers) none ∙ nothing_made layers) only;
   alone = λ _. only;
   together = λ many. absurd (omega (arith, many, one));

@@ -9,9 +9,9 @@ use Rattle.std.proofs.lemmas.List.Folds.{flat_map-map}
 use Rattle.std.proofs.lemmas.List.FromFn.{fill_by_all}
 use Rattle.std.proofs.lemmas.Option.{slice_get-get_or}
 use Rattle.fill_base.specs.declared.layer.Layer.{Layer}
-use Rattle.fill_text.specs.Rules.{Values, keep_layers, metal_layers}
+use Rattle.fill_text.specs.Rules.{Values, existing_layers, keep_layers, metal_layers}
 use Rattle.fill_text.specs.Script.{Change}
-use Rattle.fill_job.specs.Plans.{Layers, PointSet, plan_of}
+use Rattle.fill_job.specs.Plans.{Layers, PointSet, drawn_squares, plan_of}
 use Rattle.fill_core.specs.Boxes.{low_fill}
 use Rattle.fill_report.specs.BookReport.{fill_report}
 use Rattle.fill_parts.specs.Laws.{part}
@@ -30,7 +30,7 @@ use Rattle.gds_cells.specs.Copies.{drawn}
 use Rattle.gds_cells.specs.Designs.{copies_of}
 use Rattle.gds_out.specs.FillText.{fill_text}
 use Rattle.gds_join.proofs.Libraries.{parts_library}
-use Rattle.densfill_engine.specs.Designs.{IsDesign, IsKeptOut}
+use Rattle.densfill_engine.specs.Designs.{IsDesign, IsOnAny}
 use Rattle.densfill_engine.specs.Fills.{Inputs, IsFilled}
 use Rattle.densfill_engine.specs.Inputs.{answer_of, chip_answer, script_answer}
 use Rattle.densfill_engine.specs.Joiners.{IsJoinOf}
@@ -79,32 +79,34 @@ one_answer {A = A} {E = E} r x y p q = ap (ok_or x) (sym p ∙ q)
     ok_or d (Ok z) = z
     ok_or d (Err e) = d
 
--- the keep-outs that a top draws, if there are layers of them
-abbrev all_kept : List Cell → List ℕ → List Layer → PointSet
-all_kept cells top [] x y = false
-all_kept cells top (layer ∷ more) x y = drawn (copies_of cells top (layer ∷ more)) x y
+-- what a top draws on layers, if there are any
+abbrev all_on : List Cell → List ℕ → List Layer → PointSet
+all_on cells top [] x y = false
+all_on cells top (layer ∷ more) x y = drawn (copies_of cells top (layer ∷ more)) x y
 
 -- what a design draws, however many copies there are
 record IsSeen (bytes : List ℕ) (values : Values) (layers : Layers) (units dates : List ℕ) : Type 0 where
   design : Contents
   spelled : Spells bytes design
   metal : layers.metal ≡ drawn (copies_of design.cells values.top (metal_layers values))
-  keep : layers.keep ≡ all_kept design.cells values.top (keep_layers values)
+  fill : layers.fill ≡ all_on design.cells values.top (existing_layers values)
+  keep : layers.keep ≡ all_on design.cells values.top (keep_layers values)
   units_are : units ≡ design.units
   dates_are : dates ≡ design.dates
 
 design_seen : (size : Size) (bytes : List ℕ) (values : Values) (layers : Layers) (units dates : List ℕ) → IsDesign size bytes values layers units dates → IsSeen bytes values layers units dates
 design_seen size bytes values layers units dates is = record {
-  design = is.drawn.metal.design;
-  spelled = is.drawn.metal.read.spelled;
-  metal = is.drawn.metal.drawn.squares_are;
-  keep = kept is.drawn.metal.design.cells values.top (keep_layers values) layers.keep is.drawn.kept;
+  design = is.drawn.counted.drawn.design;
+  spelled = is.drawn.counted.drawn.read.spelled;
+  metal = is.drawn.counted.drawn.drawn.squares_are;
+  fill = on_any is.drawn.counted.drawn.design.cells values.top (existing_layers values) layers.fill is.drawn.counted.filled;
+  keep = on_any is.drawn.counted.drawn.design.cells values.top (keep_layers values) layers.keep is.drawn.kept;
   units_are = is.units_are;
   dates_are = is.dates_are;
 } where
-  kept : (cells : List Cell) (top : List ℕ) (layers : List Layer) (p : PointSet) → IsKeptOut size cells top layers p → p ≡ all_kept cells top layers
-  kept cells top [] p none = fun_ext (λ x. fun_ext (λ y. none x y))
-  kept cells top (layer ∷ more) p on = on.squares_are
+  on_any : (cells : List Cell) (top : List ℕ) (layers : List Layer) (p : PointSet) → IsOnAny size cells top layers p → p ≡ all_on cells top layers
+  on_any cells top [] p none = fun_ext (λ x. fun_ext (λ y. none x y))
+  on_any cells top (layer ∷ more) p on = on.squares_are
 
 -- a rule file of a chip within the limits of a run says the same of one of any size
 answer_chip : (size : Size) (r : List ℕ) (values : Values) → answer_of size r ≡ Ok values → chip_answer r ≡ Ok values
@@ -149,10 +151,11 @@ said_once r d s a b =
     let design : a.seen.design ≡ seen.design = spelled_once d a.seen.design seen.design a.seen.spelled seen.spelled in
     let metal : a.layers.metal ≡ b.layers.metal =
     a.seen.metal ∙ (ap (λ (c : Contents). drawn (copies_of c.cells a.values.top (metal_layers a.values))) design ∙ sym seen.metal) in
-    let keep : a.layers.keep ≡ b.layers.keep = a.seen.keep ∙ (ap (λ (c : Contents). all_kept c.cells a.values.top (keep_layers a.values)) design ∙ sym seen.keep) in
+    let fill : a.layers.fill ≡ b.layers.fill = a.seen.fill ∙ (ap (λ (c : Contents). all_on c.cells a.values.top (existing_layers a.values)) design ∙ sym seen.fill) in
+    let keep : a.layers.keep ≡ b.layers.keep = a.seen.keep ∙ (ap (λ (c : Contents). all_on c.cells a.values.top (keep_layers a.values)) design ∙ sym seen.keep) in
     record {
       values_are = values;
-      layers_are = λ t. record { metal = metal t; keep = keep t };
+      layers_are = λ t. record { metal = metal t; fill = fill t; keep = keep t };
       units_are = a.seen.units_are ∙ (ap (λ (c : Contents). c.units) design ∙ sym seen.units_are);
       dates_are = a.seen.dates_are ∙ (ap (λ (c : Contents). c.dates) design ∙ sym seen.dates_are);
       changes_are = one_answer (script_answer s) a.changes b.changes a.edits b.edits;
@@ -185,25 +188,25 @@ module _ (rules design script : List ℕ) (libraries reports : List (List ℕ)) 
       ∙ ((λ t. fill_text (s.units_are t) (s.dates_are t) (s.values_are t) (part_fill (plan_of (s.values_are t)) (layers_by (s.changes_are t) (s.layers_are t)) (part k (length libraries))))
       ∙ (λ t. fill_text inputs.units inputs.dates (rules_are t) (part_fill (plan_of (rules_are t)) layers (part k (length libraries))))))
 
-  report_of : (k : ℕ) (lt : k < length libraries) → get_or reports k [] ≡ part_report inputs.values layers.metal (low_fill (plan_of inputs.values) layers) (part k (length libraries))
+  report_of : (k : ℕ) (lt : k < length libraries) → get_or reports k [] ≡ part_report inputs.values (drawn_squares layers) (low_fill (plan_of inputs.values) layers) (part k (length libraries))
   report_of k lt =
       let s = same k lt in
       (given k lt).1.report_is
-      ∙ (λ t. part_report (s.values_are t) (layers_by (s.changes_are t) (s.layers_are t)).metal (low_fill (plan_of (s.values_are t)) (layers_by (s.changes_are t) (s.layers_are t))) (part k (length libraries)))
+      ∙ (λ t. part_report (s.values_are t) (drawn_squares (layers_by (s.changes_are t) (s.layers_are t))) (low_fill (plan_of (s.values_are t)) (layers_by (s.changes_are t) (s.layers_are t))) (part k (length libraries)))
 
   whole_library : library ≡ fill_text inputs.units inputs.dates inputs.values (low_fill (plan_of inputs.values) layers)
   whole_library =
-      let sizes = has_sizes design inputs.drawn.drawn.metal.design inputs.drawn.drawn.metal.read.spelled in
+      let sizes = has_sizes design inputs.drawn.drawn.counted.drawn.design inputs.drawn.drawn.counted.drawn.read.spelled in
       parts_library join.values inputs.units inputs.dates layers libraries library join.plan join.some (ap length inputs.drawn.units_are ∙ sizes.units) (ap length inputs.drawn.dates_are ∙ sizes.dates) join.few
       library_of join.joined
       ∙ sym (λ t. fill_text inputs.units inputs.dates (rules_are t) (low_fill (plan_of (rules_are t)) layers))
 
-  whole_report : concat reports ≡ fill_report inputs.values layers.metal (low_fill (plan_of inputs.values) layers)
+  whole_report : concat reports ≡ fill_report inputs.values (drawn_squares layers) (low_fill (plan_of inputs.values) layers)
   whole_report =
-      let lines : ℕ → List ℕ = λ k. part_report inputs.values layers.metal (low_fill (plan_of inputs.values) layers) (part k (length libraries)) in
+      let lines : ℕ → List ℕ = λ k. part_report inputs.values (drawn_squares layers) (low_fill (plan_of inputs.values) layers) (part k (length libraries)) in
       concat_is reports
       ∙ (ap (flat_map (λ x. x)) (fill_by_all lines reports (length libraries) [] parts.count report_of)
-      ∙ (flat_map-map (λ x. x) lines (range_with_len 0 (length libraries)) ∙ parts_report inputs.values layers.metal (low_fill (plan_of inputs.values) layers) (length libraries) join.some))
+      ∙ (flat_map-map (λ x. x) lines (range_with_len 0 (length libraries)) ∙ parts_report inputs.values (drawn_squares layers) (low_fill (plan_of inputs.values) layers) (length libraries) join.some))
 
   of_run : (limit : Option ℕ) (whole lines : List ℕ) → IsFilled asked.Whole rules design script 1 limit whole lines → (library ≡ whole) × (concat reports ≡ lines)
   of_run limit whole lines filled =
@@ -212,7 +215,7 @@ module _ (rules design script : List ℕ) (libraries reports : List (List ℕ)) 
         whole_library
             ∙ ((λ t. fill_text (s.units_are t) (s.dates_are t) (s.values_are t) (low_fill (plan_of (s.values_are t)) (layers_by (s.changes_are t) (s.layers_are t)))) ∙ sym only.library_is),
         whole_report
-            ∙ ((λ t. fill_report (s.values_are t) (layers_by (s.changes_are t) (s.layers_are t)).metal (low_fill (plan_of (s.values_are t)) (layers_by (s.changes_are t) (s.layers_are t)))) ∙ sym only.report_is),
+            ∙ ((λ t. fill_report (s.values_are t) (drawn_squares (layers_by (s.changes_are t) (s.layers_are t))) (low_fill (plan_of (s.values_are t)) (layers_by (s.changes_are t) (s.layers_are t)))) ∙ sym only.report_is),
       )
 
 pub parts_are_one : PartsAreOneRun

@@ -93,20 +93,21 @@ part_text values k small told holds law layers units dates =
 -- within the rectangle the edits beside it do nothing, and nothing farther away counts
 pub is_of_part : (values : Values) (k : Part) (small : Values) (rows : ToldRows) (frame : Rect) (near layers : Layers) (units dates : List ℕ) (made : List Edit) (library report : List ℕ)
     → IsPartView Needs values k small rows frame → IsPlan (plan_of small) → EditsAreChanges → ClippedAgrees → ChipRunIsThePart → TextOfSomeRows
-    → IsRanged (Some frame) layers.metal → IsRanged (Some frame) layers.keep → near ≡ layers_within (Some frame) layers
+    → IsRanged (Some frame) layers.metal → IsRanged (Some frame) layers.fill → IsRanged (Some frame) layers.keep → near ≡ layers_within (Some frame) layers
     → IsOnlyFillOf (Rows rows) small (layers_by (map change_of (filter (is_near frame) made)) near) units dates library report
     → IsPartFillOf values (layers_by (map change_of made) layers) units dates k library report
-is_of_part values k small rows frame near layers units dates made library report view plan changes clip law text metal_in keep_in within texts =
+is_of_part values k small rows frame near layers units dates made library report view plan changes clip law text metal_in fill_in keep_in within texts =
     let s = needed_sides (plan_of small) in
     let same = λ (x y : ℤ). ap (λ (t : Sides). is_inside t x y) view.frame_is in
     let met : near ≡ layers_met (in_coordinates s) layers = within ∙ (λ i. record {
       metal = fun_ext (λ x. fun_ext (λ y. ap (λ b. layers.metal x y && b) (same x y))) i;
+      fill = fun_ext (λ x. fun_ext (λ y. ap (λ b. layers.fill x y && b) (same x y))) i;
       keep = fun_ext (λ x. fun_ext (λ y. ap (λ b. layers.keep x y && b) (same x y))) i;
     }) in
     let all = layers_by (map change_of made) layers in
     let fill = subst (λ (l : Layers). IsOnlyFillOf (Rows rows) small l units dates library report)
     (sym (changes (filter (is_near frame) made) near) ∙ ap (layers_with (filter (is_near frame) made)) met) texts in
-    let run = law values k small (tiles_in rows) (windows_in rows) rows.below layers (is_near frame) made view.holds plan (view.fits rows refl).0 (view.fits rows refl).1 metal_in keep_in
+    let run = law values k small (tiles_in rows) (windows_in rows) rows.below layers (is_near frame) made view.holds plan (view.fits rows refl).0 (view.fits rows refl).1 metal_in fill_in keep_in
     (λ edit far. far_edit s frame edit clip same far) in
     record {
       library_is = fill.library_is ∙ (ap (fill_text units dates small) run.places ∙ part_text values k small rows view.holds text all units dates);

@@ -65,10 +65,10 @@ module _ (scope : Scope) (values small : Values) (told : Told) (frame : Option R
   changes = map change_of (edits_near frame made)
 
   filled_in : (units dates library report : List ℕ) → IsViewOf scope Needs values small told frame → IsPlan (plan_of small) → EditsAreChanges → ClippedAgrees → ChipRunIsThePart → TextOfSomeRows
-      → IsRanged frame layers.metal → IsRanged frame layers.keep → near ≡ layers_within frame layers
+      → IsRanged frame layers.metal → IsRanged frame layers.fill → IsRanged frame layers.keep → near ≡ layers_within frame layers
       → IsFillOf told small near units dates changes (crew_in scope crew).workers (crew_in scope crew).limit library report
       → IsFillIn scope values layers units dates (map change_of made) crew.workers crew.limit library report
-  filled_in units dates library report view plan made_so clip law text metal_in keep_in within given = by scope view given
+  filled_in units dates library report view plan made_so clip law text metal_in fill_in keep_in within given = by scope view given
     where
       by : (scope : Scope) → IsViewOf scope Needs values small told frame → IsFillOf told small near units dates changes (crew_in scope crew).workers (crew_in scope crew).limit library report
           → IsFillIn scope values layers units dates (map change_of made) crew.workers crew.limit library report
@@ -76,7 +76,7 @@ module _ (scope : Scope) (values small : Values) (told : Told) (frame : Option R
           whole_is (λ t v l c. IsFillOf t v l units dates c crew.workers crew.limit library report) values small told frame near layers made view within given
       by (asked.Part k) (rows, rect, told_is, frame_is, view) given =
           is_of_part values k small rows rect near layers units dates made library report view plan made_so clip law text
-          (subst (λ (f : Option Rect). IsRanged f layers.metal) frame_is metal_in) (subst (λ (f : Option Rect). IsRanged f layers.keep) frame_is keep_in)
+          (subst (λ (f : Option Rect). IsRanged f layers.metal) frame_is metal_in) (subst (λ (f : Option Rect). IsRanged f layers.fill) frame_is fill_in) (subst (λ (f : Option Rect). IsRanged f layers.keep) frame_is keep_in)
           (within ∙ ap (λ (f : Option Rect). layers_within f layers) frame_is)
           (subst (λ (t : Told). IsOnlyFillOf t small (layers_by (map change_of (edits_near (Some rect) made)) near) units dates library report) told_is
           (subst (λ (f : Option Rect). IsOnlyFillOf told small (layers_by (map change_of (edits_near f made)) near) units dates library report) frame_is (given.alone refl)))
@@ -162,7 +162,7 @@ module _ (scope : Scope) (rules design edits : Option (List ℕ)) (crew : Crew) 
               → IfSome rules (λ r. IfSome design (λ d. IfSome edits (λ s. IsFilled scope r d s crew.workers crew.limit library report)))
           filled made_so clip law text library report given = if_all rules design edits (λ r d s at_r at_d at_s. (
             inputs r d s at_r at_d at_s,
-            filled_in scope view.0 small told frame near (seen d at_d).layers made crew units dates library report view.1 plan made_so clip law text (seen d at_d).metal_in (seen d at_d).keep_in (seen d at_d).within
+            filled_in scope view.0 small told frame near (seen d at_d).layers made crew units dates library report view.1 plan made_so clip law text (seen d at_d).metal_in (seen d at_d).fill_in (seen d at_d).keep_in (seen d at_d).within
                 (subst (λ (c : Crew). IsFillOf told small near units dates (map change_of (edits_near frame made)) c.workers c.limit library report) who_is given),
           ))
 

@@ -40,12 +40,13 @@ run_brief a b turns run =
     few eb hb ea ha c t e f g le = omega (arith, e, f, g, le)
 
 pub no_run : (a : Account) → IsRun a a 0
-no_run a = record { rules = refl; opening = refl; keep = refl; most = refl; commits = []; events = sym (append-nil (events_in a.history)); unedited = refl; brief = omega arith }
+no_run a = record { rules = refl; opening = refl; existing = refl; keep = refl; most = refl; commits = []; events = sym (append-nil (events_in a.history)); unedited = refl; brief = omega arith }
 
 pub one_more : (a b c : Account) (k : ℕ) → IsRun a b k → IsRun b c 1 → IsRun a c (k + 1)
 one_more a b c k first next = record {
   rules = next.rules ∙ first.rules;
   opening = next.opening ∙ first.opening;
+  existing = next.existing ∙ first.existing;
   keep = next.keep ∙ first.keep;
   most = next.most ∙ first.most;
   commits = first.commits ++ next.commits;
@@ -62,6 +63,7 @@ one_commit a c held after version tile read reply done =
     subst (λ (x : Account). IsRun a x 1) (sym done.writes.written) record {
       rules = refl;
       opening = refl;
+      existing = refl;
       keep = refl;
       most = refl;
       commits = event.Commit version tile done.same ∷ [];

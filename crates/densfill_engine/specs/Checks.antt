@@ -1,10 +1,10 @@
 -- What the program answers to a rule file and a design.
-use Rattle.std.specs.Prelude.{◌≡◌, ℕ, List, Ok}
+use Rattle.std.specs.Prelude.{◌≡◌, ◌||◌, ℕ, List, Ok}
 use Rattle.fill_text.specs.Rules.{Values}
 use Rattle.fill_job.specs.Plans.{PointSet}
 use Rattle.fill_parts.specs.PartReport.{part_check}
 use Rattle.fill_report.specs.RulesReport.{metal_report}
-use Rattle.densfill_engine.specs.Designs.{IsDrawn}
+use Rattle.densfill_engine.specs.Designs.{AreCounted}
 use Rattle.densfill_engine.specs.Inputs.{answer_of, IsRulesReason}
 use Rattle.densfill_engine.specs.Scopes.{size_of}
 use Rattle.densfill_engine.specs.Views.{IsMetalFault}
@@ -19,13 +19,14 @@ abbrev pub report_in : Scope → Values → PointSet → List ℕ
 report_in asked.Whole values metal = metal_report metal values
 report_in (asked.Part k) values metal = part_check values metal k
 
--- the text is that of the metal that the design's top draws
+-- the text is that of the metal and the existing fill that the design's top draws
 pub record IsChecked (scope : Scope) (rules design text : List ℕ) : Type 0 where
   pub values : Values
   pub accepted : answer_of (size_of scope) rules ≡ Ok values
   pub metal : PointSet
-  pub drawn : IsDrawn (size_of scope) design values metal
-  pub report : text ≡ report_in scope values metal
+  pub fill : PointSet
+  pub counted : AreCounted (size_of scope) design values metal fill
+  pub report : text ≡ report_in scope values (λ x y. metal x y || fill x y)
 
 -- why there is no such text of a rule file and a design of these bytes
 abbrev pub IsCheckReason : Scope → List ℕ → List ℕ → Refusal → Type 0

@@ -1,11 +1,11 @@
 -- What the bytes of a design draw on the layers that the rules name.
-use Rattle.std.specs.Prelude.{◌≡◌, ◌⊎◌, ◌&&◌, ◌^◌, ◌<◌, ◌≤◌, ℕ, ℤ, false, true, List, [], ◌∷◌, length, Option, Some, None}
+use Rattle.std.specs.Prelude.{◌≡◌, ◌⊎◌, ◌&&◌, ◌||◌, ◌^◌, ◌<◌, ◌≤◌, ℕ, ℤ, false, true, List, [], ◌∷◌, length, Option, Some, None}
 use Rattle.densfill_io.specs.declared.input.InputError.TheVariants.{TooLong, Device, Memory}
 use Rattle.fill_base.specs.Coordinates.{IsInRange}
 use Rattle.fill_base.specs.Squares.{squares}
 use Rattle.fill_base.specs.declared.layer.Layer.{Layer}
 use Rattle.fill_base.specs.declared.rect.Rect.{Rect}
-use Rattle.fill_text.specs.Rules.{Values, keep_layers, metal_layers}
+use Rattle.fill_text.specs.Rules.{Values, existing_layers, keep_layers, metal_layers}
 use Rattle.fill_job.specs.Plans.{Layers, PointSet}
 use Rattle.gds_grammar.specs.Values.{Cell, Contents}
 use Rattle.gds_grammar.specs.Outcomes as library
@@ -36,9 +36,9 @@ pub record IsDrawnOn (size : Size) (cells : List Cell) (top : List ℕ) (layers 
   pub squares_are : p ≡ drawn (copies_of cells top layers)
 
 -- the same where there are layers, and no square where there are none
-abbrev pub IsKeptOut : Size → List Cell → List ℕ → List Layer → PointSet → Type 0
-IsKeptOut size cells top [] keep = (x y : ℤ) → keep x y ≡ false
-IsKeptOut size cells top (layer ∷ more) keep = IsDrawnOn size cells top (layer ∷ more) keep
+abbrev pub IsOnAny : Size → List Cell → List ℕ → List Layer → PointSet → Type 0
+IsOnAny size cells top [] p = (x y : ℤ) → p x y ≡ false
+IsOnAny size cells top (layer ∷ more) p = IsDrawnOn size cells top (layer ∷ more) p
 
 -- the metal is what the design's top draws on the layers of the metal
 pub record IsDrawn (size : Size) (bytes : List ℕ) (values : Values) (metal : PointSet) : Type 0 where
@@ -46,16 +46,21 @@ pub record IsDrawn (size : Size) (bytes : List ℕ) (values : Values) (metal : P
   pub read : IsRead bytes design
   pub drawn : IsDrawnOn size design.cells values.top (metal_layers values) metal
 
--- so it is, and the keep-outs are what the same top draws on theirs
-pub record AreDrawn (size : Size) (bytes : List ℕ) (values : Values) (layers : Layers) : Type 0 where
-  pub metal : IsDrawn size bytes values layers.metal
-  pub kept : IsKeptOut size metal.design.cells values.top (keep_layers values) layers.keep
+-- so it is, and the existing fill is what the same top draws on its layers: both count
+pub record AreCounted (size : Size) (bytes : List ℕ) (values : Values) (metal fill : PointSet) : Type 0 where
+  pub drawn : IsDrawn size bytes values metal
+  pub filled : IsOnAny size drawn.design.cells values.top (existing_layers values) fill
 
--- these are metal and keep-outs, and the library has these units and dates
+-- so they are, and the keep-outs are what the same top draws on theirs
+pub record AreDrawn (size : Size) (bytes : List ℕ) (values : Values) (layers : Layers) : Type 0 where
+  pub counted : AreCounted size bytes values layers.metal layers.fill
+  pub kept : IsOnAny size counted.drawn.design.cells values.top (keep_layers values) layers.keep
+
+-- these are metal, existing fill and keep-outs, and the library has these units and dates
 pub record IsDesign (size : Size) (bytes : List ℕ) (values : Values) (layers : Layers) (units dates : List ℕ) : Type 0 where
   pub drawn : AreDrawn size bytes values layers
-  pub units_are : units ≡ drawn.metal.design.units
-  pub dates_are : dates ≡ drawn.metal.design.dates
+  pub units_are : units ≡ drawn.counted.drawn.design.units
+  pub dates_are : dates ≡ drawn.counted.drawn.design.dates
 
 -- ---- near a rectangle, where there is one: of a design of any size then
 
@@ -69,7 +74,7 @@ squares_within None p = p
 squares_within (Some frame) p = λ x y. p x y && squares frame x y
 
 abbrev pub layers_within : Option Rect → Layers → Layers
-layers_within frame layers = record { metal = squares_within frame layers.metal; keep = squares_within frame layers.keep }
+layers_within frame layers = record { metal = squares_within frame layers.metal; fill = squares_within frame layers.fill; keep = squares_within frame layers.keep }
 
 -- a part knows besides that all squares lie within the coordinates
 abbrev pub IsRanged : Option Rect → PointSet → Type 0
@@ -92,21 +97,27 @@ pub record IsDrawnNear (frame : Option Rect) (cells : List Cell) (top : List ℕ
   pub ranged : IsRanged frame (drawn (copies_of cells top layers))
   pub squares_are : (x y : ℤ) → p x y ≡ squares_within frame (drawn (copies_of cells top layers)) x y
 
-abbrev pub IsKeptNear : Option Rect → List Cell → List ℕ → List Layer → PointSet → Type 0
-IsKeptNear frame cells top [] keep = (x y : ℤ) → keep x y ≡ false
-IsKeptNear frame cells top (layer ∷ more) keep = IsDrawnNear frame cells top (layer ∷ more) keep
+abbrev pub IsOnAnyNear : Option Rect → List Cell → List ℕ → List Layer → PointSet → Type 0
+IsOnAnyNear frame cells top [] p = (x y : ℤ) → p x y ≡ false
+IsOnAnyNear frame cells top (layer ∷ more) p = IsDrawnNear frame cells top (layer ∷ more) p
 
--- the squares are those within it of the metal of a design
-pub record IsMetalNear (frame : Option Rect) (bytes : List ℕ) (values : Values) (p : PointSet) : Type 0 where
+abbrev pub IsFewNear : Option Rect → List Cell → List ℕ → List Layer → Type 0
+IsFewNear frame cells top [] = Unit {0}
+IsFewNear frame cells top (layer ∷ more) = IsCountableNear frame cells top (layer ∷ more)
+
+-- the squares are those within it of what counts of a design: metal and existing fill
+pub record IsCountedNear (frame : Option Rect) (bytes : List ℕ) (values : Values) (p : PointSet) : Type 0 where
   pub metal : PointSet
-  pub drawn : IsDrawn (size_near frame) bytes values metal
-  pub within : p ≡ squares_within frame metal
+  pub fill : PointSet
+  pub counted : AreCounted (size_near frame) bytes values metal fill
+  pub within : p ≡ squares_within frame (λ x y. metal x y || fill x y)
 
--- metal and keep-outs are those within it of a design
+-- metal, existing fill and keep-outs are those within it of a design
 pub record IsDesignNear (frame : Option Rect) (bytes : List ℕ) (values : Values) (near : Layers) (units dates : List ℕ) : Type 0 where
   pub layers : Layers
   pub whole : IsDesign (size_near frame) bytes values layers units dates
   pub metal_in : IsRanged frame layers.metal
+  pub fill_in : IsRanged frame layers.fill
   pub keep_in : IsRanged frame layers.keep
   pub within : near ≡ layers_within frame layers
 
@@ -118,17 +129,31 @@ pub record IsUnflattened (frame : Option Rect) (bytes : List ℕ) (values : Valu
   pub read : IsRead bytes design
   pub refused : IsRefusedNear frame design.cells values.top (metal_layers values) e
 
--- why the keep-outs, of which there are layers, can't be, where the metal is
-pub record IsUnflattenedBehind (frame : Option Rect) (bytes : List ℕ) (values : Values) (e : FlattenError) : Type 0 where
+-- why the existing fill, of which there are layers, can't be, where the metal is
+pub record IsUnflattenedFill (frame : Option Rect) (bytes : List ℕ) (values : Values) (e : FlattenError) : Type 0 where
   pub metal : PointSet
   pub drawn : IsDrawn (size_near frame) bytes values metal
   pub few : IsCountableNear frame drawn.design.cells values.top (metal_layers values)
-  pub some : ¬ (keep_layers values ≡ [])
-  pub refused : IsRefusedNear frame drawn.design.cells values.top (keep_layers values) e
+  pub some : ¬ (existing_layers values ≡ [])
+  pub refused : IsRefusedNear frame drawn.design.cells values.top (existing_layers values) e
 
--- why there is no metal there, or none of the keep-outs behind it
+-- why the keep-outs, of which there are layers, can't be, where metal and existing fill are
+pub record IsUnflattenedKeep (frame : Option Rect) (bytes : List ℕ) (values : Values) (e : FlattenError) : Type 0 where
+  pub metal : PointSet
+  pub fill : PointSet
+  pub counted : AreCounted (size_near frame) bytes values metal fill
+  pub few : IsCountableNear frame counted.drawn.design.cells values.top (metal_layers values)
+  pub few_filled : IsFewNear frame counted.drawn.design.cells values.top (existing_layers values)
+  pub some : ¬ (keep_layers values ≡ [])
+  pub refused : IsRefusedNear frame counted.drawn.design.cells values.top (keep_layers values) e
+
+-- why what counts can't be drawn there: the metal, or behind it the existing fill
+abbrev pub IsUncounted : Option Rect → List ℕ → Values → FlattenError → Type 0
+IsUncounted frame bytes values e = IsUnflattened frame bytes values e ⊎ IsUnflattenedFill frame bytes values e
+
+-- or behind both the keep-outs
 abbrev pub IsUndrawn : Option Rect → List ℕ → Values → FlattenError → Type 0
-IsUndrawn frame bytes values e = IsUnflattened frame bytes values e ⊎ IsUnflattenedBehind frame bytes values e
+IsUndrawn frame bytes values e = IsUncounted frame bytes values e ⊎ IsUnflattenedKeep frame bytes values e
 
 -- Why a design of these bytes gives nothing: it could not be read, or memory ran out; it's too long; it's no library, or its top
 -- can't be flattened, for a cause of this kind.

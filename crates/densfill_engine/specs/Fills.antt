@@ -3,7 +3,7 @@ use Rattle.std.specs.Prelude.{◌≡◌, [], ℕ, ℤ, ◌+◌, ◌^◌, ◌<◌
 use Rattle.fill_text.specs.Rules.{Values}
 use Rattle.fill_text.specs.Script.{Change, change_of}
 use Rattle.fill_text.specs.declared.script.ScriptError.TheVariants as script
-use Rattle.fill_job.specs.Plans.{Layers, Plan, allowed, in_window_of, low_windows, plan_of}
+use Rattle.fill_job.specs.Plans.{Layers, Plan, allowed, drawn_squares, in_window_of, low_windows, plan_of}
 use Rattle.fill_core.specs.Boxes.{low_fill, with_boxes}
 use Rattle.fill_core.specs.Histories.{edits_in, events_in}
 use Rattle.fill_core.specs.Machine.{IsComplete, State, replay}
@@ -38,17 +38,17 @@ pub record Inputs (size : Size) (rules design script : List ℕ) : Type 0 where
   pub changes : List Change
   pub edits : script_answer script ≡ Ok changes
 
--- The texts tell of the metal as it is drawn and of all allowed places whose box lies wholly in a window that is low in it:
+-- The texts tell of metal and existing fill as they are drawn and of all allowed places whose box lies wholly in a window that is low in them:
 -- one pair of texts, whoever computed it. These places are a sound fill.
 pub record IsOnlyFillOf (told : Told) (values : Values) (layers : Layers) (units dates library report : List ℕ) : Type 0 where
   pub library_is : library ≡ fill_text units dates values (places_told told (plan_of values) (low_fill (plan_of values) layers))
-  pub report_is : report ≡ report_told told values layers.metal (low_fill (plan_of values) layers)
+  pub report_is : report ≡ report_told told values (drawn_squares layers) (low_fill (plan_of values) layers)
   pub sound : IsSound (plan_of values) layers (low_fill (plan_of values) layers)
 
 -- nothing is missing and nothing too much: the fill is what the last change left of it and all allowed places whose box lies wholly
--- in a window that was low then, in metal and boxes together
+-- in a window that was low then, in metal, existing fill and boxes together
 abbrev pub IsAllWanted : Plan → State → Type 0
-IsAllWanted plan s = (i j : ℤ) → s.fill i j ≡ s.base i j || (allowed plan s.layers i j && in_window_of plan (low_windows plan (with_boxes plan s.layers.metal s.base)) i j)
+IsAllWanted plan s = (i j : ℤ) → s.fill i j ≡ s.base i j || (allowed plan s.layers i j && in_window_of plan (low_windows plan (with_boxes plan (drawn_squares s.layers) s.base)) i j)
 
 -- The texts tell of a fill of the layers in which every tile is in: some events lead to it from the opening on them, among
 -- them exactly these changes, in their order, and at most so many commits as the workers have turns. It is sound, and has all that
@@ -62,7 +62,7 @@ pub record IsFillOf (told : Told) (values : Values) (layers : Layers) (units dat
   pub sound : let s = replay (plan_of values) layers events in IsSound (plan_of values) s.layers s.fill
   pub whole : IsAllWanted (plan_of values) (replay (plan_of values) layers events)
   pub library_is : let s = replay (plan_of values) layers events in library ≡ fill_text units dates values (places_told told (plan_of values) s.fill)
-  pub report_is : let s = replay (plan_of values) layers events in report ≡ report_told told values s.layers.metal s.fill
+  pub report_is : let s = replay (plan_of values) layers events in report ≡ report_told told values (drawn_squares s.layers) s.fill
   pub unedited : changes ≡ [] → IsOnlyFillOf told values layers units dates library report
   pub alone : workers ≡ 1 → IsOnlyFillOf told values (layers_by changes layers) units dates library report
   pub together : 1 < workers → (back : IsBack IsFinished values layers changes workers limit) × (events_in back.book.history ≡ events)
@@ -71,7 +71,7 @@ pub record IsFillOf (told : Told) (values : Values) (layers : Layers) (units dat
 -- windows.
 pub record IsPartFillOf (values : Values) (layers : Layers) (units dates : List ℕ) (k : Part) (library report : List ℕ) : Type 0 where
   pub library_is : library ≡ fill_text units dates values (part_fill (plan_of values) layers k)
-  pub report_is : report ≡ part_report values layers.metal (low_fill (plan_of values) layers) k
+  pub report_is : report ≡ part_report values (drawn_squares layers) (low_fill (plan_of values) layers) k
   pub sound : IsSound (plan_of values) layers (low_fill (plan_of values) layers)
 
 -- of all of a chip, or of a part, which one worker fills once the changes are made

@@ -9,7 +9,7 @@ use Rattle.densfill_engine.specs.Metal.{is_metal}
 
 -- nothing is drawn, and nothing is kept out
 abbrev pub no_layers : Layers
-no_layers = record { metal = λ x y. false; keep = λ x y. false }
+no_layers = record { metal = λ x y. false; fill = λ x y. false; keep = λ x y. false }
 
 -- The metal that a script leaves of nothing is that of a fill that was opened on nothing and edited so: one union with a rectangle or
 -- difference from it after the other.

@@ -34,6 +34,7 @@ IsFresh s = (tile : ℕ) → s.tiles_in tile ≡ false
 pub record IsRun (old new : Account) (turns : ℕ) : Type 0 where
   pub rules : new.rules ≡ old.rules
   pub opening : new.opening ≡ old.opening
+  pub existing : new.existing ≡ old.existing
   pub keep : new.keep ≡ old.keep
   pub most : new.most ≡ old.most
   pub commits : List Event

@@ -1,5 +1,5 @@
 -- What a run looks at: all of a chip, or a part of it as a smaller chip, near a rectangle.
-use Rattle.std.specs.Prelude.{◌≡◌, ◌&&◌, ◌≤◌, ℕ, ℤ, Bool, List, Option, Some, None, Ok, IfSome, int_lt}
+use Rattle.std.specs.Prelude.{◌≡◌, ◌&&◌, ◌≤◌, ℕ, Bool, List, Option, Some, None, Ok, IfSome, int_lt}
 use Rattle.std.specs.List.{filter}
 use Rattle.fill_base.specs.Sides.{sides_of}
 use Rattle.fill_base.specs.Squares.{squares}
@@ -18,7 +18,7 @@ use Rattle.fill_report.specs.BookReport.{boxes_of, fill_report}
 use Rattle.fill_report.specs.Report.{nothing}
 use Rattle.fill_report.specs.RulesReport.{metal_report}
 use Rattle.gds_cells.specs.declared.error.FlattenError.{FlattenError}
-use Rattle.densfill_engine.specs.Designs.{IsFaultBy, IsUndrawn, IsUnflattened}
+use Rattle.densfill_engine.specs.Designs.{IsFaultBy, IsUncounted, IsUndrawn}
 use Rattle.densfill_engine.specs.Inputs.{answer_of}
 use Rattle.densfill_engine.specs.Scopes.{part_told, size_of}
 use Rattle.densfill_engine.specs.declared.refusal.DesignError.{DesignError}
@@ -117,10 +117,10 @@ abbrev pub IsFaultIn : Scope → Reach → (Option Rect → FlattenError → Typ
 IsFaultIn asked.Whole reach refused bytes values fault = IsFaultBy (refused None) bytes fault
 IsFaultIn (asked.Part k) reach refused bytes values fault = IsPartFault reach refused bytes values k fault
 
--- why there is no metal
+-- why there is no metal, or no existing fill behind it
 abbrev pub IsMetalFault : Scope → List ℕ → Values → InputFault DesignError → Type 0
-IsMetalFault scope bytes values fault = IsFaultIn scope Windows (λ frame. IsUnflattened frame bytes values) bytes values fault
+IsMetalFault scope bytes values fault = IsFaultIn scope Windows (λ frame. IsUncounted frame bytes values) bytes values fault
 
--- why there is no metal, or none of the keep-outs behind it
+-- why there is no metal, or behind it no existing fill, or none of the keep-outs behind both
 abbrev pub IsDesignFault : Scope → List ℕ → Values → InputFault DesignError → Type 0
 IsDesignFault scope bytes values fault = IsFaultIn scope Needs (λ frame. IsUndrawn frame bytes values) bytes values fault

@@ -51,7 +51,7 @@ fn metal_with(alloc: Global, metal: &Region, edits: &[Edit]) -> Result<Region, A
 
 /// What a design gives once the edits are made, as one after another, in their order, would leave it.
 pub(crate) fn edited(alloc: Global, design: Design, edits: &[Edit]) -> Result<Design, RunFault>
-    ensures layers { IfOk result (λ d. layers_in d.metal d.keep ≡ layers_with edits.now (layers_in design.metal design.keep)) }
+    ensures layers { IfOk result (λ d. layers_in d.metal d.fill d.keep ≡ layers_with edits.now (layers_in design.metal design.fill design.keep)) }
     ensures units { IfOk result (λ d. d.units ≡ design.units) }
     ensures dates { IfOk result (λ d. d.dates ≡ design.dates) }
     ensures refused { IfErr result (λ e. e ≡ RunFault.Memory) }
@@ -63,6 +63,7 @@ pub(crate) fn edited(alloc: Global, design: Design, edits: &[Edit]) -> Result<De
     let keep = keep_with(alloc, &design.keep, edits)?;
     Ok(Design {
         metal,
+        fill: design.fill,
         keep,
         units: design.units,
         dates: design.dates,

@@ -25,7 +25,7 @@ use crate::together::fill_together;
 use crate::turns::fill_tiles;
 use crate::view::View;
 use densfill_io::{InputError, Tap, write_settled, write_text};
-use fill_book::Book;
+use fill_book::{Book, Opening};
 use fill_core::Opened;
 use fill_job::laws::rules_make_a_plan;
 use fill_parts::laws::{chip_run_is_the_part, clipped_agrees, edits_are_changes, edits_open_anew};
@@ -51,11 +51,11 @@ fn fill_by_many<C: Opened + Send + Sync, P: Ledger + Send + Sync, W: Ledger + Se
     requires names { (ledgers.calls.name ≡ C.name) × (ledgers.placed.name ≡ P.name) × (ledgers.withdrawn.name ≡ W.name) }
     requires parts { (ledgers.calls.parts ≡ C.parts) × (ledgers.placed.parts ≡ P.parts) × (ledgers.withdrawn.parts ≡ W.parts) }
     requires all { AllParts C.parts P.parts W.parts }
-    requires terms { record { rules = values_of task.view.rules; opening = task.design.metal; keep = task.design.keep; most = 2 ^ 32 } ≡ C.terms }
+    requires terms { record { rules = values_of task.view.rules; opening = task.design.metal; existing = task.design.fill; keep = task.design.keep; most = 2 ^ 32 } ≡ C.terms }
     requires workers { (1 < crew.workers) × (crew.workers ≤ 64) }
-    ensures filled { IfOk result (λ f. IsFillOf task.view.told (values_of task.view.rules) (layers_in task.design.metal task.design.keep) task.design.units task.design.dates (map change_of task.edits.items) crew.workers crew.limit f.library.items f.report.items) }
-    ensures unfinished { result ≡ Err RunFault.Unfinished → IsBack IsUnfinished (values_of task.view.rules) (layers_in task.design.metal task.design.keep) (map change_of task.edits.items) crew.workers crew.limit }
-    ensures mixed { result ≡ Err RunFault.Mixed → IsBack IsMixed (values_of task.view.rules) (layers_in task.design.metal task.design.keep) (map change_of task.edits.items) crew.workers crew.limit }
+    ensures filled { IfOk result (λ f. IsFillOf task.view.told (values_of task.view.rules) (layers_in task.design.metal task.design.fill task.design.keep) task.design.units task.design.dates (map change_of task.edits.items) crew.workers crew.limit f.library.items f.report.items) }
+    ensures unfinished { result ≡ Err RunFault.Unfinished → IsBack IsUnfinished (values_of task.view.rules) (layers_in task.design.metal task.design.fill task.design.keep) (map change_of task.edits.items) crew.workers crew.limit }
+    ensures mixed { result ≡ Err RunFault.Mixed → IsBack IsMixed (values_of task.view.rules) (layers_in task.design.metal task.design.fill task.design.keep) (map change_of task.edits.items) crew.workers crew.limit }
 {
     let Task {
         view,
@@ -66,6 +66,7 @@ fn fill_by_many<C: Opened + Send + Sync, P: Ledger + Send + Sync, W: Ledger + Se
     rules_make_a_plan(&rules);
     let Design {
         metal,
+        fill,
         keep,
         units,
         dates,
@@ -81,8 +82,7 @@ fn fill_by_many<C: Opened + Send + Sync, P: Ledger + Send + Sync, W: Ledger + Se
         calls,
         placed,
         withdrawn,
-        metal,
-        keep,
+        Opening { metal, fill, keep },
         rules,
         MOST_EVENTS,
     )?;
@@ -102,8 +102,8 @@ fn fill_alone<C: Opened + Send + Sync, P: Ledger + Send + Sync, W: Ledger + Send
     requires names { (ledgers.calls.name ≡ C.name) × (ledgers.placed.name ≡ P.name) × (ledgers.withdrawn.name ≡ W.name) }
     requires parts { (ledgers.calls.parts ≡ C.parts) × (ledgers.placed.parts ≡ P.parts) × (ledgers.withdrawn.parts ≡ W.parts) }
     requires all { AllParts C.parts P.parts W.parts }
-    requires terms { record { rules = values_of view.rules; opening = design.metal; keep = design.keep; most = 2 ^ 32 } ≡ C.terms }
-    ensures filled { IfOk result (λ f. IsFillOf view.told (values_of view.rules) (layers_in design.metal design.keep) design.units design.dates [] 1 limit f.library.items f.report.items) }
+    requires terms { record { rules = values_of view.rules; opening = design.metal; existing = design.fill; keep = design.keep; most = 2 ^ 32 } ≡ C.terms }
+    ensures filled { IfOk result (λ f. IsFillOf view.told (values_of view.rules) (layers_in design.metal design.fill design.keep) design.units design.dates [] 1 limit f.library.items f.report.items) }
     ensures unfinished { result ≡ Err RunFault.Unfinished → IsTooShort (values_of view.rules) limit 0 (2 ^ 32) }
     ensures mixed { result ≡ Err RunFault.Mixed → ⊥ }
 {
@@ -111,6 +111,7 @@ fn fill_alone<C: Opened + Send + Sync, P: Ledger + Send + Sync, W: Ledger + Send
     rules_make_a_plan(&rules);
     let Design {
         metal,
+        fill,
         keep,
         units,
         dates,
@@ -126,8 +127,7 @@ fn fill_alone<C: Opened + Send + Sync, P: Ledger + Send + Sync, W: Ledger + Send
         calls,
         placed,
         withdrawn,
-        metal,
-        keep,
+        Opening { metal, fill, keep },
         rules,
         MOST_EVENTS,
     )?;
@@ -144,10 +144,10 @@ fn fill_design(
     crew: Crew,
 ) -> Result<Filled, RunFault>
     requires workers { (0 < crew.workers) × (crew.workers ≤ 64) }
-    ensures filled { IfOk result (λ f. IsFillOf task.view.told (values_of task.view.rules) (layers_in task.design.metal task.design.keep) task.design.units task.design.dates (map change_of task.edits.items) crew.workers crew.limit f.library.items f.report.items) }
-    ensures unfinished { result ≡ Err RunFault.Unfinished → IsLeftOpen (values_of task.view.rules) (layers_in task.design.metal task.design.keep) (map change_of task.edits.items) crew.workers crew.limit }
+    ensures filled { IfOk result (λ f. IsFillOf task.view.told (values_of task.view.rules) (layers_in task.design.metal task.design.fill task.design.keep) task.design.units task.design.dates (map change_of task.edits.items) crew.workers crew.limit f.library.items f.report.items) }
+    ensures unfinished { result ≡ Err RunFault.Unfinished → IsLeftOpen (values_of task.view.rules) (layers_in task.design.metal task.design.fill task.design.keep) (map change_of task.edits.items) crew.workers crew.limit }
     ensures short { result ≡ Err RunFault.Unfinished → crew.workers ≡ 1 → IsTooShort (values_of task.view.rules) crew.limit 0 (2 ^ 32) }
-    ensures mixed { result ≡ Err RunFault.Mixed → IsMixedUp (values_of task.view.rules) (layers_in task.design.metal task.design.keep) (map change_of task.edits.items) crew.workers crew.limit }
+    ensures mixed { result ≡ Err RunFault.Mixed → IsMixedUp (values_of task.view.rules) (layers_in task.design.metal task.design.fill task.design.keep) (map change_of task.edits.items) crew.workers crew.limit }
 {
     if crew.workers > 1 {
         return fill_by_many::<Brand, Brand, Brand>(rt, alloc, Ledgers::blank(), task, crew);
@@ -163,7 +163,7 @@ fn fill_design(
     fill_alone::<Brand, Brand, Brand>(rt, alloc, Ledgers::blank(), view, design, crew.limit)
 }
 
-/// Fills a design: opens a book on the metal and the keep-outs that it draws on the rules' layers, and makes the script's edits in their
+/// Fills a design: opens a book on the metal, the existing fill and the keep-outs that it draws on the rules' layers, and makes the script's edits in their
 /// order. One worker makes them all at once, before the book opens, and then brings tile after tile. Two to 64 workers bring tiles
 /// while they are made, and begin once more where a tile is left then. In each of these two rounds a worker takes at most `limit`
 /// turns, without a limit one for each tile and one more; so one worker has both at once. Each input is read to its end and

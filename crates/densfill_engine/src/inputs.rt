@@ -10,7 +10,7 @@ ghost use Rattle.fill_text.specs.ValuesOfChips.{chip_values};
 ghost use Rattle.fill_text.specs.ValuesOfRules.{values_of};
 ghost use Rattle.fill_job.specs.Basis.{layers_in};
 ghost use Rattle.gds_grammar.specs.Values.{contents_of};
-ghost use Rattle.densfill_engine.specs.Designs.{IsDesignNear, IsDrawnNear, IsFaultBy, IsKeptNear, IsMetalNear, IsRefusedNear, IsUndrawn, IsUnflattened};
+ghost use Rattle.densfill_engine.specs.Designs.{IsCountedNear, IsDesignNear, IsDrawnNear, IsFaultBy, IsOnAnyNear, IsRefusedNear, IsUncounted, IsUndrawn};
 ghost use Rattle.densfill_engine.specs.Inputs.{chip_answer, rules_answer, script_answer, IsFaultOf};
 
 use crate::metal::one_list;
@@ -135,15 +135,15 @@ fn region_of(
     region_of_rects(rt, alloc, &rects)
 }
 
-/// What the library's top draws on the layers of the keep-outs: no square where there are none.
-fn kept_out(
+/// The same of any number of layers: no square where there are none.
+fn region_on_any(
     rt: &(impl Threads + Sync),
     alloc: Global,
     library: &Library<'_>,
     view: &View,
     layers: &[Layer],
 ) -> Result<Region, FlattenError>
-    ensures kept { IfOk result (λ r. IsKeptNear view.now.frame (contents_of library.now).cells (values_of view.now.rules).top layers.now (holds r)) }
+    ensures drawn { IfOk result (λ r. IsOnAnyNear view.now.frame (contents_of library.now).cells (values_of view.now.rules).top layers.now (holds r)) }
     ensures refused { IfErr result (λ e. ¬ (layers.now ≡ []) × IsRefusedNear view.now.frame (contents_of library.now).cells (values_of view.now.rules).top layers.now e) }
 {
     if layers.is_empty() {
@@ -152,29 +152,50 @@ fn kept_out(
     region_on(rt, alloc, library, view, layers)
 }
 
-/// The metal that the design of these bytes draws on its layers within what is looked at, as lists of rectangles that cover it. Of other layers
-/// nothing is kept.
-fn metal_of(
+/// The same as lists of rectangles.
+fn drawn_on_any(
+    rt: &(impl Threads + Sync),
+    alloc: Global,
+    library: &Library<'_>,
+    view: &View,
+    layers: &[Layer],
+) -> Result<Vec<Vec<Rect>>, FlattenError>
+    ensures drawn { IfOk result (λ lists. IsOnAnyNear view.now.frame (contents_of library.now).cells (values_of view.now.rules).top layers.now (covered (flat_map vec_items lists.items))) }
+    ensures refused { IfErr result (λ e. ¬ (layers.now ≡ []) × IsRefusedNear view.now.frame (contents_of library.now).cells (values_of view.now.rules).top layers.now e) }
+{
+    if layers.is_empty() {
+        return Ok(Vec::new(alloc));
+    }
+    drawn_on(rt, alloc, library, view, layers)
+}
+
+/// What counts of the design of these bytes within what is looked at, metal and existing fill, as lists of rectangles that cover it. Of other
+/// layers nothing is kept.
+fn counted_of(
     rt: &(impl Threads + Sync),
     alloc: Global,
     bytes: &[u8],
     view: &View,
 ) -> Result<Vec<Vec<Rect>>, InputFault<DesignError>>
     requires { length bytes.now ≤ 2 ^ 31 }
-    ensures metal { IfOk result (λ lists. IsMetalNear view.now.frame bytes.now (values_of view.now.rules) (covered (flat_map vec_items lists.items))) }
-    ensures refused { IfErr result (λ f. IsFaultBy (IsUnflattened view.now.frame bytes.now (values_of view.now.rules)) bytes.now f) }
+    ensures counted { IfOk result (λ lists. IsCountedNear view.now.frame bytes.now (values_of view.now.rules) (covered (flat_map vec_items lists.items))) }
+    ensures refused { IfErr result (λ f. IsFaultBy (IsUncounted view.now.frame bytes.now (values_of view.now.rules)) bytes.now f) }
     ensures taken { ¬ IsErrOf result (InputFault.Unread InputError.Device) }
 {
     layers_suffice();
     layers_suffice_within();
-    let layers = view.rules.metal_layers(alloc)?;
+    let metal_layers = view.rules.metal_layers(alloc)?;
+    let existing_layers = view.rules.existing_layers();
+    let layers = both(alloc, &metal_layers, existing_layers)?;
     let library = read_layers(alloc, bytes, &layers)?;
-    let lists = drawn_on(rt, alloc, &library, view, &layers)?;
+    let mut lists = drawn_on(rt, alloc, &library, view, &metal_layers)?;
+    let mut filled = drawn_on_any(rt, alloc, &library, view, existing_layers)?;
+    lists.append(&mut filled)?;
     Ok(lists)
 }
 
 /// The same of the design behind the tap.
-pub fn take_metal<D: Read>(
+pub fn take_counted<D: Read>(
     rt: &(impl Threads + Sync),
     alloc: Global,
     tap: &mut Tap<D>,
@@ -182,11 +203,11 @@ pub fn take_metal<D: Read>(
 ) -> Result<Vec<Vec<Rect>>, InputFault<DesignError>>
     requires { has_failed tap.old ≡ false }
     ensures device { IsErrOf result (InputFault.Unread InputError.Device) ↔ (has_failed tap.new ≡ true) }
-    ensures metal { IfOk result (λ lists. IfSome (D.remaining (under tap.old)) (λ bytes. IsMetalNear view.now.frame bytes (values_of view.now.rules) (covered (flat_map vec_items lists.items)))) }
-    ensures refused { IfErr result (λ f. IfSome (D.remaining (under tap.old)) (λ bytes. IsFaultBy (IsUnflattened view.now.frame bytes (values_of view.now.rules)) bytes f)) }
+    ensures counted { IfOk result (λ lists. IfSome (D.remaining (under tap.old)) (λ bytes. IsCountedNear view.now.frame bytes (values_of view.now.rules) (covered (flat_map vec_items lists.items)))) }
+    ensures refused { IfErr result (λ f. IfSome (D.remaining (under tap.old)) (λ bytes. IsFaultBy (IsUncounted view.now.frame bytes (values_of view.now.rules)) bytes f)) }
 {
     let bytes = read_input(alloc, tap, MOST_BYTES)?;
-    metal_of(rt, alloc, &bytes, view)
+    counted_of(rt, alloc, &bytes, view)
 }
 
 /// What a design gives to a fill.
@@ -194,6 +215,8 @@ pub fn take_metal<D: Read>(
 pub struct Design {
     /// The metal that its top draws on the layers of the metal.
     pub metal: Region,
+    /// The squares that its top draws on the layers of existing fill; none where the rules name no such layer.
+    pub fill: Region,
     /// The squares that its top draws on the layers of the keep-outs; none where the rules name no such layer.
     pub keep: Region,
     /// The data of its UNITS.
@@ -222,8 +245,8 @@ fn both(alloc: Global, first: &[Layer], second: &[Layer]) -> Result<Vec<Layer>, 
     Ok(layers)
 }
 
-/// What the design of these bytes draws within what is looked at, on the layers of the metal and on those of the keep-outs, with its
-/// units and dates. It is read once, and the metal is flattened first.
+/// What the design of these bytes draws within what is looked at, on the layers of metal, of existing fill and of keep-outs, with its units
+/// and dates. It is read once, and flattened in this order.
 fn design_of(
     rt: &(impl Threads + Sync),
     alloc: Global,
@@ -231,20 +254,24 @@ fn design_of(
     view: &View,
 ) -> Result<Design, InputFault<DesignError>>
     requires { length bytes.now ≤ 2 ^ 31 }
-    ensures design { IfOk result (λ d. IsDesignNear view.now.frame bytes.now (values_of view.now.rules) (layers_in d.metal d.keep) d.units d.dates) }
+    ensures design { IfOk result (λ d. IsDesignNear view.now.frame bytes.now (values_of view.now.rules) (layers_in d.metal d.fill d.keep) d.units d.dates) }
     ensures refused { IfErr result (λ f. IsFaultBy (IsUndrawn view.now.frame bytes.now (values_of view.now.rules)) bytes.now f) }
     ensures taken { ¬ IsErrOf result (InputFault.Unread InputError.Device) }
 {
     layers_suffice();
     layers_suffice_within();
     let metal_layers = view.rules.metal_layers(alloc)?;
+    let existing_layers = view.rules.existing_layers();
     let keep_layers = view.rules.keep_layers(alloc)?;
-    let layers = both(alloc, &metal_layers, &keep_layers)?;
+    let counted = both(alloc, &metal_layers, existing_layers)?;
+    let layers = both(alloc, &counted, &keep_layers)?;
     let library = read_layers(alloc, bytes, &layers)?;
     let metal = region_on(rt, alloc, &library, view, &metal_layers)?;
-    let keep = kept_out(rt, alloc, &library, view, &keep_layers)?;
+    let fill = region_on_any(rt, alloc, &library, view, existing_layers)?;
+    let keep = region_on_any(rt, alloc, &library, view, &keep_layers)?;
     Ok(Design {
         metal,
+        fill,
         keep,
         units: library.units,
         dates: library.dates,
@@ -260,7 +287,7 @@ pub fn take_design<D: Read>(
 ) -> Result<Design, InputFault<DesignError>>
     requires { has_failed tap.old ≡ false }
     ensures device { IsErrOf result (InputFault.Unread InputError.Device) ↔ (has_failed tap.new ≡ true) }
-    ensures design { IfOk result (λ d. IfSome (D.remaining (under tap.old)) (λ bytes. IsDesignNear view.now.frame bytes (values_of view.now.rules) (layers_in d.metal d.keep) d.units d.dates)) }
+    ensures design { IfOk result (λ d. IfSome (D.remaining (under tap.old)) (λ bytes. IsDesignNear view.now.frame bytes (values_of view.now.rules) (layers_in d.metal d.fill d.keep) d.units d.dates)) }
     ensures refused { IfErr result (λ f. IfSome (D.remaining (under tap.old)) (λ bytes. IsFaultBy (IsUndrawn view.now.frame bytes (values_of view.now.rules)) bytes f)) }
 {
     let bytes = read_input(alloc, tap, MOST_BYTES)?;

@@ -1,4 +1,4 @@
-//! The density reports: of the metal that a script leaves of nothing, and of the metal that a design draws, from bytes to bytes.
+//! The density reports: of the metal that a script leaves of nothing, and of what a design draws, from bytes to bytes.
 ghost use Rattle.std.specs.Prelude.{◌≡◌, ◌↔◌, ◌⊎◌, ℕ, List, true, false, take, IfErr, IfOk, IfSome, IsOk, IsOkAnd, OnErr, OnOk};
 ghost use Rattle.std.specs.Io.KnownBytes.{Appends};
 ghost use Rattle.std.specs.List.{flat_map};
@@ -12,7 +12,7 @@ ghost use Rattle.densfill_engine.specs.Checks.{IsChecked, IsCheckReason};
 ghost use Rattle.densfill_engine.specs.Scopes.{size_of};
 ghost use Rattle.densfill_engine.specs.Views.{lines_told};
 
-use crate::inputs::{take_edits, take_metal, take_rules};
+use crate::inputs::{take_counted, take_edits, take_rules};
 use crate::metal::{metal_after, one_list};
 use crate::refusal::{InputFault, Refusal, RunFault};
 use crate::scope::{Reach, Scope};
@@ -116,7 +116,7 @@ pub fn rects<R: Read, S: Read, W: Write>(
     Ok(())
 }
 
-/// Writes the density report of the metal that a design draws on the rules' layer, or of a part the lines of its windows, however large
+/// Writes the density report of what a design draws on the rules' layer, or of a part the lines of its windows, however large
 /// the chip and its design are. The rule file is read to its end and interpreted before the design is touched, and nothing is written before
 /// all lines are made.
 ///
@@ -158,7 +158,7 @@ pub fn check<R: Read, D: Read, W: Write>(
     ensures silent { OnErr result ((has_failed out.new ≡ true) ⊎ (out.new ≡ out.old)) }
 {
     let view = scope.view(alloc, rules, Reach::Windows)?;
-    let lists = match take_metal(rt, alloc, design, &view) {
+    let lists = match take_counted(rt, alloc, design, &view) {
         Ok(lists) => lists,
         Err(fault) => return Err(scope.design_fault(fault)),
     };

@@ -1,7 +1,7 @@
 //! The texts of a book's fill: the fill library and the report.
 ghost use Rattle.std.specs.Prelude.{◌≡◌, ◌&&◌, ◌||◌, ◌<◌, ℤ, IfErr, IfOk};
 ghost use Rattle.fill_raster.specs.Lattice.{in_tile, tiles};
-ghost use Rattle.fill_job.specs.Plans.{plan_of};
+ghost use Rattle.fill_job.specs.Plans.{drawn_squares, plan_of};
 ghost use Rattle.fill_core.specs.Accounts.{state_of};
 ghost use Rattle.fill_state.specs.Filling.{is_filled};
 ghost use Rattle.fill_parts.specs.Needs.{row_of};
@@ -101,7 +101,7 @@ fn library_of<B: FillBook>(
 /// The lines of metal and fill that are told.
 fn report_of<B: FillBook>(alloc: Global, book: &B, told: &Told) -> Result<Vec<u8>, OutOfMemory>
     requires { FitsIn (B.account book.now).rules told.now }
-    ensures { let a = B.account book.now in let s = state_of a in IfOk result (λ v. v.items ≡ report_told told.now a.rules s.layers.metal s.fill) }
+    ensures { let a = B.account book.now in let s = state_of a in IfOk result (λ v. v.items ≡ report_told told.now a.rules (drawn_squares s.layers) s.fill) }
 {
     match told {
         Told::Everything => report(alloc, book),
@@ -122,7 +122,7 @@ pub(crate) fn texts_of<B: FillBook>(
 ) -> Result<Filled, RunFault>
     requires { FitsIn (B.account book.now).rules told.now }
     ensures library { let a = B.account book.now in IfOk result (λ f. f.library.items ≡ spec.fill_text units.now dates.now a.rules (places_told told.now (plan_of a.rules) (state_of a).fill)) }
-    ensures report { let a = B.account book.now in let s = state_of a in IfOk result (λ f. f.report.items ≡ report_told told.now a.rules s.layers.metal s.fill) }
+    ensures report { let a = B.account book.now in let s = state_of a in IfOk result (λ f. f.report.items ≡ report_told told.now a.rules (drawn_squares s.layers) s.fill) }
     ensures refused { IfErr result (λ e. e ≡ RunFault.Memory) }
 {
     let library = library_of(alloc, book, told, units, dates)?;

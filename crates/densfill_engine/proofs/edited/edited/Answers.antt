@@ -6,4 +6,4 @@ returns-then-is_empty-clause-layers c = not_edited c.args.edits.now _ c.is_empty
 
 pub returns-clause-layers : goal.returns-clause-layers
 returns-clause-layers c =
-    edited_layers c.args.edits.now c.args.design.metal c.args.design.keep c.in_ok-metal.metal c.in_ok-keep.keep c.in_ok-metal.ensures c.in_ok-keep.ensures
+    edited_layers c.args.edits.now c.args.design.metal c.args.design.fill c.args.design.keep c.in_ok-metal.metal c.in_ok-keep.keep c.in_ok-metal.ensures c.in_ok-keep.ensures

@@ -28,8 +28,8 @@ returns-clause-filled g c =
     let drawn = c.args.task.design in
     let design = c.in_ok-design.design in
     IfOk-weaker c.fill_alone.result _ _ (λ f given.
-    subst (λ (l : List Edit). IsFillOf c.args.task.view.told values (layers_in drawn.metal drawn.keep) drawn.units drawn.dates (map change_of l) crew.workers crew.limit f.library.items f.report.items) c.deref.ensures.value
-    (behind_fill c.args.task.view.told values (layers_in drawn.metal drawn.keep) (layers_in design.metal design.keep) c.deref.result.now crew.workers crew.limit
+    subst (λ (l : List Edit). IsFillOf c.args.task.view.told values (layers_in drawn.metal drawn.fill drawn.keep) drawn.units drawn.dates (map change_of l) crew.workers crew.limit f.library.items f.report.items) c.deref.ensures.value
+    (behind_fill c.args.task.view.told values (layers_in drawn.metal drawn.fill drawn.keep) (layers_in design.metal design.fill design.keep) c.deref.result.now crew.workers crew.limit
     design.units drawn.units design.dates drawn.dates f.library.items f.report.items c.edits_open_anew.ensures c.edits_are_changes.ensures c.in_ok-design.ensures.layers c.in_ok-design.ensures.units
     c.in_ok-design.ensures.dates (only_one crew.workers c.requires.workers.0 c.if-crew-gt1.false) given)) c.fill_alone.ensures.filled
 

@@ -21,14 +21,14 @@ returns-in_err-write_report-clause-refused g c =
     let p = err_from_is_err_and c.from_residual-in_err-write_report.result c.from_residual-in_err-write_report.ensures.1 in
     let v = c.in_ok-view.view in
     rw (p.1, p.2) (check_reason c.args.scope (g.R.Read.remaining (under c.args.rules.now)) (g.D.Read.remaining (under c.args.design.now)) (values_of v.rules) v.told v.frame c.in_ok-view.ensures.view
-    (covered (flat_map vec_items c.in-Ok.lists.items)) c.in-Ok.ensures.metal c.in_err-write_report.field-0.0 c.in_err-write_report.ensures.refused)
+    (covered (flat_map vec_items c.in-Ok.lists.items)) c.in-Ok.ensures.counted c.in_err-write_report.field-0.0 c.in_err-write_report.ensures.refused)
 
 pub returns-in_err-write_report-clause-prefix : goal.returns-in_err-write_report-clause-prefix
 returns-in_err-write_report-clause-prefix g c =
     let p = err_from_is_err_and c.from_residual-in_err-write_report.result c.from_residual-in_err-write_report.ensures.1 in
     let v = c.in_ok-view.view in
     λ is. check_written c.args.scope (g.R.Read.remaining (under c.args.rules.now)) (g.D.Read.remaining (under c.args.design.now)) (values_of v.rules) v.told v.frame c.in_ok-view.ensures.view
-    (covered (flat_map vec_items c.in-Ok.lists.items)) c.in-Ok.ensures.metal
+    (covered (flat_map vec_items c.in-Ok.lists.items)) c.in-Ok.ensures.counted
     (λ text. (k : ℕ) × Appends (g.W.Write.contents (under c.args.out.now)) (g.W.Write.contents (under c.write_report.new.out)) (take k text))
     (c.in_err-write_report.ensures.prefix (ap Err (as_error c.from_residual-in_err-write_report.result p.0 c.in_err-write_report.field-0.0 Report p.1 p.2 is)))
 
@@ -36,5 +36,5 @@ pub returns-clause-written : goal.returns-clause-written
 returns-clause-written g c =
     let v = c.in_ok-view.view in
     check_written c.args.scope (g.R.Read.remaining (under c.args.rules.now)) (g.D.Read.remaining (under c.args.design.now)) (values_of v.rules) v.told v.frame c.in_ok-view.ensures.view
-    (covered (flat_map vec_items c.in-Ok.lists.items)) c.in-Ok.ensures.metal
+    (covered (flat_map vec_items c.in-Ok.lists.items)) c.in-Ok.ensures.counted
     (Appends (g.W.Write.contents (under c.args.out.now)) (g.W.Write.contents (under c.write_report.new.out))) c.in_ok-write_report.ensures.whole
