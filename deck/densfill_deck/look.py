@@ -13,7 +13,7 @@ from pathlib import Path
 from . import gds
 from .contents import Contents, On, contents_of, walk
 from .judge import FAR, listed
-from .runs import Files
+from .results import Files
 from .tables import Layer
 
 DEEPEST, MOST_COUNTED = 256, 32_767

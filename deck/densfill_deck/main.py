@@ -20,7 +20,8 @@ from .merge import NotMerged, assert_fit, changes, merge
 from .page import Section, page
 from .progress import Progress
 from .reports import Limits, NoReport, figures, read_report
-from .runs import Files, Inputs, Ran, Runner, jobs_for
+from .results import Files, Inputs, Ran
+from .runs import Runner, jobs_for
 from .summary import Outcome, failure, outcome_of, summary, text, write_lines
 from .tables import Deck, Layer, Refused, on_told
 

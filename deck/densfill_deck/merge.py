@@ -4,7 +4,7 @@ from pathlib import Path
 
 from .gds import NoStream
 from .library import Clash, Layout, layout_of, write_joined
-from .runs import Files, Inputs, digest, fingerprint
+from .results import Files, Inputs, digest, fingerprint
 from .tables import Deck
 
 OTHER_FORMATS = (".oas", ".oasis", ".gz", ".zip", ".bz2", ".xz", ".cif", ".dxf", ".lef", ".def")

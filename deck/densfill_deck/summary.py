@@ -8,7 +8,7 @@ from pathlib import Path
 from .gds import boxes
 from .lengths import told
 from .reports import Figures, Limits, Step, Window, figures, read_report, steps_over
-from .runs import Files, Inputs, Ran, digest, fingerprint, input_digest
+from .results import Files, Inputs, Ran, digest, fingerprint, input_digest
 from .tables import Deck, Layer
 
 STATUS = {1: "usage", 2: "an input is refused", 3: "out of memory", 4: "a file could not be opened, read or written",
