@@ -2,6 +2,8 @@
 """Tests of densfill-deck: conversions, faults, runs, resume, interruption, and what is written.
 
 usage: test_deck.py [PROGRAM]     (by default bin/densfill, else what the gate left in crates/densfill/out)
+
+Tests of existing fill are left out where the program has no key `also_fill`: test_deck.py deck/stand_in.py ExistingFill runs them on a stand-in.
 """
 import base64
 import csv
@@ -18,6 +20,7 @@ import unittest
 import xml.etree.ElementTree as ET
 from decimal import Decimal
 from fractions import Fraction
+from functools import cache
 from pathlib import Path
 from unittest import mock
 
@@ -226,8 +229,28 @@ class Faults(Folder):
         found = "\n".join(self.faults(GOOD + of, design))
         for on, drawn in (("1/5", "1/0, 40/0"), ("2/0", "1/0, 40/0")):
             self.assertIn(f"layer M1, layer: the top TOP draws nothing on {on}: it draws {drawn}; write empty = true", found)
+        self.assertIn("also_fill,1/1\nalso_fill,1/7\n", read_deck(self.deck(GOOD + of + 'existing_fill = ["1/1", "1/7"]\n')).layers[0].rules())
         self.assertIn("fill_layer: 1/5 is the layer of the metal", self.faults(GOOD + of.replace('fill_layer = "1/1"', 'fill_layer = "1/5"'))[0])
         self.assertIn("layer: M1 fills 2/0 too", self.faults(GOOD + of + layer(2))[0])
+
+    def test_existing_fill(self) -> None:
+        for more, want in (('existing_fill = "1/0"\n', ":20: layer M1, existing_fill: 1/0 is a layer of the metal too: write it in one of them"),
+                           ('existing_fill = ["1/1", "1/5", "1/1"]\n', ":20: layer M1, existing_fill: 1/1 stands twice"),
+                           ('existing_fill = []\n', ":20: layer M1, existing_fill: 0 layers: write 1 to 63"),
+                           ('existing_fill = "fill"\n', """:20: layer M1, existing_fill: 'fill' is no layer: write "31/0", each from 0 to 65535""")):
+            self.assertEqual(self.faults(GOOD + layer(1, more)), [want])
+        self.assertEqual(self.faults(GOOD + layer(1, 'existing_fill = ["1/5", "2/1"]\n') + layer(2)),
+                         [":25: layer M2, fill_layer: 2/1 is the existing fill of M1: write one of the boxes' own"])
+        both = GOOD + layer(1, "fill = false\nexisting_fill = [\"1/1\"]\n").replace("M1", "checked") + layer(1)
+        self.assertEqual([one.existing for one in read_deck(self.deck(both)).layers], [[(1, 1)], []])
+
+    def test_existing_fill_on_the_layer_of_the_boxes(self) -> None:
+        shapes = [boundary(on, 0, 0, 40_000, 40_000) for on in (1, 2)]
+        text = GOOD + layer(1).replace('"1/1"', '"2/0"')
+        self.assertIn("boxes keep no spacing to them", self.warnings(text, structure("TOP", *shapes))[0])
+        self.assertEqual(self.warnings(text + 'existing_fill = "2/0"\n', structure("TOP", *shapes)), [])
+        self.assertEqual(self.warnings(text + 'existing_fill = ["2/0", "2/7"]\n', structure("TOP", *shapes)),
+                         [":20: layer M1, existing_fill: warning: the top TOP draws nothing on 2/7, so no fill is there already"])
 
     def test_all_faults_at_once(self) -> None:
         text = GOOD.replace('box = "1 um"\n', "").replace('top = "TOP"', "tops = 3") + layer(1) + layer(2, "spacing = \"x\"\n") + layer(2)
@@ -723,6 +746,92 @@ class Lines(Folder):
                          ["TOP: nothing is drawn on 9/0: densfill-deck layers design.gds", "nothing that the program refuses was found"])
         told = self.command("where", "design.gds", "--layer", "1/0", "--top", "TOPS")
         self.assertEqual((told.returncode, told.stdout.splitlines()[0]), (2, "NoTop: no structure has the name TOPS: the design's tops are TOP"))
+
+
+@cache
+def takes_existing_fill(program: Path) -> bool:
+    """Whether the program has the key `also_fill`."""
+    rules = (ROOT / "examples/block_rules.csv").read_text() + "also_fill,31/7\n"
+    line = [program, "check", "/dev/stdin", ROOT / "examples/block.gds"]
+    return subprocess.run(line, input=rules, text=True, capture_output=True, check=False).returncode == 0
+
+
+# A frame of 20 um, one window, and ten by ten places for boxes of 1 um, each of which is a quarter of a percent.
+ONE_WINDOW = """[deck]
+top = "TOP"
+unit = "1 nm"
+
+[defaults]
+frame = [0, 0, "20 um", "20 um"]
+window = "20 um"
+min = "25 %"
+box = "1 um"
+pitch = "2 um"
+origin = "0.5 um"
+spacing = "1.5 um"
+fill_spacing = "0.5 um"
+"""
+
+
+class WithExistingFill(Folder):
+    """Runs with a program that takes existing fill."""
+
+    def setUp(self) -> None:
+        super().setUp()
+        if not takes_existing_fill(self.program):
+            self.skipTest("the program has no key also_fill")
+        self.path, self.out = self.folder / "deck.toml", self.folder / "deck.out"
+
+    def run_deck(self, text: str, *words: str, status: int = 0) -> subprocess.CompletedProcess[str]:
+        """A run of a deck on the design of the test."""
+        self.path.write_text(text)
+        line = [sys.executable, str(DECK / "densfill-deck"), "run", str(self.path), str(self.folder / "design.gds"), "--program", str(self.program)]
+        ended = subprocess.run([*line, *words], capture_output=True, text=True, check=False)
+        self.assertEqual(ended.returncode, status, ended.stderr)
+        return ended
+
+    def report(self, name: str = "M1") -> list[str]:
+        return (self.out / f"{name}.report.csv").read_text().splitlines()
+
+
+class ExistingFill(WithExistingFill):
+    """Fill that the design brings is counted, and kept clear of by the spacing between boxes."""
+
+    def test_it_is_counted_and_kept_clear_of(self) -> None:
+        """Dummy metal of 4 by 4 um over four places, 0.5 um off those round them, with a wire of 2 by 2 um on it, 1.5 um off the same."""
+        self.design(structure("TOP", boundary(1, 9_000, 9_000, 11_000, 11_000), boundary(5, 8_000, 8_000, 12_000, 12_000)))
+        told = self.run_deck(ONE_WINDOW + layer(1, 'existing_fill = "5/0"\n'))
+        self.assertEqual(self.report(), ["0,0,0,0,20000,20000,16000000,96000000,112000000,280000,OK"])
+        self.assertIn("also_fill,5/0\n", (self.out / "M1.rules.csv").read_text())
+        summary = json.loads((self.out / "summary.json").read_text())["layers"][0]
+        self.assertEqual((summary["existing_fill"], summary["boxes"], summary["before"]["mean"]), (["5/0"], 96, 0.04))
+        self.assertIn("layer 1/0, existing fill 5/0, 1 windows, 96 boxes", (self.out / "report.html").read_text())
+        self.assertNotIn("warning", told.stderr)
+        self.run_deck(ONE_WINDOW + layer(1).replace('"1/0"', '["1/0", "5/0"]'))
+        self.assertEqual(self.report(), ["0,0,0,0,20000,20000,16000000,84000000,100000000,250000,OK"])
+
+    def test_fill_of_an_earlier_run(self) -> None:
+        """The boxes' own layer may be that of the fill that is there."""
+        self.design(structure("TOP", boundary(1, 9_000, 9_000, 11_000, 11_000), boundary(5, 8_000, 8_000, 12_000, 12_000)))
+        text = ONE_WINDOW + layer(1, 'existing_fill = "5/0"\n').replace('"1/1"', '"5/0"')
+        self.assertNotIn("warning", self.run_deck(text).stderr)
+        self.assertEqual(self.report(), ["0,0,0,0,20000,20000,16000000,96000000,112000000,280000,OK"])
+        self.run_deck(text, "--no-fill", "--out", str(self.folder / "checked"))
+        self.assertEqual((self.folder / "checked/M1.report.csv").read_text(), "0,0,0,0,20000,20000,16000000,0,16000000,40000,LOW\n")
+
+    @unittest.skipUnless(shutil.which("klayout"), "KLayout isn't installed")
+    def test_klayout_counts_it_too(self) -> None:
+        self.design(structure("TOP", boundary(1, 9_000, 9_000, 11_000, 11_000), boundary(5, 8_000, 8_000, 12_000, 12_000)))
+        self.run_deck(ONE_WINDOW + layer(1, 'existing_fill = "5/0"\n'))
+        self.assertIn("windows that differ: 0 of 1", compared(self.folder / "design.gds", self.out, "M1"))
+
+
+def compared(design: Path, results: Path, name: str) -> str:
+    """What KLayout finds of a layer's report."""
+    given = {"design": design, "rules": results / f"{name}.rules.csv", "report": results / f"{name}.report.csv", "fill": results / f"{name}.fill.gds"}
+    words = ["klayout", "-b", "-r", str(DECK / "klayout/compare.drc"), *(word for key, value in given.items() for word in ("-rd", f"{key}={value}"))]
+    done = subprocess.run(words, capture_output=True, text=True, check=False, env=os.environ | {"QT_QPA_PLATFORM": "offscreen"})
+    return done.stdout + done.stderr
 
 
 class Runs(Folder):

@@ -19,15 +19,17 @@ LAYER = re.compile(r"\s*(\d{1,5})\s*/\s*(\d{1,5})\s*\Z")
 FILL_NAME = re.compile(r"[A-Za-z0-9_?$]{1,32}\Z")
 DECK_KEYS = ("unit", "top", "design")
 LAYER_KEYS = ("name", "layer", "fill", "frame", "window", "step", "first", "windows", "min", "max", "padding", "box", "pitch", "origin",
-              "spacing", "fill_spacing", "tile", "fill_layer", "keep_layer", "script", "library", "cell", "top_cell", "empty", "gradient")
+              "spacing", "fill_spacing", "tile", "fill_layer", "keep_layer", "existing_fill", "script", "library", "cell", "top_cell", "empty",
+              "gradient")
 REQUIRED = ("name", "layer", "frame", "window", "min")
 REQUIRED_OF_FILL = ("box", "pitch", "spacing", "fill_spacing", "fill_layer")
 # What a text that is no TOML mostly lacks, by how the reason begins.
 HINTS = {"Invalid value": 'a text stands in quotes, as "uart", and a number is as 0.5', "Cannot overwrite a value": "the key stands twice in this table",
          "Cannot declare": "the table stands twice: write [[layer]] above each layer", "Expected '='": "a deck is TOML, with lines as key = value"}
-# The keys that take several layers and data types: the numbers of the first, the key that a rule file has for the others, and how many it has.
-SEVERAL = {"layer": ("also_metal", "layer", "datatype"), "keep_layer": ("also_keep", "keep_layer", "keep_datatype")}
-MOST_LAYERS = 64
+# The keys that take several layers and data types: the key that a rule file has for each but the first, and the numbers that say the first one;
+# existing fill has no such numbers.
+SEVERAL = {"layer": ("also_metal", "layer", "datatype"), "keep_layer": ("also_keep", "keep_layer", "keep_datatype"), "existing_fill": ("also_fill",)}
+MOST_OF_A_KEY = 63
 
 
 def shown(value: object) -> str:
@@ -50,11 +52,11 @@ def layer_of(value: object) -> tuple[int, int]:
     return int(found.group(1)), int(found.group(2))
 
 
-def layers_of(value: object) -> list[tuple[int, int]]:
+def layers_of(value: object, most: int) -> list[tuple[int, int]]:
     """One layer with its data type, or several: ["31/0", "31/2"]."""
     values = value if isinstance(value, list) else [value]
-    if not 1 <= len(values) <= MOST_LAYERS:
-        raise Unfit(f"{len(values)} layers: write 1 to {MOST_LAYERS}")
+    if not 1 <= len(values) <= most:
+        raise Unfit(f"{len(values)} layers: write 1 to {most}")
     found = [layer_of(one) for one in values]
     if doubled := next((on for k, on in enumerate(found) if on in found[:k]), None):
         raise Unfit(f"{on_told(doubled)} stands twice")
@@ -76,7 +78,7 @@ def missing_keys(table: Table) -> None:
 
 
 def put_layers(table: Table) -> None:
-    for key in ("layer", "fill_layer", "keep_layer"):
+    for key in ("layer", "fill_layer", "keep_layer", "existing_fill"):
         value = table.get(key)
         if value is None:
             continue
@@ -94,10 +96,11 @@ def put_layers_of(table: Table, key: str, value: object) -> None:
         table.numbers |= dict(zip(("fill_layer", "fill_datatype"), layer_of(value)))
         return
     also, *names = SEVERAL[key]
-    first, *others = layers_of(value)
-    table.numbers |= dict(zip(names, first))
-    if others:
-        table.also[also] = others
+    found = layers_of(value, MOST_OF_A_KEY + bool(names))
+    if names:
+        table.numbers |= dict(zip(names, found.pop(0)))
+    if found:
+        table.also[also] = found
 
 
 def put_lengths(table: Table) -> None:
@@ -174,7 +177,6 @@ def put_frame_of_the_top(table: Table, top: object, contents: Contents | None) -
 
 def read_layer(table: Table, top: object, contents: Contents | None, is_design_faulty: bool) -> Layer | None:
     """A layer, where nothing is wrong with it. What it has of a design that can't be read isn't told again."""
-    before = len(table.text.faults)
     unknown_keys(table, LAYER_KEYS)
     missing_keys(table)
     name, fills, script = table.get("name"), table.get("fill", True), table.get("script")
@@ -198,9 +200,7 @@ def read_layer(table: Table, top: object, contents: Contents | None, is_design_f
         judge_script(table, path)
     elif script is not None:
         table.fault("script", f"{script!r} is no path")
-    if table.is_faulty or len(table.text.faults) > before:
-        return None
-    return Layer(str(name), bool(fills), table.numbers, texts, path, gradient, table.also)
+    return Layer(str(name), bool(fills), table.numbers, texts, path, gradient, table.also) if not table.is_faulty else None
 
 
 def unit_of(table: Table, design: Path | None) -> Fraction:
@@ -278,7 +278,7 @@ def loads_of(layers: list[Layer], contents: Contents, top: str, size: int) -> di
     references = sum(structure.kinds["reference"] + structure.kinds["array"] for structure in reached)
     loads: dict[str, Load] = {}
     for layer in layers:
-        n, of = layer.numbers, layer.metals + (layer.keeps if layer.fills else [])
+        n, of = layer.numbers, layer.metals + layer.existing + (layer.keeps if layer.fills else [])
         shapes = sum(structure.shapes[on].count for structure in reached for on in of if on in structure.shapes)
         loads[layer.name] = load_of(n, layer.does, size, shapes + references, sum(drawn[on].count for on in of if on in drawn))
     return loads

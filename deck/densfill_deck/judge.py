@@ -27,10 +27,19 @@ def judge_table(table: Table) -> None:
     if table.get("fill", True) is not False:
         judge_raster(table)
         judge_reach(table)
-        n = table.numbers
-        boxes = (n.get("fill_layer"), n.get("fill_datatype"))
-        if table.has("layer", "fill_layer") and boxes in [(n["layer"], n["datatype"]), *table.also.get("also_metal", [])]:
-            table.fault("fill_layer", f"{boxes[0]}/{boxes[1]} is the layer of the metal: write one of the boxes' own")
+    judge_layers(table)
+
+
+def judge_layers(table: Table) -> None:
+    """Layers of the metal that are those of existing fill or of the boxes too. Boxes may lie where fill is already."""
+    n = table.numbers
+    if not table.has("layer", "datatype"):
+        return
+    metals = [(n["layer"], n["datatype"]), *table.also.get("also_metal", [])]
+    if both := [on for on in table.also.get("also_fill", []) if on in metals]:
+        table.fault("existing_fill", f"{on_told(both[0])} is a layer of the metal too: write it in one of them")
+    if table.get("fill", True) is not False and table.has("fill_layer") and (boxes := (n["fill_layer"], n["fill_datatype"])) in metals:
+        table.fault("fill_layer", f"{on_told(boxes)} is the layer of the metal: write one of the boxes' own")
 
 
 def judge_ranges(table: Table) -> None:
@@ -130,7 +139,7 @@ def judge_script(table: Table, script: Path) -> None:
     bad = next((number for number, line in rows if not is_change(line)), None)
     if bad is not None:
         words = "write add, cut or keep with x1,y1,x2,y2 in database units, x1 below x2 and y1 below y2"
-        table.text.faults.append(Fault(script, bad, f"{table.where}, script", f"{lines[bad - 1][:60]!r} is no change: {words}"))
+        table.note(Fault(script, bad, f"{table.where}, script", f"{lines[bad - 1][:60]!r} is no change: {words}"))
 
 
 def is_change(line: str) -> bool:
@@ -157,6 +166,8 @@ def judge_together(read: list[tuple[Table, Layer]]) -> None:
         boxes = (layer.numbers["fill_layer"], layer.numbers["fill_datatype"])
         if first is not layer and boxes in first.metals:
             table.fault("fill_layer", f"{on_told(boxes)} is the metal of {first.name}: write one of the boxes' own")
+        elif boxes in first.existing and not set(first.metals) & set(layer.metals):
+            table.fault("fill_layer", f"{on_told(boxes)} is the existing fill of {first.name}: write one of the boxes' own")
     for first, (table, layer) in of_one(filled, lambda layer: layer.texts["fill_top"]):
         table.fault("top_cell", f"the library of {first.name} has the top {layer.texts['fill_top']} too: write one for each layer")
     for table, layer in filled:
@@ -181,7 +192,7 @@ def judge_boxes(read: Iterable[tuple[Table, Layer]], top: str, contents: Content
         if not layer.fills:
             continue
         fill = (layer.numbers["fill_layer"], layer.numbers["fill_datatype"])
-        if fill in drawn:
+        if fill in drawn and fill not in layer.existing:
             table.warn("fill_layer", f"the top {top} draws {drawn[fill].count} shapes on {fill[0]}/{fill[1]}: boxes keep no spacing to them")
         for key, rule in (("cell", "fill_cell"), ("top_cell", "fill_top")):
             if layer.texts[rule] in contents.structures:
@@ -222,6 +233,9 @@ def judge_metal(read: Iterable[tuple[Table, Layer]], top: str, contents: Content
         for keep in layer.keeps:
             if keep not in drawn:
                 table.warn("keep_layer", f"the top {top} draws nothing on {on_told(keep)}, so nothing is kept free of boxes")
+        for fill in layer.existing:
+            if fill not in drawn:
+                table.warn("existing_fill", f"the top {top} draws nothing on {on_told(fill)}, so no fill is there already")
 
 
 def layers_told(drawn: set[On], near: On) -> str:

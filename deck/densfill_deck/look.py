@@ -190,7 +190,7 @@ class SecondLook:
             return [f"{self.design}: {error}"]
 
     def in_the_design(self, name: str, layer: Layer) -> list[str]:
-        on = {*layer.metals, *layer.keeps}
+        on = {*layer.metals, *layer.existing, *layer.keeps}
         lines = [line for line in (*names(self.contents, self.top), *far(self.contents, self.top, on)) if line.startswith(name)]
         alike = (str(found) for found in elements(self.design, self.contents, self.top, on) if found.reason == name)
         lines = (lines or list(islice(alike, self.FEW)))[:self.FEW]

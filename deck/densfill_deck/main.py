@@ -23,7 +23,7 @@ from .reports import Limits, NoReport, figures, read_report
 from .results import Files, Inputs, Ran
 from .runs import Runner, jobs_for
 from .summary import Outcome, failure, outcome_of, summary, text, write_lines
-from .tables import Deck, Layer, Refused, on_told
+from .tables import Deck, Layer, Refused
 
 DONE, USAGE, FAILED, MISSED, INTERRUPTED = 0, 1, 2, 3, 130
 
@@ -123,7 +123,7 @@ def section_of(outcome: Outcome) -> Section:
     if not outcome.is_whole:
         note = f"failed: {failure(ran)}"
         return Section(layer.name, note, outcome.limits, None, [])
-    note = (f"layer {', '.join(map(on_told, layer.metals))}, {len(outcome.after)} windows, "
+    note = (f"{layer.counted}, {len(outcome.after)} windows, "
             + (f"{outcome.boxes} boxes, " if layer.fills else "checked alone, ") + f"{ran.seconds:.2f} s, {ran.memory / 2**20:.0f} MB")
     steps = outcome.steps[1] if layer.gradient is not None else None
     return Section(layer.name, note, outcome.limits, outcome.before if layer.fills else None, outcome.after, steps)
@@ -201,7 +201,7 @@ def check(given: argparse.Namespace) -> int:
     print(f"database unit {told(deck.unit)}" + (", unless the design has another one" if given.design is None and deck.of_the_file else ""))
     for layer in deck.layers:
         n = layer.numbers
-        print(f"{layer.name}: layer {', '.join(map(on_told, layer.metals))}, {n['win_nx']} by {n['win_ny']} windows, "
+        print(f"{layer.name}: {layer.counted}, {n['win_nx']} by {n['win_ny']} windows, "
               f"{n['min'] / 10**4:g} to {n['max'] / 10**4:g} %" + ("" if layer.fills else ", checked alone"))
     return DONE
 

@@ -9,7 +9,7 @@ from .gds import boxes
 from .lengths import told
 from .reports import Figures, Limits, Step, Window, figures, read_report, steps_over
 from .results import Files, Inputs, Ran, digest, fingerprint, input_digest
-from .tables import Deck, Layer
+from .tables import Deck, Layer, on_told
 
 STATUS = {1: "usage", 2: "an input is refused", 3: "out of memory", 4: "a file could not be opened, read or written",
           5: "the fill is unfinished", 6: "the workers gave back other edits"}
@@ -104,6 +104,8 @@ def told_layer(inputs: Inputs, outcome: Outcome, unit: Fraction) -> dict[str, ob
                  "max": layer.numbers["max"] / 10**6, "before": told_figures(outcome.figures[0], unit),
                  "after": told_figures(outcome.figures[1], unit),
                  "files": {path.name: digest(path) for path in outcome.files.left(layer.fills)}}
+        if layer.existing:
+            told["existing_fill"] = [on_told(on) for on in layer.existing]
         if layer.gradient is not None:
             told["gradient"] = told_gradient(outcome, unit)
     return told

@@ -61,8 +61,19 @@ class Layer:
         return [(self.numbers["keep_layer"], self.numbers["keep_datatype"]), *self.also.get("also_keep", [])]
 
     @property
+    def existing(self) -> list[tuple[int, int]]:
+        """Those of the fill that the design brings."""
+        return self.also.get("also_fill", [])
+
+    @property
     def metal(self) -> str:
         return on_told(self.metals[0])
+
+    @property
+    def counted(self) -> str:
+        """What counts in its windows, for people."""
+        words = f"layer {', '.join(map(on_told, self.metals))}"
+        return words + (f", existing fill {', '.join(map(on_told, self.existing))}" if self.existing else "")
 
     @property
     def does(self) -> str:
@@ -135,9 +146,12 @@ class Table:
         return Fault(self.text.path, self.text.line_of(header, key) if key else header or None, f"{where}, {key}" if key else where, text)
 
     def fault(self, key: str, text: str) -> None:
-        """A fault, which is told once where several layers share it."""
+        self.note(self.told(key, text))
+
+    def note(self, fault: Fault) -> None:
+        """A fault, which is told once where several tables have it."""
         self.is_faulty = True
-        if (fault := self.told(key, text)) not in self.text.faults:
+        if fault not in self.text.faults:
             self.text.faults.append(fault)
 
     def warn(self, key: str, text: str) -> None:
