@@ -3,7 +3,8 @@
 
 usage: test_deck.py [PROGRAM]     (by default bin/densfill, else what the gate left in crates/densfill/out)
 
-Tests of existing fill are left out where the program has no key `also_fill`: test_deck.py deck/stand_in.py ExistingFill runs them on a stand-in.
+Tests of existing fill and of passes are left out where the program has no key `also_fill`. On a stand-in for it they are run by
+test_deck.py deck/stand_in.py ExistingFill Passes AnyPasses InterruptedPasses.
 """
 import base64
 import csv
@@ -15,6 +16,7 @@ import signal
 import struct
 import subprocess
 import sys
+import tempfile
 import time
 import unittest
 import xml.etree.ElementTree as ET
@@ -22,6 +24,7 @@ from decimal import Decimal
 from fractions import Fraction
 from functools import cache
 from pathlib import Path
+from typing import Any
 from unittest import mock
 
 DECK = Path(__file__).resolve().parent
@@ -40,8 +43,9 @@ from densfill_deck.page import Section, page as whole_page  # noqa: E402
 from densfill_deck.pictures import density_map  # noqa: E402
 from densfill_deck.reports import Limits, Step, Window, figures, histogram, steps_over, worst  # noqa: E402
 from densfill_deck.progress import Progress  # noqa: E402
+from densfill_deck.rasters import coarser_of, rasters_of  # noqa: E402
 from densfill_deck.runs import jobs_for  # noqa: E402
-from densfill_deck.tables import Refused  # noqa: E402
+from densfill_deck.tables import Pass, Refused  # noqa: E402
 from stream import END, array, boundary, library, path as wire, points, record, reference, structure, text as string, words as two_bytes  # noqa: E402
 
 NM = Fraction(1, 10**9)
@@ -175,6 +179,65 @@ class Faults(Folder):
         for key in ("layer", "fill_layer"):
             text = GOOD + re.sub(rf"(?m)^{key} = .*\n", "", layer(1))
             self.assertEqual(self.faults(text), [f':16: layer M1: the key "{key}" is missing, here and in [defaults]'], key)
+
+    def test_passes(self) -> None:
+        """Each fault is told of the pass that has it, or of the layer where that has the value, on the line where it stands."""
+        for more, want in (('passes = 3\n', ":20: layer M1, passes: 3 is no list of passes: write [{box"), ('passes = []\n', ":20: layer M1, passes: 0 passes: write 1 to 32"),
+                           ('passes = [{}, 3]\n', ":20: layer M1, passes: [{}, 3] is no list of passes"),
+                           ('passes = [{}, {spaceing = 1}]\n', ':20: layer M1, pass 2, spaceing: is no key of a pass: write "spacing"'),
+                           ('passes = [{min = 1}]\n', ":20: layer M1, pass 1, min: is no key of a pass: the keys are box, pitch, origin, spacing, fill_spacing, origins, gradual"),
+                           ('passes = [\n    {}, # {\n\n    {box = "0.3 nm"}]\n', ":23: layer M1, pass 2, box: 0.3 nm is 0.3 database units of 1 nm"),
+                           ('[[layer.passes]]\n[[layer.passes]]\npitch = "2 um"\nbox = "0.3 nm"\n', ":23: layer M1, pass 2, box: 0.3 nm is 0.3 database units"),
+                           ('passes = [{}, {box = "3 um"}]\n', ":20: layer M1, pass 2, pitch: 1.8 um is less than box and fill_spacing together: write 3.8 um or more"),
+                           ('passes = [{spacing = -1}]\n', ":20: layer M1, pass 1, spacing: -1000 database units: write 0 to 1048576"),
+                           ('passes = [{box = "2 nm", pitch = "3 nm", fill_spacing = 0}]\n', ":20: layer M1, pass 1, pitch: some 177768889 places for a box"),
+                           ('passes = [{pitch = "400 um", gradual = 9}]\n', ":20: layer M1, pass 1, gradual: 3 times the pitch is 1200000 database units, more than 1048576"),
+                           ('origins = 9\n', ":20: layer M1, origins: 9 is no number of origins: write 1 to 8"),
+                           ('passes = [{}, {origins = 0.5}]\n', ":20: layer M1, pass 2, origins: 0.5 is no number of origins: write 1 to 8"),
+                           ('gradual = true\n', ":20: layer M1, gradual: True is no number of coarser rasters: write 1, 4, 9 or 16"),
+                           ('gradual = 2\n', ":20: layer M1, gradual: 2 is no number of coarser rasters: write 1, 4, 9 or 16"),
+                           ('gradual = 4.0\n', ":20: layer M1, gradual: 4.0 is no number of coarser rasters: write 1, 4, 9 or 16"),
+                           ('passes = [{}, {}]\ntop_cell = "M1_BOX_P2"\n', ":21: layer M1, top_cell: M1_BOX_P2 is the name of cell too: write another one"),
+                           (f'passes = [{{}}, {{}}]\ncell = "{"A" * 30}"\n', ":21: layer M1, cell: " + "A" * 30 + " is too long, as that of a later pass has _P2"),
+                           (f"origins = 2\nexisting_fill = {[f'7/{k}' for k in range(63)]}\n", ":21: layer M1, existing_fill: 63 layers and that of the boxes: write up to 62")):
+            found = self.faults(GOOD + layer(1, more))
+            self.assertEqual((len(found), found[0].startswith(want)), (1, True), (want, found))
+
+    def test_values_that_passes_share(self) -> None:
+        """What a pass doesn't have is the layer's, or that of all layers; a fault of it is told there, once."""
+        text = GOOD.replace('box = "1 um"\n', "")
+        self.assertEqual(self.faults(text + layer(1, 'passes = [{box = "1 um"}, {pitch = "3 um"}]\n')),
+                         [""":19: layer M1, pass 2: the key "box" is missing, here, in the layer's table and in [defaults]"""])
+        self.assertEqual(self.faults(text.replace('"0.5 um"', '"0.5 nm"') + layer(1, 'passes = [{box = "1 um"}, {box = "0.8 um"}]\n')),
+                         [":12: [defaults], spacing: 0.5 nm is 0.5 database units of 1 nm: write a whole number of them"])
+        self.assertEqual(self.faults(GOOD + 'passes = [\n    {box = "x"}]\n' + layer(1) + layer(2)),
+                         [':16: [defaults], pass 1, box: "x" is no length: write "0.5 um", "120 nm" or a number of micrometres'])
+        self.assertEqual(self.faults(GOOD + "origins = 12\n" + layer(1, "passes = [{}, {origins = 2}]\n") + layer(2, "fill = false\n")),
+                         [":15: [defaults], origins: 12 is no number of origins: write 1 to 8"])
+
+    def test_passes_and_the_design(self) -> None:
+        wide = [boundary(on, 0, 0, 40_000, 40_000) for on in (1, 2)]
+        design = self.design(structure("M1_BOX_P2", boundary(1, 0, 0, 5, 5)), structure("M1_TOP"), structure("TOP", *wide))
+        again = "and each pass reads it with the fill so far: write another name"
+        self.assertEqual(self.faults(GOOD + layer(1, "passes = [{}, {}]\n"), design),
+                         [f":16: layer M1, cell: the design has a structure M1_BOX_P2 already, {again}",
+                          f":16: layer M1, top_cell: the design has a structure M1_TOP already, {again}"])
+        text = GOOD + layer(1, "origins = 2\n").replace('"1/1"', '"2/0"')
+        self.assertEqual(self.faults(text + 'cell = "B"\ntop_cell = "T"\n', design),
+                         [':19: layer M1, fill_layer: the top TOP draws 1 shapes on 2/0: passes would take them for their boxes: write "2/0" into existing_fill '
+                          "too, or other boxes"])
+        self.assertEqual(read_deck(self.deck(text + 'cell = "B"\ntop_cell = "T"\nexisting_fill = "2/0"\n'), design).warnings, [])
+
+    def test_passes_that_do_not_reach_min(self) -> None:
+        """Boxes of 0.2 by 0.2 um are 1.2 % at a pitch of 1.8 um, and at several origins at most 4 %, with 0.8 um from each to the next; those of
+        1 by 1 um are 30.9 %."""
+        wide = boundary(1, 0, 0, 40_000, 40_000)
+        for more, want in (('passes = [{box = "0.2 um"}, {box = "0.2 um"}]\n', "passes: warning: boxes of all passes take at most 2.469% of an empty window"),
+                           ('box = "0.2 um"\norigins = 2\n', "origins: warning: boxes of all passes take at most 4.000% of an empty window"),
+                           ('box = "0.2 um"\ngradual = 4\n', "pitch: warning: boxes take 1.235% of an empty window"),
+                           ('passes = [{box = "0.2 um"}, {}]\n', None)):
+            found = self.warnings(GOOD + layer(1, more), structure("TOP", wide))
+            self.assertEqual([want in warning for warning in found] if want else found, [True] if want else [], (more, found))
 
     def test_a_fault_of_what_all_layers_share(self) -> None:
         design = self.design(structure("TOP", *(boundary(k, 0, 0, 5, 5) for k in (1, 2))))
@@ -422,6 +485,49 @@ class Values(Folder):
         want = dict(csv.reader((ROOT / "examples/block_rules.csv").read_text().splitlines()))
         self.assertEqual(dict(csv.reader(deck.layers[0].rules().splitlines())), want | {"padding": "zero"})
 
+    def test_passes(self) -> None:
+        """A pass has the layer's values where it has none; the layer's own rule file is that of the first."""
+        more = 'origin = "0.5 um"\norigins = 2\npasses = [\n    {box = "2 um", pitch = "3 um", origins = 1},\n    {gradual = 9, fill_spacing = "0.6 um"},\n]\n'
+        for text in (more, more.replace("passes = [\n    {", "[[layer.passes]]\n").replace("},\n    {", "\n[[layer.passes]]\n").replace("},\n]", "").replace(", ", "\n")):
+            read = read_deck(self.deck(GOOD + layer(1, text))).layers[0]
+            common = {"origin_x": 500, "origin_y": 500, "spacing": 500}
+            self.assertEqual(read.passes, [Pass(common | {"box_w": 2000, "box_h": 2000, "step_x": 3000, "step_y": 3000, "fill_spacing": 800}),
+                                           Pass(common | {"box_w": 1000, "box_h": 1000, "step_x": 1800, "step_y": 1800, "fill_spacing": 600}, 2, 9)])
+            self.assertEqual((read.in_passes, read.runs, read.cells), (True, 1 + 4 + 36, ["M1_BOX", "M1_BOX_P2", "M1_TOP"]))
+            records = dict(csv.reader(read.rules().splitlines()))
+            self.assertEqual([records[key] for key in ("box_w", "step_x", "fill_cell", "fill_top")], ["2000", "3000", "M1_BOX", "M1_TOP"])
+            self.assertNotIn("also_fill", records)
+            records = dict(csv.reader(read.rules_of(2, read.passes[1].numbers).splitlines()))
+            self.assertEqual([records[key] for key in ("box_w", "fill_spacing", "fill_cell", "also_fill")], ["1000", "600", "M1_BOX_P2", "1/1"])
+        for more in ("", "passes = [{}]\n", "origins = 1\ngradual = 1\n", 'fill = false\npasses = [{box = "2 um"}, {}]\n'):
+            self.assertFalse(read_deck(self.deck(GOOD + layer(1, more))).layers[0].in_passes, more)
+
+    def test_check_tells_passes(self) -> None:
+        path = self.deck(GOOD + layer(1, 'passes = [{box = ["2 um", "1 um"], pitch = "3 um"}, {origins = 3, gradual = 9}]\n') + layer(2))
+        told = subprocess.run([sys.executable, str(DECK / "densfill-deck"), "check", path], capture_output=True, text=True, check=True).stdout
+        self.assertEqual(told.splitlines()[1:], [
+            "M1: layer 1/0, 3 by 3 windows, 30 to 80 %",
+            "    pass 1: boxes of 2 by 1 um, 3 and 3 um from one to the next, 0.5 um off metal, 0.8 um off fill",
+            "    pass 2: boxes of 1 by 1 um, 1.8 and 1.8 um from one to the next, 0.5 um off metal, 0.8 um off fill, at 9 origins, in 9 coarser rasters, "
+            "up to 90 runs", "M2: layer 2/0, 3 by 3 windows, 30 to 80 %"])
+
+    def test_progress_of_passes(self) -> None:
+        told = Progress({"M1": 1.0, "M2": 3.0}, True, {"M1": 100.0}, start=100.0)
+        told.turn("M1", "pass 1 of 3", 0.0, False)
+        self.assertEqual(told.line(104.0), "0 of 2 layers done, 4 s, running M1 (pass 1 of 3) for 4 s")
+        told.turn("M1", "pass 2 of 3, origin 4 of 9", 0.5, False)   # an eighth of all is done
+        self.assertEqual(told.line(104.0), "0 of 2 layers done (12% by size), 4 s, some 28 s left, running M1 (pass 2 of 3, origin 4 of 9) for 4 s")
+        told.end("M1")
+        told.began["M2"] = 104.0
+        self.assertIn("1 of 2 layers done (", told.line(105.0))
+        self.assertTrue(told.line(105.0).endswith("running M2 for 1 s"))
+
+    def test_what_passes_take_of_memory(self) -> None:
+        """22 by 22 places for a box of 1 um, and room for 32 by 32 boxes of 0.45 um, each of which the second pass may see beside the wire."""
+        text = GOOD + layer(1, 'passes = [{}, {box = "0.45 um", origins = 2}]\n')
+        deck = read_deck(self.deck(text), self.design(structure("TOP", boundary(1, 0, 0, 40_000, 40_000))))
+        self.assertEqual((deck.loads["M1"].copies, deck.loads["M1"].elements), (1 + 22**2 + 32**2, 1))
+
     def test_windows_cover_the_frame(self) -> None:
         for size, step, count in (("20 um", "10 um", 3), ("20 um", "20 um", 2), ("15 um", "10 um", 4), ("50 um", "10 um", 1)):
             text = GOOD.replace('window = "20 um"\nstep = "10 um"', f'window = "{size}"\nstep = "{step}"')
@@ -432,6 +538,46 @@ class Values(Folder):
         design = self.folder / "design.gds"
         design.write_bytes(library("D", structure("TOP")))
         self.assertEqual(database_unit(design), NM)
+
+
+class Rasters(unittest.TestCase):
+    """The rasters of a pass, by hand and by their places."""
+    OF = {"box_w": 2, "box_h": 2, "step_x": 10, "step_y": 7, "origin_x": 3, "origin_y": -5}
+
+    def corners(self, raster: dict[str, int]) -> set[tuple[int, int]]:
+        """Those of the places between -60 and 60 across and up."""
+        across, up = ([at for at in range(-60, 60) if (at - raster[f"origin_{axis}"]) % raster[f"step_{axis}"] == 0] for axis in "xy")
+        return {(x, y) for x in across for y in up}
+
+    def test_origins(self) -> None:
+        """Thirds of 10 are 0, 3 and 6, and of 7 are 0, 2 and 4: rounded down. Eighths of 7 are seven, as two of them are the same."""
+        found = [(raster["origin_x"] - 3, raster["origin_y"] + 5) for raster in rasters_of(Pass(self.OF, 3))]
+        self.assertEqual(found, [(0, 0), (3, 0), (6, 0), (0, 2), (3, 2), (6, 2), (0, 4), (3, 4), (6, 4)])
+        self.assertEqual(len(rasters_of(Pass(self.OF, 8))), 8 * 7)
+        self.assertEqual(rasters_of(Pass(self.OF, 1)), [self.OF])
+
+    def test_an_origin_stays_in_range(self) -> None:
+        far = self.OF | {"origin_x": 1 << 30}
+        self.assertEqual([raster["origin_x"] - (1 << 30) for raster in rasters_of(Pass(far, 2))], [0, -5, 0, -5])
+        self.assertEqual({raster["origin_x"] - (1 << 30) for raster in coarser_of(far, 4)}, {0, -10})
+
+    def test_coarser_rasters_have_each_place_once(self) -> None:
+        for gradual, side in ((1, 1), (4, 2), (9, 3), (16, 4)):
+            rasters = coarser_of(self.OF, gradual)
+            self.assertEqual({(raster["step_x"], raster["step_y"]) for raster in rasters}, {(10 * side, 7 * side)})
+            places = [place for raster in rasters for place in self.corners(raster)]
+            self.assertEqual((len(places), set(places)), (len(set(places)), self.corners(self.OF)))
+            self.assertEqual(rasters[0], self.OF | {"step_x": 10 * side, "step_y": 7 * side})
+
+    def test_coarser_rasters_are_spread(self) -> None:
+        """The least distance between places of those taken so far, in steps of the raster, squared: none comes near before there is no other way."""
+        for gradual, want in ((4, [4, 2, 1, 1]), (9, [9, 2, 2, 1, 1, 1, 1, 1, 1]), (16, [16, 8, 4, 4, 2, 2, 2, 2, 1, 1, 1, 1, 1, 1, 1, 1])):
+            at = [((raster["origin_x"] - 3) // 10, (raster["origin_y"] + 5) // 7) for raster in coarser_of(self.OF, gradual)]
+            side, found = {4: 2, 9: 3, 16: 4}[gradual], []
+            for count in range(1, gradual + 1):
+                steps = [(x - u + i * side, y - v + j * side) for x, y in at[:count] for u, v in at[:count] for i in (-1, 0, 1) for j in (-1, 0, 1)]
+                found.append(min(across**2 + up**2 for across, up in steps if across or up))
+            self.assertEqual(found, want)
 
 
 def element(kind: int, *records: bytes) -> bytes:
@@ -752,7 +898,7 @@ class Lines(Folder):
 def takes_existing_fill(program: Path) -> bool:
     """Whether the program has the key `also_fill`."""
     rules = (ROOT / "examples/block_rules.csv").read_text() + "also_fill,31/7\n"
-    line = [program, "check", "/dev/stdin", ROOT / "examples/block.gds"]
+    line = [str(program), "check", "/dev/stdin", str(ROOT / "examples/block.gds")]
     return subprocess.run(line, input=rules, text=True, capture_output=True, check=False).returncode == 0
 
 
@@ -824,6 +970,353 @@ class ExistingFill(WithExistingFill):
         self.design(structure("TOP", boundary(1, 9_000, 9_000, 11_000, 11_000), boundary(5, 8_000, 8_000, 12_000, 12_000)))
         self.run_deck(ONE_WINDOW + layer(1, 'existing_fill = "5/0"\n'))
         self.assertIn("windows that differ: 0 of 1", compared(self.folder / "design.gds", self.out, "M1"))
+
+
+Box = tuple[int, int, int, int]
+
+
+def placed_boxes(path: Path) -> list[tuple[str, Box]]:
+    """All boxes of a fill library with the names of their cells, by its records alone."""
+    data, at, name, cell, kind = path.read_bytes(), 0, "", "", 0
+    counts, sizes, found = (1, 1), dict[str, tuple[int, int]](), list[tuple[str, int, int]]()
+    while at < len(data):
+        length, record_kind = struct.unpack_from(">HB", data, at)
+        body, at = data[at + 4:at + length], at + length
+        if record_kind in (0x08, 0x0A, 0x0B):
+            kind, counts = record_kind, (1, 1)
+        elif record_kind in (0x06, 0x12):
+            word = body.rstrip(b"\0").decode()
+            name, cell = (word, cell) if record_kind == 0x06 else (name, word)
+        elif record_kind == 0x13:
+            columns, rows = struct.unpack(">HH", body)
+            counts = (columns, rows)
+        elif record_kind == 0x10:
+            x, y, *more = struct.unpack(f">{len(body) // 4}i", body)
+            if kind == 0x08:
+                sizes[name] = (more[2], more[3])
+                continue
+            across, up = ((more[0] - x) // counts[0], (more[3] - y) // counts[1]) if kind == 0x0B else (0, 0)
+            found += [(cell, x + i * across, y + j * up) for i in range(counts[0]) for j in range(counts[1])]
+    return [(of, (x, y, x + sizes[of][0], y + sizes[of][1])) for of, x, y in found]
+
+
+def gap(one: Box, other: Box) -> int:
+    """The distance of two rectangles, across or up, whichever is greater; below 0 where they share a square."""
+    return max(one[0] - other[2], other[0] - one[2], one[1] - other[3], other[1] - one[3])
+
+
+def covered(boxes_of: list[Box], window: Box) -> int:
+    """The area that rectangles cover of a window: each square once."""
+    cut = [(max(a, window[0]), max(b, window[1]), min(c, window[2]), min(d, window[3])) for a, b, c, d in boxes_of]
+    across, up = (sorted({edge for box in cut for edge in box[k::2]}) for k in (0, 1))
+    return sum((right - left) * (top - bottom) for left, right in zip(across, across[1:]) for bottom, top in zip(up, up[1:])
+               if any(a <= left and right <= c and b <= bottom and top <= d for a, b, c, d in cut))
+
+
+class Passes(WithExistingFill):
+    """Layers that are filled in passes."""
+    EMPTY = layer(1, "empty = true\n")
+    WIRES = [(x, 0, x + 2_000, 20_000) for x in range(0, 20_000, 4_000)]
+
+    def summary(self) -> dict[str, Any]:
+        told: dict[str, Any] = json.loads((self.out / "summary.json").read_text())["layers"][0]
+        return told
+
+    def metal(self, *rects: Box) -> Path:
+        return self.design(structure("TOP", *(boundary(1, *rect) for rect in rects)))
+
+    def boxes(self) -> list[tuple[str, Box]]:
+        return placed_boxes(self.out / "M1.fill.gds")
+
+    def test_a_window_takes_no_more_than_it_needs(self) -> None:
+        """Ten by ten places, each a quarter of a percent: coarser rasters one after another up to 10 %. Of every second column and row there are 25,
+        twice; of every third 16, 9, 9 and 12; of every fourth 9, 4, 6, 6, 9, 4 and 6."""
+        self.metal()
+        for gradual, count, runs in ((4, 50, 2), (9, 46, 4), (16, 44, 7)):
+            self.run_deck(ONE_WINDOW.replace('"25 %"', '"10 %"') + self.EMPTY + f"gradual = {gradual}\n")
+            share = count * 10**6
+            self.assertEqual(self.report(), [f"0,0,0,0,20000,20000,0,{share},{share},{share // 400},OK"])
+            told = self.summary()["passes"][0]
+            self.assertEqual([told[key] for key in ("boxes", "runs", "low", "origin", "gradual")], [count, runs, 0, [500, 500], gradual])
+            places = {((x - 500) / 2000, (y - 500) / 2000) for _, (x, y, _, _) in self.boxes()}
+            self.assertEqual((len(places), {at % 1 for place in places for at in place}), (count, {0.0}))
+            if gradual == 4:
+                self.assertEqual({(x % 2, y % 2) for x, y in places}, {(0, 0), (1, 1)})
+
+    def test_the_origin_that_places_most_comes_first(self) -> None:
+        """Boxes of 1 um have room in the middle of gaps of 2 um alone, half a micrometre off the wires: of quarters of 4 um across that is the third one, in
+        five rows of five at three of the quarters up, in four rows at the last. The first is taken; 1 um off its boxes those of the third have room."""
+        self.metal(*self.WIRES)
+        text = ONE_WINDOW.replace('"25 %"', '"70 %"').replace('spacing = "1.5 um"', 'spacing = "0.5 um"').replace('fill_spacing = "0.5 um"', 'fill_spacing = "1 um"')
+        self.run_deck(text + layer(1, 'pitch = "4 um"\norigins = 4\n'))
+        self.assertEqual(self.report(), ["0,0,0,0,20000,20000,200000000,50000000,250000000,625000,LOW"])
+        told = self.summary()["passes"][0]
+        self.assertEqual([told[key] for key in ("boxes", "runs", "low", "origin", "origins")], [50, 16 + 3, 1, [2500, 500], 4])
+        corners = [box[:2] for _, box in self.boxes()]
+        self.assertEqual([sorted(corners[k:k + 25]) for k in (0, 25)],
+                         [[(x, y) for x in range(2500, 20_000, 4000) for y in range(first, 20_000, 4000)] for first in (500, 2500)])
+
+    def test_boxes_of_an_earlier_pass_are_existing_fill(self) -> None:
+        """25 boxes of 2 by 2 um, 2 um apart, with gaps for 20 of 1 by 1 um half a micrometre off them on either side: unless they keep more."""
+        self.metal()
+        text = ONE_WINDOW.replace('"25 %"', '"40 %"') + self.EMPTY
+        for spacing, count in (("0.5 um", 20), ("0.501 um", 0)):
+            self.run_deck(text + f'passes = [{{box = "2 um", pitch = "4 um", origin = "1 um"}}, {{pitch = "4 um", origin = ["3.5 um", "1 um"], fill_spacing = "{spacing}"}}]\n')
+            area = 10**8 + count * 10**6
+            self.assertEqual(self.report(), [f"0,0,0,0,20000,20000,0,{area},{area},{area // 400},LOW"])
+            self.assertEqual([cell for cell, _ in self.boxes()], ["M1_BOX"] * 25 + ["M1_BOX_P2"] * count)
+            self.assertEqual((self.out / "M1.fill.gds").read_bytes().count(b"M1_BOX_P2\0"), bool(count) * (1 + 1))   # its cell, and an array of all
+
+    def test_passes_end_where_no_window_is_low(self) -> None:
+        self.metal()
+        text = ONE_WINDOW + self.EMPTY + 'passes = [{}, {origins = 3}, {box = "0.5 um", gradual = 4}]\n'
+        ended = self.run_deck(text)
+        self.assertEqual([(told["boxes"], told["runs"], told["low"]) for told in self.summary()["passes"]], [(100, 1, 0), (0, 0, 0), (0, 0, 0)])
+        self.assertIn("M1, pass 1: 100 boxes of 1 by 1 um in 1 run, 1 > 0 windows low\nM1, pass 2: 0 boxes of 1 by 1 um in 0 runs, 0 > 0 windows low\n", ended.stdout)
+        self.metal((0, 0, 20_000, 20_000))
+        self.run_deck(text.replace("empty = true\n", "origins = 2\n").replace("{}", "{origins = 2}"))
+        self.assertEqual([(told["boxes"], told["runs"], told["low"]) for told in self.summary()["passes"]], [(0, 1, 0), (0, 0, 0), (0, 0, 0)])
+        self.assertEqual(self.report(), ["0,0,0,0,20000,20000,400000000,0,400000000,1000000,OK"])
+        self.assertEqual(self.boxes(), [])
+
+    def test_one_run_is_no_pass(self) -> None:
+        """The same bytes by the same names, whatever the keys say that ask for one run."""
+        self.metal(*self.WIRES[:2])
+        left = []
+        for more in ("", "passes = [{}]\n", "origins = 1\ngradual = 1\n"):
+            told = self.run_deck(ONE_WINDOW + layer(1, more)).stdout
+            left.append([re.sub(r" [\d.]+ +\d+\n", "\n", told), *((self.out / f"M1.{name}").read_bytes() for name in ("rules.csv", "report.csv", "fill.gds"))])
+            self.assertNotIn("passes", self.summary())
+        self.assertEqual(left[1:], left[:1] * 2)
+
+    def test_fill_that_is_there_already(self) -> None:
+        """Existing fill on the layer of the boxes: what the design draws there stays drawn, and the rest is fill."""
+        self.design(structure("TOP", boundary(5, 8_000, 8_000, 12_000, 12_000)))
+        more = 'empty = true\nexisting_fill = "5/0"\npasses = [{pitch = "4 um"}, {}]\n'
+        self.run_deck(ONE_WINDOW.replace('"25 %"', '"40 %"') + layer(1, more).replace('"1/1"', '"5/0"'))
+        self.assertEqual(self.report(), ["0,0,0,0,20000,20000,16000000,96000000,112000000,280000,LOW"])
+        self.assertEqual([told["boxes"] for told in self.summary()["passes"]], [24, 72])
+
+    def test_late_changes_hold_in_all_passes(self) -> None:
+        """As if they were drawn: a wire that is cut, metal that is added, and a keep-out."""
+        changes = {"add": (8_000, 8_000, 12_000, 12_000), "cut": (0, 0, 20_000, 4_000), "keep": (0, 16_000, 20_000, 20_000)}
+        (self.folder / "late.csv").write_text("".join(f"{kind},{','.join(map(str, rect))}\n" for kind, rect in changes.items()))
+        more = 'passes = [{box = "2 um", pitch = "4 um"}, {origins = 2, gradual = 4}]\n'
+        self.metal(changes["cut"])
+        self.run_deck(ONE_WINDOW.replace('"25 %"', '"60 %"') + layer(1, more + 'script = "late.csv"\n'))
+        left = [(self.out / f"M1.{name}").read_bytes() for name in ("report.csv", "fill.gds")]
+        self.design(structure("TOP", boundary(1, *changes["add"]), boundary(40, *changes["keep"])))
+        self.run_deck(ONE_WINDOW.replace('"25 %"', '"60 %"') + layer(1, more + 'keep_layer = "40/0"\n'))
+        self.assertEqual(left, [(self.out / f"M1.{name}").read_bytes() for name in ("report.csv", "fill.gds")])
+        self.assertTrue(all(told["boxes"] for told in self.summary()["passes"]))
+
+
+class AnyPasses(WithExistingFill):
+    """A design of wires and strewn shapes, filled in three passes with boxes of three sizes, looked at by nothing but the texts that are left."""
+    FRAME = (0, 0, 40_000, 40_000)
+    # The box, the pitch, the origins across and up, the spacing to metal and to fill.
+    OF = (("M1_BOX", 2000, 3200, 1, 500, 600), ("M1_BOX_P2", 1000, 1800, 3, 500, 400), ("M1_BOX_P3", 600, 1200, 1, 400, 300))
+    TEXT = GOOD.replace('"30 %"', '"45 %"') + layer(1, '''passes = [
+    {box = "2 um", pitch = "3.2 um", fill_spacing = "0.6 um"},
+    {box = "1 um", pitch = "1.8 um", fill_spacing = "0.4 um", origins = 3},
+    {box = "0.6 um", pitch = "1.2 um", spacing = "0.4 um", fill_spacing = "0.3 um", gradual = 4},
+]
+''')
+
+    kept: Path
+
+    @classmethod
+    def setUpClass(cls) -> None:
+        folder = tempfile.TemporaryDirectory()
+        cls.addClassCleanup(folder.cleanup)
+        cls.kept = Path(folder.name) / "deck.out"
+
+    def setUp(self) -> None:
+        """The results are those of one run."""
+        super().setUp()
+        corners = [(k * 7919 % 390 * 100, k * 104_729 % 390 * 100) for k in range(70)]
+        self.rects = [(x, 0, x + 600, 40_000) for x in range(0, 40_000, 8_000)] + [(x, y, x + (x + y) % 2700 + 200, y + 300) for x, y in corners]
+        self.design(structure("TOP", *(boundary(1, *rect) for rect in self.rects)))
+        self.path.write_text(self.TEXT)
+        if not self.kept.exists():
+            self.run_deck(self.TEXT, "--quiet", "--out", str(self.kept))
+        shutil.copytree(self.kept, self.out)
+        self.placed = placed_boxes(self.out / "M1.fill.gds")
+        self.windows = [list(map(int, row[:10])) for row in csv.reader(self.report())]
+
+    def low(self, window: list[int], cells: tuple[str, ...]) -> bool:
+        """Whether a window is below 45 % with the boxes of some cells."""
+        of = (window[2], window[3], window[4], window[5])
+        return covered([*self.rects, *(box for cell, box in self.placed if cell in cells)], of) * 20 < 9 * 20_000**2
+
+    def test_distances(self) -> None:
+        for number, (name, size, pitch, origins, spacing, fill_spacing) in enumerate(self.OF):
+            mine = [box for cell, box in self.placed if cell == name]
+            before = [box for cell, box in self.placed if cell in [of[0] for of in self.OF[:number]]]
+            self.assertTrue(mine and all(gap(box, rect) >= spacing for box in mine for rect in self.rects), name)
+            self.assertTrue(all(gap(box, other) >= fill_spacing for box in mine for other in before), name)
+            self.assertTrue(all(gap(box, other) >= fill_spacing for k, box in enumerate(mine) for other in mine[:k]), name)
+            self.assertTrue(all((x2 - x1, y2 - y1) == (size, size) and gap((x1, y1, x2, y2), self.FRAME) <= -size for x1, y1, x2, y2 in mine), name)
+            self.assertEqual({at % pitch % (pitch // origins) for box in mine for at in box[:2]}, {0}, name)
+
+    def test_areas_and_counts(self) -> None:
+        for row, of in zip(self.windows, self.report()):
+            window = (row[2], row[3], row[4], row[5])
+            drawn, fill = covered(self.rects, window), sum(covered([box], window) for _, box in self.placed if gap(box, window) < 0)
+            state = "LOW" if (drawn + fill) * 20 < 9 * 20_000**2 else "OK"
+            self.assertEqual(of.split(",")[6:], [*map(str, (drawn, fill, drawn + fill, (drawn + fill) * 10**6 // 20_000**2)), state])
+        told = json.loads((self.out / "summary.json").read_text())["layers"][0]
+        self.assertEqual([one["boxes"] for one in told["passes"]], [sum(cell == of[0] for cell, _ in self.placed) for of in self.OF])
+        self.assertEqual((told["boxes"], told["passes"][2]["low"]), (len(self.placed), told["after"]["low"]))
+        self.assertIn(", ".join(f"{one['boxes']} of pass {k}" for k, one in enumerate(told["passes"], 1)), (self.out / "report.html").read_text())
+
+    def test_boxes_stand_in_windows_that_were_low(self) -> None:
+        names = tuple(of[0] for of in self.OF)
+        for number, name in enumerate(names):
+            low = [row[2:6] for row in self.windows if self.low(row, names[:number])]
+            mine = [box for cell, box in self.placed if cell == name]
+            self.assertTrue(all(any(x1 <= box[0] and y1 <= box[1] and box[2] <= x2 and box[3] <= y2 for x1, y1, x2, y2 in low) for box in mine), name)
+
+    def test_nothing_has_room_in_a_window_that_stays_low(self) -> None:
+        low = [row[2:6] for row in self.windows if self.low(row, tuple(of[0] for of in self.OF))]
+        self.assertTrue(low)
+        for name, size, pitch, origins, spacing, fill_spacing in self.OF:
+            for x, y in ((x, y) for x in range(0, 40_000, pitch // origins) for y in range(0, 40_000, pitch // origins)):
+                box = (x, y, x + size, y + size)
+                if any(x1 <= x and y1 <= y and box[2] <= x2 and box[3] <= y2 for x1, y1, x2, y2 in low):
+                    near = any(gap(box, rect) < spacing for rect in self.rects) or any(gap(box, other) < fill_spacing for _, other in self.placed)
+                    self.assertTrue(near, (name, x, y))
+
+    def test_the_merged_design_has_what_the_report_tells(self) -> None:
+        merged, design = self.folder / "merged.gds", self.folder / "design.gds"
+        subprocess.run([sys.executable, str(DECK / "densfill-deck"), "merge", self.path, design, merged], check=True, capture_output=True)
+        (self.folder / "both.csv").write_text((self.out / "M1.rules.csv").read_text() + "also_fill,1/1\n")
+        seen = subprocess.run([self.program, "check", self.folder / "both.csv", merged], capture_output=True, text=True, check=True).stdout
+        self.assertEqual([row.split(",")[8:] for row in seen.splitlines()], [row.split(",")[8:] for row in self.report()])
+
+    @unittest.skipUnless(shutil.which("klayout"), "KLayout isn't installed")
+    def test_klayout_measures_the_same(self) -> None:
+        self.assertIn("windows that differ: 0 of 9", compared(self.folder / "design.gds", self.out, "M1"))
+
+
+class InterruptedPasses(WithExistingFill):
+    """Passes that fail, are interrupted, or are taken up again: by a program that notes its runs, and fails or waits where it is told to."""
+    PASSES = 'passes = [{box = "2 um", pitch = "4 um"}, {origin = "1 um", origins = 2}, {box = "0.6 um", gradual = 4}]\n'
+    TEXT = ONE_WINDOW.replace('"25 %"', '"60 %"') + layer(1, PASSES) + layer(2)
+
+    WHOLE: list[tuple[object, ...]] = []
+
+    def setUp(self) -> None:
+        super().setUp()
+        self.design(structure("TOP", boundary(1, 0, 0, 2_000, 20_000), boundary(2, 0, 0, 2_000, 20_000)))
+        script = self.folder / "noting"
+        script.write_text(f'''#!/bin/sh
+echo "$(basename $2 .rules.csv)" >> {self.folder}/runs
+case $2 in *"$(cat {self.folder}/fails)"*) echo "densfill: design: 18 TooManyShapes" >&2; exit 2;; esac
+case $2 in *"$(cat {self.folder}/waits)"*) exec sleep 60;; esac
+exec {self.program} "$@"
+''')
+        script.chmod(0o755)
+        self.mark("nothing", "nothing")
+        self.program = script
+
+    def mark(self, fails: str, waits: str) -> None:
+        (self.folder / "fails").write_text(fails)
+        (self.folder / "waits").write_text(waits)
+        (self.folder / "runs").write_text("")
+
+    def runs(self) -> list[str]:
+        return (self.folder / "runs").read_text().split()
+
+    def results(self) -> tuple[object, ...]:
+        told = json.loads((self.out / "summary.json").read_text())["layers"][0]["passes"]
+        return (self.out / "M1.fill.gds").read_bytes(), (self.out / "M1.report.csv").read_bytes(), told
+
+    def left(self) -> set[str]:
+        return {path.name for path in (self.out / "M1.passes").iterdir()}
+
+    def assert_whole(self) -> None:
+        """What is there is what a run leaves that nothing interrupts, and no more."""
+        self.assertFalse((self.out / "M1.passes").exists())
+        if not self.WHOLE:
+            found = self.results()
+            self.mark("nothing", "nothing")
+            self.run_deck(self.TEXT, "--quiet", "--only", "M1")
+            self.WHOLE.append(self.results())
+            self.assertEqual(found, self.WHOLE[0])
+        self.assertEqual(self.results(), self.WHOLE[0])
+
+    def test_a_failure_names_its_pass(self) -> None:
+        for fails, at in (("P1.", "pass 1 of 3"), ("P2_T3.", "pass 2 of 3, origin 3 of 4 tried"), ("P2_O2.", "pass 2 of 3, origin 2 of 4"),
+                          ("P3_G2.", "pass 3 of 3, raster 2 of 4")):
+            self.mark(fails, "nothing")
+            ended = self.run_deck(self.TEXT, "--quiet", status=2)
+            told = f"an input is refused: {at}: densfill: design: 18 TooManyShapes"
+            self.assertEqual((ended.stderr.splitlines()[-1], f"M1              failed: {told}\n" in ended.stdout), (f"densfill-deck: M1: {told}", True))
+            self.assertEqual((self.out / "M1.log").read_text(), f"{at}: densfill: design: 18 TooManyShapes\n")
+            self.assertFalse({"M1.fill.gds", "M1.report.csv", "M1.run.json"} & {path.name for path in self.out.iterdir()})
+            self.assertTrue((self.out / "M2.fill.gds").exists())
+            self.assertFalse([name for name in self.left() if name.endswith((".part", ".unfinished")) or name == "design.gds"])
+
+    def test_passes_are_taken_up_where_they_ended(self) -> None:
+        self.mark("P3_G2.", "nothing")
+        self.run_deck(self.TEXT, "--quiet", status=2)
+        before = self.runs()
+        self.assertEqual(sorted(before, key=before.index)[-1], "P3_G2")
+        self.mark("nothing", "nothing")
+        self.run_deck(self.TEXT, "--quiet", "--resume")
+        self.assertEqual(self.runs(), ["P3_G2", "P3_G3", "P3_G4"])
+        self.assert_whole()
+        self.mark("nothing", "nothing")
+        self.run_deck(self.TEXT, "--quiet", "--resume")
+        self.assertEqual(self.runs(), [])
+        self.run_deck(self.TEXT.replace("gradual = 4", "gradual = 1"), "--quiet", "--resume")
+        self.assertEqual(self.runs()[0], "P1")
+
+    def test_passes_whose_files_are_gone_are_run_anew(self) -> None:
+        for name in ("P1.fill.gds", "P1.report.csv", "P1.run.json"):
+            self.mark("P3_G2.", "nothing")
+            self.run_deck(self.TEXT, "--quiet", status=2)
+            before = len(self.runs())
+            (self.out / "M1.passes" / name).write_text("")
+            self.mark("nothing", "nothing")
+            self.run_deck(self.TEXT, "--quiet", "--resume")
+            self.assertGreaterEqual(len(self.runs()), 2 if name == "P1.run.json" else before, name)
+            self.assert_whole()
+
+    def test_a_run_without_resume_begins_anew(self) -> None:
+        self.mark("P3_G2.", "nothing")
+        self.run_deck(self.TEXT, "--quiet", status=2)
+        self.mark("nothing", "nothing")
+        (self.out / "M1.passes/P9_O1.rules.csv").write_text("of another deck")
+        self.run_deck(self.TEXT, "--quiet", "--only", "M1")
+        self.assertEqual(self.runs()[0], "P1")
+        self.assert_whole()
+
+    def test_an_interrupted_pass_leaves_nothing_half(self) -> None:
+        self.mark("nothing", "P2_O2.")
+        self.path.write_text(self.TEXT)
+        line = [sys.executable, str(DECK / "densfill-deck"), "run", str(self.path), str(self.folder / "design.gds"), "--program", str(self.program), "--only", "M1"]
+        child = subprocess.Popen(line, stdout=subprocess.DEVNULL, stderr=subprocess.DEVNULL, preexec_fn=interruptible)
+        for _ in range(400):
+            if "P2_O2" in self.runs():
+                break
+            time.sleep(0.05)
+        child.send_signal(signal.SIGINT)
+        self.assertEqual(child.wait(20), 130)
+        self.assertFalse({"M1.fill.gds", "M1.report.csv", "M1.run.json"} & {path.name for path in self.out.iterdir()})
+        self.assertFalse([name for name in self.left() if name.endswith((".part", ".unfinished")) or name in ("design.gds", "P2_O2.report.csv")])
+        self.mark("nothing", "nothing")
+        self.run_deck(self.TEXT, "--quiet", "--resume", "--only", "M1")
+        self.assertEqual(self.runs()[0], "P2_O2")
+        self.assert_whole()
+
+    def test_the_pass_is_told_while_it_runs(self) -> None:
+        told = self.run_deck(self.TEXT, "--jobs", "1").stderr
+        self.assertIn("running M1 (pass 1 of 3) for ", told)
+        for number, share in ((1, "1/12"), (2, "8/12")):
+            self.assertRegex(told, rf"0 of 2 layers done \(\d+% by size\), \d+ s, some \d+ s left, running M1 \(pass {number} of 3 done\) for ", share)
+        self.assertNotIn("pass", self.run_deck(self.TEXT, "--quiet").stderr)
 
 
 def compared(design: Path, results: Path, name: str) -> str:

@@ -40,6 +40,15 @@ def places_on(numbers: Mapping[str, int], axis: str, side: str) -> int:
     return max(0, last - first + 1)
 
 
+def most_boxes(numbers: Mapping[str, int], origins: int) -> int:
+    """How many boxes a pass places at most: one at each place, or where its raster is taken at several origins as many as have room."""
+    if origins == 1:
+        return places_on(numbers, "x", "w") * places_on(numbers, "y", "h")
+    gap = numbers["fill_spacing"]
+    across, up = ((numbers[f"frame_{axis}2"] - numbers[f"frame_{axis}1"] + gap) // (numbers[f"box_{side}"] + gap) for axis, side in (("x", "w"), ("y", "h")))
+    return max(0, across) * max(0, up)
+
+
 def load_of(numbers: Mapping[str, int], does: str, size: int, elements: int, copies: int) -> Load:
     """That of a rule file's numbers and of a design that has so many bytes, elements and copies. A check has no places."""
     across, up = (places_on(numbers, axis, side) if does == "fill" else 0 for axis, side in (("x", "w"), ("y", "h")))

@@ -8,11 +8,11 @@ from fractions import Fraction
 from pathlib import Path
 
 from .contents import Contents, contents_of
-from .costs import Load, load_of
+from .costs import Load, load_of, most_boxes
 from .gds import NoStream, database_unit
-from .judge import judge_boxes, judge_metal, judge_script, judge_table, judge_together, judge_top
+from .judge import MOST_OF_A_KEY, judge_boxes, judge_metal, judge_script, judge_table, judge_together, judge_top
 from .lengths import Unfit, in_millionths, metres, told
-from .tables import Deck, Fault, Layer, Refused, Table, Text, on_told
+from .tables import Deck, Fault, Layer, Pass, PassTable, Refused, Table, Text, on_told
 
 NAME = re.compile(r"[A-Za-z0-9_.+-]{1,64}\Z")
 LAYER = re.compile(r"\s*(\d{1,5})\s*/\s*(\d{1,5})\s*\Z")
@@ -20,16 +20,22 @@ FILL_NAME = re.compile(r"[A-Za-z0-9_?$]{1,32}\Z")
 DECK_KEYS = ("unit", "top", "design")
 LAYER_KEYS = ("name", "layer", "fill", "frame", "window", "step", "first", "windows", "min", "max", "padding", "box", "pitch", "origin",
               "spacing", "fill_spacing", "tile", "fill_layer", "keep_layer", "existing_fill", "script", "library", "cell", "top_cell", "empty",
-              "gradient")
+              "gradient", "passes", "origins", "gradual")
 REQUIRED = ("name", "layer", "frame", "window", "min")
-REQUIRED_OF_FILL = ("box", "pitch", "spacing", "fill_spacing", "fill_layer")
+REQUIRED_OF_A_PASS = ("box", "pitch", "spacing", "fill_spacing")
+REQUIRED_OF_FILL = (*REQUIRED_OF_A_PASS, "fill_layer")
+# The keys that a pass may have of its own, and the numbers of those that a rule file has too.
+OF_A_PASS = {"box": ("box_w", "box_h"), "pitch": ("step_x", "step_y"), "origin": ("origin_x", "origin_y"), "spacing": ("spacing",),
+             "fill_spacing": ("fill_spacing",)}
+PASS_KEYS = (*OF_A_PASS, "origins", "gradual")
+MOST_PASSES, MOST_ORIGINS, GRADUAL = 32, 8, (1, 4, 9, 16)
+MOST_COPIES = 4_000_000   # of shapes on a layer, which the program takes
 # What a text that is no TOML mostly lacks, by how the reason begins.
 HINTS = {"Invalid value": 'a text stands in quotes, as "uart", and a number is as 0.5', "Cannot overwrite a value": "the key stands twice in this table",
          "Cannot declare": "the table stands twice: write [[layer]] above each layer", "Expected '='": "a deck is TOML, with lines as key = value"}
 # The keys that take several layers and data types: the key that a rule file has for each but the first, and the numbers that say the first one;
 # existing fill has no such numbers.
 SEVERAL = {"layer": ("also_metal", "layer", "datatype"), "keep_layer": ("also_keep", "keep_layer", "keep_datatype"), "existing_fill": ("also_fill",)}
-MOST_OF_A_KEY = 63
 
 
 def shown(value: object) -> str:
@@ -63,16 +69,31 @@ def layers_of(value: object, most: int) -> list[tuple[int, int]]:
     return found
 
 
-def unknown_keys(table: Table, keys: tuple[str, ...]) -> None:
+def origins_of(value: object) -> int:
+    """At how many origins across and up a raster is taken."""
+    if isinstance(value, bool) or not isinstance(value, int) or not 1 <= value <= MOST_ORIGINS:
+        raise Unfit(f"{shown(value)} is no number of origins: write 1 to {MOST_ORIGINS}")
+    return value
+
+
+def gradual_of(value: object) -> int:
+    """In how many interleaved coarser rasters a raster is taken."""
+    if isinstance(value, bool) or not isinstance(value, int) or value not in GRADUAL:
+        raise Unfit(f"{shown(value)} is no number of coarser rasters: write {', '.join(map(str, GRADUAL[:-1]))} or {GRADUAL[-1]}")
+    return value
+
+
+def unknown_keys(table: Table, keys: tuple[str, ...], of: str = "a deck") -> None:
     for key in table.own:
         if key not in keys:
             near = difflib.get_close_matches(key, keys, 1)
-            table.fault(key, "is no key of a deck" + (f': write "{near[0]}"' if near else f": the keys are {', '.join(keys)}"))
+            table.fault(key, f"is no key of {of}" + (f': write "{near[0]}"' if near else f": the keys are {', '.join(keys)}"))
 
 
 def missing_keys(table: Table) -> None:
     fills = table.get("fill", True) is not False
-    for key in REQUIRED + (REQUIRED_OF_FILL if fills else ()):
+    of_fill = ("fill_layer",) if table.get("passes") is not None else REQUIRED_OF_FILL
+    for key in REQUIRED + (of_fill if fills else ()):
         if table.get(key) is None:
             table.fault("", f'the key "{key}" is missing, here and in [defaults]')
 
@@ -149,6 +170,45 @@ def put_without_fill(table: Table) -> None:
         table.numbers.setdefault(name, value)
 
 
+def pass_tables(table: Table) -> list[PassTable]:
+    """The tables of a layer's passes. A layer without the key is filled in one that has nothing of its own."""
+    values = table.get("passes")
+    if values is None:
+        return [PassTable(table.text, table.where, table.header, {}, unit=table.unit, numbers=dict(table.numbers), outer=table)]
+    if not isinstance(values, list) or not all(isinstance(one, dict) for one in values):
+        table.fault("passes", f'{shown(values)} is no list of passes: write [{{box = "2 um", pitch = "3 um"}}, {{box = "1 um", pitch = "1.5 um"}}]')
+        return []
+    if not 1 <= len(values) <= MOST_PASSES:
+        table.fault("passes", f"{len(values)} passes: write 1 to {MOST_PASSES}")
+    where, header = (table.where, table.header) if "passes" in table.own else ("[defaults]", next(iter(table.text.headers("defaults")), 0))
+    return [PassTable(table.text, f"{where}, pass {number}", table.text.line_of_part(header, "passes", number), own, unit=table.unit,
+                      numbers=dict(table.numbers), outer=table) for number, own in enumerate(values, 1)]
+
+
+def read_pass(table: PassTable) -> Pass:
+    """A pass, with what is wrong with it by itself."""
+    unknown_keys(table, PASS_KEYS, "a pass")
+    for key in REQUIRED_OF_A_PASS:
+        if table.outer.get("passes") is not None and table.get(key) is None:
+            table.fault("", f'the key "{key}" is missing, here, in the layer\'s table and in [defaults]')
+    for key in (key for key in OF_A_PASS if key in table.own):
+        table.numbers = {name: value for name, value in table.numbers.items() if name not in OF_A_PASS[key]}
+        table.put(key, OF_A_PASS[key], table.length)
+    counts = {}
+    for key, convert in (("origins", origins_of), ("gradual", gradual_of)):
+        try:
+            counts[key] = convert(table.get(key, 1))
+        except Unfit as unfit:
+            table.fault(key, str(unfit))
+    numbers = {name: table.numbers[name] for names in OF_A_PASS.values() for name in names if name in table.numbers}
+    return Pass(numbers, **counts)
+
+
+def read_passes(table: Table) -> list[tuple[PassTable, Pass]]:
+    """The passes of a layer that is filled."""
+    return [(one, read_pass(one)) for one in pass_tables(table)] if table.get("fill", True) is not False else []
+
+
 def texts_of(table: Table, name: str, top: object) -> dict[str, str]:
     """The texts of the rule file: what is not given is made of the layer's name."""
     stem = re.sub(r"[^A-Za-z0-9_]", "_", name)[:24]
@@ -192,15 +252,19 @@ def read_layer(table: Table, top: object, contents: Contents | None, is_design_f
     put_counts(table)
     if fills is False:
         put_without_fill(table)
+    passes = read_passes(table)
     texts = texts_of(table, str(name), top)
     gradient = gradient_of(table)
-    judge_table(table)
+    judge_table(table, passes)
     path = table.text.path.parent / script if isinstance(script, str) else None
     if path is not None:
         judge_script(table, path)
     elif script is not None:
         table.fault("script", f"{script!r} is no path")
-    return Layer(str(name), bool(fills), table.numbers, texts, path, gradient, table.also) if not table.is_faulty else None
+    if table.is_faulty:
+        return None
+    numbers = table.numbers | (passes[0][1].numbers if passes else {})   # the layer's own rule file has the boxes of the first pass
+    return Layer(str(name), bool(fills), numbers, texts, path, gradient, table.also, [of for _, of in passes])
 
 
 def unit_of(table: Table, design: Path | None) -> Fraction:
@@ -279,9 +343,22 @@ def loads_of(layers: list[Layer], contents: Contents, top: str, size: int) -> di
     loads: dict[str, Load] = {}
     for layer in layers:
         n, of = layer.numbers, layer.metals + layer.existing + (layer.keeps if layer.fills else [])
-        shapes = sum(structure.shapes[on].count for structure in reached for on in of if on in structure.shapes)
-        loads[layer.name] = load_of(n, layer.does, size, shapes + references, sum(drawn[on].count for on in of if on in drawn))
+        elements = references + sum(structure.shapes[on].count for structure in reached for on in of if on in structure.shapes)
+        copies = sum(drawn[on].count for on in of if on in drawn)
+        loads[layer.name] = load_in_passes(layer, size, elements, copies) if layer.in_passes else load_of(n, layer.does, size, elements, copies)
     return loads
+
+
+def load_in_passes(layer: Layer, size: int, elements: int, copies: int) -> Load:
+    """What the run with most memory has to do with: boxes of those before it are among what the design draws then."""
+    loads, before = [], 0
+    for of in layer.passes:
+        numbers = layer.numbers | of.numbers
+        boxes = most_boxes(numbers, of.origins)
+        seen = min(MOST_COPIES, before + (boxes if of.runs > 1 else 0))
+        loads.append(load_of(numbers, layer.does, size, elements, copies + seen))
+        before += boxes
+    return max(loads, key=lambda load: load.memory(layer.does))
 
 
 def read_deck(path: Path, design: Path | None = None, only: Iterable[str] = ()) -> Deck:

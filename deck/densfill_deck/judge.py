@@ -2,13 +2,16 @@
 import difflib
 from collections.abc import Callable, Iterable, Iterator, Mapping
 from itertools import combinations
+from math import isqrt
 from pathlib import Path
 
 from .contents import Box, Contents, On
 from .lengths import METRES, share_of
-from .tables import Fault, Layer, Table, on_told
+from .tables import Fault, Layer, Pass, PassTable, Table, on_told
 
-FAR, LONG, MOST_WINDOWS, MOST_PLACES, MOST_CHANGES = 1 << 30, 1 << 20, 1 << 20, 1 << 24, 100_000
+Passes = list[tuple[PassTable, Pass]]
+
+FAR, LONG, MOST_WINDOWS, MOST_PLACES, MOST_CHANGES, MOST_OF_A_NAME, MOST_OF_A_KEY = 1 << 30, 1 << 20, 1 << 20, 1 << 24, 100_000, 32, 63
 SHOWN = 12
 # The keys of a deck, what they are in a rule file, and the range of these (docs/FORMATS.md).
 RANGES = ((("frame", "first", "origin"), -FAR, FAR), (("window", "step", "box", "pitch", "windows"), 1, LONG), (("spacing", "fill_spacing"), 0, LONG),
@@ -19,14 +22,16 @@ NAMES = {"frame": ("frame_x1", "frame_y1", "frame_x2", "frame_y2"), "first": ("w
 KINDS = ("add", "cut", "keep")
 
 
-def judge_table(table: Table) -> None:
-    """What is wrong with a layer's numbers, as far as they could be read."""
+def judge_table(table: Table, passes: Passes) -> None:
+    """What is wrong with a layer's numbers and those of its passes, as far as they could be read."""
     judge_ranges(table)
     judge_frame_and_limits(table)
     judge_windows(table)
-    if table.get("fill", True) is not False:
-        judge_raster(table)
-        judge_reach(table)
+    for one, of in passes:
+        judge_ranges(one)
+        judge_raster(one, of)
+    if passes:
+        judge_reach(table, passes)
     judge_layers(table)
 
 
@@ -78,12 +83,16 @@ def judge_windows(table: Table) -> None:
         table.fault("windows" if table.get("windows") is not None else "window", f"the last window ends beyond {FAR} database units")
 
 
-def judge_raster(table: Table) -> None:
-    n = table.numbers
+def judge_raster(table: Table, of: Pass) -> None:
+    n, coarser = table.numbers, isqrt(of.gradual)
     for step, side in (("step_x", "box_w"), ("step_y", "box_h")):
         if table.has(step, side, "fill_spacing") and n[step] < n[side] + n["fill_spacing"]:
             least = n[side] + n["fill_spacing"]
-            table.fault("pitch", f"{told(n[step], table)} is less than box and fill_spacing together: write {told(least, table)} or more")
+            words = f"{told(n[step], table)} is less than box and fill_spacing together: write {told(least, table)} or more"
+            table.fault_together(("pitch", "box", "fill_spacing"), words)
+        if coarser > 1 and table.has(step) and n[step] <= LONG < n[step] * coarser:
+            words = f"{coarser} times the pitch is {n[step] * coarser} database units, more than {LONG}: write a smaller number, or a shorter pitch"
+            table.fault_together(("gradual", "pitch"), words)
     if table.has("spacing", "win_w", "win_h") and n["spacing"] >= max(n["win_w"], n["win_h"]):
         table.warn("spacing", f"{told(n['spacing'], table)} is as wide as a window: next to any metal no box has room")
     places = 1
@@ -93,18 +102,32 @@ def judge_raster(table: Table) -> None:
         places *= max(0, (n[high] - n[low] - n[side]) // n[step] + 1)
     # The origin decides of a place more or less each way.
     if places > MOST_PLACES:
-        table.fault("pitch", f"some {places} places for a box in the frame are more than {MOST_PLACES}: write a longer pitch, or a smaller frame")
+        words = f"some {places} places for a box in the frame are more than {MOST_PLACES}: write a longer pitch, or a smaller frame"
+        table.fault_together(("pitch", "box"), words)
 
 
-def judge_reach(table: Table) -> None:
+def share_of_boxes(of: Pass) -> float:
+    """The share that a pass's boxes take of an empty window: on one raster that of a box in its pitch, on several at most that of a box with the
+    spacing to others round it."""
+    n = of.numbers
+    if of.origins == 1:
+        return n["box_w"] * n["box_h"] / max(1, n["step_x"] * n["step_y"])
+    return n["box_w"] * n["box_h"] / max(1, (n["box_w"] + n["fill_spacing"]) * (n["box_h"] + n["fill_spacing"]))
+
+
+def judge_reach(table: Table, passes: Passes) -> None:
     """Whether an empty window can reach `min` by fill: by the share that boxes take of their pitch, and of the window that lies least in the
     frame, where what lies beside it counts as empty."""
-    n = table.numbers
-    if not table.has("box_w", "box_h", "step_x", "step_y", "min") or n["step_x"] < 1 or n["step_y"] < 1:
+    n, needed = table.numbers, ("box_w", "box_h", "step_x", "step_y", "fill_spacing")
+    if "min" not in n or any(of.numbers.get(name, -1) < (name != "fill_spacing") for _, of in passes for name in needed):
         return
-    dense = min(1.0, n["box_w"] * n["box_h"] / (n["step_x"] * n["step_y"]))
+    dense = min(1.0, sum(share_of_boxes(of) for _, of in passes))
     if dense * 10**6 < n["min"]:
-        table.warn("pitch", f"boxes take {dense:.3%} of an empty window, less than min: write a shorter pitch or a larger box")
+        if len(passes) == 1 and passes[0][1].origins == 1:
+            table.warn("pitch", f"boxes take {dense:.3%} of an empty window, less than min: write a shorter pitch or a larger box")
+        else:
+            key = "passes" if table.get("passes") is not None else "origins"
+            table.warn(key, f"boxes of all passes take at most {dense:.3%} of an empty window, less than min: write shorter pitches or larger boxes")
         return
     if not table.has("frame_x1", "frame_y1", "frame_x2", "frame_y2", "win_nx", "win_ny") or table.get("padding") == "ignore":
         return
@@ -171,8 +194,13 @@ def judge_together(read: list[tuple[Table, Layer]]) -> None:
     for first, (table, layer) in of_one(filled, lambda layer: layer.texts["fill_top"]):
         table.fault("top_cell", f"the library of {first.name} has the top {layer.texts['fill_top']} too: write one for each layer")
     for table, layer in filled:
-        if layer.texts["fill_top"] == layer.texts["fill_cell"]:
+        if layer.texts["fill_top"] in layer.cells[:-1]:
             table.fault("top_cell", f"{layer.texts['fill_top']} is the name of cell too: write another one")
+        if any(len(name) > MOST_OF_A_NAME for name in layer.cells):
+            table.fault("cell", f"{layer.texts['fill_cell']} is too long, as that of a later pass has _P{len(layer.passes)} behind it: write up to "
+                                f"{MOST_OF_A_NAME - len(f'_P{len(layer.passes)}')} letters")
+        if len(layer.existing) >= MOST_OF_A_KEY and layer.in_passes and layer.boxes not in layer.existing:
+            table.fault("existing_fill", f"{len(layer.existing)} layers and that of the boxes: write up to {MOST_OF_A_KEY - 1}, as passes add their own")
 
 
 def of_one(read: list[tuple[Table, Layer]], key: Callable[[Layer], str]) -> Iterator[tuple[Layer, tuple[Table, Layer]]]:
@@ -193,10 +221,24 @@ def judge_boxes(read: Iterable[tuple[Table, Layer]], top: str, contents: Content
             continue
         fill = (layer.numbers["fill_layer"], layer.numbers["fill_datatype"])
         if fill in drawn and fill not in layer.existing:
-            table.warn("fill_layer", f"the top {top} draws {drawn[fill].count} shapes on {fill[0]}/{fill[1]}: boxes keep no spacing to them")
-        for key, rule in (("cell", "fill_cell"), ("top_cell", "fill_top")):
-            if layer.texts[rule] in contents.structures:
-                table.warn(key, f"the design has a structure {layer.texts[rule]} already: write another name, or merge the fill into a design without it")
+            words = f"the top {top} draws {drawn[fill].count} shapes on {fill[0]}/{fill[1]}: "
+            if layer.in_passes:
+                table.fault("fill_layer", words + f'passes would take them for their boxes: write "{on_told(fill)}" into existing_fill too, or other boxes')
+            else:
+                table.warn("fill_layer", words + "boxes keep no spacing to them")
+        judge_names(table, layer, contents)
+
+
+def judge_names(table: Table, layer: Layer, contents: Contents) -> None:
+    """Cells of the fill that the design has too. In passes they are refused, since the fill is put into the design meanwhile."""
+    for name in layer.cells:
+        if name not in contents.structures:
+            continue
+        key = "top_cell" if name == layer.texts["fill_top"] else "cell"
+        if layer.in_passes:
+            table.fault(key, f"the design has a structure {name} already, and each pass reads it with the fill so far: write another name")
+        else:
+            table.warn(key, f"the design has a structure {name} already: write another name, or merge the fill into a design without it")
 
 
 def judge_frame(table: Table, layer: Layer, box: Box | None, top: str) -> None:

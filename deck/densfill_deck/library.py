@@ -1,8 +1,9 @@
-"""A design with fill libraries below its top, in one GDSII file: their records are copied as they are, and the top gets a reference to each."""
+"""A design with fill libraries below its top, in one GDSII file: their records are copied as they are, and the top gets a reference to each. And
+several fill libraries of one layer as one."""
 import mmap
 import struct
 from collections.abc import Iterator
-from dataclasses import dataclass
+from dataclasses import dataclass, field
 from pathlib import Path
 from typing import BinaryIO, NamedTuple
 
@@ -64,7 +65,12 @@ def places(data: bytes | mmap.mmap) -> Iterator[tuple[int, int, int]]:
 
 def layout_of(path: Path) -> Layout:
     """The structures of a stream."""
-    data, units, begin, name, end, cells = opened(path), b"", 0, b"", 0, []
+    return layout_in(path, opened(path))
+
+
+def layout_in(path: Path, data: bytes | mmap.mmap) -> Layout:
+    """Those of the bytes of a stream, which a path names."""
+    units, begin, name, end, cells = b"", 0, b"", 0, []
     for kind, at, past in places(data):
         if kind == UNITS:
             units = data[at + 4 : past]
@@ -79,6 +85,43 @@ def layout_of(path: Path) -> Layout:
     if len(units) != 16:
         raise NoStream("the stream has no UNITS")
     return Layout(path, data, units, cells, end)
+
+
+@dataclass
+class Gathered:
+    """The boxes of several fill libraries: what stands before the structures in the first, the cells of boxes that are placed, each once, how the
+    top begins, and what it refers to."""
+    head: bytes = b""
+    cells: dict[bytes, bytes] = field(default_factory=dict)
+    top: bytes = b""
+    references: list[bytes] = field(default_factory=list)
+
+    def take(self, path: Path, top: str) -> None:
+        """Takes the boxes of a fill library with this top."""
+        fill = layout_of(path)
+        texts = {cell.name: fill.data[cell.begin:cell.end] for cell in fill.cells}
+        text = texts.pop(top.encode(), b"")
+        if not text:
+            raise Clash(f"{path} has no structure {top}")
+        behind = named_until(text)
+        self.head = self.head or fill.data[:fill.cells[0].begin]
+        self.top = text[:behind]
+        if text[behind:]:
+            self.references.append(text[behind:])
+            self.cells |= texts
+
+    def library(self) -> bytes:
+        """The library of them all."""
+        structures = [*self.cells.values(), self.top + b"".join(self.references)]
+        return self.head + b"".join(text + record(END_OF_STRUCTURE, NOTHING) for text in structures) + record(END_OF_LIBRARY, NOTHING)
+
+
+def named_until(structure: bytes) -> int:
+    """Where the first two records of a structure end, BGNSTR and STRNAME."""
+    at = 0
+    for _ in ("BGNSTR", "STRNAME"):
+        at += int.from_bytes(structure[at : at + 2], "big")
+    return at
 
 
 def record(kind: int, form: int, data: bytes = b"") -> bytes:

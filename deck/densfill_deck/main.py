@@ -23,7 +23,7 @@ from .reports import Limits, NoReport, figures, read_report
 from .results import Files, Inputs, Ran
 from .runs import Runner, jobs_for
 from .summary import Outcome, failure, outcome_of, summary, text, write_lines
-from .tables import Deck, Layer, Refused
+from .tables import Deck, Layer, Pass, Refused
 
 DONE, USAGE, FAILED, MISSED, INTERRUPTED = 0, 1, 2, 3, 130
 
@@ -124,7 +124,7 @@ def section_of(outcome: Outcome) -> Section:
         note = f"failed: {failure(ran)}"
         return Section(layer.name, note, outcome.limits, None, [])
     note = (f"{layer.counted}, {len(outcome.after)} windows, "
-            + (f"{outcome.boxes} boxes, " if layer.fills else "checked alone, ") + f"{ran.seconds:.2f} s, {ran.memory / 2**20:.0f} MB")
+            + (f"{outcome.told_boxes}, " if layer.fills else "checked alone, ") + f"{ran.seconds:.2f} s, {ran.memory / 2**20:.0f} MB")
     steps = outcome.steps[1] if layer.gradient is not None else None
     return Section(layer.name, note, outcome.limits, outcome.before if layer.fills else None, outcome.after, steps)
 
@@ -176,7 +176,7 @@ def run(given: argparse.Namespace) -> int:
         raise ValueError(f"{folder}: is a file: --out names a folder")
     inputs = Inputs(program_of(given.program), given.design.resolve(), folder)
     folder.mkdir(parents=True, exist_ok=True)
-    runner = Runner(inputs, Progress({layer.name: deck.loads[layer.name].seconds(layer.does) for layer in layers}, given.quiet))
+    runner = Runner(inputs, Progress({layer.name: layer.runs * deck.loads[layer.name].seconds(layer.does) for layer in layers}, given.quiet))
     done = runner.run_all(layers, jobs_for(layers, deck.loads, given.jobs), given.resume)
     ran = kept(runner, deck, layers) | {one.layer: one for one in done}
     as_run = {layer.name: layer for layer in layers}
@@ -203,7 +203,18 @@ def check(given: argparse.Namespace) -> int:
         n = layer.numbers
         print(f"{layer.name}: {layer.counted}, {n['win_nx']} by {n['win_ny']} windows, "
               f"{n['min'] / 10**4:g} to {n['max'] / 10**4:g} %" + ("" if layer.fills else ", checked alone"))
+        for number, of in enumerate(layer.passes if layer.in_passes else [], 1):
+            print(f"    pass {number}: {pass_told(of, deck.unit)}")
     return DONE
+
+
+def pass_told(of: Pass, unit: Fraction) -> str:
+    """A pass of a layer for people."""
+    um = {name: f"{float(value * unit * 10**6):g}" for name, value in of.numbers.items()}
+    words = f"boxes of {um['box_w']} by {um['box_h']} um, {um['step_x']} and {um['step_y']} um from one to the next, "
+    words += f"{um['spacing']} um off metal, {um['fill_spacing']} um off fill"
+    words += (f", at {of.origins**2} origins" if of.origins > 1 else "") + (f", in {of.gradual} coarser rasters" if of.gradual > 1 else "")
+    return words + (f", up to {of.runs} runs" if of.runs > 1 else "")
 
 
 def explain(given: argparse.Namespace) -> int:

@@ -41,6 +41,17 @@ def read_report(path: Path) -> list[Window]:
     return windows
 
 
+def told_apart(first: Path, last: Path) -> str:
+    """The report of the last of several fills, each of which takes the boxes of those before it for drawn: with what the design itself draws, as the
+    first one's report has it, and all else of its total as fill."""
+    lines = []
+    with open(first, encoding="ascii") as before, open(last, encoding="ascii") as after:
+        for earlier, line in zip(before, after, strict=True):
+            words, drawn = line.split(","), earlier.split(",")[6]
+            lines.append(",".join([*words[:6], drawn, str(int(words[8]) - int(drawn)), *words[8:]]))
+    return "".join(lines)
+
+
 @dataclass(frozen=True)
 class Limits:
     """The limits of a layer in parts of a million, and the frame where nothing counts beside it."""

@@ -3,13 +3,17 @@ import json
 import os
 import time
 from concurrent.futures import FIRST_COMPLETED, ThreadPoolExecutor, wait
+from dataclasses import replace
+from functools import partial
 from pathlib import Path
 
 from .children import Children, Job
 from .costs import Load
+from .passes import Filling
 from .progress import Progress
 from .results import Files, Inputs, Ran, digest, fingerprint, input_digest
 from .tables import Layer
+from .turns import clear, folder_of
 
 
 class Runner:
@@ -19,16 +23,22 @@ class Runner:
         self.inputs = inputs
         self.progress = progress
         self.children = Children(inputs.program)
+        self.again = False   # whether runs in passes that an earlier run left are taken
 
     def run(self, layer: Layer) -> Ran:
         """A layer's run."""
         begun = time.monotonic()
         self.progress.begin(layer.name)
+        if layer.in_passes:
+            ran = Filling(self.inputs, layer, self.children, self.again, partial(self.progress.turn, layer.name)).run()
+            return replace(ran, seconds=time.monotonic() - begun)
+        clear(folder_of(self.inputs.folder, layer))
         ended = self.children.run(Job(Files.of(self.inputs.folder, layer), layer.rules(), self.inputs.design, layer.script, layer.fills))
         return Ran(layer.name, ended.status, ended.told, time.monotonic() - begun, ended.memory)
 
     def run_all(self, layers: list[Layer], jobs: int, resume: bool) -> list[Ran]:
         """Runs all layers, so many side by side, those of an earlier run with the same inputs left out where that is asked for."""
+        self.again = resume
         ran = {layer.name: earlier for layer in layers if resume and (earlier := self.earlier(layer))}
         waiting = [layer for layer in layers if layer.name not in ran]
         with ThreadPoolExecutor(jobs) as pool, ThreadPoolExecutor(1) as beside:
@@ -72,7 +82,7 @@ class Runner:
             record = json.loads(files.record.read_text())
             same = record["inputs"] == fingerprint(self.inputs, layer) and record["outputs"]
             if same and all(digest(self.inputs.folder / name) == was for name, was in record["outputs"].items()):
-                return Ran(**(record["ran"] | {"taken": True}))
+                return Ran.earlier(record["ran"])
         except (OSError, ValueError, KeyError, TypeError):
             pass
         return None

@@ -8,8 +8,8 @@ from pathlib import Path
 from .gds import boxes
 from .lengths import told
 from .reports import Figures, Limits, Step, Window, figures, read_report, steps_over
-from .results import Files, Inputs, Ran, digest, fingerprint, input_digest
-from .tables import Deck, Layer, on_told
+from .results import Files, Inputs, Placed, Ran, digest, fingerprint, input_digest
+from .tables import Deck, Layer, Pass, on_told
 
 STATUS = {1: "usage", 2: "an input is refused", 3: "out of memory", 4: "a file could not be opened, read or written",
           5: "the fill is unfinished", 6: "the workers gave back other edits"}
@@ -34,6 +34,12 @@ class Outcome:
     @property
     def is_whole(self) -> bool:
         return self.ran.status == 0
+
+    @property
+    def told_boxes(self) -> str:
+        """How many boxes there are, for people, and of which pass."""
+        of = ", ".join(f"{placed.boxes} of pass {number}" for number, placed in enumerate(self.ran.passes, 1))
+        return f"{self.boxes} boxes" + (f" ({of})" if of else "")
 
     @cached_property
     def steps(self) -> tuple[list[Step], list[Step]]:
@@ -89,8 +95,16 @@ def told_figures(of: Figures, unit: Fraction) -> dict[str, object]:
 
 
 def failure(ran: Ran) -> str:
-    """Why a run failed: what its status means, and what the program told."""
-    return f"{STATUS.get(ran.status, f'status {ran.status}')}: {ran.told}"
+    """Why a run failed: what its status means, the pass where it is in passes, and what the program told."""
+    return f"{STATUS.get(ran.status, f'status {ran.status}')}: " + (f"{ran.at}: " if ran.at else "") + ran.told
+
+
+def told_pass(of: Pass, placed: Placed) -> dict[str, object]:
+    """A pass of a layer: its boxes and rasters in database units, and what it came to."""
+    n = of.numbers
+    return {"box": [n["box_w"], n["box_h"]], "pitch": [n["step_x"], n["step_y"]], "origin": [placed.origin_x, placed.origin_y],
+            "spacing": n["spacing"], "fill_spacing": n["fill_spacing"], "origins": of.origins, "gradual": of.gradual, "boxes": placed.boxes,
+            "runs": placed.runs, "low": placed.low}
 
 
 def told_layer(inputs: Inputs, outcome: Outcome, unit: Fraction) -> dict[str, object]:
@@ -104,6 +118,8 @@ def told_layer(inputs: Inputs, outcome: Outcome, unit: Fraction) -> dict[str, ob
                  "max": layer.numbers["max"] / 10**6, "before": told_figures(outcome.figures[0], unit),
                  "after": told_figures(outcome.figures[1], unit),
                  "files": {path.name: digest(path) for path in outcome.files.left(layer.fills)}}
+        if ran.passes:
+            told["passes"] = [told_pass(of, placed) for of, placed in zip(layer.passes, ran.passes)]
         if layer.existing:
             told["existing_fill"] = [on_told(on) for on in layer.existing]
         if layer.gradient is not None:
@@ -135,6 +151,17 @@ def gradients(outcomes: list[Outcome]) -> list[str]:
     return lines
 
 
+def passes_told(outcome: Outcome, unit: Fraction) -> list[str]:
+    """A line for each pass of a layer that is filled in passes."""
+    lines, low = [], outcome.figures[0].low if outcome.is_whole else 0
+    for number, (of, placed) in enumerate(zip(outcome.layer.passes, outcome.ran.passes), 1):
+        wide, high = (f"{float(of.numbers[side] * unit * 10**6):g}" for side in ("box_w", "box_h"))
+        runs = f"{placed.runs} run{'s' * (placed.runs != 1)}"
+        lines.append(f"{outcome.layer.name}, pass {number}: {placed.boxes} boxes of {wide} by {high} um in {runs}, {low} > {placed.low} windows low")
+        low = placed.low
+    return lines
+
+
 def step_told(step: Step) -> str:
     """Two windows side by side, for people."""
     first, second = step.first, step.second
@@ -154,7 +181,8 @@ def text(deck: Deck, outcomes: list[Outcome]) -> str:
         lines.append(f"{outcome.layer.name:<16}{after.windows:>9}{f'{before.low} > {after.low}':>14}{f'{before.high} > {after.high}':>14}"
                      f"{f'{percent(before.least)} > {percent(after.least)}':>16}{f'{percent(before.greatest)} > {percent(after.greatest)}':>16}"
                      f"{outcome.boxes:>11}{ran.seconds:>9.2f}{ran.memory / 2**20:>7.0f}" + (" (kept)" if ran.taken else ""))
-    return "\n".join(lines + ["", *gradients(outcomes), "a > b: before and after fill"]) + "\n"
+    passes = [line for outcome in outcomes for line in passes_told(outcome, deck.unit)]
+    return "\n".join(lines + ["", *passes, *gradients(outcomes), "a > b: before and after fill"]) + "\n"
 
 
 def write_lines(path: Path, content: str) -> None:

@@ -36,6 +36,28 @@ def on_told(on: tuple[int, int]) -> str:
 
 
 @dataclass(frozen=True)
+class Pass:
+    """A pass of a layer's fill: the numbers of its boxes and its raster, across and up at how many origins the raster is taken one after another,
+    and in how many interleaved coarser ones each time."""
+    numbers: dict[str, int]
+    origins: int = 1
+    gradual: int = 1
+
+    @property
+    def runs(self) -> int:
+        """How many runs of the program it is at most: each origin is tried first, where there are several."""
+        tries = self.origins**2
+        if tries == 1:
+            return self.gradual
+        return tries + tries * self.gradual - (self.gradual == 1)   # the first origin is run already then
+
+    @property
+    def told(self) -> str:
+        """The pass in a rule file's words."""
+        return "".join(f"{key},{value}\n" for key, value in (*self.numbers.items(), ("origins", self.origins), ("gradual", self.gradual)))
+
+
+@dataclass(frozen=True)
 class Layer:
     """A layer of a deck: the rule file's numbers in database units, its texts, and what is done with it."""
     name: str
@@ -47,6 +69,32 @@ class Layer:
     gradient: int | None = None
     # Further layers and data types of a key of the rule file, which has a record for each.
     also: dict[str, list[tuple[int, int]]] = field(default_factory=dict)
+    passes: list[Pass] = field(default_factory=list)
+
+    @property
+    def in_passes(self) -> bool:
+        """Whether its fill takes several runs of the program, each of which looks at what those before it left."""
+        return self.fills and sum(of.runs for of in self.passes) > 1
+
+    @property
+    def runs(self) -> int:
+        """How many runs of the program it takes at most."""
+        return sum(of.runs for of in self.passes) if self.in_passes else 1
+
+    @property
+    def boxes(self) -> tuple[int, int]:
+        """The layer and data type of its boxes."""
+        return self.numbers["fill_layer"], self.numbers["fill_datatype"]
+
+    @property
+    def cells(self) -> list[str]:
+        """The names of the cells in its fill library: one of a box for each pass, and the top."""
+        count = len(self.passes) if self.in_passes else 1
+        return [*(self.cell_of(number) for number in range(1, count + 1)), self.texts["fill_top"]]
+
+    def cell_of(self, number: int) -> str:
+        """The name of the cell that a pass's box has, from 1 on."""
+        return self.texts["fill_cell"] + (f"_P{number}" if number > 1 else "")
 
     @property
     def metals(self) -> list[tuple[int, int]]:
@@ -82,8 +130,22 @@ class Layer:
 
     def rules(self) -> str:
         """The rule file for densfill."""
-        records = [*(self.numbers | self.texts).items(), *((key, on_told(on)) for key, each in self.also.items() for on in each)]
-        return "".join(f"{key},{value}\n" for key, value in records)
+        return rule_file(self.numbers, self.texts, self.also)
+
+    def rules_of(self, number: int, raster: dict[str, int]) -> str:
+        """The rule file of a run in a pass, by its number from 1 on: with the raster of that run, and with the boxes of earlier ones as existing
+        fill."""
+        existing = [*self.existing, *([] if self.boxes in self.existing else [self.boxes])]
+        return rule_file(self.numbers | raster, self.texts | {"fill_cell": self.cell_of(number)}, self.also | {"also_fill": existing})
+
+    def asked(self) -> str:
+        """All that its results depend on of the deck: its rule file, and where it is filled in passes these."""
+        return self.rules() + ("".join(of.told for of in self.passes) if self.in_passes else "")
+
+
+def rule_file(numbers: dict[str, int], texts: dict[str, str], also: dict[str, list[tuple[int, int]]]) -> str:
+    records = [*(numbers | texts).items(), *((key, on_told(on)) for key, each in also.items() for on in each)]
+    return "".join(f"{key},{value}\n" for key, value in records)
 
 
 @dataclass(frozen=True)
@@ -120,6 +182,20 @@ class Text:
             if pattern.match(self.lines[number]):
                 return number + 1
         return header or None
+
+    def is_header(self, line: int) -> bool:
+        return line > 0 and self.lines[line - 1].lstrip().startswith("[")
+
+    def line_of_part(self, header: int, key: str, number: int) -> int:
+        """The line on which a table of an array of tables begins, by its number from 1 on: in braces behind the key, or under a header of its
+        own."""
+        line = self.line_of(header, key) or 0
+        if line == header:
+            parts = [part for part in self.headers(rf"\w+\s*\.\s*{key}") if part > header]
+            return parts[number - 1] if number <= len(parts) else header
+        while line < len(self.lines) and number > (begun := self.lines[line - 1].split("#")[0].count("{")):
+            number, line = number - begun, line + 1
+        return line
 
 
 @dataclass
@@ -179,3 +255,33 @@ class Table:
     def has(self, *names: str) -> bool:
         """Whether these numbers could be read."""
         return all(name in self.numbers for name in names)
+
+    def fault_together(self, keys: tuple[str, ...], text: str) -> None:
+        """A fault of values that don't go together, told of the first key."""
+        self.fault(keys[0], text)
+
+
+@dataclass
+class PassTable(Table):
+    """A pass of a layer's table: what it doesn't have itself is the layer's."""
+    outer: Table = field(kw_only=True)
+
+    def get(self, key: str, otherwise: object = None) -> object:
+        return self.own.get(key, self.outer.get(key, otherwise))
+
+    def told(self, key: str, text: str) -> Fault:
+        return self.outer.told(key, text) if key and key not in self.own else self.here(key, text)
+
+    def here(self, key: str, text: str) -> Fault:
+        """A fault that is the pass's own."""
+        line = self.text.line_of(self.header, key) if self.text.is_header(self.header) else self.header
+        return Fault(self.text.path, line or None, f"{self.where}, {key}" if key else self.where, text)
+
+    def fault_together(self, keys: tuple[str, ...], text: str) -> None:
+        if any(key in self.own for key in keys):
+            self.note(self.here(keys[0], text))
+        else:
+            self.outer.fault_together(keys, text)
+
+    def note(self, fault: Fault) -> None:
+        self.outer.note(fault)
