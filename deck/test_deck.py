@@ -37,6 +37,7 @@ from densfill_deck.costs import Load, load_of  # noqa: E402
 from densfill_deck.deck import read_deck  # noqa: E402
 from densfill_deck.gds import boxes, database_unit, real  # noqa: E402
 from densfill_deck.lengths import Unfit, in_millionths, in_units, metres  # noqa: E402
+from densfill_deck.library import Clash, Gathered, layout_of  # noqa: E402
 from densfill_deck.merge import NotMerged, merge  # noqa: E402
 from densfill_deck.markers import Missed, database  # noqa: E402
 from densfill_deck.page import Section, page as whole_page  # noqa: E402
@@ -432,6 +433,14 @@ class Faults(Folder):
         deck = read_deck(self.deck(text), design)
         self.assertEqual(([layer.name for layer in deck.layers], deck.warnings), (["M1", "M2"], []))
 
+    def test_the_passes_of_the_document(self) -> None:
+        """They go with the deck that the document begins with."""
+        document = (ROOT / "docs/DECK.md").read_text()
+        pieces = document.split("## The deck\n")[1].split("    [[layer]]")[0], document.split("by what is there by then:\n")[1].split("\n- A pass")[0]
+        text = "".join(line.removeprefix("    ") + "\n" for piece in pieces for line in piece.splitlines())
+        deck = read_deck(self.deck(text), self.design(structure("BLOCK", boundary(32, 0, 0, 100_000, 100_000))))
+        self.assertEqual(([of.runs for of in deck.layers[0].passes], deck.warnings), ([9, 90, 90], []))
+
     def test_no_toml(self) -> None:
         self.assertRegex(self.faults("[deck\n")[0], r"^:1: the deck: ")
 
@@ -752,6 +761,23 @@ class Merging(Folder):
         out = self.merged(library("D", self.SUB, structure("TOP", *shapes), self.BEHIND) + bytes(2048),
                           FILL_TOP=library("M1_FILL", self.BOX, fill), ODD=library("M2_FILL", box, odd))
         self.assertEqual(out, library("D", self.SUB, structure("TOP", *shapes, self.BELOW), self.BEHIND, self.BOX, fill, box, odd))
+
+    def test_fill_libraries_of_one_layer_as_one(self) -> None:
+        """The cell of each box once, where it is placed, and one top with all references; its structures are where a look at its records finds them."""
+        gathered = Gathered()
+        libraries = [library("F", structure(box, boundary(31, 0, 0, 4, 4)), structure("TOP", *references)) for box, *references in (
+            ("NONE",), ("A", reference("A", 1, 2)), ("B", reference("B", 3, 4), array("B", 2, 3, (0, 0, 8, 0, 0, 12))), ("A", reference("A", 9, 9)))]
+        for data in libraries:
+            gathered.take(self.file("fill.gds", data), "TOP")
+        box = boundary(31, 0, 0, 4, 4)
+        want = library("F", structure("A", box), structure("B", box), structure(
+            "TOP", reference("A", 1, 2), reference("B", 3, 4), array("B", 2, 3, (0, 0, 8, 0, 0, 12)), reference("A", 9, 9)))
+        self.assertEqual(gathered.library(), want)
+        path = self.file("fill.gds", want)
+        looked, told = layout_of(path), gathered.layout(path, "TOP")
+        self.assertEqual((told.cells, told.units, told.end, told.data), (looked.cells, looked.units, looked.end, want))
+        with self.assertRaisesRegex(Clash, "has no structure TOPS"):
+            gathered.take(path, "TOPS")
 
     def test_what_is_not_merged(self) -> None:
         design, fill = library("D", self.SUB, structure("TOP")), library("F", self.BOX, structure("FILL_TOP"))

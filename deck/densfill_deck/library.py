@@ -65,12 +65,7 @@ def places(data: bytes | mmap.mmap) -> Iterator[tuple[int, int, int]]:
 
 def layout_of(path: Path) -> Layout:
     """The structures of a stream."""
-    return layout_in(path, opened(path))
-
-
-def layout_in(path: Path, data: bytes | mmap.mmap) -> Layout:
-    """Those of the bytes of a stream, which a path names."""
-    units, begin, name, end, cells = b"", 0, b"", 0, []
+    data, units, begin, name, end, cells = opened(path), b"", 0, b"", 0, []
     for kind, at, past in places(data):
         if kind == UNITS:
             units = data[at + 4 : past]
@@ -92,6 +87,7 @@ class Gathered:
     """The boxes of several fill libraries: what stands before the structures in the first, the cells of boxes that are placed, each once, how the
     top begins, and what it refers to."""
     head: bytes = b""
+    units: bytes = b""
     cells: dict[bytes, bytes] = field(default_factory=dict)
     top: bytes = b""
     references: list[bytes] = field(default_factory=list)
@@ -104,7 +100,7 @@ class Gathered:
         if not text:
             raise Clash(f"{path} has no structure {top}")
         behind = named_until(text)
-        self.head = self.head or fill.data[:fill.cells[0].begin]
+        self.head, self.units = self.head or fill.data[:fill.cells[0].begin], fill.units
         self.top = text[:behind]
         if text[behind:]:
             self.references.append(text[behind:])
@@ -114,6 +110,15 @@ class Gathered:
         """The library of them all."""
         structures = [*self.cells.values(), self.top + b"".join(self.references)]
         return self.head + b"".join(text + record(END_OF_STRUCTURE, NOTHING) for text in structures) + record(END_OF_LIBRARY, NOTHING)
+
+    def layout(self, path: Path, top: str) -> Layout:
+        """The structures of that library, which a path names, without a look at all its records."""
+        data, cells, at = self.library(), list[Cell](), len(self.head)
+        for name, text in self.cells.items():
+            cells.append(Cell(name, at, at + len(text)))
+            at += len(text) + len(record(END_OF_STRUCTURE, NOTHING))
+        end = len(data) - len(record(END_OF_LIBRARY, NOTHING))
+        return Layout(path, data, self.units, [*cells, Cell(top.encode(), at, end - len(record(END_OF_STRUCTURE, NOTHING)))], end)
 
 
 def named_until(structure: bytes) -> int:

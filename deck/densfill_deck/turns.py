@@ -9,7 +9,7 @@ from pathlib import Path
 
 from .children import Children, Ended, Job
 from .gds import boxes
-from .library import Gathered, Layout, layout_in, layout_of, write_joined
+from .library import Gathered, Layout, layout_of, write_joined
 from .rasters import Raster
 from .results import Files, Inputs, digest, fingerprint
 from .tables import Layer
@@ -112,7 +112,7 @@ class Turns:
         path, top = self.folder / DESIGN, self.layer.texts["fill_top"]
         if self.joined != self.boxes:
             with open(path, "wb") as file:
-                fill = layout_in(Files.of(self.inputs.folder, self.layer).library, self.boxes)
+                fill = self.gathered.layout(Files.of(self.inputs.folder, self.layer).library, top)
                 write_joined(file, self.layout, self.layer.texts["top"], [fill], [top])
             self.joined = self.boxes
         return path
