@@ -1299,6 +1299,18 @@ exec {self.program} "$@"
         self.run_deck(self.TEXT.replace("gradual = 4", "gradual = 1"), "--quiet", "--resume")
         self.assertEqual(self.runs()[0], "P1")
 
+    def test_passes_that_are_asked_for_otherwise_are_run_anew(self) -> None:
+        """From the first one on that has changed, or that has other boxes before it."""
+        for old, new, first in (('box = "2 um"', 'box = "1.9 um"', "P1"), ("origins = 2}", 'origins = 2, spacing = "1.4 um"}', "P2_T1"),
+                                ('box = "0.6 um"', 'box = "0.5 um"', "P3_G1"), ("", "", "P1")):
+            self.mark("P3_G2.", "nothing")
+            self.run_deck(self.TEXT, "--quiet", "--only", "M1", status=2)
+            self.mark("nothing", "nothing")
+            if not old:
+                self.design(structure("TOP", *(boundary(k, 0, 0, 2_100, 20_000) for k in (1, 2))))
+            self.run_deck(self.TEXT.replace(old, new, 1), "--quiet", "--only", "M1", "--resume")
+            self.assertEqual((self.runs()[0], "P2_T1" in self.runs()), (first, not first.startswith("P3")))
+
     def test_passes_whose_files_are_gone_are_run_anew(self) -> None:
         for name in ("P1.fill.gds", "P1.report.csv", "P1.run.json"):
             self.mark("P3_G2.", "nothing")
