@@ -18,6 +18,7 @@ from built import ROOT, FolderCase, rule_file, run_tests  # noqa: E402
 from stream import boundary, library, path, structure  # noqa: E402
 
 METAL, KEEP = storm.METAL, 40
+PINS, DUMMY, SEALED = METAL + 1, 50, 41  # further layers: of the metal, of fill that the design brings, of keep-outs
 
 # A frame of 100 by 300: boxes of 6 by 6 at steps of 10, tiles of 3 by 4 places, and windows of 50 by 40 at half steps over the left part.
 RULES: dict[str, int | str] = {
@@ -26,8 +27,13 @@ RULES: dict[str, int | str] = {
     "win_step_y": 20, "win_x": 0, "win_y": 10, "win_nx": 3, "win_ny": 13, "min": 300000, "max": 800000, "layer": METAL, "datatype": 0,
     "fill_layer": 131, "fill_datatype": 0, "top": "TOP", "fill_lib": "FILL", "fill_cell": "BOX", "fill_top": "ALL"}
 KEPT = {"keep_layer": KEEP, "keep_datatype": 0}
+LISTS = KEPT | {"also_metal": f"{PINS}/0", "also_fill": f"{DUMMY}/0", "also_keep": f"{SEALED}/0"}
 WIRE = library("WIRE", structure("TOP", path(METAL, 8, 20, 5, 20, 150, 80, 150)))
 BLOCKS = library("BLOCKS", structure("TOP", boundary(METAL, 0, 90, 60, 140), boundary(METAL, 70, 200, 90, 290), boundary(KEEP, 10, 40, 50, 75)))
+# On all these layers, some of it at the gaps between boxes, and above and below cuts between parts.
+LAYERED = library("LAYERED", structure(
+    "TOP", boundary(METAL, 0, 90, 30, 140), boundary(PINS, 20, 120, 60, 155), boundary(DUMMY, 58, 30, 61, 33), boundary(DUMMY, 8, 158, 11, 161),
+    boundary(DUMMY, 40, 200, 95, 245), boundary(KEEP, 10, 40, 50, 75), boundary(SEALED, 70, 250, 72, 300)))
 # A rectangle over the middle cut, one beside the frame, one within a halo of a cut, and a keep-out across all rows.
 SCRIPT = "add,0,140,100,160\ncut,20,60,40,240\nadd,500,500,600,600\nadd,30,149,33,152\nkeep,60,0,66,300\ncut,0,145,100,150\n"
 
@@ -47,6 +53,8 @@ CHIPS = (
     Chip("one wire, edited", RULES, WIRE, SCRIPT),
     Chip("keep-outs", RULES | KEPT, BLOCKS, SCRIPT),
     Chip("keep-outs, padding ignored", RULES | KEPT | {"padding": "ignore", "win_y": -25, "win_ny": 16}, BLOCKS, SCRIPT),
+    Chip("several layers of each", RULES | LISTS, LAYERED, SCRIPT),
+    Chip("several layers of each, existing fill kept further off than metal", RULES | LISTS | {"spacing": 0, "box_w": 3, "fill_spacing": 7, "box_h": 2}, LAYERED, SCRIPT),
     Chip("padding of zero", RULES | {"padding": "zero", "win_y": -25, "win_ny": 16}, BLOCKS, SCRIPT),
     Chip("nothing drawn", RULES, library("EMPTY", structure("TOP"))),
     Chip("windows over the lower rows alone", RULES | {"win_ny": 2}, WIRE, SCRIPT),
@@ -62,9 +70,11 @@ CHIPS = (
 
 
 def drawn(seed: int) -> Chip:
-    """A random design under random rules, half of them with keep-outs, and a script."""
+    """A random design under random rules, and a script: its other layer is keep-outs, existing fill, metal or nothing."""
     draw = random.Random(seed)
-    more: tuple[dict[str, int | str], ...] = ({}, {"padding": "ignore"}, {"keep_layer": storm.OTHER, "keep_datatype": 0})
+    other = f"{storm.OTHER}/0"
+    more: tuple[dict[str, int | str], ...] = (
+        {}, {"padding": "ignore"}, {"keep_layer": storm.OTHER, "keep_datatype": 0}, {"also_fill": other}, {"also_metal": other, "also_fill": other})
     rules = storm.rules_of(draw) | draw.choice(more)
     return Chip(f"drawn {seed}", rules, storm.design_of(draw, rules), storm.script_of(draw, rules), (1, 2, 3, 5, 11, 64))
 
