@@ -158,6 +158,7 @@ fn a_key_prints_as_its_name(rt: HostRuntime) -> Result<(), Fail> {
         (Key::Optional(OptionalKey::KeepLayer), "keep_layer"),
         (Key::Optional(OptionalKey::KeepDatatype), "keep_datatype"),
         (Key::Also(AlsoKey::Metal), "also_metal"),
+        (Key::Also(AlsoKey::Fill), "also_fill"),
         (Key::Also(AlsoKey::Keep), "also_keep"),
         (Key::Padding, "padding"),
     ] {
@@ -275,13 +276,17 @@ fn layers_stand_in_the_order_of_the_file(rt: HostRuntime) -> Result<(), Fail> {
     let alloc = rt.alloc();
     let plain = read_rules(alloc, &rules_and(alloc, "")?)?;
     assert!(rt; plain.metal_layers(alloc)?.as_slice() == [layer(7, 0)].as_slice());
+    assert!(rt; plain.existing_layers().is_empty());
     assert!(rt; plain.keep_layers(alloc)?.is_empty());
-    let more = "also_keep,31/1\nalso_metal,31/2\nkeep_layer,31\n\
+    let more =
+        "also_keep,31/1\nalso_metal,31/2\nalso_fill,33/3\nkeep_layer,31\nalso_fill,32/65535\n\
         also_metal,000000000000000007/0\nkeep_datatype,2\nalso_metal,31/2\n";
     let rules = read_rules(alloc, &rules_and(alloc, more)?)?;
     let metal = [layer(7, 0), layer(31, 2), layer(7, 0), layer(31, 2)];
+    let existing = [layer(33, 3), layer(32, 65_535)];
     let keep = [layer(31, 2), layer(31, 1)];
     assert!(rt; rules.metal_layers(alloc)?.as_slice() == metal.as_slice());
+    assert!(rt; rules.existing_layers() == existing.as_slice());
     assert!(rt; rules.keep_layers(alloc)?.as_slice() == keep.as_slice());
     assert!(rt; rules != plain && rules == rules.copy(alloc)?);
     Ok(())
