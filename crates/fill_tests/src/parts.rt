@@ -68,13 +68,17 @@ fn ten_rows_in_three_parts(rt: HostRuntime) -> Result<(), Fail> {
     Ok(())
 }
 
-/// Tiles from 3 to 97 with a spacing of 2 round them lie within the windows; of boxes as far to the right as may be not.
+/// Tiles from 3 to 97 with a spacing of 2 round them lie within the windows; of boxes as far to the right as may be not. A greater fill
+/// spacing reaches further, for existing fill.
 #[test]
 fn a_chip_needs_its_windows_and_what_lies_near_its_boxes(rt: HostRuntime) -> Result<(), Fail> {
     assert!(rt; needed_rect(&rules(rt.alloc())?) == Rect::new(0, 0, 100, 100)?);
     let wide = RULES.replace(rt.alloc(), "win_w,100", "win_w,50")?;
     let wide = read_rules(rt.alloc(), wide.as_bytes())?;
     assert!(rt; needed_rect(&wide) == Rect::new(0, 0, 99, 100)?);
+    let apart = RULES.replace(rt.alloc(), "fill_spacing,2", "fill_spacing,5")?;
+    let apart = read_rules(rt.alloc(), apart.as_bytes())?;
+    assert!(rt; needed_rect(&apart) == Rect::new(-2, -2, 102, 102)?);
     Ok(())
 }
 
