@@ -3,7 +3,7 @@ ghost use Rattle.fill_text.specs.ValuesOfRules.{values_of};
 ghost use Rattle.fill_core.specs.Shares.{AllParts};
 
 use fill_base::Rect;
-use fill_book::{Book, PlainBook};
+use fill_book::{Book, Opening, PlainBook};
 use fill_core::{FillBook, Opened, Pass};
 use fill_region::Region;
 use fill_report::report;
@@ -100,7 +100,7 @@ fn report_twice<B: FillBook>(
     assert_report(rt, alloc, book, AFTER)
 }
 
-/// Asserts both reports of a book on this metal, one with running sums or one that measures each window anew.
+/// Asserts both reports of a book on this design, one with running sums or one that measures each window anew.
 fn open_and_report<C: Opened + Send + Sync, P: Ledger + Send + Sync, W: Ledger + Send + Sync>(
     rt: &(impl Abort + Threads + Sync),
     alloc: Global,
@@ -108,23 +108,22 @@ fn open_and_report<C: Opened + Send + Sync, P: Ledger + Send + Sync, W: Ledger +
     placed: Blank,
     withdrawn: Blank,
     rules: Rules,
-    metal: Region,
-    keep: Region,
+    opening: Opening,
     is_running: bool,
 ) -> Result<(), Fail>
     requires names { (calls.name ≡ C.name) × (placed.name ≡ P.name) × (withdrawn.name ≡ W.name) }
     requires parts { (calls.parts ≡ C.parts) × (placed.parts ≡ P.parts) × (withdrawn.parts ≡ W.parts) }
     requires all { AllParts C.parts P.parts W.parts }
-    requires terms { record { rules = values_of rules; opening = metal; keep = keep; most = 100 } ≡ C.terms }
+    requires terms { record { rules = values_of rules; opening = opening.metal; existing = opening.fill; keep = opening.keep; most = 100 } ≡ C.terms }
 {
     if is_running {
         let (mut book, mut pass) = Book::<C, P, W>::open(
-            rt, alloc, calls, placed, withdrawn, metal, keep, rules, 100,
+            rt, alloc, calls, placed, withdrawn, opening, rules, 100,
         )?;
         return report_twice(rt, alloc, &mut book, &mut pass);
     }
     let (mut book, mut pass) = PlainBook::<C, P, W>::open(
-        rt, alloc, calls, placed, withdrawn, metal, keep, rules, 100,
+        rt, alloc, calls, placed, withdrawn, opening, rules, 100,
     )?;
     report_twice(rt, alloc, &mut book, &mut pass)
 }
@@ -137,10 +136,14 @@ fn report_of_a_book(
     is_running: bool,
 ) -> Result<(), Fail> {
     let rules = read_rules(alloc, format!(in alloc; "{RULES}")?.as_bytes())?;
-    let metal = Region::from_rects(
-        alloc,
-        &[Rect::new(0, 0, 20, 20)?, Rect::new(90, 0, 100, 100)?],
-    )?;
+    let opening = Opening {
+        metal: Region::from_rects(
+            alloc,
+            &[Rect::new(0, 0, 20, 20)?, Rect::new(90, 0, 100, 100)?],
+        )?,
+        fill: Region::empty(alloc),
+        keep: Region::empty(alloc),
+    };
     open_and_report::<Brand, Brand, Brand>(
         rt,
         alloc,
@@ -148,8 +151,7 @@ fn report_of_a_book(
         Blank::new(1024),
         Blank::new(1024),
         rules,
-        metal,
-        Region::empty(alloc),
+        opening,
         is_running,
     )
 }

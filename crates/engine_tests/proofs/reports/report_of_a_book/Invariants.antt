@@ -5,7 +5,7 @@ abbrev pub ghosts-open_and_report-C-Ledger : goal.ghosts-open_and_report-C-Ledge
 ghosts-open_and_report-C-Ledger g a = record { name = a.calls.name; parts = a.calls.parts }
 
 abbrev pub ghosts-open_and_report-C-Opened : goal.ghosts-open_and_report-C-Opened
-ghosts-open_and_report-C-Opened g a = record { terms = record { rules = values_of a.rules; opening = a.metal; keep = a.keep; most = 100 } }
+ghosts-open_and_report-C-Opened g a = record { terms = record { rules = values_of a.rules; opening = a.opening.metal; existing = a.opening.fill; keep = a.opening.keep; most = 100 } }
 
 abbrev pub ghosts-open_and_report-P-Ledger : goal.ghosts-open_and_report-P-Ledger
 ghosts-open_and_report-P-Ledger g a = record { name = a.placed.name; parts = a.placed.parts }
