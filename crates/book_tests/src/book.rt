@@ -5,7 +5,7 @@ ghost use Rattle.fill_core.specs.Shares.{AllParts};
 
 use crate::refused::{begin, committed, edited, end};
 use fill_base::{Place, Rect};
-use fill_book::{Book, PlainBook};
+use fill_book::{Book, Opening, PlainBook};
 use fill_core::{BookError, Edit, FillBook, Opened, Pass, Reply};
 use fill_job::Proposal;
 use fill_region::Region;
@@ -123,6 +123,47 @@ pub(crate) fn rect_of(corners: [i64; 4]) -> Result<Rect, Fail> {
     Ok(Rect::new(x1, y1, x2, y2)?)
 }
 
+/// The rectangles that a design draws.
+#[derive(Clone, Copy)]
+pub(crate) struct Design<'a> {
+    pub(crate) metal: &'a [[i64; 4]],
+    pub(crate) fill: &'a [[i64; 4]],
+    pub(crate) keep: &'a [[i64; 4]],
+}
+
+/// A design that draws nothing.
+pub(crate) const NOTHING: Design<'static> = Design {
+    metal: &[],
+    fill: &[],
+    keep: &[],
+};
+
+impl<'a> Design<'a> {
+    /// The design that draws metal alone.
+    pub(crate) fn of_metal(metal: &'a [[i64; 4]]) -> Design<'a> {
+        Design { metal, ..NOTHING }
+    }
+
+    /// The design that draws existing fill alone.
+    pub(crate) fn of_fill(fill: &'a [[i64; 4]]) -> Design<'a> {
+        Design { fill, ..NOTHING }
+    }
+
+    /// The design that draws keep-outs alone.
+    pub(crate) fn of_keep(keep: &'a [[i64; 4]]) -> Design<'a> {
+        Design { keep, ..NOTHING }
+    }
+
+    /// What a book of the design opens on.
+    pub(crate) fn opening(self, alloc: Global) -> Result<Opening, Fail> {
+        Ok(Opening {
+            metal: region_of(alloc, self.metal)?,
+            fill: region_of(alloc, self.fill)?,
+            keep: region_of(alloc, self.keep)?,
+        })
+    }
+}
+
 /// One thing that is done with a book, or asked of it, with what must come of it.
 #[derive(Clone, Copy)]
 pub(crate) enum Step {
@@ -193,7 +234,7 @@ pub(crate) fn total_of<B: FillBook>(rt: &impl Abort, book: &B, a: u32, b: u32) -
     book.total(a, b)
 }
 
-/// The area of metal in a window.
+/// The area of metal and existing fill in a window.
 pub(crate) fn drawn_of<B: FillBook>(rt: &impl Abort, book: &B, a: u32, b: u32) -> i64 {
     let windows = book.rules().windows();
     if a >= windows.columns() || b >= windows.rows() {
@@ -346,8 +387,7 @@ pub(crate) fn take<B: FillBook>(
 #[derive(Drop)]
 pub(crate) struct Case<'a> {
     pub(crate) rules: Rules,
-    pub(crate) metal: Region,
-    pub(crate) keep: Region,
+    pub(crate) opening: Opening,
     pub(crate) max_events: u32,
     pub(crate) held: Vec<Proposal>,
     pub(crate) steps: &'a [Step],
@@ -392,12 +432,11 @@ pub(crate) fn play<C: Opened + Send + Sync, P: Ledger + Send + Sync, W: Ledger +
     requires parts { (calls.parts ≡ C.parts) × (placed.parts ≡ P.parts) × (withdrawn.parts ≡ W.parts) }
     requires all { AllParts C.parts P.parts W.parts }
     requires most { most ≤ 2 ^ 32 }
-    requires terms { record { rules = values_of case.rules; opening = case.metal; keep = case.keep; most = most } ≡ C.terms }
+    requires terms { record { rules = values_of case.rules; opening = case.opening.metal; existing = case.opening.fill; keep = case.opening.keep; most = most } ≡ C.terms }
 {
     let Case {
         rules,
-        metal,
-        keep,
+        opening,
         mut held,
         steps,
         ..
@@ -405,7 +444,7 @@ pub(crate) fn play<C: Opened + Send + Sync, P: Ledger + Send + Sync, W: Ledger +
     match kind {
         Kind::Plain => {
             let opened = PlainBook::<C, P, W>::open(
-                rt, alloc, calls, placed, withdrawn, metal, keep, rules, most,
+                rt, alloc, calls, placed, withdrawn, opening, rules, most,
             );
             let Ok((mut book, mut pass)) = opened else {
                 return Ok(false);
@@ -414,7 +453,7 @@ pub(crate) fn play<C: Opened + Send + Sync, P: Ledger + Send + Sync, W: Ledger +
         }
         Kind::Running => {
             let opened = Book::<C, P, W>::open(
-                rt, alloc, calls, placed, withdrawn, metal, keep, rules, most,
+                rt, alloc, calls, placed, withdrawn, opening, rules, most,
             );
             let Ok((mut book, mut pass)) = opened else {
                 return Ok(false);
@@ -453,7 +492,7 @@ pub(crate) fn region_of(alloc: Global, rects: &[[i64; 4]]) -> Result<Region, Fai
     Ok(Region::from_rects(alloc, &list)?)
 }
 
-/// Takes the steps in both books, of these rules, that open on these rectangles.
+/// Takes the steps in both books, of these rules, that open on these rectangles of metal.
 pub(crate) fn run_on(
     rt: &(impl Abort + Threads + Sync),
     alloc: Global,
@@ -461,23 +500,21 @@ pub(crate) fn run_on(
     metal: &[[i64; 4]],
     steps: &[Step],
 ) -> Result<(), Fail> {
-    run_in(rt, alloc, rules, metal, &[], steps)
+    run_in(rt, alloc, rules, Design::of_metal(metal), steps)
 }
 
-/// The same in books that open with these keep-outs, too.
+/// The same in books that open on this design.
 pub(crate) fn run_in(
     rt: &(impl Abort + Threads + Sync),
     alloc: Global,
     rules: Rules,
-    metal: &[[i64; 4]],
-    keep: &[[i64; 4]],
+    design: Design<'_>,
     steps: &[Step],
 ) -> Result<(), Fail> {
     for kind in [Kind::Plain, Kind::Running] {
         let case = Case {
             rules: rules.copy(alloc)?,
-            metal: region_of(alloc, metal)?,
-            keep: region_of(alloc, keep)?,
+            opening: design.opening(alloc)?,
             max_events: 1000,
             held: Vec::new(alloc),
             steps,
@@ -487,24 +524,23 @@ pub(crate) fn run_in(
     Ok(())
 }
 
-/// The proposal of tile 0 of a book that opens on this metal and these keep-outs.
+/// The proposal of tile 0 of a book that opens on a design.
 pub(crate) fn offer<C: Opened + Send + Sync, P: Ledger + Send + Sync, W: Ledger + Send + Sync>(
     rt: &(impl Abort + Threads + Sync),
     alloc: Global,
     calls: Blank,
     placed: Blank,
     withdrawn: Blank,
-    metal: Region,
-    keep: Region,
+    opening: Opening,
     rules: Rules,
 ) -> Result<Proposal, Fail>
     requires names { (calls.name ≡ C.name) × (placed.name ≡ P.name) × (withdrawn.name ≡ W.name) }
     requires parts { (calls.parts ≡ C.parts) × (placed.parts ≡ P.parts) × (withdrawn.parts ≡ W.parts) }
     requires all { AllParts C.parts P.parts W.parts }
-    requires terms { record { rules = values_of rules; opening = metal; keep = keep; most = 10 } ≡ C.terms }
+    requires terms { record { rules = values_of rules; opening = opening.metal; existing = opening.fill; keep = opening.keep; most = 10 } ≡ C.terms }
 {
     let (book, _pass) = Book::<C, P, W>::open(
-        rt, alloc, calls, placed, withdrawn, metal, keep, rules, 10,
+        rt, alloc, calls, placed, withdrawn, opening, rules, 10,
     )?;
     proposal_of(rt, alloc, &book, 0)
 }
@@ -513,8 +549,7 @@ pub(crate) fn offer<C: Opened + Send + Sync, P: Ledger + Send + Sync, W: Ledger 
 pub(crate) fn offered(
     rt: &(impl Abort + Threads + Sync),
     alloc: Global,
-    metal: &[[i64; 4]],
-    keep: &[[i64; 4]],
+    design: Design<'_>,
 ) -> Result<Proposal, Fail> {
     offer::<Brand, Brand, Brand>(
         rt,
@@ -522,27 +557,24 @@ pub(crate) fn offered(
         Blank::new(1024),
         Blank::new(1024),
         Blank::new(1024),
-        region_of(alloc, metal)?,
-        region_of(alloc, keep)?,
+        design.opening(alloc)?,
         usual_rules(alloc, 300_000)?,
     )
 }
 
-/// Takes the steps in both books, of no metal and no keep-outs, with that proposal laid aside.
+/// Takes the steps in both books, of a design that draws nothing, with that proposal laid aside.
 pub(crate) fn bring(
     rt: &(impl Abort + Threads + Sync),
     alloc: Global,
-    metal: &[[i64; 4]],
-    keep: &[[i64; 4]],
+    design: Design<'_>,
     steps: &[Step],
 ) -> Result<(), Fail> {
     for kind in [Kind::Plain, Kind::Running] {
         let mut held = Vec::new(alloc);
-        held.push(offered(rt, alloc, metal, keep)?)?;
+        held.push(offered(rt, alloc, design)?)?;
         let case = Case {
             rules: usual_rules(alloc, 300_000)?,
-            metal: Region::empty(alloc),
-            keep: Region::empty(alloc),
+            opening: NOTHING.opening(alloc)?,
             max_events: 10,
             held,
             steps,

@@ -4,7 +4,6 @@ ghost use Rattle.fill_core.specs.Shares.{AllParts};
 
 use fill_base::Rect;
 use fill_core::{BookError, Edit, FillBook, Pass, Reply};
-use fill_region::Region;
 use fill_shared::{Gate, OpenGate, PassMissing, PassOf, RunError, Shared, WorkEnd, run, work};
 use fill_text::{Rules, read_rules};
 use once_cell::race::OnceBool;
@@ -74,22 +73,18 @@ pub(crate) fn added() -> Result<Edit, Fail> {
     Ok(Edit::Add(Rect::new(10, 10, 21, 20)?))
 }
 
-/// A rule file's frame, the metal that a book opens on, and how many events its history may have.
-#[derive(Drop)]
-pub(crate) struct Opening {
+/// A rule file's frame, and how many events a book's history may have.
+#[derive(Clone, Copy)]
+pub(crate) struct Terms {
     pub(crate) frame: &'static str,
-    pub(crate) metal: Region,
     pub(crate) max_events: u32,
 }
 
-/// A hundred places, no metal, and a long history.
-pub(crate) fn hundred_places(alloc: Global) -> Opening {
-    Opening {
-        frame: HUNDRED_PLACES,
-        metal: Region::empty(alloc),
-        max_events: 1000,
-    }
-}
+/// A hundred places, and a long history.
+pub(crate) const USUAL_TERMS: Terms = Terms {
+    frame: HUNDRED_PLACES,
+    max_events: 1000,
+};
 
 /// How often a flag is looked at before a test gives up.
 const LOOKS: u32 = 1 << 30;

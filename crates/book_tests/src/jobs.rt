@@ -5,7 +5,7 @@ ghost use Rattle.fill_job.specs.ReadSets.{touches};
 ghost use Rattle.fill_job.specs.steps.Worked.{worked, one_square, one_window};
 
 use fill_base::{Place, Rect};
-use fill_job::{Job, Piece, Proposal, SharedRules};
+use fill_job::{Job, Piece, Pieces, Proposal, SharedRules};
 use fill_region::Region;
 use fill_text::{Rules, read_rules};
 use std::alloc::{AllocError, Global};
@@ -103,10 +103,13 @@ fn job_at(
         panic!(rt; "no tile {tile}");
     }
     let halo = rules.raster().halo(tile, rules.spacing());
-    let piece = Piece::new(alloc, metal.clip(alloc, &halo)?)?;
-    let keep = Piece::new(alloc, Region::empty(alloc))?;
+    let pieces = Pieces {
+        metal: Piece::new(alloc, metal.clip(alloc, &halo)?)?,
+        fill: Piece::new(alloc, Region::empty(alloc))?,
+        keep: Piece::new(alloc, Region::empty(alloc))?,
+    };
     let rules = SharedRules::new(alloc, rules.copy(alloc)?)?;
-    Job::new(alloc, version, tile, rules, piece, keep, low)
+    Job::new(alloc, version, tile, rules, pieces, low)
 }
 
 /// What the job proposes.
@@ -214,15 +217,9 @@ fn assert_match(
         panic!(rt; "no tile");
     }
     let halo = rules.raster().halo(0, rules.spacing());
-    assert_eq!(rt;
-        proposal.matches(
-            rules,
-            &metal.clip(alloc, &halo)?,
-            &Region::empty(alloc),
-            low
-        ),
-        same
-    );
+    let near = metal.clip(alloc, &halo)?;
+    let none = Region::empty(alloc);
+    assert_eq!(rt; proposal.matches(rules, &near, &none, &none, low), same);
     Ok(())
 }
 

@@ -4,13 +4,12 @@ ghost use Rattle.std.specs.Prelude.{◌≡◌};
 ghost use Rattle.fill_core.specs.Shares.{AllParts};
 
 use crate::book::{
-    Case, HUNDRED_PLACES, Kind, NINE_WINDOWS, Step, bring, offered, region_of, rules_of,
+    Case, Design, HUNDRED_PLACES, Kind, NINE_WINDOWS, Step, bring, offered, rules_of,
     run as run_case, run_in, total_of, usual_rules,
 };
 use crate::cases::{added, close};
 use fill_core::{BookError, Edit, FillBook, Pass, Reply};
 use fill_job::Proposal;
-use fill_region::Region;
 use fill_shared::{Look, NotOpened, OpenGate, PassOf, RunError, Shared, WorkEnd, run, work};
 use std::alloc::Global;
 use std::process::Abort;
@@ -114,8 +113,11 @@ fn a_book_is_as_it_was_where_memory_is_refused(rt: HostRuntime) -> Result<(), Fa
             &rt,
             alloc,
             rules_of(alloc, HUNDRED_PLACES, windows.as_str())?,
-            &[[80, 80, 84, 84]],
-            &[[50, 50, 60, 60]],
+            Design {
+                metal: &[[80, 80, 84, 84]],
+                fill: &[],
+                keep: &[[50, 50, 60, 60]],
+            },
             &[
                 Step::Hold(0),
                 Step::Begin,
@@ -144,7 +146,8 @@ fn a_foreign_proposal_where_memory_is_refused(rt: HostRuntime) -> Result<(), Fai
         Step::End,
         Step::Counts(16, 2),
     ];
-    bring(&rt, rt.alloc(), &[[10, 10, 21, 20]], &[], &steps)
+    let other = Design::of_metal(&[[10, 10, 21, 20]]);
+    bring(&rt, rt.alloc(), other, &steps)
 }
 
 /// A book on some metal that brings a tile once it is open.
@@ -157,10 +160,14 @@ const OPENED: &[Step] = &[
 
 /// The case of that book.
 fn opening(alloc: Global) -> Result<Case<'static>, Fail> {
+    let design = Design {
+        metal: &[[10, 10, 21, 20]],
+        fill: &[],
+        keep: &[],
+    };
     Ok(Case {
         rules: usual_rules(alloc, 300_000)?,
-        metal: region_of(alloc, &[[10, 10, 21, 20]])?,
-        keep: Region::empty(alloc),
+        opening: design.opening(alloc)?,
         max_events: 10,
         held: Vec::new(alloc),
         steps: OPENED,
@@ -195,7 +202,8 @@ fn commits_where_memory_is_refused(rt: HostRuntime) -> Result<(), Fail> {
         Step::End,
         Step::Counts(24, 4),
     ];
-    bring(&rt, rt.alloc(), &[[10, 10, 21, 20]], &[], &steps)
+    let other = Design::of_metal(&[[10, 10, 21, 20]]);
+    bring(&rt, rt.alloc(), other, &steps)
 }
 
 /// Shares a book with one caller. Where memory is refused, book and pass are handed back and shared once more.
@@ -336,7 +344,7 @@ pub(crate) fn shared_calls<B: FillBook>(
     requires ledgers { AllParts B.Calls.parts B.Placed.parts B.Withdrawn.parts }
     requires pass { pass.parts ≡ 1024 }
 {
-    let foreign = offered(rt, alloc, &[[10, 10, 21, 20]], &[])?;
+    let foreign = offered(rt, alloc, Design::of_metal(&[[10, 10, 21, 20]]))?;
     let edit = added()?;
     let passes = Vec::with_capacity(alloc, 1)?;
     begin(alloc);

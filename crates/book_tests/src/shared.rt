@@ -2,10 +2,10 @@ ghost use Rattle.std.specs.Prelude.{◌≡◌, ◌<◌, ◌≤◌, ◌^◌};
 ghost use Rattle.fill_text.specs.ValuesOfRules.{values_of};
 ghost use Rattle.fill_core.specs.Shares.{AllParts};
 
-use crate::book::offered;
+use crate::book::{Design, NOTHING, offered};
 use crate::cases::{
-    Count, NO_PLACES, Opening, added, assert_edit, assert_work, close, hundred_places,
-    refuse_to_close, rules_in, shared_alone, shared_by_three,
+    Count, NO_PLACES, Terms, USUAL_TERMS, added, assert_edit, assert_work, close, refuse_to_close,
+    rules_in, shared_alone, shared_by_three,
 };
 use crate::refused::{refused_run, shared_calls};
 use crate::runs::{
@@ -16,10 +16,9 @@ use crate::storms::{
     done_beside_an_edit, eight_stale, eight_workers, fifty_edits, four_actors, sixty_four_workers,
     tired_beside_an_edit,
 };
-use fill_book::Book;
+use fill_book::{Book, Opening};
 use fill_core::{BookError, Edit, FillBook, Opened, Reply};
 use fill_job::Proposal;
-use fill_region::Region;
 use fill_shared::{Look, PassOf, Seen, Shared, WorkEnd};
 use fill_text::Rules;
 use std::alloc::Global;
@@ -326,27 +325,26 @@ enum Case {
 }
 
 impl Case {
-    /// What the book opens on.
-    fn opening(self, alloc: Global) -> Opening {
-        let opening = hundred_places(alloc);
+    /// The book's frame, and how long its history may be.
+    fn terms(self) -> Terms {
         match self {
-            Case::NoTile => Opening {
+            Case::NoTile => Terms {
                 frame: NO_PLACES,
-                ..opening
+                ..USUAL_TERMS
             },
-            Case::OneEvent => Opening {
+            Case::OneEvent => Terms {
                 max_events: 1,
-                ..opening
+                ..USUAL_TERMS
             },
-            Case::ThreeEvents => Opening {
+            Case::ThreeEvents => Terms {
                 max_events: 3,
-                ..opening
+                ..USUAL_TERMS
             },
-            Case::TwoEvents => Opening {
+            Case::TwoEvents => Terms {
                 max_events: 2,
-                ..opening
+                ..USUAL_TERMS
             },
-            _ => opening,
+            _ => USUAL_TERMS,
         }
     }
 }
@@ -367,7 +365,7 @@ fn play<B: FillBook + Send>(
         Case::FillAgain => fill_and_fill_again(rt, alloc, book, pass),
         Case::AfterCalls => work_after_calls(rt, alloc, book, pass),
         Case::ForeignAndAlready => {
-            let foreign = offered(rt, alloc, &[[10, 10, 21, 20]], &[])?;
+            let foreign = offered(rt, alloc, Design::of_metal(&[[10, 10, 21, 20]]))?;
             foreign_and_already(rt, alloc, book, pass, &foreign)
         }
         Case::OneEvent => one_event(rt, alloc, book, pass),
@@ -428,8 +426,7 @@ fn open_and_play<C: Opened + Send + Sync, P: Ledger + Send + Sync, W: Ledger + S
     calls: Blank,
     placed: Blank,
     withdrawn: Blank,
-    metal: Region,
-    keep: Region,
+    opening: Opening,
     rules: Rules,
     most: u64,
     case: Case,
@@ -438,10 +435,10 @@ fn open_and_play<C: Opened + Send + Sync, P: Ledger + Send + Sync, W: Ledger + S
     requires parts { (calls.parts ≡ C.parts) × (placed.parts ≡ P.parts) × (withdrawn.parts ≡ W.parts) }
     requires all { AllParts C.parts P.parts W.parts }
     requires most { most ≤ 2 ^ 32 }
-    requires terms { record { rules = values_of rules; opening = metal; keep = keep; most = most } ≡ C.terms }
+    requires terms { record { rules = values_of rules; opening = opening.metal; existing = opening.fill; keep = opening.keep; most = most } ≡ C.terms }
 {
     let (book, pass) = Book::<C, P, W>::open(
-        rt, alloc, calls, placed, withdrawn, metal, keep, rules, most,
+        rt, alloc, calls, placed, withdrawn, opening, rules, most,
     )?;
     play(rt, alloc, book, pass, case)
 }
@@ -452,19 +449,14 @@ fn play_by(
     alloc: Global,
     case: Case,
 ) -> Result<(), Fail> {
-    let Opening {
-        frame,
-        metal,
-        max_events,
-    } = case.opening(alloc);
+    let Terms { frame, max_events } = case.terms();
     open_and_play::<Brand, Brand, Brand>(
         rt,
         alloc,
         Blank::new(1024),
         Blank::new(1024),
         Blank::new(1024),
-        metal,
-        Region::empty(alloc),
+        NOTHING.opening(alloc)?,
         rules_in(alloc, frame)?,
         u64::from(max_events),
         case,

@@ -3,11 +3,11 @@ ghost use Rattle.std.specs.Prelude.{◌≡◌, ◌<◌, IfOk};
 ghost use Rattle.fill_text.specs.ValuesOfRules.{values_of};
 ghost use Rattle.fill_core.specs.Shares.{AllParts};
 
-use crate::book::{drawn_of, proposal_of, total_of};
+use crate::book::{NOTHING, drawn_of, proposal_of, total_of};
 use crate::cases::HUNDRED_PLACES;
 use fill_area::{Windows, area_in};
 use fill_base::{Place, Rect};
-use fill_book::{Book, PlainBook};
+use fill_book::{Book, Opening, PlainBook};
 use fill_core::{Edit, FillBook, Opened, Pass, Reply};
 use fill_region::Region;
 use fill_text::{Rules, read_rules};
@@ -270,8 +270,7 @@ struct Start {
     calls: Blank,
     placed: Blank,
     withdrawn: Blank,
-    metal: Region,
-    keep: Region,
+    opening: Opening,
     rules: Rules,
 }
 
@@ -283,8 +282,7 @@ fn start_on_nothing(alloc: Global, rules: &Rules) -> Result<Start, Fail>
         calls: Blank::new(1024),
         placed: Blank::new(1024),
         withdrawn: Blank::new(1024),
-        metal: Region::empty(alloc),
-        keep: Region::empty(alloc),
+        opening: NOTHING.opening(alloc)?,
         rules: rules.copy(alloc)?,
     })
 }
@@ -308,33 +306,31 @@ fn both<
     requires names { (plain.calls.name ≡ C.name) × (plain.placed.name ≡ P.name) × (plain.withdrawn.name ≡ W.name) }
     requires parts { (plain.calls.parts ≡ C.parts) × (plain.placed.parts ≡ P.parts) × (plain.withdrawn.parts ≡ W.parts) }
     requires all { AllParts C.parts P.parts W.parts }
-    requires terms { record { rules = values_of plain.rules; opening = plain.metal; keep = plain.keep; most = 1000 } ≡ C.terms }
+    requires terms { record { rules = values_of plain.rules; opening = plain.opening.metal; existing = plain.opening.fill; keep = plain.opening.keep; most = 1000 } ≡ C.terms }
     requires other_names { (running.calls.name ≡ D.name) × (running.placed.name ≡ Q.name) × (running.withdrawn.name ≡ X.name) }
     requires other_parts { (running.calls.parts ≡ D.parts) × (running.placed.parts ≡ Q.parts) × (running.withdrawn.parts ≡ X.parts) }
     requires other_all { AllParts D.parts Q.parts X.parts }
-    requires other_terms { record { rules = values_of running.rules; opening = running.metal; keep = running.keep; most = 1000 } ≡ D.terms }
+    requires other_terms { record { rules = values_of running.rules; opening = running.opening.metal; existing = running.opening.fill; keep = running.opening.keep; most = 1000 } ≡ D.terms }
 {
     let Start {
         calls,
         placed,
         withdrawn,
-        metal,
-        keep,
+        opening,
         rules,
     } = plain;
     let (plain, plain_pass) = PlainBook::<C, P, W>::open(
-        rt, alloc, calls, placed, withdrawn, metal, keep, rules, 1000,
+        rt, alloc, calls, placed, withdrawn, opening, rules, 1000,
     )?;
     let Start {
         calls,
         placed,
         withdrawn,
-        metal,
-        keep,
+        opening,
         rules,
     } = running;
     let (running, running_pass) = Book::<D, Q, X>::open(
-        rt, alloc, calls, placed, withdrawn, metal, keep, rules, 1000,
+        rt, alloc, calls, placed, withdrawn, opening, rules, 1000,
     )?;
     let mut pair = Pair {
         plain,

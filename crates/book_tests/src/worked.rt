@@ -1,12 +1,11 @@
 //! Worked cases of both books.
 
 use crate::book::{
-    Case, HUNDRED_PLACES, Kind, MILLION_PLACES, NINE_WINDOWS, NO_PLACES, ONE_WINDOW, Step,
-    TOUCHING_BOXES, bring, rules_of, run, run_in, run_on, usual_rules,
+    Case, Design, HUNDRED_PLACES, Kind, MILLION_PLACES, NINE_WINDOWS, NO_PLACES, NOTHING,
+    ONE_WINDOW, Step, TOUCHING_BOXES, bring, rules_of, run, run_in, run_on, usual_rules,
 };
 use fill_base::Place;
 use fill_core::Reply;
-use fill_region::Region;
 use std::test::Fail;
 
 #[test]
@@ -233,8 +232,7 @@ fn a_full_history_takes_nothing(rt: HostRuntime) -> Result<(), Fail> {
     for kind in [Kind::Plain, Kind::Running] {
         let case = Case {
             rules: usual_rules(alloc, 300_000)?,
-            metal: Region::empty(alloc),
-            keep: Region::empty(alloc),
+            opening: NOTHING.opening(alloc)?,
             max_events: 1,
             held: Vec::new(alloc),
             steps: &[
@@ -253,26 +251,38 @@ fn a_full_history_takes_nothing(rt: HostRuntime) -> Result<(), Fail> {
 }
 
 #[test]
-fn other_metal_or_keep_outs_near_the_tile_are_foreign(rt: HostRuntime) -> Result<(), Fail> {
+fn other_designs_near_the_tile_are_foreign(rt: HostRuntime) -> Result<(), Fail> {
     let steps = [
         Step::Late(0, Reply::Foreign),
         Step::Counts(0, 1),
         Step::Commit(0, Reply::Placed(16)),
         Step::Late(0, Reply::Already),
     ];
-    bring(&rt, rt.alloc(), &[[10, 10, 21, 20]], &[], &steps)?;
-    bring(&rt, rt.alloc(), &[], &[[10, 10, 20, 20]], &steps)
+    for design in [
+        Design::of_metal(&[[10, 10, 21, 20]]),
+        Design::of_fill(&[[10, 10, 21, 20]]),
+        Design::of_keep(&[[10, 10, 20, 20]]),
+    ] {
+        bring(&rt, rt.alloc(), design, &steps)?;
+    }
+    Ok(())
 }
 
-/// A keep-out is read where the tile's boxes lie, metal where it may be too near to them.
+/// A keep-out is read where the tile's boxes lie, metal and existing fill where they may be too near to them.
 #[test]
 fn what_is_far_from_the_tile_is_not_read(rt: HostRuntime) -> Result<(), Fail> {
     let steps = [
         Step::Late(0, Reply::Placed(16)),
         Step::Late(0, Reply::Already),
     ];
-    bring(&rt, rt.alloc(), &[[80, 80, 90, 90]], &[], &steps)?;
-    bring(&rt, rt.alloc(), &[], &[[1, 1, 3, 3]], &steps)
+    for design in [
+        Design::of_metal(&[[80, 80, 90, 90]]),
+        Design::of_fill(&[[80, 80, 90, 90]]),
+        Design::of_keep(&[[1, 1, 3, 3]]),
+    ] {
+        bring(&rt, rt.alloc(), design, &steps)?;
+    }
+    Ok(())
 }
 
 /// A box is taken out where it shares a square with a keep-out, and nowhere else.
@@ -312,8 +322,7 @@ fn books_open_with_keep_outs(rt: HostRuntime) -> Result<(), Fail> {
         &rt,
         rt.alloc(),
         rules,
-        &[],
-        &[[50, 50, 60, 60]],
+        Design::of_keep(&[[50, 50, 60, 60]]),
         &[
             Step::Totals(0),
             Step::Fill,
