@@ -189,6 +189,8 @@ pub(crate) enum Step {
     Totals(i64),
     /// The totals of three by three windows, row by row.
     NineTotals([i64; 9]),
+    /// The area of metal and existing fill in a window.
+    Drawn(u32, u32, i64),
     /// Just these of a hundred places are empty.
     Empty(&'static [Place]),
     /// How many places are filled, and how many calls were answered.
@@ -321,6 +323,7 @@ pub(crate) fn assert_told<B: FillBook>(rt: &impl Abort, book: &B, step: Step) {
         Step::Total(a, b, want) => assert_eq!(rt; total_of(rt, book, a, b), want),
         Step::Totals(want) => assert_totals(rt, book, want),
         Step::NineTotals(want) => assert_nine_totals(rt, book, want),
+        Step::Drawn(a, b, want) => assert_eq!(rt; drawn_of(rt, book, a, b), want),
         Step::Empty(places) => assert_empty(rt, book, places),
         Step::Version(version, complete) => {
             assert_eq!(rt; book.version(), version);

@@ -3,7 +3,7 @@ ghost use Rattle.std.specs.Prelude.{◌≡◌, pos, None, Some};
 ghost use Rattle.fill_core.specs.Boxes.{count_places, no_places, total_in};
 ghost use Rattle.fill_core.specs.Shares.{AllParts};
 ghost use Rattle.fill_core.specs.Tiles.{next_tile};
-ghost use Rattle.fill_core.specs.steps.Worked.{RepliesAreWorked, StateIsWorked, all_but, corner, one_point, small};
+ghost use Rattle.fill_core.specs.steps.Worked.{ExistingFillIsWorked, RepliesAreWorked, StateIsWorked, all_but, corner, one_point, small};
 
 use fill_base::Rect;
 use fill_core::{BookError, Books, Edit, Entry, Event, History, Pass, Reply};
@@ -21,6 +21,11 @@ fn replies_are_worked()
 /// And the state that they leave.
 fn state_is_worked()
     ensures { StateIsWorked }
+{}
+
+/// Existing fill at the corner of the last box keeps it out, counts once below metal, and stays where the metal is cut.
+fn existing_fill_is_worked()
+    ensures { ExistingFillIsWorked }
 {}
 
 /// The box of place (0, 1) is the square at (0, 2): beside other metal it counts, on metal it doesn't count twice.
@@ -46,6 +51,7 @@ fn tiles_in_turn()
 fn definitions_on_small_numbers(_rt: HostRuntime) -> Result<(), Fail> {
     replies_are_worked();
     state_is_worked();
+    existing_fill_is_worked();
     areas_of_boxes();
     tiles_in_turn();
     Ok(())

@@ -334,6 +334,86 @@ fn books_open_with_keep_outs(rt: HostRuntime) -> Result<(), Fail> {
     )
 }
 
+/// Ten by ten places whose boxes keep a gap of four to one another and to existing fill.
+const FOUR_APART: &str = "frame_x1,0
+frame_y1,0
+frame_x2,100
+frame_y2,100
+step_x,10
+step_y,10
+origin_x,3
+origin_y,3
+fill_spacing,4
+";
+
+/// The second place of the lowest row.
+const SECOND: &[Place] = &[Place { i: 1, j: 0 }];
+
+/// The first two places of the lowest row.
+const FIRST_TWO: &[Place] = &[Place { i: 0, j: 0 }, Place { i: 1, j: 0 }];
+
+/// The first box of the lowest row ends at 7, the second begins at 13. From 11 to 12 is gaps of four and one away from them, from 10 to
+/// 11 gaps of three and two: too near to both for existing fill, and to neither for metal, to which boxes keep two.
+#[test]
+fn boxes_keep_the_fill_spacing_to_existing_fill(rt: HostRuntime) -> Result<(), Fail> {
+    let alloc = rt.alloc();
+    let rules = rules_of(alloc, FOUR_APART, ONE_WINDOW)?;
+    for (design, empty) in [
+        (Design::of_fill(&[[11, 3, 12, 7]]), SECOND),
+        (Design::of_fill(&[[10, 3, 11, 7]]), FIRST_TWO),
+        (Design::of_metal(&[[10, 3, 11, 7]]), &[]),
+    ] {
+        let rules = rules.copy(alloc)?;
+        run_in(&rt, alloc, rules, design, &[Step::Fill, Step::Empty(empty)])?;
+    }
+    Ok(())
+}
+
+/// Metal and existing fill share fifty squares. Cuts leave the 150 of the fill, which go on taking the places of two boxes.
+#[test]
+fn a_cut_leaves_existing_fill(rt: HostRuntime) -> Result<(), Fail> {
+    let rules = rules_of(rt.alloc(), HUNDRED_PLACES, ONE_WINDOW)?;
+    let design = Design {
+        metal: &[[0, 0, 10, 10]],
+        fill: &[[5, 0, 20, 10]],
+        keep: &[],
+    };
+    run_in(
+        &rt,
+        rt.alloc(),
+        rules,
+        design,
+        &[
+            Step::Drawn(0, 0, 200),
+            Step::Cut([0, 0, 100, 100], 0),
+            Step::Drawn(0, 0, 150),
+            Step::Add([10, 0, 30, 10], 0),
+            Step::Drawn(0, 0, 250),
+            Step::Cut([0, 0, 100, 100], 0),
+            Step::Drawn(0, 0, 150),
+            Step::Fill,
+            Step::Counts(98, 12),
+            Step::Totals(1718),
+        ],
+    )
+}
+
+/// A window with five hundred squares, its least share, gets no box. With one square less it gets all but five, which would lie on them.
+#[test]
+fn existing_fill_brings_a_window_to_its_least_share(rt: HostRuntime) -> Result<(), Fail> {
+    let alloc = rt.alloc();
+    let rules = rules_of(alloc, HUNDRED_PLACES, ONE_WINDOW)?;
+    for (design, boxes, total) in [
+        (Design::of_fill(&[[0, 0, 50, 10]]), 0, 500),
+        (Design::of_fill(&[[0, 0, 50, 9], [0, 9, 49, 10]]), 95, 2019),
+    ] {
+        let rules = rules.copy(alloc)?;
+        let steps = [Step::Fill, Step::Counts(boxes, 9), Step::Totals(total)];
+        run_in(&rt, alloc, rules, design, &steps)?;
+    }
+    Ok(())
+}
+
 /// Five by five windows, of which those of the last two columns and rows lie partly or wholly beside the frame.
 const WINDOWS_BESIDE: &str = "win_w,50
 win_h,50
