@@ -1,9 +1,9 @@
-//! The plain book and the one with running sums, side by side, through edits and commits that are drawn by lot.
+//! The plain book and the one with running sums, side by side on existing fill, through edits and commits that are drawn by lot.
 ghost use Rattle.std.specs.Prelude.{◌≡◌, ◌<◌, IfOk};
 ghost use Rattle.fill_text.specs.ValuesOfRules.{values_of};
 ghost use Rattle.fill_core.specs.Shares.{AllParts};
 
-use crate::book::{NOTHING, drawn_of, proposal_of, total_of};
+use crate::book::{Design, drawn_of, proposal_of, total_of};
 use crate::cases::HUNDRED_PLACES;
 use fill_area::{Windows, area_in};
 use fill_base::{Place, Rect};
@@ -54,6 +54,13 @@ const LAYOUTS: &[Layout] = &[
     (50, 30, -60, 7, 150_000, "zero"),
     (50, 30, -60, 7, 150_000, "ignore"),
 ];
+
+/// Existing fill between boxes, and some that takes the places of four.
+const DESIGN: Design<'static> = Design {
+    metal: &[],
+    fill: &[[29, 0, 31, 100], [60, 61, 75, 78]],
+    keep: &[],
+};
 
 /// How many steps each pair of books takes.
 const STEPS: u32 = 60;
@@ -156,23 +163,15 @@ fn take<B: FillBook>(
     }
 }
 
-/// Metal and keep-outs, as the edits leave them.
-#[derive(Drop)]
-struct Drawn {
-    metal: Region,
-    keep: Region,
-}
-
-impl Drawn {
-    fn after(&mut self, alloc: Global, step: Step) -> Result<(), Fail> {
-        match step {
-            Step::Change(Edit::Add(rect)) => self.metal = self.metal.with_rect(alloc, &rect)?,
-            Step::Change(Edit::Cut(rect)) => self.metal = self.metal.without_rect(alloc, &rect)?,
-            Step::Change(Edit::Keep(rect)) => self.keep = self.keep.with_rect(alloc, &rect)?,
-            Step::Bring(_) => {}
-        }
-        Ok(())
+/// What is drawn follows a step. No edit changes the existing fill.
+fn follow(alloc: Global, drawn: &mut Opening, step: Step) -> Result<(), Fail> {
+    match step {
+        Step::Change(Edit::Add(rect)) => drawn.metal = drawn.metal.with_rect(alloc, &rect)?,
+        Step::Change(Edit::Cut(rect)) => drawn.metal = drawn.metal.without_rect(alloc, &rect)?,
+        Step::Change(Edit::Keep(rect)) => drawn.keep = drawn.keep.with_rect(alloc, &rect)?,
+        Step::Bring(_) => {}
     }
+    Ok(())
 }
 
 /// The boxes of a book as a region.
@@ -202,27 +201,28 @@ fn counted(rt: &impl Abort, windows: &Windows, region: &Region, a: u32, b: u32) 
     }
 }
 
-/// Asserts that both books have the totals of metal and boxes, in each window, and no box on a keep-out.
+/// Asserts that both books have the totals of metal, existing fill and boxes, in each window, and no box on a keep-out.
 fn assert_same<A: FillBook, B: FillBook>(
     rt: &impl Abort,
     alloc: Global,
     plain: &A,
     running: &B,
-    drawn: &Drawn,
+    drawn: &Opening,
 ) -> Result<(), Fail> {
     assert_eq!(rt; plain.count(), running.count());
     let boxes = boxes_of(alloc, running)?;
     assert!(rt; boxes.meet(alloc, &drawn.keep)?.is_empty());
-    let all = drawn.metal.union(alloc, &boxes)?;
+    let design = drawn.metal.union(alloc, &drawn.fill)?;
+    let all = design.union(alloc, &boxes)?;
     let windows = running.rules().windows();
     for b in 0..windows.rows() {
         for a in 0..windows.columns() {
             let total = total_of(rt, running, a, b);
             assert_eq!(rt; total, counted(rt, &windows, &all, a, b));
             assert_eq!(rt; total, total_of(rt, plain, a, b));
-            let metal = counted(rt, &windows, &drawn.metal, a, b);
-            assert_eq!(rt; drawn_of(rt, running, a, b), metal);
-            assert_eq!(rt; drawn_of(rt, plain, a, b), metal);
+            let area = counted(rt, &windows, &design, a, b);
+            assert_eq!(rt; drawn_of(rt, running, a, b), area);
+            assert_eq!(rt; drawn_of(rt, plain, a, b), area);
         }
     }
     Ok(())
@@ -246,16 +246,13 @@ fn take_steps<A: FillBook, B: FillBook>(
     steps: u32,
 ) -> Result<(), Fail> {
     let mut lot = Lot { state: 1 };
-    let mut drawn = Drawn {
-        metal: Region::empty(alloc),
-        keep: Region::empty(alloc),
-    };
+    let mut drawn = DESIGN.opening(alloc)?;
     for k in 0..steps {
         let step = match source {
             Source::Lot => step_of(&mut lot)?,
             Source::Rule => step_by_rule(k)?,
         };
-        drawn.after(alloc, step)?;
+        follow(alloc, &mut drawn, step)?;
         let one = take(rt, alloc, &mut pair.plain, &mut pair.plain_pass, step)?;
         let other = take(rt, alloc, &mut pair.running, &mut pair.running_pass, step)?;
         assert_eq!(rt; one, other);
@@ -274,15 +271,15 @@ struct Start {
     rules: Rules,
 }
 
-/// The start of a book on nothing.
-fn start_on_nothing(alloc: Global, rules: &Rules) -> Result<Start, Fail>
+/// The start of a book of these rules.
+fn start_with(alloc: Global, rules: &Rules) -> Result<Start, Fail>
     ensures { IfOk result (λ s. AllParts s.calls.parts s.placed.parts s.withdrawn.parts) }
 {
     Ok(Start {
         calls: Blank::new(1024),
         placed: Blank::new(1024),
         withdrawn: Blank::new(1024),
-        opening: NOTHING.opening(alloc)?,
+        opening: DESIGN.opening(alloc)?,
         rules: rules.copy(alloc)?,
     })
 }
@@ -341,7 +338,7 @@ fn both<
     take_steps(rt, alloc, &mut pair, source, steps)
 }
 
-/// Replies, counts and all numbers of all windows agree, and are those of metal and boxes.
+/// Replies, counts and all numbers of all windows agree, and are those of metal, existing fill and boxes.
 #[test]
 fn both_books_agree(rt: HostRuntime) -> Result<(), Fail> {
     let alloc = rt.alloc();
@@ -350,8 +347,8 @@ fn both_books_agree(rt: HostRuntime) -> Result<(), Fail> {
         both::<Brand, Brand, Brand, Brand, Brand, Brand>(
             &rt,
             alloc,
-            start_on_nothing(alloc, &rules)?,
-            start_on_nothing(alloc, &rules)?,
+            start_with(alloc, &rules)?,
+            start_with(alloc, &rules)?,
             Source::Lot,
             STEPS,
         )?;
@@ -367,8 +364,8 @@ fn both_books_agree_by_rule(rt: HostRuntime) -> Result<(), Fail> {
     both::<Brand, Brand, Brand, Brand, Brand, Brand>(
         &rt,
         alloc,
-        start_on_nothing(alloc, &rules)?,
-        start_on_nothing(alloc, &rules)?,
+        start_with(alloc, &rules)?,
+        start_with(alloc, &rules)?,
         Source::Rule,
         200,
     )
