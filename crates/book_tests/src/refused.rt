@@ -103,7 +103,7 @@ pub(crate) fn edited<B: FillBook>(
     Ok(reply?)
 }
 
-/// A commit with each of its four answers, and an edit of each kind, of windows that padding counts in or doesn't.
+/// A commit with each of its four answers, and an edit of each kind over existing fill, of windows that padding counts in or doesn't.
 #[test]
 fn a_book_is_as_it_was_where_memory_is_refused(rt: HostRuntime) -> Result<(), Fail> {
     let alloc = rt.alloc();
@@ -115,7 +115,7 @@ fn a_book_is_as_it_was_where_memory_is_refused(rt: HostRuntime) -> Result<(), Fa
             rules_of(alloc, HUNDRED_PLACES, windows.as_str())?,
             Design {
                 metal: &[[80, 80, 84, 84]],
-                fill: &[],
+                fill: &[[19, 19, 21, 21]],
                 keep: &[[50, 50, 60, 60]],
             },
             &[
@@ -150,19 +150,19 @@ fn a_foreign_proposal_where_memory_is_refused(rt: HostRuntime) -> Result<(), Fai
     bring(&rt, rt.alloc(), other, &steps)
 }
 
-/// A book on some metal that brings a tile once it is open.
+/// A book on metal and existing fill, which share two squares, that brings a tile once it is open.
 const OPENED: &[Step] = &[
     Step::End,
-    Step::NineTotals([110, 0, 0, 0, 0, 0, 0, 0, 0]),
+    Step::NineTotals([112, 0, 0, 0, 0, 0, 0, 0, 0]),
     Step::Commit(0, Reply::Placed(15)),
-    Step::NineTotals([350, 96, 0, 96, 36, 0, 0, 0, 0]),
+    Step::NineTotals([352, 96, 0, 96, 36, 0, 0, 0, 0]),
 ];
 
 /// The case of that book.
 fn opening(alloc: Global) -> Result<Case<'static>, Fail> {
     let design = Design {
         metal: &[[10, 10, 21, 20]],
-        fill: &[],
+        fill: &[[19, 19, 21, 21]],
         keep: &[],
     };
     Ok(Case {
