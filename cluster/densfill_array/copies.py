@@ -1,4 +1,4 @@
-"""About how many elements and copies of shapes a design has on the layers of its metal: counted where the file is small, else by its bytes."""
+"""About how many elements and copies of shapes a design has on the layers of metal and existing fill: counted where the file is small, else by its bytes."""
 import struct
 from collections.abc import Iterator
 from pathlib import Path
@@ -21,29 +21,29 @@ def records(data: bytes) -> Iterator[tuple[int, bytes]]:
         at += length
 
 
-def structures(data: bytes, metals: set[bytes]) -> Structures:
-    """Of each structure how many shapes it has on the metals, each the data of LAYER and of DATATYPE, and what it refers to how many times."""
+def structures(data: bytes, layers: set[bytes]) -> Structures:
+    """Of each structure how many shapes it has on the layers, each the data of LAYER and of DATATYPE, and what it refers to how many times."""
     found: Structures = {}
     shapes, references = 0, list[tuple[bytes, int]]()
-    kind_of, name, times, layer, is_metal = 0, b"", 1, b"", False
+    kind_of, name, times, layer, is_counted = 0, b"", 1, b"", False
     for kind, words in records(data):
         if kind == NAME_OF_STRUCTURE:
             if name:
                 found[name] = (shapes, references)
             name, shapes, references = words.rstrip(b"\0"), 0, []
         elif kind in (BOUNDARY, PATH, SINGLE, ARRAY):
-            kind_of, times, is_metal = kind, 1, False
+            kind_of, times, is_counted = kind, 1, False
         elif kind == LAYER:
             layer = words
         elif kind == DATATYPE:
-            is_metal = layer + words in metals
+            is_counted = layer + words in layers
         elif kind == NAME:
             below = words.rstrip(b"\0")
         elif kind == COLUMNS_AND_ROWS and len(words) == 4:
             columns, rows = struct.unpack(">HH", words)
             times = columns * rows
         elif kind == END_OF_ELEMENT:
-            shapes += kind_of in (BOUNDARY, PATH) and is_metal
+            shapes += kind_of in (BOUNDARY, PATH) and is_counted
             if kind_of in (SINGLE, ARRAY):
                 references.append((below, times))
             kind_of = 0
@@ -61,15 +61,15 @@ def drawn(of: Structures, name: bytes, known: dict[bytes, int]) -> int:
     return known[name]
 
 
-def elements_and_copies(design: Path, metals: list[tuple[int, int]], top: str) -> tuple[int, int]:
-    """About how many references and shapes of the metals there are, and how many copies of shapes the top draws. The program counts for
+def elements_and_copies(design: Path, layers: list[tuple[int, int]], top: str) -> tuple[int, int]:
+    """About how many references and shapes of the layers there are, and how many copies of shapes the top draws. The program counts for
     itself."""
     size = design.stat().st_size
     as_if_flat = size // FOR_A_SHAPE, size // FOR_A_SHAPE
     if size > COUNTED:
         return as_if_flat
     try:
-        of = structures(design.read_bytes(), {struct.pack(">HH", layer & 0xFFFF, datatype & 0xFFFF) for layer, datatype in metals})
+        of = structures(design.read_bytes(), {struct.pack(">HH", layer & 0xFFFF, datatype & 0xFFFF) for layer, datatype in layers})
         if top.encode("latin-1") not in of:
             raise ValueError(f"{design}: it has no structure {top}, which the rules name as its top")
         return sum(shapes + len(references) for shapes, references in of.values()), drawn(of, top.encode("latin-1"), {})

@@ -45,10 +45,10 @@ def read_keys(path: Path) -> dict[str, str]:
         return {row[0]: row[1] for row in csv.reader(file) if len(row) == 2}
 
 
-def metals_of(path: Path, n: dict[str, int]) -> list[tuple[int, int]]:
-    """The layers and data types of the metal: that of the numbers, and those of the file's `also_metal`."""
+def counted_layers(path: Path, n: dict[str, int]) -> list[tuple[int, int]]:
+    """The layers and data types of metal and existing fill: that of the numbers, and those of the file's `also_metal` and `also_fill`."""
     with open(path, newline="", encoding="latin-1") as file:
-        words = [row[1].split("/") for row in csv.reader(file) if len(row) == 2 and row[0] == "also_metal"]
+        words = [row[1].split("/") for row in csv.reader(file) if len(row) == 2 and row[0] in ("also_metal", "also_fill")]
     return [(n["layer"], n["datatype"])] + [(int(pair[0]), int(pair[1])) for pair in words if len(pair) == 2 and all(word.isdecimal() for word in pair)]
 
 
@@ -107,7 +107,7 @@ def read_work(rules: Path, design: Path, does: str) -> Work:
     try:
         n = numbers_of(keys)
         chip = chip_of(n, does)
-        return Work(does, chip, load_of(n, does, design.stat().st_size, *elements_and_copies(design, metals_of(rules, n), keys["top"])), cut_of(keys))
+        return Work(does, chip, load_of(n, does, design.stat().st_size, *elements_and_copies(design, counted_layers(rules, n), keys["top"])), cut_of(keys))
     except KeyError as error:
         raise NoParts(f"{rules}: the key {error} has no fit value: {NO_RULES}") from error
     except ZeroDivisionError as error:
