@@ -2,9 +2,6 @@
 """Tests of densfill-deck: conversions, faults, runs, resume, interruption, and what is written.
 
 usage: test_deck.py [PROGRAM]     (by default bin/densfill, else what the gate left in crates/densfill/out)
-
-Tests of existing fill and of passes are left out where the program has no key `also_fill`. On a stand-in for it they are run by
-test_deck.py deck/stand_in.py ExistingFill Passes AnyPasses InterruptedPasses.
 """
 import base64
 import csv
@@ -22,7 +19,6 @@ import unittest
 import xml.etree.ElementTree as ET
 from decimal import Decimal
 from fractions import Fraction
-from functools import cache
 from pathlib import Path
 from typing import Any
 from unittest import mock
@@ -920,14 +916,6 @@ class Lines(Folder):
         self.assertEqual((told.returncode, told.stdout.splitlines()[0]), (2, "NoTop: no structure has the name TOPS: the design's tops are TOP"))
 
 
-@cache
-def takes_existing_fill(program: Path) -> bool:
-    """Whether the program has the key `also_fill`."""
-    rules = (ROOT / "examples/block_rules.csv").read_text() + "also_fill,31/7\n"
-    line = [str(program), "check", "/dev/stdin", str(ROOT / "examples/block.gds")]
-    return subprocess.run(line, input=rules, text=True, capture_output=True, check=False).returncode == 0
-
-
 # A frame of 20 um, one window, and ten by ten places for boxes of 1 um, each of which is a quarter of a percent.
 ONE_WINDOW = """[deck]
 top = "TOP"
@@ -945,17 +933,14 @@ fill_spacing = "0.5 um"
 """
 
 
-class WithExistingFill(Folder):
-    """Runs with a program that takes existing fill."""
+class OneDesign(Folder):
+    """Runs of decks on the design of the test."""
 
     def setUp(self) -> None:
         super().setUp()
-        if not takes_existing_fill(self.program):
-            self.skipTest("the program has no key also_fill")
         self.path, self.out = self.folder / "deck.toml", self.folder / "deck.out"
 
     def run_deck(self, text: str, *words: str, status: int = 0) -> subprocess.CompletedProcess[str]:
-        """A run of a deck on the design of the test."""
         self.path.write_text(text)
         line = [sys.executable, str(DECK / "densfill-deck"), "run", str(self.path), str(self.folder / "design.gds"), "--program", str(self.program)]
         ended = subprocess.run([*line, *words], capture_output=True, text=True, check=False)
@@ -966,7 +951,7 @@ class WithExistingFill(Folder):
         return (self.out / f"{name}.report.csv").read_text().splitlines()
 
 
-class ExistingFill(WithExistingFill):
+class ExistingFill(OneDesign):
     """Fill that the design brings is counted, and kept clear of by the spacing between boxes."""
 
     def test_it_is_counted_and_kept_clear_of(self) -> None:
@@ -1039,7 +1024,7 @@ def covered(boxes_of: list[Box], window: Box) -> int:
                if any(a <= left and right <= c and b <= bottom and top <= d for a, b, c, d in cut))
 
 
-class Passes(WithExistingFill):
+class Passes(OneDesign):
     """Layers that are filled in passes."""
     EMPTY = layer(1, "empty = true\n")
     WIRES = [(x, 0, x + 2_000, 20_000) for x in range(0, 20_000, 4_000)]
@@ -1137,7 +1122,7 @@ class Passes(WithExistingFill):
         self.assertTrue(all(told["boxes"] for told in self.summary()["passes"]))
 
 
-class AnyPasses(WithExistingFill):
+class AnyPasses(OneDesign):
     """A design of wires and strewn shapes, filled in three passes with boxes of three sizes, looked at by nothing but the texts that are left."""
     FRAME = (0, 0, 40_000, 40_000)
     # The box, the pitch, the origins across and up, the spacing to metal and to fill.
@@ -1225,7 +1210,7 @@ class AnyPasses(WithExistingFill):
         self.assertIn("windows that differ: 0 of 9", compared(self.folder / "design.gds", self.out, "M1"))
 
 
-class InterruptedPasses(WithExistingFill):
+class InterruptedPasses(OneDesign):
     """Passes that fail, are interrupted, or are taken up again: by a program that notes its runs, and fails or waits where it is told to."""
     PASSES = 'passes = [{box = "2 um", pitch = "4 um"}, {origin = "1 um", origins = 2}, {box = "0.6 um", gradual = 4}]\n'
     TEXT = ONE_WINDOW.replace('"25 %"', '"60 %"') + layer(1, PASSES) + layer(2)
