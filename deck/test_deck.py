@@ -683,7 +683,7 @@ class Designs(Folder):
             self.assertEqual((ended.returncode, ended.stderr), (2, ""))
             self.assertTrue(ended.stdout.startswith(f"{reason}: cell TOP, element {len(TAKEN) + 1}: the "), ended.stdout)
             self.assertEqual(len(ended.stdout.splitlines()), 2, ended.stdout)
-            self.assertEqual(len(ET.parse(self.folder / "found.lyrdb").getroot().find("items")), 1)
+            self.assertEqual(len(ET.parse(self.folder / "found.lyrdb").findall("items/item")), 1)
         design = self.design(low, structure("TOP", *TAKEN), structure("OTHER", REFUSED[0][0], boundary(1, 0, 0, 3, 3)))
         ended = self.command("where", design, "--layer", "1/0", "--top", "TOP")
         self.assertEqual((ended.returncode, ended.stdout), (0, "nothing that the program refuses was found\n"))
@@ -761,8 +761,9 @@ class Merging(Folder):
     def test_fill_libraries_of_one_layer_as_one(self) -> None:
         """The cell of each box once, where it is placed, and one top with all references; its structures are where a look at its records finds them."""
         gathered = Gathered()
-        libraries = [library("F", structure(box, boundary(31, 0, 0, 4, 4)), structure("TOP", *references)) for box, *references in (
-            ("NONE",), ("A", reference("A", 1, 2)), ("B", reference("B", 3, 4), array("B", 2, 3, (0, 0, 8, 0, 0, 12))), ("A", reference("A", 9, 9)))]
+        placed: list[tuple[str, list[bytes]]] = [("NONE", []), ("A", [reference("A", 1, 2)]), ("B", [reference("B", 3, 4), array("B", 2, 3, (0, 0, 8, 0, 0, 12))]),
+                                                ("A", [reference("A", 9, 9)])]
+        libraries = [library("F", structure(box, boundary(31, 0, 0, 4, 4)), structure("TOP", *references)) for box, references in placed]
         for data in libraries:
             gathered.take(self.file("fill.gds", data), "TOP")
         box = boundary(31, 0, 0, 4, 4)
@@ -796,7 +797,7 @@ class Reports(unittest.TestCase):
     def test_figures(self) -> None:
         of = figures(self.WINDOWS)
         self.assertEqual((of.windows, of.low, of.high, of.mean), (4, 2, 1, 387_500))
-        self.assertEqual((of.least.column, of.least.row, of.greatest.column, of.greatest.row), (1, 1, 0, 1))
+        self.assertEqual((of.least, of.greatest), (self.WINDOWS[3], self.WINDOWS[2]))
         self.assertEqual([w.share for w in worst(self.WINDOWS)], [50_000, 100_000, 900_000])
 
     def test_histogram(self) -> None:
@@ -860,12 +861,12 @@ class Pages(Folder):
         done = subprocess.run(["chromium", "--headless", "--no-sandbox", "--disable-gpu", f"--user-data-dir={self.folder}/profile", "--dump-dom", path],
                               capture_output=True, text=True, check=True, timeout=120)
         seen = re.search(r"<title>seen (\d+) ([^<]*)</title>", done.stdout)
-        self.assertIsNotNone(seen)
+        assert seen, done.stdout[-2000:]
         column, row = 2, 1
         share = windows[row * side + column].share // 100 / 100
         self.assertEqual(seen.group(2), f"column {column}, row {row}: {share:.2f} %, from 0.02, 0.01 um")
         print(f"a page of twelve layers: {len(text_of_page) / 1e6:.1f} MB, {seen.group(1)} ms in a browser", flush=True)
-        self.assertLess(int(seen.group(1)), 2000 * max(1.0, os.getloadavg()[0] / (os.cpu_count() or 1)))
+        self.assertLess(float(seen.group(1)), 2000 * max(1.0, os.getloadavg()[0] / (os.cpu_count() or 1)))
 
 
 class Lines(Folder):
@@ -1356,14 +1357,14 @@ class Runs(Folder):
     def setUp(self) -> None:
         super().setUp()
         shapes = [boundary(k, x, 0, x + 300 * k, 40_000) for k in LAYERS for x in range(0, 40_000, 4_000)]
-        self.design = self.folder / "design.gds"
-        self.design.write_bytes(library("D", structure("TOP", *shapes)))
+        self.layout = self.folder / "design.gds"
+        self.layout.write_bytes(library("D", structure("TOP", *shapes)))
         self.path = self.deck(GOOD + "".join(layer(k, "fill = false\n" if k == 8 else "") for k in LAYERS))
         self.out = self.folder / "deck.out"
 
-    def run_deck(self, *words: str, **how: object) -> subprocess.CompletedProcess[str]:
-        line = [sys.executable, str(DECK / "densfill-deck"), "run", str(self.path), str(self.design), "--program", str(self.program), *words]
-        return subprocess.run(line, capture_output=True, text=True, check=False, **how)
+    def run_deck(self, *words: str) -> subprocess.CompletedProcess[str]:
+        line = [sys.executable, str(DECK / "densfill-deck"), "run", str(self.path), str(self.layout), "--program", str(self.program), *words]
+        return subprocess.run(line, capture_output=True, text=True, check=False)
 
     def numbers(self, name: str) -> list[list[str]]:
         return list(csv.reader((self.out / f"{name}.report.csv").read_text().splitlines()))
@@ -1374,9 +1375,9 @@ class Runs(Folder):
         self.assertEqual([told["name"] for told in summary["layers"]], [f"M{k}" for k in LAYERS])
         for told in summary["layers"]:
             name, rows = told["name"], self.numbers(told["name"])
-            command = ["check", self.out / f"{name}.rules.csv", self.design]
+            command = ["check", str(self.out / f"{name}.rules.csv"), str(self.layout)]
             if told["fills"]:
-                command = ["fill", *command[1:], "/dev/null", self.folder / "again.gds"]
+                command = ["fill", *command[1:], "/dev/null", str(self.folder / "again.gds")]
             again = subprocess.run([self.program, *command], capture_output=True, text=True, check=True)
             self.assertEqual(again.stdout, (self.out / f"{name}.report.csv").read_text())
             self.assertEqual(told["after"]["low"], sum(row[10] == "LOW" for row in rows))
@@ -1395,7 +1396,7 @@ class Runs(Folder):
         self.assertEqual([h.text for h in root.iter("h2")], ["M1", "M8"])
         images = list(root.iter("img"))
         self.assertEqual(len(images), 3)
-        shares = base64.b64decode(images[1].get("data-shares"))
+        shares = base64.b64decode(images[1].get("data-shares", ""))
         self.assertEqual([int.from_bytes(shares[k:k + 2], "big") for k in range(0, len(shares), 2)], [int(row[9]) // 100 for row in self.numbers("M1")])
         self.assertEqual([images[1].get(f"data-{name}") for name in ("columns", "rows", "x", "y", "across", "up")], ["3", "3", "0", "0", "10", "10"])
         self.assertEqual([span.text for span in root.iter("span")][:5], ["5", "12.5", "20", "27.5", "35"])
@@ -1403,7 +1404,7 @@ class Runs(Folder):
         self.assertEqual([cells[0] for cells in over], ["layer", "M1", "M8"])
         self.assertEqual(over[1][3], str(sum(row[10] == "LOW" for row in self.numbers("M1"))))
         self.assertEqual(over[2][1:3], ["9", None])
-        items = ET.parse(self.out / "markers.lyrdb").getroot().find("items")
+        items = ET.parse(self.out / "markers.lyrdb").findall("items/item")
         missed = sum(row[10] != "OK" for name in ("M1", "M8") for row in self.numbers(name))
         self.assertEqual(len(items), missed)
         self.assertGreater(missed, 0)
@@ -1411,7 +1412,7 @@ class Runs(Folder):
     def test_windows_side_by_side_that_differ_too_much(self) -> None:
         """Without fill: strips of 375 of each 5,000 on the left half alone, so 7.5 % there, half of it in the middle, and none at the right."""
         shapes = [boundary(1, x, 0, x + 375, 40_000) for x in range(0, 20_000, 5_000)]
-        self.design.write_bytes(library("D", structure("TOP", *shapes)))
+        self.layout.write_bytes(library("D", structure("TOP", *shapes)))
         for limit, told, status in (("4 %", (0, None), 0), ("3.7 %", (6, 0.0375), 3)):
             self.path.write_text(GOOD + layer(1, f'fill = false\ngradient = "{limit}"\n'))
             ended = self.run_deck("--fail-on", "gradient")
@@ -1423,7 +1424,7 @@ class Runs(Folder):
 
     def test_a_layer_that_fails_ends_no_other(self) -> None:
         self.path.write_text(GOOD + layer(1) + layer(2) + layer(3))
-        self.design.write_bytes(library("D", structure("TOP", *(boundary(k, 0, 0, 900, 900) for k in (1, 3)), wire(2, 40, 0, 0, 100, 90))))
+        self.layout.write_bytes(library("D", structure("TOP", *(boundary(k, 0, 0, 900, 900) for k in (1, 3)), wire(2, 40, 0, 0, 100, 90))))
         ended = self.run_deck()
         self.assertEqual(ended.returncode, 2)
         self.assertIn("M2              failed: an input is refused: densfill: design: 9 NotManhattan", ended.stdout)
@@ -1433,19 +1434,19 @@ class Runs(Folder):
     def test_a_second_look_at_faults(self) -> None:
         self.path.write_text(GOOD + layer(1))
         low = structure("LOW", boundary(1, 0, 0, 9, 9), wire(1, 4, 0, 0, 7, 9))
-        all_of_it = f"all of it: densfill-deck where {self.design} --top TOP --layer 1/0"
+        all_of_it = f"all of it: densfill-deck where {self.layout} --top TOP --layer 1/0"
         for structures, want in (((structure("TOP", reference("LOW", 0, 0)), low),
                                   ["an input is refused: densfill: design: 9 NotManhattan",
                                    "NotManhattan: cell LOW, element 2: the path on 1/0 has a slanted edge: 0,0 7,9", all_of_it]),
                                  ((structure("TOP", boundary(1, 0, 0, 9, 9), reference("LOT", 0, 0)),),
                                   ["an input is refused: densfill: design: 15 MissingCell",
                                    "MissingCell: TOP refers to LOT, which no structure is named", all_of_it])):
-            self.design.write_bytes(library("D", *structures))
+            self.layout.write_bytes(library("D", *structures))
             told = [line for line in self.run_deck("--quiet").stderr.splitlines() if ": warning: " not in line]
             self.assertEqual(told, [f"densfill-deck: M1: {line}" for line in want])
         (self.folder / "failing").write_text("#!/bin/sh\nrm $3\necho 'densfill: design: 30 Device' >&2\nexit 4\n")
         (self.folder / "failing").chmod(0o755)
-        self.assertIn(f"densfill-deck: M1: {self.design}: No such file or directory",
+        self.assertIn(f"densfill-deck: M1: {self.layout}: No such file or directory",
                       self.run_deck("--quiet", "--program", str(self.folder / "failing")).stderr)
 
     def test_resume_runs_what_changed(self) -> None:
@@ -1460,8 +1461,8 @@ class Runs(Folder):
 
     def test_layers_side_by_side_have_room(self) -> None:
         low = structure("LOW", *[boundary(k, x, 0, x + 3, 9) for k in LAYERS for x in range(0, 1000, 5)])
-        self.design.write_bytes(library("D", low, structure("TOP", array("LOW", 100, 100, (0, 0, 100_000, 0, 0, 1000)))))
-        deck = read_deck(self.path, self.design)
+        self.layout.write_bytes(library("D", low, structure("TOP", array("LOW", 100, 100, (0, 0, 100_000, 0, 0, 1000)))))
+        deck = read_deck(self.path, self.layout)
         self.assertEqual({(load.elements, load.copies) for load in deck.loads.values()}, {(201, 2_000_000)})
         for free, want in ((16 << 30, 8), (2_500 << 20, 3), (1 << 20, 1)):
             with mock.patch("densfill_deck.runs.free_memory", return_value=free), mock.patch("os.sched_getaffinity", return_value=range(16)):
@@ -1491,7 +1492,7 @@ class Runs(Folder):
 
     def test_quiet_silences_progress_alone(self) -> None:
         self.path.write_text(GOOD + layer(1) + layer(2))
-        self.design.write_bytes(library("D", structure("TOP", boundary(1, 0, 0, 40_000, 40_000), wire(2, 40, 0, 0, 100, 90))))
+        self.layout.write_bytes(library("D", structure("TOP", boundary(1, 0, 0, 40_000, 40_000), wire(2, 40, 0, 0, 100, 90))))
         loud, quiet = self.run_deck(), self.run_deck("--quiet")
         told = "densfill-deck: M2: an input is refused: densfill: design: 9 NotManhattan"
         self.assertEqual((quiet.returncode, quiet.stderr.splitlines()[0], "layers done" in quiet.stderr), (2, told, False))
@@ -1514,7 +1515,7 @@ class Runs(Folder):
         self.assertEqual([path.name for path in self.out.glob("*.fill.gds")], [])
         told = json.loads((self.out / "summary.json").read_text())["layers"]
         self.assertEqual([(one["name"], one["fills"], one["boxes"]) for one in told], [("M1", False, 0), ("M2", False, 0)])
-        report = subprocess.run([self.program, "check", self.out / "M1.rules.csv", self.design], capture_output=True, text=True, check=True).stdout
+        report = subprocess.run([self.program, "check", self.out / "M1.rules.csv", self.layout], capture_output=True, text=True, check=True).stdout
         self.assertEqual((self.out / "M1.report.csv").read_text(), report)
         self.run_deck("--only", "M2")
         ended = self.run_deck("--no-fill")
@@ -1534,19 +1535,19 @@ class Runs(Folder):
         self.assertIn(" of other inputs and isn't shown: run it anew", ended.stderr)
         page = ET.fromstring((self.out / "report.html").read_text().split(">", 1)[1])
         self.assertEqual([h.text for h in page.iter("h2")], ["M1", "M3"])
-        markers = ET.parse(self.out / "markers.lyrdb").getroot()
-        self.assertEqual(len(markers.find("items")), sum(row[10] != "OK" for name in ("M1", "M3") for row in self.numbers(name)))
+        markers = ET.parse(self.out / "markers.lyrdb").findall("items/item")
+        self.assertEqual(len(markers), sum(row[10] != "OK" for name in ("M1", "M3") for row in self.numbers(name)))
 
     def merge(self, *words: str) -> tuple[int, str]:
-        line = [sys.executable, str(DECK / "densfill-deck"), "merge", str(self.path), str(self.design), *words]
+        line = [sys.executable, str(DECK / "densfill-deck"), "merge", str(self.path), str(self.layout), *words]
         done = subprocess.run(line, capture_output=True, text=True, check=False)
         return done.returncode, done.stderr
 
     def test_stale_fill_is_not_merged(self) -> None:
         self.path.write_text(GOOD + layer(1) + layer(2))
         self.run_deck()
-        out, deck, design, fill = self.folder / "merged.gds", self.path.read_text(), self.design.read_bytes(), self.out / "M1.fill.gds"
-        for path, data, want in ((self.design, design.replace(b"\0\0\x9c\x40", b"\0\0\x9c\x3f", 1), "the design has changed since the fill"),
+        out, deck, design, fill = self.folder / "merged.gds", self.path.read_text(), self.layout.read_bytes(), self.out / "M1.fill.gds"
+        for path, data, want in ((self.layout, design.replace(b"\0\0\x9c\x40", b"\0\0\x9c\x3f", 1), "the design has changed since the fill"),
                                  (self.path, deck.replace('"0.5 um"', '"0.6 um"').encode(), "M1: the deck asks for other fill; M2: the deck"),
                                  (fill, (self.out / "M2.fill.gds").read_bytes(), "M1.fill.gds has changed since")):
             before = path.read_bytes()
@@ -1562,17 +1563,17 @@ class Runs(Folder):
     def test_merged_files_of_other_formats(self) -> None:
         self.path.write_text(GOOD + layer(1))
         self.run_deck()
-        before = self.design.read_bytes()
+        before = self.layout.read_bytes()
         for name in ("out.oas", "out.gds.gz", "OUT.OAS"):
             status, err = self.merge(str(self.folder / name))
             self.assertEqual((status, f"GDSII is written, not zipped: name it {name[:3]}.gds" in err), (2, True), err)
-        self.assertIn("is one of the files that are merged", self.merge(str(self.design))[1])
-        self.assertEqual(self.design.read_bytes(), before)
+        self.assertIn("is one of the files that are merged", self.merge(str(self.layout))[1])
+        self.assertEqual(self.layout.read_bytes(), before)
 
     def test_stale_fill_is_merged_where_it_is_asked_for(self) -> None:
         self.path.write_text(GOOD + layer(1))
         self.run_deck()
-        self.design.write_bytes(self.design.read_bytes().replace(b"\0\0\x9c\x40", b"\0\0\x9c\x3f", 1))
+        self.layout.write_bytes(self.layout.read_bytes().replace(b"\0\0\x9c\x40", b"\0\0\x9c\x3f", 1))
         self.assertEqual(self.merge(str(self.folder / "merged.gds"), "--stale"),
                          (0, "densfill-deck: merged all the same: the design has changed since the fill\n"))
         self.assertTrue((self.folder / "merged.gds").exists())
@@ -1581,7 +1582,7 @@ class Runs(Folder):
         slow = self.folder / "slow"
         slow.write_text(f"#!/bin/sh\ncase $2 in *M1.*) exec {self.program} \"$@\";; esac\necho begun; exec sleep 60\n")
         slow.chmod(0o755)
-        line = [sys.executable, str(DECK / "densfill-deck"), "run", str(self.path), str(self.design), "--program", str(slow), "--jobs", "2"]
+        line = [sys.executable, str(DECK / "densfill-deck"), "run", str(self.path), str(self.layout), "--program", str(slow), "--jobs", "2"]
         child = subprocess.Popen(line, stdout=subprocess.DEVNULL, stderr=subprocess.DEVNULL, preexec_fn=interruptible)
         record = self.out / "M1.run.json"
         for _ in range(200):
@@ -1615,10 +1616,10 @@ class Runs(Folder):
     def test_merge(self) -> None:
         self.run_deck("--quiet")
         out = self.folder / "merged.gds"
-        line = [sys.executable, str(DECK / "densfill-deck"), "merge", str(self.path), str(self.design), str(out)]
+        line = [sys.executable, str(DECK / "densfill-deck"), "merge", str(self.path), str(self.layout), str(out)]
         done = subprocess.run(line, capture_output=True, text=True, check=False)
         filled = ", ".join(f"M{k}" for k in LAYERS if k != 8)
-        self.assertEqual((done.returncode, done.stdout, done.stderr), (0, f"{out}: {self.design} with the fill of {filled} below TOP\n", ""))
+        self.assertEqual((done.returncode, done.stdout, done.stderr), (0, f"{out}: {self.layout} with the fill of {filled} below TOP\n", ""))
         rules = (self.out / "M1.rules.csv").read_text().replace("datatype,0\n", "datatype,1\n", 1)
         (self.folder / "boxes.csv").write_text(rules)
         seen = subprocess.run([self.program, "check", self.folder / "boxes.csv", out], capture_output=True, text=True, check=True)
