@@ -1226,16 +1226,17 @@ class InterruptedPasses(OneDesign):
 echo "$(basename $2 .rules.csv)" >> {self.folder}/runs
 case $2 in *"$(cat {self.folder}/fails)"*) echo "densfill: design: 18 TooManyShapes" >&2; exit 2;; esac
 case $2 in *"$(cat {self.folder}/waits)"*) exec sleep 60;; esac
+case $2 in *"$(cat {self.folder}/slow)"*) sleep 1;; esac
 exec {self.program} "$@"
 ''')
         script.chmod(0o755)
         self.mark("nothing", "nothing")
         self.program = script
 
-    def mark(self, fails: str, waits: str) -> None:
-        (self.folder / "fails").write_text(fails)
-        (self.folder / "waits").write_text(waits)
-        (self.folder / "runs").write_text("")
+    def mark(self, fails: str, waits: str, slow: str = "nothing") -> None:
+        """Which run fails, which waits until it is ended, and which takes a second more."""
+        for name, run in (("fails", fails), ("waits", waits), ("slow", slow), ("runs", "")):
+            (self.folder / name).write_text(run)
 
     def runs(self) -> list[str]:
         return (self.folder / "runs").read_text().split()
@@ -1336,6 +1337,7 @@ exec {self.program} "$@"
         self.assert_whole()
 
     def test_the_pass_is_told_while_it_runs(self) -> None:
+        self.mark("nothing", "nothing", "P1.")
         told = self.run_deck(self.TEXT, "--jobs", "1").stderr
         self.assertIn("running M1 (pass 1 of 3) for ", told)
         for number, share in ((1, "1/12"), (2, "8/12")):
