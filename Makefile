@@ -1,5 +1,5 @@
-# make demo               runs check, fill and rects on examples/ and tells how many windows are low and high (by the built
-#                         program, or where there is none unproved, by rt try)
+# make demo               runs check, fill, rects and the deck on examples/ and tells how many windows are low and high (by the
+#                         built program, or where there is none unproved, by rt try)
 # make quick              builds without proofs, and runs all cases and tests that need none: green before lunch
 # make build              proves the program and leaves it, optimized, at bin/densfill
 # make install PREFIX=..  installs the built program, its deck, its arrays, manual pages and formats below PREFIX (by default /usr/local)

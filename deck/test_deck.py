@@ -1211,6 +1211,53 @@ class AnyPasses(OneDesign):
         self.assertIn("windows that differ: 0 of 9", compared(self.folder / "design.gds", self.out, "M1"))
 
 
+class Example(OneDesign):
+    """The deck of the example block: what docs/DECK.md says of it, and that its files agree."""
+    EXAMPLES = ROOT / "examples"
+
+    def setUp(self) -> None:
+        super().setUp()
+        shutil.copy(self.EXAMPLES / "block.gds", self.folder / "design.gds")
+        self.text = (self.EXAMPLES / "block.toml").read_text()
+
+    def test_what_passes_leave(self) -> None:
+        told = self.run_deck(self.text, "--fail-on", "gradient", status=3).stdout
+        section = (ROOT / "docs/DECK.md").read_text().split("`examples/block.toml` fills its block")[1].split("\n\n")[1]
+        for line in section.splitlines():
+            self.assertRegex(told, "(?m)^" + re.escape(line.strip()).replace(re.escape(" .. "), " .* ") + "$")
+        summary = json.loads((self.out / "summary.json").read_text())["layers"][0]
+        self.assertEqual([(one["low"], one["high"]) for one in (summary["before"], summary["after"])], [(29, 2), (2, 2)])
+        keep = (36_000, 4_000, 42_000, 9_000)
+        low = [(row[2], row[3], row[4], row[5]) for row in (list(map(int, line.split(",")[:6])) for line in self.report() if line.endswith(",LOW"))]
+        self.assertEqual([gap(window, keep) < 0 for window in low], [True, True])
+
+    def test_without_gradual(self) -> None:
+        """More boxes in the first pass, and not one window more at its minimum; the step to the macro is within its limit."""
+        self.run_deck(self.text.replace(", gradual = 9", ""), "--fail-on", "gradient")
+        summary = json.loads((self.out / "summary.json").read_text())["layers"][0]
+        self.assertEqual([(one["boxes"], one["low"]) for one in summary["passes"]], [(384, 5), (46, 2)])
+        self.assertEqual(summary["gradient"]["after"], 0)
+        share = {(row[0], row[1]): int(row[9]) for row in csv.reader(self.report())}
+        self.assertEqual(max(abs(share[at] - share[str(int(at[0]) + 1), at[1]]) for at in share if at[0] != "10"), 382_500)
+
+    def test_its_files(self) -> None:
+        """The design and the report of its metal are those that its script draws and counts by itself, and the program counts the same."""
+        for name in ("block.py", "block_rules.csv"):
+            shutil.copy(self.EXAMPLES / name, self.folder)
+        for words in ((), ("--report",)):
+            subprocess.run([sys.executable, self.folder / "block.py", *words], check=True)
+        for name in ("block.gds", "block_report.csv"):
+            self.assertEqual((self.folder / name).read_bytes(), (self.EXAMPLES / name).read_bytes(), name)
+        line = [str(self.program), "check", "block_rules.csv", "block.gds"]
+        told = subprocess.run(line, cwd=self.EXAMPLES, capture_output=True, text=True, check=True).stdout
+        self.assertEqual(told, (self.EXAMPLES / "block_report.csv").read_text())
+
+    def test_the_deck_of_a_stack(self) -> None:
+        deck = read_deck(self.EXAMPLES / "stack65.toml")
+        self.assertEqual(([layer.name for layer in deck.layers], deck.warnings), ([f"M{k}" for k in LAYERS], []))
+        self.assertEqual([of.numbers["box_w"] for of in deck.layers[1].passes], [2000, 800, 400])
+
+
 class InterruptedPasses(OneDesign):
     """Passes that fail, are interrupted, or are taken up again: by a program that notes its runs, and fails or waits where it is told to."""
     PASSES = 'passes = [{box = "2 um", pitch = "4 um"}, {origin = "1 um", origins = 2}, {box = "0.6 um", gradual = 4}]\n'

@@ -11,6 +11,7 @@ import subprocess
 import sys
 import unittest
 import xml.etree.ElementTree as ET
+from itertools import groupby
 from pathlib import Path
 from typing import Any
 
@@ -152,17 +153,24 @@ class Klayout(FolderCase):
         return done.stdout
 
     def densfill(self, *words: object) -> str:
-        return subprocess.run([self.program, *words], capture_output=True, text=True, check=True).stdout
+        return subprocess.run([str(self.program), *map(str, words)], capture_output=True, text=True, check=True).stdout
+
+    def by_deck(self, design: Path) -> Path:
+        """What the deck of the example leaves of the design."""
+        results = self.folder / "results"
+        subprocess.run([self.deck, "run", EXAMPLES / "block.toml", design, "--out", results, "--quiet"], check=True, stdout=subprocess.DEVNULL)
+        return results
 
     def test_the_macro_checks_fills_and_shows(self) -> None:
         script = self.folder / "use.py"
-        script.write_text(ET.parse(MACRO).getroot().findtext("text") + USE)
+        script.write_text(ET.parse(MACRO).getroot().findtext("text", "") + USE)
         design, rules = EXAMPLES / "block.gds", EXAMPLES / "block_rules.csv"
         self.klayout(script, design=design, rules=rules, deck=EXAMPLES / "block.toml", folder=self.folder)
         left = json.loads((self.folder / "left.json").read_text())
         self.assertEqual(left["check"], self.densfill("check", rules, design))
-        self.assertEqual(left["fill"], self.densfill("fill", rules, design, "/dev/null", self.folder / "own.gds"))
-        self.assertEqual(Path(left["library"]).read_bytes(), (self.folder / "own.gds").read_bytes())
+        results = self.by_deck(design)
+        self.assertEqual(left["fill"], (results / "M1.report.csv").read_text())
+        self.assertEqual(Path(left["library"]).read_bytes(), (results / "M1.fill.gds").read_bytes())
         self.assertEqual(left["items"], sum(not line.endswith(",OK") for line in left["fill"].splitlines()))
         self.assertEqual((left["layouts"], left["pixels"]), (2, [11, 8]))
         self.assertEqual(left["shown"], [False, True])
@@ -172,6 +180,7 @@ class Klayout(FolderCase):
         """A display that no one sees, as long as the test lasts."""
         child = subprocess.Popen(["Xvfb", "-displayfd", "1", "-screen", "0", "1280x1024x24"], stdout=subprocess.PIPE, stderr=subprocess.DEVNULL,
                                  text=True)
+        assert child.stdout
         self.addCleanup(child.wait)
         self.addCleanup(child.terminate)
         self.addCleanup(child.stdout.close)
@@ -184,7 +193,7 @@ class Klayout(FolderCase):
         shutil.copy(MACRO, home / "pymacros")
         for name, text in (("answer.py", ANSWER), ("script.py", script)):
             (self.folder / name).write_text(text)
-        words = ["klayout", "-nc", "-rm", self.folder / "answer.py", "-r", self.folder / "script.py"]
+        words = ["klayout", "-nc", "-rm", str(self.folder / "answer.py"), "-r", str(self.folder / "script.py")]
         words += [word for key, value in values.items() for word in ("-rd", f"{key}={value}")]
         env = {name: value for name, value in self.env.items() if name != "QT_QPA_PLATFORM"}
         env |= {"DISPLAY": self.display(), "KLAYOUT_HOME": str(home), "DENSFILL": str(self.noting())}
@@ -210,9 +219,9 @@ class Klayout(FolderCase):
         left = self.in_a_window(TRIGGER, design=design, rules=rules, deck=deck, wrong=wrong, folder=self.folder)
         none, nothing, checked, no, yes, cancelled, by_deck, filled, again, refused, other, below = left
         self.assertEqual((none["told"], nothing["told"]), (["open a layout first"], ["select a layer first"]))
-        missed = [sum(not line.endswith(",OK") for line in self.densfill(*words).splitlines()) for words in (
-            ("check", rules, design), ("check", EXAMPLES / "block_rules.csv", design),
-            ("fill", EXAMPLES / "block_rules.csv", design, "/dev/null", self.folder / "own.gds"))]
+        reports = [self.densfill("check", rules, design), self.densfill("check", EXAMPLES / "block_rules.csv", design),
+                   (self.by_deck(design) / "M1.report.csv").read_text()]
+        missed = [sum(not line.endswith(",OK") for line in report.splitlines()) for report in reports]
         self.assertEqual((checked["told"], checked["titles"], checked["items"]), ([], ["density of 31/0"], [missed[0]]))
         self.assertEqual(checked["maps"], [[11, 8, 4.0, 2.0, 2.0, 3.0]])
         self.assertEqual(checked["colours"], [[0.0, 0.25, 0.8, 1.0]])
@@ -227,7 +236,8 @@ class Klayout(FolderCase):
         self.assertIn("pitch: 0.9 um is less than box and fill_spacing together", refused["told"][0])
         self.assertIn("no layer 40/0 in the deck: it has M1 (31/0)", other["told"][0])
         self.assertEqual(below["told"], ["MACRO is shown, and the results are of the top BLOCK: show that one as the new top"])
-        self.assertEqual((self.folder / "asked").read_text().split(), ["check", "check", "check", "fill", "fill", "check"])
+        asked = [command for command, _ in groupby((self.folder / "asked").read_text().split())]
+        self.assertEqual(asked, ["check", "fill", "check"])
 
     def test_no_window_differs(self) -> None:
         design, rules = EXAMPLES / "block.gds", EXAMPLES / "block_rules.csv"
@@ -235,7 +245,7 @@ class Klayout(FolderCase):
         fill = self.folder / "fill.gds"
         (self.folder / "fill.csv").write_text(self.densfill("fill", rules, design, "/dev/null", fill))
         compare = DECK / "klayout/compare.drc"
-        given = {"design": design, "rules": rules}
+        given: dict[str, Any] = {"design": design, "rules": rules}
         self.assertIn("windows that differ: 0 of 88", self.klayout(compare, report=self.folder / "check.csv", **given))
         self.assertIn("windows that differ: 0 of 88", self.klayout(compare, report=self.folder / "fill.csv", fill=fill, **given))
         none = self.folder / "none.csv"
@@ -269,19 +279,18 @@ class Klayout(FolderCase):
         self.assertIn("give the library too, -rd fill=..", self.klayout(compare, 1, design=design, rules=rules, report=report))
 
     def test_a_deck_is_merged_and_its_markers_are_read(self) -> None:
-        results, merged = self.folder / "results", self.folder / "merged.gds"
-        given = [EXAMPLES / "block.toml", EXAMPLES / "block.gds"]
-        subprocess.run([self.deck, "run", *given, "--out", results, "--quiet"], check=True, stdout=subprocess.DEVNULL)
+        merged, given = self.folder / "merged.gds", [EXAMPLES / "block.toml", EXAMPLES / "block.gds"]
+        results = self.by_deck(given[1])
         subprocess.run([self.deck, "merge", *given, merged, "--results", results], check=True)
         seen = self.klayout(ROOT / "tools/klayout_merge.py", design=given[1], top="BLOCK", merged=merged,
                             fills=f"BLOCK_FILL_TOP {results / 'M1.fill.gds'}")
         self.assertRegex(seen, r"cells the same: True layers: [1-9]\d* different: 0\n")
         rules = (results / "M1.rules.csv").read_text()
-        (self.folder / "boxes.csv").write_text(rules.replace("datatype,0\n", "datatype,1\n", 1))
+        (self.folder / "boxes.csv").write_text(rules.replace("datatype,0\n", "datatype,1\n", 1).replace("also_fill,31/5\n", ""))
         rows = [line.split(",") for line in (results / "M1.report.csv").read_text().splitlines()]
         for name, column in (("results/M1.rules.csv", 6), ("boxes.csv", 7)):
-            seen = self.densfill("check", self.folder / name, merged).splitlines()
-            self.assertEqual([line.split(",")[6] for line in seen], [row[column] for row in rows], name)
+            lines = self.densfill("check", self.folder / name, merged).splitlines()
+            self.assertEqual([line.split(",")[6] for line in lines], [row[column] for row in rows], name)
         both = self.folder / "both.csv"
         both.write_text(rules + "also_metal,31/1\n")
         seen = self.densfill("check", both, merged)
@@ -291,7 +300,7 @@ class Klayout(FolderCase):
         script = self.folder / "count.py"
         script.write_text("import pya\ndb = pya.ReportDatabase('m')\ndb.load(markers)\nprint('items', db.num_items())\n")
         missed = sum(row[10] != "OK" for row in rows)
-        self.assertIn(f"items {missed}", self.klayout(script, markers=results / "markers.lyrdb"))
+        self.assertIn(f"items {missed + 1}", self.klayout(script, markers=results / "markers.lyrdb"))   # and two windows that differ too much
 
 
 if __name__ == "__main__":

@@ -5,8 +5,9 @@ usage: block.py            writes block.gds beside this script
        block.py --report   writes block_report.csv: the report of the metal that block_rules.csv asks for
 
 A unit is a nanometre. The block is 48 by 36 micrometres: rows of standard cells under power straps at the left, a
-macro at the right, a bus, a seal ring, and a keep-out over an oscillator that wants no metal near it. The count shares
-nothing with `densfill`: each window's area is summed over strips between the edges of rectangles.
+macro at the right that brings dummy metal of its own, a bus, a seal ring, and a keep-out over an oscillator that wants
+no metal near it. The count shares nothing with `densfill`: each window's area is summed over strips between the edges
+of rectangles, on all layers whose metal or existing fill the rules count.
 """
 import struct
 import sys
@@ -15,11 +16,13 @@ from dataclasses import dataclass
 from fractions import Fraction
 from pathlib import Path
 
+On = tuple[int, int]  # a layer and its data type
 Point = tuple[int, int]
 Rect = tuple[int, int, int, int]
 
 HERE = Path(__file__).resolve().parent
-METAL = (31, 0)  # layer and data type
+METAL = (31, 0)
+DUMMY = (31, 5)  # of the macro
 KEEP_OUT = (40, 0)
 WIDTH, HEIGHT = 48_000, 36_000
 ROW = 2_000  # the height of a row of cells
@@ -31,7 +34,7 @@ LEFT, RIGHT = 2_000, 23_600  # where the rows lie
 class Shape:
     """Rectangles on a layer: a boundary each, or a path along its middle."""
 
-    layer: tuple[int, int]
+    layer: On
     rect: Rect
 
 
@@ -58,7 +61,7 @@ class Ref:
 Element = Shape | Wire | Ref
 
 
-def box(x1: int, y1: int, x2: int, y2: int, layer: tuple[int, int] = METAL) -> Shape:
+def box(x1: int, y1: int, x2: int, y2: int, layer: On = METAL) -> Shape:
     return Shape(layer, (x1, y1, x2, y2))
 
 
@@ -113,7 +116,9 @@ def cells() -> dict[str, list[Element]]:
         "MACRO": [
             *[box(400 * k, 0, 400 * k + 360, 8_000) for k in range(30)],
             box(0, 8_400, 12_000, 9_000),
+            Ref("MACRO_DUMMY", (12_600, 400), columns=2, rows=6, step=(1_500, 1_500)),
         ],
+        "MACRO_DUMMY": [box(0, 0, 1_000, 1_000, DUMMY)],
     }
 
 
@@ -197,17 +202,18 @@ def carried(rect: Rect, reflected: bool, dx: int, dy: int) -> Rect:
     return x1 + dx, y1 + dy, x2 + dx, y2 + dy
 
 
-def rects(library: dict[str, list[Element]], name: str) -> Iterator[Rect]:
-    """The rectangles of metal that a cell draws, with all that it refers to."""
+def rects(library: dict[str, list[Element]], name: str, layers: set[On]) -> Iterator[Rect]:
+    """The rectangles that a cell draws on some layers, with all that it refers to."""
     for element in library[name]:
         if isinstance(element, Shape):
-            if element.layer == METAL:
+            if element.layer in layers:
                 yield element.rect
         elif isinstance(element, Wire):
-            yield from wire_rects(element)
+            if METAL in layers:
+                yield from wire_rects(element)
         else:
             (x, y), (right, up) = element.origin, element.step
-            for rect in list(rects(library, element.cell)):
+            for rect in list(rects(library, element.cell, layers)):
                 for k in range(element.columns * element.rows):
                     column, row = k % element.columns, k // element.columns
                     yield carried(rect, element.reflected, x + column * right, y + row * up)
@@ -215,11 +221,10 @@ def rects(library: dict[str, list[Element]], name: str) -> Iterator[Rect]:
 
 def covered(strip: list[Rect]) -> int:
     """How long the union of the rectangles' ranges in x is."""
-    total, reach = 0, None
+    total, reach = 0, min((x1 for x1, _, _, _ in strip), default=0)
     for x1, _, x2, _ in sorted(strip):
-        start = x1 if reach is None else max(x1, reach)
-        total += max(0, x2 - start)
-        reach = x2 if reach is None else max(reach, x2)
+        total += max(0, x2 - max(x1, reach))
+        reach = max(reach, x2)
     return total
 
 
@@ -234,10 +239,20 @@ def area(found: list[Rect], window: Rect) -> int:
     )
 
 
+def counted(records: list[list[str]], key: dict[str, int]) -> set[On]:
+    """The layers of the metal and of existing fill."""
+    found = {(key["layer"], key["datatype"])}
+    for name, value in records:
+        if name in ("also_metal", "also_fill"):
+            layer, datatype = value.split("/")
+            found.add((int(layer), int(datatype)))
+    return found
+
+
 def report() -> str:
-    rules = dict(line.split(",") for line in (HERE / "block_rules.csv").read_text().splitlines())
-    key = {name: int(value) for name, value in rules.items() if value.lstrip("-").isdigit()}
-    metal, lines = list(rects(cells(), rules["top"])), []
+    records = [line.split(",") for line in (HERE / "block_rules.csv").read_text().splitlines()]
+    key = {name: int(value) for name, value in records if value.lstrip("-").isdigit()}
+    metal, lines = list(rects(cells(), dict(records)["top"], counted(records, key))), []
     for b in range(key["win_ny"]):
         for a in range(key["win_nx"]):
             x, y = key["win_x"] + a * key["win_step_x"], key["win_y"] + b * key["win_step_y"]

@@ -1,7 +1,8 @@
 #!/usr/bin/env python3
-"""Draws the example block as SVG: metal, boxes of fill, the keep-out, and the windows that stay low or are high.
+"""Draws the example block as SVG: metal, dummy metal of the macro, boxes of fill, the keep-out, and the windows that stay low or are high.
 
-usage: tools/draw_block.py FILL.gds REPORT.csv OUT.svg     (after `make demo`: examples/out/fill.gds and examples/out/fill.csv)
+usage: tools/draw_block.py FILL.gds REPORT.csv OUT.svg     (after `make demo`: examples/out/fill.gds and examples/out/fill.csv,
+                                                            or of the deck examples/out/deck/M1.fill.gds and M1.report.csv)
 """
 import importlib.util
 import struct
@@ -13,7 +14,7 @@ from types import ModuleType
 Rect = tuple[int, int, int, int]
 
 SCALE = 50  # units of the block to a unit of the picture
-COLOURS = {"metal": "#5b7fa6", "fill": "#e0a030", "keep": "#b04a5a", "LOW": "#b04a5a", "HIGH": "#222222"}
+COLOURS = {"metal": "#5b7fa6", "dummy": "#6c9a5b", "fill": "#e0a030", "keep": "#b04a5a", "LOW": "#b04a5a", "HIGH": "#222222"}
 
 
 def block_module() -> ModuleType:
@@ -35,24 +36,36 @@ def records(data: bytes) -> Iterator[tuple[int, bytes]]:
         at += length
 
 
-def corners(data: bytes) -> Iterator[tuple[int, int]]:
-    """The lower left corner of each box of a fill library: of a reference, or of each copy of an array."""
-    counts = (1, 1)
-    array = reference = False
+def elements(data: bytes) -> Iterator[tuple[bytes, dict[int, bytes]]]:
+    """The structure of each element, by name, and the element's records."""
+    structure, element = b"", dict[int, bytes]()
     for kind, body in records(data):
-        if kind in (0x0A, 0x0B):
-            reference, array = True, kind == 0x0B
-        elif kind == 0x13:
-            columns, rows = struct.unpack(">2H", body)
-            counts = columns, rows
-        elif kind == 0x10 and reference:
-            points = list(struct.iter_unpack(">2i", body))
-            (x, y), (columns, rows) = points[0], counts if array else (1, 1)
-            right = (points[1][0] - x) // columns if array else 0
-            up = (points[2][1] - y) // rows if array else 0
-            yield from ((x + c * right, y + r * up) for r in range(rows) for c in range(columns))
+        element[kind] = body
+        if kind == 0x06:
+            structure, element = body, {}
         elif kind == 0x11:
-            reference = False
+            yield structure, element
+            element = {}
+
+
+def boxes(data: bytes) -> Iterator[Rect]:
+    """Each box of a fill library: of a reference, or of each copy of an array, as large as the boundary in its cell."""
+    sizes = dict[bytes, tuple[int, int]]()
+    for structure, element in elements(data):
+        points = [(x, y) for x, y in struct.iter_unpack(">2i", element[0x10])]
+        if 0x08 in element:
+            sizes[structure] = points[2]
+            continue
+        (x, y), (wide, high) = points[0], sizes[element[0x12]]
+        columns, rows = struct.unpack(">2H", element.get(0x13, b"\0\1\0\1"))
+        right, up = ((points[1][0] - x) // columns, (points[2][1] - y) // rows) if len(points) == 3 else (0, 0)
+        at = ((x + c * right, y + r * up) for r in range(rows) for c in range(columns))
+        yield from ((left, bottom, left + wide, bottom + high) for left, bottom in at)
+
+
+def corners(data: bytes) -> Iterator[tuple[int, int]]:
+    """The lower left corner of each box of a fill library."""
+    yield from ((left, bottom) for left, bottom, _, _ in boxes(data))
 
 
 def svg_rect(rect: Rect, height: int, style: str) -> str:
@@ -68,13 +81,13 @@ def outlined(report: str, height: int) -> Iterator[str]:
             yield svg_rect((left, bottom, right, top), height, f'fill="none" stroke="{COLOURS[fields[-1]]}" stroke-width="6"')
 
 
-def picture(fill: bytes, report: str, size: int) -> str:
+def picture(fill: bytes, report: str) -> str:
     block = block_module()
     library, height = block.cells(), block.HEIGHT
-    keep = [shape.rect for shape in library["BLOCK"] if getattr(shape, "layer", None) == block.KEEP_OUT]
-    parts = [svg_rect(rect, height, f'fill="{COLOURS["metal"]}"') for rect in block.rects(library, "BLOCK")]
-    parts += [svg_rect((x, y, x + size, y + size), height, f'fill="{COLOURS["fill"]}"') for x, y in corners(fill)]
-    parts += [svg_rect(rect, height, f'fill="{COLOURS["keep"]}" fill-opacity="0.25"') for rect in keep]
+    drawn = {name: block.rects(library, "BLOCK", {on}) for name, on in (("metal", block.METAL), ("dummy", block.DUMMY), ("keep", block.KEEP_OUT))}
+    opaque = [("metal", drawn["metal"]), ("dummy", drawn["dummy"]), ("fill", boxes(fill))]
+    parts = [svg_rect(rect, height, f'fill="{COLOURS[name]}"') for name, rects in opaque for rect in rects]
+    parts += [svg_rect(rect, height, f'fill="{COLOURS["keep"]}" fill-opacity="0.25"') for rect in drawn["keep"]]
     parts += outlined(report, height)
     view = f'viewBox="0 0 {block.WIDTH / SCALE:g} {height / SCALE:g}"'
     head = f'<svg xmlns="http://www.w3.org/2000/svg" {view}>\n<rect width="100%" height="100%" fill="white"/>\n'
@@ -85,7 +98,7 @@ def main(words: list[str]) -> None:
     if len(words) != 3:
         sys.exit((__doc__ or "").strip())
     fill, report, out = map(Path, words)
-    out.write_text(picture(fill.read_bytes(), report.read_text(), 600))
+    out.write_text(picture(fill.read_bytes(), report.read_text()))
 
 
 if __name__ == "__main__":

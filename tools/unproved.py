@@ -1,5 +1,6 @@
 """The program as `rt try` builds it, with no proof and with checks."""
 import os
+import shlex
 import subprocess
 import tempfile
 import time
@@ -56,3 +57,13 @@ def unproved() -> Iterator[list[str]]:
                     raise NotBuilt((folder / "told").read_text(errors="replace")[-2000:])
                 time.sleep(0.2)
             yield words
+
+
+@contextmanager
+def unproved_program() -> Iterator[Path]:
+    """A script that runs the program without a proof, for what asks for one file."""
+    with unproved() as words, tempfile.TemporaryDirectory() as folder:
+        path = Path(folder) / "densfill"
+        path.write_text(f'#!/bin/sh\nexec {shlex.join(words)} "$@"\n')
+        path.chmod(0o755)
+        yield path
