@@ -51,6 +51,7 @@ test:
 	tools/refuse.py $(BUILT)
 	tools/test_layers.py $(BUILT)
 	tools/test_parts.py $(BUILT)
+	tools/test_verify.py $(BUILT)
 	tools/storm.py $(BUILT)
 	deck/test_deck.py $(BUILT)
 	cluster/test_array.py $(BUILT)

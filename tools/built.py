@@ -1,5 +1,6 @@
 """The built program, and a folder with inputs for it, which the tests and tools of this repository begin with."""
 import signal
+import subprocess
 import sys
 import tempfile
 import unittest
@@ -17,6 +18,13 @@ def built() -> Path | None:
 def rule_file(rules: Mapping[str, object]) -> str:
     """The text of a rule file with these values."""
     return "".join(f"{key},{value}\n" for key, value in rules.items())
+
+
+def build_verify(folder: Path) -> Path:
+    """Builds the checker of fills, in plain Rust."""
+    path = folder / "verify"
+    subprocess.run(["rustc", "--edition", "2021", "-O", "-o", path, ROOT / "tools/verify/main.rs"], check=True)
+    return path
 
 
 def interruptible() -> None:

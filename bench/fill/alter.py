@@ -1,5 +1,5 @@
 #!/usr/bin/env python3
-"""Alters what `densfill fill` has written in one thing, so that bench/fill/verify.rs must refuse it.
+"""Alters what `densfill fill` has written in one thing, so that tools/verify must refuse it.
 
 usage: alter.py KIND RULES OUT REPORT FOLDER     writes FOLDER/rules.csv, FOLDER/fill.gds and FOLDER/report.csv
 

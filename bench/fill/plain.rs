@@ -237,7 +237,7 @@ fn main() {
     let metal = from_rects(&flatten(read_library(bytes, rules.layer()).0, rules.text("top")).concat());
     let lines = Lines::of(&rules);
     let areas = measure_all(&metal, &lines.windows);
-    let low: Vec<bool> = areas.iter().map(|area| lines.is_low(*area)).collect();
+    let low: Vec<bool> = areas.iter().enumerate().map(|(k, area)| lines.is_low(k, *area)).collect();
     let mut fill = Fill::read(&rules);
     for _ in 0..fill.across.groups() * fill.up.groups() {
         fill.bring(&metal, &low, &lines, rules.key("spacing"));

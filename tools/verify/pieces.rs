@@ -148,6 +148,11 @@ impl Metal {
         }
     }
 
+    /// What of it lies in a rectangle, piece by piece.
+    pub fn parts_in<'a>(&'a self, rect: &'a Rect) -> impl Iterator<Item = Rect> + 'a {
+        self.cells.meeting(rect).flat_map(|cell| self.pieces[cell].iter()).filter_map(|piece| shared(piece, rect))
+    }
+
     /// Whether there is no metal in a rectangle.
     pub fn is_clear(&self, rect: &Rect) -> bool {
         self.cells.meeting(rect).all(|cell| self.pieces[cell].iter().all(|piece| shared(piece, rect).is_none()))
