@@ -4,7 +4,7 @@ nothing with the program: raster, spacings, keep-outs, exact totals, completenes
 checks each design in parts, whose lines must be those of one run, and reads its fill back by a join. Then fills random designs by decks
 in passes, and has all passes of each judged together.
 
-usage: storm.py [--runs N] [--decks N] [--seed S] [PROGRAM]     (by default 50 runs and 25 decks of bin/densfill, else of what the gate
+usage: storm.py [--runs N] [--decks N] [--seed S] [PROGRAM]     (by default 50 runs and 20 decks of bin/densfill, else of what the gate
                                                                  left in crates/densfill/out; needs python3 and rustc)
 
 A run whose result is refused is left in a folder that is named, and the status is 1. The same seed draws the same runs.
@@ -233,7 +233,7 @@ def main() -> int:
     parser = argparse.ArgumentParser(description=__doc__, formatter_class=argparse.RawDescriptionHelpFormatter)
     parser.add_argument("program", nargs="?", type=Path, default=built())
     parser.add_argument("--runs", type=int, default=50)
-    parser.add_argument("--decks", type=int, default=25)
+    parser.add_argument("--decks", type=int, default=20)
     parser.add_argument("--seed", type=int, default=1)
     args = parser.parse_args()
     if args.program is None:

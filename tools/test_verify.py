@@ -7,6 +7,7 @@ import shutil
 import subprocess
 import sys
 import tempfile
+import unittest
 from collections.abc import Iterator
 from pathlib import Path
 
@@ -76,6 +77,13 @@ def moved(reference: bytes) -> bytes:
     return reference[:-12] + (x + 1).to_bytes(4, "big", signed=True) + reference[-8:]
 
 
+def setUpModule() -> None:
+    """Builds the checker once for all tests."""
+    folder = tempfile.TemporaryDirectory()
+    unittest.addModuleCleanup(folder.cleanup)
+    Judged.verify = build_verify(Path(folder.name))
+
+
 class Judged(FolderCase):
     """Results in a folder, which are judged as they are or altered."""
     left: Path
@@ -87,9 +95,7 @@ class Judged(FolderCase):
     def setUpClass(cls) -> None:
         folder = tempfile.TemporaryDirectory()
         cls.addClassCleanup(folder.cleanup)
-        cls.left = Path(folder.name) / "left"
-        cls.left.mkdir()
-        cls.verify = build_verify(Path(folder.name))
+        cls.left = Path(folder.name)
         for name, text in (("script.csv", SCRIPT), ("rules.csv", rule_file(RULES) + LISTS.records())):
             (cls.left / name).write_text(text)
         (cls.left / "design.gds").write_bytes(design())
