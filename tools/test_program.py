@@ -174,7 +174,7 @@ class Done(Case):
 
     def test_a_small_stack_is_enough(self) -> None:
         def small() -> None:
-            resource.setrlimit(resource.RLIMIT_STACK, (96 << 10, 96 << 10))
+            resource.setrlimit(resource.RLIMIT_STACK, (128 << 10, 128 << 10))
 
         self.assertEqual(self.fill(preexec_fn=small), Ended(0, FILLED, ""))
 
